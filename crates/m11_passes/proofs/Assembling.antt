@@ -1,6 +1,6 @@
 -- A live line is placed as its definition says, or refused by its first limit.
 use Rattle.std.proofs.Common.{◌≡◌, ◌∙◌, ◌<◌, ◌≤◌, ℕ, ◌+◌, ◌*◌, List, [], length, Option, None, Result, Ok, Err, IfOk, IfErr, IsErrAnd, refl, sym, ap, subst, arith}
-use Rattle.std.specs.Prelude.{false}
+use Rattle.std.specs.Prelude.{false, true}
 use Rattle.std.specs.Int.RustNames.{bit_or}
 use Rattle.std.specs.Option.{option_to_list}
 use Rattle.m11_arguments.specs.Notes.{Notes}
@@ -23,7 +23,7 @@ use Rattle.m11_placement.specs.Alignment.{place_for}
 use Rattle.m11_placement.specs.Changes.{Change, changed}
 use Rattle.m11_placement.specs.Contents.{Put}
 use Rattle.m11_placement.specs.Labels.{labels_letters, labels_stand}
-use Rattle.m11_placement.specs.Limits.{most_local_symbols, most_names, most_sections}
+use Rattle.m11_placement.specs.Limits.{has_too_many, most_defined_names, most_local_symbols, most_names, most_sections}
 use Rattle.m11_placement.specs.Items.{assigned_items, deed_items, is_shown, value_items}
 use Rattle.m11_placement.specs.Lines.{Deed, Rests, Assigning, Setting, Operating, after_line, deed, line_change, line_put, put_by, put_place, stands}
 use Rattle.m11_placement.specs.Meanings.{Map, empty_map, known_at, stands_for}
@@ -36,20 +36,21 @@ use Rattle.m11_placement.specs.declared.settings.Settings.{Settings}
 use Rattle.m11_placing.proofs.Alike.{alike_itself, alike_known, alike_place, alike_section}
 use Rattle.m11_placing.specs.Deeds.{deed_seen}
 use Rattle.m11_placing.specs.Lines.{letters_from}
-use Rattle.m11_placing.specs.Mentioned.{Gathered, with_all}
+use Rattle.m11_placing.specs.Counting.{names_counted, with_counted}
+use Rattle.m11_placing.specs.declared.counting.Counting.{Counting}
 use Rattle.m11_placing.specs.Moved.{moved_letters}
 use Rattle.m11_placing.specs.Passes.{Follows, Kept, Matches}
 use Rattle.m11_placing.specs.declared.deeds.Deed as code
 use Rattle.m11_table.specs.Alike as tables
 use Rattle.m11_table.specs.Alike.{Alike}
 use Rattle.m11_table.specs.Asking.{FirmAsked, firm_asked}
-use Rattle.m11_passes.proofs.Placing.{Act, IsActOf, all_so, change_is, deed_so, line_fits, matches_so, mentions_refused, notes_so, puts, sections_refused, stage_so}
+use Rattle.m11_passes.proofs.Placing.{Act, IsActOf, all_so, change_is, deed_so, defined_refused, line_fits, matches_so, mentions_refused, notes_so, puts, sections_refused, stage_so}
 use Rattle.m11_passes.proofs.Settling.{change_modest, changed_moves, labels_blocks}
 use Rattle.m11_passes.proofs.Turning.{first_sound}
 use Rattle.m11_passes.specs.Begun.{Begins, Finishes, States}
 use Rattle.m11_passes.specs.Bounds.{HasRoom, IsSoundUntil}
 use Rattle.m11_passes.specs.Faults.{Fails}
-use Rattle.m11_placing.specs.Faults.{Refuses}
+use Rattle.m11_placing.specs.Faults.{Overfills, Refuses}
 use Rattle.m11_passes.specs.Lines.{PassLines}
 use Rattle.m11_passes.specs.Lines as lines
 use Rattle.m11_passes.specs.Operated.{change_after, mentions_after}
@@ -64,9 +65,9 @@ use Rattle.m11_passes.specs.declared.placed.PlacedLine.{PlacedLine}
 
 -- ---- a new pass
 
-module _ (unfolder : Unfolding) (kept : Kept) (gathered mentioned : Gathered)
+module _ (unfolder : Unfolding) (kept : Kept) (counting before : Counting)
     (is_fresh : unfolder ≡ record { stage = start []; has_statement = false; fault = None })
-    (matches : Matches kept first_table) (same : gathered ≡ mentioned) where
+    (matches : Matches kept first_table) (same : counting ≡ before) where
   pub new_sound : (fault : Option AsmFault) → fault ≡ None
       → IsSoundUntil fault unfolder.stage.taken kept.table × GoesOnUntil fault unfolder.fault
   new_sound fault none =
@@ -76,10 +77,10 @@ module _ (unfolder : Unfolding) (kept : Kept) (gathered mentioned : Gathered)
       subst P (sym none) (subst S (sym is_fresh) (first_sound kept matches), subst G (sym is_fresh) refl)
 
   pub new_stands : (put : Put) (map_ : Map)
-      → PassStands map_ mentioned [] [] (record { unfolder = unfolder; kept = kept; gathered = gathered; put = put })
+      → PassStands map_ before [] [] (record { unfolder = unfolder; kept = kept; counting = counting; put = put })
   new_stands put map_ =
-      let L : Unfolding → Type 0 = λ u. PassLines map_ mentioned.names [] [] u.stage in
-      record { lines_are = subst L (sym is_fresh) lines.PassLines.Begins; matches = matches; gathered = same }
+      let L : Unfolding → Type 0 = λ u. PassLines map_ before [] [] u.stage in
+      record { lines_are = subst L (sym is_fresh) lines.PassLines.Begins; matches = matches; counting = same }
 
 -- ---- what unfolding is told
 
@@ -124,8 +125,8 @@ module _ (map_ : Map) (live : Live) (old middle : Going) (does : code.Deed) (beg
   abbrev stood : Kept
   stood = middle.kept
 
-  abbrev named : Gathered
-  named = middle.gathered
+  abbrev named : Counting
+  named = middle.counting
 
   abbrev of : Deed
   of = deed_seen does
@@ -144,65 +145,73 @@ module _ (map_ : Map) (live : Live) (old middle : Going) (does : code.Deed) (beg
 
   -- mentions pass a limit
   pub mention_fails : (fault : AsmFault)
-      → Refuses fault (most_names < length (with_all (mentions_after stood.table text done.notes done.arguments of) named).names) ⊥
-      → (table : Table) → Matches old.kept table → Fails (line_fault map_ table old.gathered.names live before) fault
+      → Refuses fault (most_names < length (names_counted (with_counted (mentions_after stood.table text done.notes done.arguments of) named))) ⊥
+      → (table : Table) → Matches old.kept table → Fails (line_fault map_ table old.counting live before) fault
   mention_fails TooManySymbols many table matches =
       let here = begins.labels table matches in
       let P : Deed → Type 0 = λ d.
-      most_names < length (with_all (mentions_after stood.table text done.notes done.arguments d) named).names in
-      let Q : Gathered → Type 0 = λ g. most_names < length
-      (with_all (mentions_after stood.table text done.notes done.arguments (deed done.is_own text)) g).names in
-      mentions_refused map_ table live before middle.unfolder.stage done stood old.gathered here.matches acts here.fits
+      most_names < length (names_counted (with_counted (mentions_after stood.table text done.notes done.arguments d) named)) in
+      let Q : Counting → Type 0 = λ g. most_names < length
+      (names_counted (with_counted (mentions_after stood.table text done.notes done.arguments (deed done.is_own text)) g)) in
+      mentions_refused map_ table live before middle.unfolder.stage done stood old.counting here.matches acts here.fits
       (subst Q begins.named (subst P begins.deed_is many))
   mention_fails NoMemory many table matches = tt
   mention_fails other many table matches = absurd many
 
-  module _ (all : Gathered) (all_are : all ≡ with_all (mentions_after stood.table text done.notes done.arguments of) named)
-      (few : length all.names ≤ most_names) (symbols : stood.local_symbols ≤ most_local_symbols) where
-    all_told : all ≡ with_all (mentions_after stood.table text done.notes done.arguments (deed done.is_own text)) named
+  module _ (all : Counting) (all_are : all ≡ with_counted (mentions_after stood.table text done.notes done.arguments of) named)
+      (few : length (names_counted all) ≤ most_names) (defined : stood.names ≤ most_defined_names)
+      (symbols : stood.local_symbols ≤ most_local_symbols) (within : length stood.table.sections ≤ most_sections) where
+    all_told : all ≡ with_counted (mentions_after stood.table text done.notes done.arguments (deed done.is_own text)) named
     all_told =
-        all_are ∙ ap (λ (d : Deed). with_all (mentions_after stood.table text done.notes done.arguments d) named) begins.deed_is
+        all_are ∙ ap (λ (d : Deed). with_counted (mentions_after stood.table text done.notes done.arguments d) named) begins.deed_is
 
-    -- the section of a line is one too many
+    -- a name that the line defines is one too many, or its section is
     change_fails : (fault : AsmFault)
-        → ((table : Table) → Matches stood table → Refuses fault ⊥ (most_sections < length
-        (changed map_ text (change_after stood.table text done.arguments of) table).sections))
-        → (table : Table) → Matches old.kept table → Fails (line_fault map_ table old.gathered.names live before) fault
+        → ((table : Table) → Matches stood table
+        → Overfills fault (changed map_ text (change_after stood.table text done.arguments of) table))
+        → (table : Table) → Matches old.kept table → Fails (line_fault map_ table old.counting live before) fault
+    change_fails TooManySymbols many table matches =
+        let here = begins.labels table matches in
+        let P : Deed → Type 0 = λ d.
+        has_too_many (changed map_ text (change_after stood.table text done.arguments d) (labels_stand table text)) ≡ true in
+        defined_refused map_ table live before middle.unfolder.stage done stood old.counting here.matches acts here.fits named
+        begins.named all all_told (subst P begins.deed_is (many (labels_stand table text) here.matches))
     change_fails TooManySections many table matches =
         let here = begins.labels table matches in
         let P : Deed → Type 0 = λ d. most_sections < length
         (changed map_ text (change_after stood.table text done.arguments d) (labels_stand table text)).sections in
-        sections_refused map_ table live before middle.unfolder.stage done stood old.gathered here.matches acts here.fits named
-        begins.named all all_told few symbols (subst P begins.deed_is (many (labels_stand table text) here.matches))
+        sections_refused map_ table live before middle.unfolder.stage done stood old.counting here.matches acts here.fits named
+        begins.named all all_told few defined symbols within (subst P begins.deed_is (many (labels_stand table text) here.matches))
     change_fails NoMemory many table matches = tt
     change_fails other many table matches = absurd (many (labels_stand table text) (begins.labels table matches).matches)
 
     -- the pass stands after the line
-    leaves : (new : Going) → new.unfolder ≡ middle.unfolder → new.gathered ≡ all
+    leaves : (new : Going) → new.unfolder ≡ middle.unfolder → new.counting ≡ all
         → Follows stood new.kept (λ t. changed map_ text (change_after stood.table text done.arguments of) t)
-        → new.kept.local_symbols ≤ most_local_symbols → length new.kept.table.sections ≤ most_sections → (item : Option Item)
+        → new.kept.names ≤ most_defined_names → new.kept.local_symbols ≤ most_local_symbols
+        → length new.kept.table.sections ≤ most_sections → (item : Option Item)
         → option_to_list item ≡ deed_items map_ stood.table text (change_after stood.table text done.arguments of) of
         → (table : Table) → Matches old.kept table → LeavesAfter map_ table live before old new
         × (option_to_list item ≡ assigned_items map_ table (given_by table live before))
-    leaves new unfolder_is gathered_is follows fewer sections item shows table matches =
+    leaves new unfolder_is counting_is follows names fewer sections item shows table matches =
         let here = begins.labels table matches in
         let line : Given = given_by table live before in
         let F : Deed → Type 0 = λ d. Follows stood new.kept
         (λ t. changed map_ text (change_after stood.table text done.arguments d) t) in
         let follows_so = subst F begins.deed_is follows in
-        let own = deed_so map_ table live before middle.unfolder.stage done stood old.gathered here.matches acts in
+        let own = deed_so map_ table live before middle.unfolder.stage done stood old.counting here.matches acts in
         let changes : change_after stood.table text done.arguments (deed done.is_own text)
         ≡ line_change (firm_table (stands table line)) line
-        = change_is map_ table live before middle.unfolder.stage done stood old.gathered here.matches acts here.fits named
+        = change_is map_ table live before middle.unfolder.stage done stood old.counting here.matches acts here.fits named
         begins.named all all_told in (
           record {
-            fits = line_fits map_ table live before middle.unfolder.stage done stood old.gathered here.matches acts here.fits named
-                begins.named all all_told few new.kept follows_so fewer sections;
+            fits = line_fits map_ table live before middle.unfolder.stage done stood old.counting here.matches acts here.fits named
+                begins.named all all_told few new.kept follows_so names fewer sections;
             stage_is = ap (λ (u : Unfolding). u.stage) unfolder_is
-                ∙ stage_so map_ table live before middle.unfolder.stage done stood old.gathered here.matches acts;
-            matches = matches_so map_ table live before middle.unfolder.stage done stood old.gathered here.matches acts here.fits named
+                ∙ stage_so map_ table live before middle.unfolder.stage done stood old.counting here.matches acts;
+            matches = matches_so map_ table live before middle.unfolder.stage done stood old.counting here.matches acts here.fits named
                 begins.named all all_told few new.kept follows_so;
-            gathered = gathered_is ∙ all_so map_ table live before middle.unfolder.stage done stood old.gathered here.matches acts
+            counting = counting_is ∙ all_so map_ table live before middle.unfolder.stage done stood old.counting here.matches acts
                 here.fits named begins.named all all_told;
           },
           shows
@@ -213,20 +222,21 @@ module _ (map_ : Map) (live : Live) (old middle : Going) (does : code.Deed) (beg
               (line_change (firm_table (stands table line)) line) (deed line.is_own text),
         )
 
-    -- what the line changes is done, or its section is one too many
-    pub finishes : (new : Going) → new.unfolder ≡ middle.unfolder → new.gathered ≡ all → (result : Result (Option Item) AsmFault)
+    -- what the line changes is done, or a name or its section is one too many
+    pub finishes : (new : Going) → new.unfolder ≡ middle.unfolder → new.counting ≡ all → (result : Result (Option Item) AsmFault)
         → IfOk result (λ _. Follows stood new.kept (λ t. changed map_ text (change_after stood.table text done.arguments of) t))
         → IfOk result (λ _. new.kept.local_symbols ≡ stood.local_symbols)
+        → IfOk result (λ _. new.kept.names ≤ most_defined_names)
         → IfOk result (λ _. length new.kept.table.sections ≤ most_sections)
         → IfOk result (λ item. option_to_list item
         ≡ deed_items map_ stood.table text (change_after stood.table text done.arguments of) of)
-        → IfErr result (λ fault. (table : Table) → Matches stood table → Refuses fault ⊥ (most_sections < length
-        (changed map_ text (change_after stood.table text done.arguments of) table).sections))
+        → IfErr result (λ fault. (table : Table) → Matches stood table
+        → Overfills fault (changed map_ text (change_after stood.table text done.arguments of) table))
         → Finishes map_ live before old new result
-    finishes new unfolder_is gathered_is (Ok item) follows same sections shows refuses =
+    finishes new unfolder_is counting_is (Ok item) follows same names sections shows refuses =
         let P : ℕ → Type 0 = λ n. n ≤ most_local_symbols in
-        leaves new unfolder_is gathered_is follows (subst P (sym same) symbols) sections item shows
-    finishes new unfolder_is gathered_is (Err fault) follows same sections shows refuses = change_fails fault refuses
+        leaves new unfolder_is counting_is follows names (subst P (sym same) symbols) sections item shows
+    finishes new unfolder_is counting_is (Err fault) follows same names sections shows refuses = change_fails fault refuses
 
   -- ---- the line is placed
 
@@ -245,12 +255,12 @@ module _ (map_ : Map) (live : Live) (old middle : Going) (does : code.Deed) (beg
       let here = begins.labels table matches in
       let line : Given = given_by table live before in
       let finished = finishes_so table matches in
-      let own = deed_so map_ table live before middle.unfolder.stage done stood old.gathered here.matches acts in
+      let own = deed_so map_ table live before middle.unfolder.stage done stood old.counting here.matches acts in
       let put_so : new.put ≡ line_put map_ (stands table line) line
-      = puts map_ table live before middle.unfolder.stage done stood old.gathered here.matches acts new.put
+      = puts map_ table live before middle.unfolder.stage done stood old.counting here.matches acts new.put
       (put_is ∙ ap (λ (d : Deed). put_by map_ stood.table text done.arguments d) begins.deed_is) in
       let notes : done.notes ≡ line.notes
-      = notes_so map_ table live before middle.unfolder.stage done stood old.gathered here.matches acts in
+      = notes_so map_ table live before middle.unfolder.stage done stood old.counting here.matches acts in
       record {
         leaves = finished.0;
         is_said = record {
@@ -292,7 +302,7 @@ module _ (map_ : Map) (live : Live) (old middle : Going) (does : code.Deed) (beg
       → Places map_ live before old new (SaysLive line) (Ok tt)
   defined_so new line item same deed_so_far finishes_so table matches =
       let here = begins.labels table matches in
-      let own = deed_so map_ table live before middle.unfolder.stage done stood old.gathered here.matches acts in
+      let own = deed_so map_ table live before middle.unfolder.stage done stood old.counting here.matches acts in
       record {
         leaves = (finishes_so table matches).0;
         is_said = record { live_is = same; deed_is = ap deed_seen deed_so_far ∙ begins.deed_is ∙ own };
@@ -313,20 +323,20 @@ begins_still map_ live old middle does begun put begins = record {
 
 pub places_fails : (map_ : Map) (live : Live) (stage : Stage) (old new : Going) (fault : AsmFault) (said : Said)
     (result : Result (Unit {0}) AsmFault)
-    → ((table : Table) → Matches old.kept table → Fails (line_fault map_ table old.gathered.names live stage) fault)
+    → ((table : Table) → Matches old.kept table → Fails (line_fault map_ table old.counting live stage) fault)
     → IsErrAnd result (λ f. f ≡ fault) → Places map_ live stage old new said result
 places_fails map_ live stage old new fault said (Ok _) fails is = absurd is
 places_fails map_ live stage old new fault said (Err other) fails is = λ table matches.
-    let P : AsmFault → Type 0 = λ f. Fails (line_fault map_ table old.gathered.names live stage) f in
+    let P : AsmFault → Type 0 = λ f. Fails (line_fault map_ table old.counting live stage) f in
     subst P (sym is) (fails table matches)
 
 pub finish_fails : (map_ : Map) (live : Live) (stage : Stage) (old new : Going) (fault : AsmFault)
     (result : Result (Option Item) AsmFault)
-    → ((table : Table) → Matches old.kept table → Fails (line_fault map_ table old.gathered.names live stage) fault)
+    → ((table : Table) → Matches old.kept table → Fails (line_fault map_ table old.counting live stage) fault)
     → IsErrAnd result (λ f. f ≡ fault) → Finishes map_ live stage old new result
 finish_fails map_ live stage old new fault (Ok _) fails is = absurd is
 finish_fails map_ live stage old new fault (Err other) fails is = λ table matches.
-    let P : AsmFault → Type 0 = λ f. Fails (line_fault map_ table old.gathered.names live stage) f in
+    let P : AsmFault → Type 0 = λ f. Fails (line_fault map_ table old.counting live stage) f in
     subst P (sym is) (fails table matches)
 
 -- ---- room

@@ -1,5 +1,5 @@
 -- A line that says nothing changes nothing, and passes no limit.
-use Rattle.std.proofs.Common.{◌≡◌, ◌∙◌, ◌≤◌, ℕ, ◌||◌, if◌then◌else◌, List, [], ◌++◌, length, map, Option, Some, None, Ok, refl, sym, ap, subst}
+use Rattle.std.proofs.Common.{◌≡◌, ◌∙◌, ◌≤◌, ℕ, ◌||◌, Bool, false, if◌then◌else◌, List, [], ◌++◌, length, map, Option, Some, None, Ok, refl, sym, ap, subst}
 use Rattle.std.specs.Prelude.{nat_lt}
 use Rattle.std.specs.Int.Bits.{or_zero_r}
 use Rattle.std.specs.Int.RustNames.{bit_or}
@@ -9,7 +9,6 @@ use Rattle.m11_arguments.specs.Directives.{operator_in}
 use Rattle.m11_arguments.specs.LeftOvers.{rest_letters, skip_letters}
 use Rattle.m11_asm_faults.specs.declared.fault.AsmFault.TheVariants.{TooManySymbols}
 use Rattle.m11_base.specs.Devices.{Bytes}
-use Rattle.m11_base.specs.Rad50.{Name}
 use Rattle.m11_listing.specs.declared.items.Item.{Item}
 use Rattle.m11_scan.specs.Views.{bits_of}
 use Rattle.m11_statements.specs.Labels.{end_of, labels_at, labels_end}
@@ -24,7 +23,7 @@ use Rattle.m11_placement.specs.Changes.{Change, Keeps, changed}
 use Rattle.m11_placement.specs.Contents.{Put, nothing}
 use Rattle.m11_placement.specs.Items.{deed_items, is_shown}
 use Rattle.m11_placement.specs.Labels.{labels_letters, with_labels}
-use Rattle.m11_placement.specs.Limits.{limit_fault, local_count, most_local_symbols, most_names, most_sections, with_mentions}
+use Rattle.m11_placement.specs.Limits.{has_too_many, limit_fault, most_defined_names, most_local_symbols, most_names, most_sections}
 use Rattle.m11_placement.specs.Lines.{Rests, after_line, change_of, deed, deed_of, known_end, line_change, line_put, put_by, put_place, stands}
 use Rattle.m11_placement.specs.Meanings.{Map}
 use Rattle.m11_placement.specs.declared.meanings.Context.TheVariants.{Knows}
@@ -34,7 +33,10 @@ use Rattle.m11_placement.specs.declared.sections.Section.{Section}
 use Rattle.m11_placement.specs.declared.settings.Settings.{Settings}
 use Rattle.m11_placing.proofs.Alike.{alike_place, alike_section}
 use Rattle.m11_placing.specs.Deeds.{deed_seen}
-use Rattle.m11_placing.specs.Mentioned.{Gathered, with_all}
+use Rattle.m11_placing.proofs.Room.{few_told}
+use Rattle.m11_placing.specs.Counting.{names_counted, with_counted}
+use Rattle.m11_placing.specs.declared.counting.Counting.{Counting}
+use Rattle.m11_placing.specs.declared.counting.Counting.TheVariants.{Mentions, Definitions}
 use Rattle.m11_placing.specs.Moved.{moved_letters}
 use Rattle.m11_placing.specs.Passes.{Kept, Matches}
 use Rattle.m11_placing.specs.declared.deeds.Deed.TheVariants as code
@@ -47,6 +49,10 @@ use Rattle.m11_passes.specs.States.{Going}
 use Rattle.m11_passes.specs.Turns.{LeavesAfter, Places, Said}
 use Rattle.m11_passes.specs.declared.placed.LiveLine.{LiveLine}
 use Rattle.m11_passes.specs.declared.placed.PlacedLine.{PlacedLine}
+
+counts_none : (counting : Counting) → with_counted [] counting ≡ counting
+counts_none (Mentions gathered) = refl
+counts_none Definitions = refl
 
 module _ (live : Live) (stage : Stage) (blank : IsBlank live.line.text) (table : Table) where
   abbrev text : Bytes
@@ -92,28 +98,34 @@ module _ (live : Live) (stage : Stage) (blank : IsBlank live.line.text) (table :
       ++ deed_mentions (stands table line) text line.arguments (deed line.is_own text)) acts_so
       ∙ ap (deed_mentions (stands table line) text line.arguments) deed_so
 
-  gathered_so : (gathered : Gathered) → gathered ≡ with_all (mentions table line) gathered
-  gathered_so gathered = sym (ap (λ (ms : List Mention). with_all ms gathered) mentions_so)
+  counting_so : (counting : Counting) → counting ≡ with_counted (mentions table line) counting
+  counting_so counting = sym (ap (λ (ms : List Mention). with_counted ms counting) mentions_so ∙ counts_none counting)
 
   -- ---- limits
 
-  labels_fit : (names : List Name) → length names ≤ most_names → local_count table ≤ most_local_symbols
-      → labels_fault names table text ≡ None
-  labels_fit names few symbols =
-      ap (λ (ls : List Label). if nat_lt most_names (length (with_mentions (flat_map (label_mentions text) ls) names))
-      || nat_lt most_local_symbols (local_count (with_labels text table ls)) then Some TooManySymbols else None) blank.unlabelled
-      ∙ rw (within most_names (length names) few, within most_local_symbols (local_count table) symbols) refl
+  labels_fit : (counting : Counting) → length (names_counted counting) ≤ most_names → has_too_many table ≡ false
+      → labels_fault counting table text ≡ None
+  labels_fit counting few room =
+      ap (λ (ls : List Label).
+      if nat_lt most_names (length (names_counted (with_counted (flat_map (label_mentions text) ls) counting)))
+      || has_too_many (with_labels text table ls) then Some TooManySymbols else None) blank.unlabelled
+      ∙ ap (λ (c : Counting). if nat_lt most_names (length (names_counted c)) || has_too_many table then Some TooManySymbols else None)
+      (counts_none counting)
+      ∙ ap (λ (b : Bool). if b || has_too_many table then Some TooManySymbols else None)
+      (within most_names (length (names_counted counting)) few)
+      ∙ ap (λ (b : Bool). if b then Some TooManySymbols else None) room
 
   act_fits : act_fault stage text ≡ None
   act_fits = ap (fault_by stage) foreign_so
 
-  line_fits : (map_ : Map) (names : List Name) → length names ≤ most_names → local_count table ≤ most_local_symbols
-      → length table.sections ≤ most_sections → line_fault map_ table names live stage ≡ None
-  line_fits map_ names few symbols sections =
-      rw (labels_fit names few symbols, act_fits)
-      (ap (λ (ms : List Mention). of_limit (limit_fault (with_mentions ms names) (after_line map_ table line))) mentions_so
-      ∙ ap (λ (t : Table). of_limit (limit_fault names t)) (after_so map_)
-      ∙ ap of_limit (fits_limits names table few symbols sections))
+  line_fits : (map_ : Map) (counting : Counting) → length (names_counted counting) ≤ most_names → has_too_many table ≡ false
+      → length table.sections ≤ most_sections → line_fault map_ table counting live stage ≡ None
+  line_fits map_ counting few room sections =
+      rw (labels_fit counting few room, act_fits)
+      (ap (λ (ms : List Mention). of_limit (limit_fault (names_counted (with_counted ms counting)) (after_line map_ table line))) mentions_so
+      ∙ ap (λ (c : Counting). of_limit (limit_fault (names_counted c) (after_line map_ table line))) (counts_none counting)
+      ∙ ap (λ (t : Table). of_limit (limit_fault (names_counted counting) t)) (after_so map_)
+      ∙ ap of_limit (fits_limits (names_counted counting) table few room sections))
 
   -- ---- letters
 
@@ -164,20 +176,20 @@ module _ (live : Live) (stage : Stage) (blank : IsBlank live.line.text) (table :
 
 -- ---- the pass after it
 
-module _ (live : Live) (old : Going) (blank : IsBlank live.line.text) (symbols : old.kept.local_symbols ≤ most_local_symbols)
-    (sections : length old.kept.table.sections ≤ most_sections) (names : length old.gathered.names ≤ most_names) where
+module _ (live : Live) (old : Going) (blank : IsBlank live.line.text) (defined : old.kept.names ≤ most_defined_names)
+    (symbols : old.kept.local_symbols ≤ most_local_symbols) (sections : length old.kept.table.sections ≤ most_sections)
+    (names : length (names_counted old.counting) ≤ most_names) where
   leaves : (map_ : Map) (table : Table) (put : Put) → Matches old.kept table
       → LeavesAfter map_ table live old.unfolder.stage old (record old { put = put })
   leaves map_ table put matches =
-      let N : ℕ → Type 0 = λ n. n ≤ most_local_symbols in
       let S : List Section → Type 0 = λ l. length l ≤ most_sections in
       let T : Table → Type 0 = λ t. Matches old.kept t in
       record {
-        fits = line_fits live old.unfolder.stage blank table map_ old.gathered.names names (subst N matches.local_symbols symbols)
+        fits = line_fits live old.unfolder.stage blank table map_ old.counting names (few_told old.kept table matches defined symbols)
             (subst S matches.alike.sections sections);
         stage_is = stage_so live old.unfolder.stage blank table;
         matches = subst T (sym (after_so live old.unfolder.stage blank table map_)) matches;
-        gathered = gathered_so live old.unfolder.stage blank table old.gathered;
+        counting = counting_so live old.unfolder.stage blank table old.counting;
       }
 
   pub blank_places : (map_ : Map) (put : Put) (said : Said)

@@ -1,10 +1,9 @@
 -- Which faults a line of a pass can have: none of a device, and none of the count of source lines.
-use Rattle.std.proofs.Common.{◌≡◌, Bool, true, false, if◌then◌else◌, ◌||◌, nat_lt, List, length, Option, Some, None, IfSome, subst}
+use Rattle.std.proofs.Common.{◌≡◌, Bool, true, false, if◌then◌else◌, ◌||◌, nat_lt, length, Option, Some, None, IfSome, subst}
 use Rattle.std.specs.Option.{option_or}
 use Rattle.m11_asm_faults.specs.Faults.{of_unfolding}
 use Rattle.m11_asm_faults.specs.declared.fault.AsmFault.{AsmFault}
 use Rattle.m11_asm_faults.specs.declared.fault.AsmFault.TheVariants.{Read, Write, TooManySymbols, TooMuchSource}
-use Rattle.m11_base.specs.Rad50.{Name}
 use Rattle.m11_unfolding.specs.Acting.{act_fault}
 use Rattle.m11_unfolding.specs.Stages.{Stage}
 use Rattle.m11_unfolding.specs.Taking.{Live}
@@ -12,11 +11,13 @@ use Rattle.m11_unfolding.specs.declared.fault.UnfoldFault.{UnfoldFault}
 use Rattle.m11_unfolding.specs.declared.fault.UnfoldFault.TheVariants as limit
 use Rattle.m11_placement.specs.Labels.{labels_stand}
 use Rattle.m11_placement.specs.Limits as limits
-use Rattle.m11_placement.specs.Limits.{LimitFault, limit_fault, local_count, most_local_symbols, most_names, with_mentions}
+use Rattle.m11_placement.specs.Limits.{LimitFault, has_too_many, limit_fault, most_names}
 use Rattle.m11_placement.specs.Lines.{after_line}
 use Rattle.m11_placement.specs.Meanings.{Map}
 use Rattle.m11_placement.specs.Mentions.{mentions}
 use Rattle.m11_placement.specs.Tables.{Table}
+use Rattle.m11_placing.specs.Counting.{names_counted, with_counted}
+use Rattle.m11_placing.specs.declared.counting.Counting.{Counting}
 use Rattle.m11_passes.specs.Refusals.{act_refused, given_by, labels_fault, line_fault, mentions_of_labels, of_limit, placing_fault}
 
 abbrev pub IsOfPass : AsmFault → Type 0
@@ -46,15 +47,16 @@ places (Some limits.TooManySymbols) = tt
 places (Some limits.TooManySections) = tt
 places None = tt
 
-pub line_fault_is_of_pass : (map_ : Map) (table : Table) (names : List Name) (live : Live) (stage : Stage) (fault : AsmFault)
-    → line_fault map_ table names live stage ≡ Some fault → IsOfPass fault
-line_fault_is_of_pass map_ table names live stage fault is =
-    let placing : Option AsmFault = placing_fault map_ table names (given_by table live stage) in
+pub line_fault_is_of_pass : (map_ : Map) (table : Table) (counting : Counting) (live : Live) (stage : Stage) (fault : AsmFault)
+    → line_fault map_ table counting live stage ≡ Some fault → IsOfPass fault
+line_fault_is_of_pass map_ table counting live stage fault is =
+    let placing : Option AsmFault = placing_fault map_ table counting (given_by table live stage) in
     let acting : Option AsmFault = act_refused (act_fault stage live.line.text) in
     let P : Option AsmFault → Type 0 = λ f. IfSome f IsOfPass in
     subst P is
-    (first_or (labels_fault names table live.line.text) (option_or acting placing)
-    (symbols_if (nat_lt most_names (length (with_mentions (mentions_of_labels live.line.text) names))
-    || nat_lt most_local_symbols (local_count (labels_stand table live.line.text))))
+    (first_or (labels_fault counting table live.line.text) (option_or acting placing)
+    (symbols_if (nat_lt most_names (length (names_counted (with_counted (mentions_of_labels live.line.text) counting)))
+    || has_too_many (labels_stand table live.line.text)))
     (first_or acting placing (acts (act_fault stage live.line.text))
-    (places (limit_fault (with_mentions (mentions table (given_by table live stage)) names) (after_line map_ table (given_by table live stage))))))
+    (places (limit_fault (names_counted (with_counted (mentions table (given_by table live stage)) counting))
+    (after_line map_ table (given_by table live stage))))))

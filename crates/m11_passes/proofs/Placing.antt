@@ -1,5 +1,5 @@
 -- A live line goes through the calls of a pass as its definition says.
-use Rattle.std.proofs.Common.{◌≡◌, ◌∙◌, ◌<◌, ◌≤◌, ℕ, ◌+◌, Bool, true, false, cond, if◌then◌else◌, List, ◌++◌, length, map, append_assoc, Option, Some, None, refl, sym, ap, subst, arith}
+use Rattle.std.proofs.Common.{◌≡◌, ◌∙◌, ◌<◌, ◌≤◌, ℕ, ◌||◌, Bool, true, false, if◌then◌else◌, List, ◌++◌, length, map, append_assoc, Option, Some, None, refl, sym, ap, subst, arith}
 use Rattle.std.proofs.lemmas.Bool.Decides.{nat_tests}
 use Rattle.std.specs.Prelude.{nat_lt}
 use Rattle.m11_arguments.specs.Expressions.{Known}
@@ -21,7 +21,8 @@ use Rattle.m11_placement.specs.Contents.{Put}
 use Rattle.m11_placement.specs.Labels.{global_if, labels_stand, with_definition, with_doubled}
 use Rattle.m11_placement.specs.declared.definitions.Definition.{Definition}
 use Rattle.m11_placement.specs.declared.definitions.Key.TheVariants.{Named}
-use Rattle.m11_placement.specs.Limits.{is_local, limit_fault, local_count, most_local_symbols, most_names, most_sections, with_mentions}
+use Rattle.m11_placement.specs.Limits as limits
+use Rattle.m11_placement.specs.Limits.{has_too_many, limit_fault, most_defined_names, most_local_symbols, most_names, most_sections}
 use Rattle.m11_placement.specs.Lines.{after_line, deed, line_change, line_put, put_by, stands}
 use Rattle.m11_placement.specs.Meanings.{Map, empty_map, firm_known}
 use Rattle.m11_placement.specs.declared.meanings.Context.TheVariants.{Knows}
@@ -33,9 +34,11 @@ use Rattle.m11_placing.proofs.Alike.{alike_known, alike_place}
 use Rattle.m11_placing.proofs.Gathering.{all_joined}
 use Rattle.m11_placing.proofs.LinesAlike.{firm_alike}
 use Rattle.m11_placing.proofs.LinesTaken.{changes_as, line_mentioned, line_written}
-use Rattle.m11_placing.proofs.Passes.{counted_more}
+use Rattle.m11_placing.proofs.Room.{few_told}
 use Rattle.m11_placing.specs.Lines.{mentions_by}
-use Rattle.m11_placing.specs.Mentioned.{Gathered, with_all}
+use Rattle.m11_placing.specs.Counting.{names_counted, with_counted}
+use Rattle.m11_placing.specs.declared.counting.Counting.{Counting}
+use Rattle.m11_placing.specs.declared.counting.Counting.TheVariants.{Mentions, Definitions}
 use Rattle.m11_placing.specs.Passes.{Follows, Kept, Matches}
 use Rattle.m11_table.specs.Alike.{Alike}
 use Rattle.m11_passes.specs.Lines.{acted}
@@ -57,76 +60,95 @@ within most some few = grind (arith, nat_tests, few)
 past : (most some : ℕ) → most < some → nat_lt most some ≡ true
 past most some many = grind (arith, nat_tests, many)
 
-pub fits_limits : (names : List Name) (table : Table) → length names ≤ most_names → local_count table ≤ most_local_symbols
+pub fits_limits : (names : List Name) (table : Table) → length names ≤ most_names → has_too_many table ≡ false
     → length table.sections ≤ most_sections → limit_fault names table ≡ None
-fits_limits names table few symbols sections =
-    rw (
-      within most_names (length names) few,
-      within most_local_symbols (local_count table) symbols,
-      within most_sections (length table.sections) sections,
-    ) refl
+fits_limits names table few room sections =
+    limit_by (nat_lt most_names (length names)) (has_too_many table) (nat_lt most_sections (length table.sections))
+    (within most_names (length names) few) room ∙ ap (λ (b : Bool). if b then Some limits.TooManySections else None)
+    (within most_sections (length table.sections) sections)
+  where
+    limit_by : (names many sections : Bool) → names ≡ false → many ≡ false
+        → (if names || many then Some limits.TooManySymbols else (if sections then Some limits.TooManySections else None))
+        ≡ (if sections then Some limits.TooManySections else None)
+    limit_by names many sections few room =
+        ap (λ (b : Bool). if b || many then Some limits.TooManySymbols else (if sections then Some limits.TooManySections else None)) few
+        ∙ ap (λ (b : Bool). if b then Some limits.TooManySymbols else (if sections then Some limits.TooManySections else None)) room
 
 names_past : (names : List Name) (table : Table) → most_names < length names
     → of_limit (limit_fault names table) ≡ Some TooManySymbols
 names_past names table many = rw (past most_names (length names) many) refl
 
-sections_past : (names : List Name) (table : Table) → length names ≤ most_names → local_count table ≤ most_local_symbols
+or_true : (b : Bool) → (b || true) ≡ true
+or_true true = refl
+or_true false = refl
+
+-- the table has too many names or local symbols
+table_past : (names : List Name) (table : Table) → has_too_many table ≡ true
+    → of_limit (limit_fault names table) ≡ Some TooManySymbols
+table_past names table many =
+    ap (λ (b : Bool). of_limit (if b then Some limits.TooManySymbols
+    else (if nat_lt most_sections (length table.sections) then Some limits.TooManySections else None)))
+    (ap (λ (b : Bool). nat_lt most_names (length names) || b) many ∙ or_true (nat_lt most_names (length names)))
+
+sections_past : (names : List Name) (table : Table) → length names ≤ most_names → has_too_many table ≡ false
     → most_sections < length table.sections → of_limit (limit_fault names table) ≡ Some TooManySections
-sections_past names table few symbols many =
-    rw (
-      within most_names (length names) few,
-      within most_local_symbols (local_count table) symbols,
-      past most_sections (length table.sections) many,
-    ) refl
+sections_past names table few room many =
+    ap (λ (b : Bool). of_limit (if b then Some limits.TooManySymbols
+    else (if nat_lt most_sections (length table.sections) then Some limits.TooManySections else None)))
+    (ap (λ (b : Bool). b || has_too_many table) (within most_names (length names) few) ∙ room)
+    ∙ ap (λ (b : Bool). of_limit (if b then Some limits.TooManySections else None)) (past most_sections (length table.sections) many)
 
--- ---- local symbols: no operator defines one
+-- ---- a change after which there are more sections than may be selects one, so that it defines nothing
 
-one_more : (count : ℕ) → count + 0 ≡ count
-one_more count = omega arith
+too_few : (some : ℕ) → some ≤ most_sections → most_sections < some → ⊥
+too_few some few many = omega (arith, few, many)
 
-named_counts : (definition : Definition) (table : Table) → is_local definition.key ≡ false
-    → local_count (with_definition definition table) ≡ local_count table
-named_counts definition table named =
-    counted_more definition table.definitions table refl
-    ∙ ap (λ (b : Bool). local_count table + cond b 1 0) named ∙ one_more (local_count table)
+choice_sections : (choice : Bool) (one other : Table) (sections : List Section) → one.sections ≡ sections → other.sections ≡ sections
+    → (if choice then one else other).sections ≡ sections
+choice_sections true one other sections first second = first
+choice_sections false one other sections first second = second
 
-choice_counts : (choice : Bool) (one other : Table) (count : ℕ) → local_count one ≡ count → local_count other ≡ count
-    → local_count (if choice then one else other) ≡ count
-choice_counts true one other count first second = first
-choice_counts false one other count first second = second
+global_sections : (is_global : Bool) (name : Name) (table : Table) → (global_if is_global name table).sections ≡ table.sections
+global_sections true name table = refl
+global_sections false name table = refl
 
-global_counts : (is_global : Bool) (name : Name) (table : Table) → local_count (global_if is_global name table) ≡ local_count table
-global_counts true name table = refl
-global_counts false name table = refl
-
-changed_counts : (map_ : Map) (line : Bytes) (change : Change) (table : Table)
-    → local_count (changed map_ line change table) ≡ local_count table
-changed_counts map_ line Keeps table = refl
-changed_counts map_ line (Counts move) table = refl
-changed_counts map_ line (Selects name attributes) table = refl
-changed_counts map_ line (Assigns name is_global start) table =
-    global_counts (becomes_global is_global name table) name (with_assigned map_ (Named name) line start table)
-    ∙ choice_counts (is_labelled (Named name) table.definitions) (with_doubled (Named name) table)
-    (with_definition (assigned map_ table (Named name) line start) table) (local_count table) refl
-    (named_counts (assigned map_ table (Named name) line start) table refl)
-changed_counts map_ line (Numbers name number) table =
-    choice_counts (is_labelled (Named name) table.definitions) (with_doubled (Named name) table)
-    (with_definition (numbered name number) table) (local_count table) refl (named_counts (numbered name number) table refl)
-changed_counts map_ line (Exports start) table = refl
-changed_counts map_ line (Sets settings) table = refl
+selects_only : (map_ : Map) (line : Bytes) (change : Change) (table : Table) → length table.sections ≤ most_sections
+    → most_sections < length (changed map_ line change table).sections
+    → has_too_many (changed map_ line change table) ≡ has_too_many table
+selects_only map_ line Keeps table few many = refl
+selects_only map_ line (Counts move) table few many = refl
+selects_only map_ line (Selects name attributes) table few many = refl
+selects_only map_ line (Assigns name is_global start) table few many =
+    let M : List Section → Type 0 = λ l. most_sections < length l in
+    absurd (too_few (length table.sections) few
+    (subst M (global_sections (becomes_global is_global name table) name (with_assigned map_ (Named name) line start table)
+    ∙ choice_sections (is_labelled (Named name) table.definitions) (with_doubled (Named name) table)
+    (with_definition (assigned map_ table (Named name) line start) table) table.sections refl refl) many))
+selects_only map_ line (Numbers name number) table few many =
+    let M : List Section → Type 0 = λ l. most_sections < length l in
+    absurd (too_few (length table.sections) few
+    (subst M (choice_sections (is_labelled (Named name) table.definitions) (with_doubled (Named name) table)
+    (with_definition (numbered name number) table) table.sections refl refl) many))
+selects_only map_ line (Exports start) table few many = refl
+selects_only map_ line (Sets settings) table few many = refl
 
 -- ---- mentions in two parts
 
-mentioned_then : (table : Table) (given : Given) (gathered : Gathered)
-    → with_all (mentions table given) gathered
-    ≡ with_all (map (mention Knows) given.notes.symbols ++ mentions_by (stands table given) given)
-    (with_all (mentions_of_labels given.live.line.text) gathered)
-mentioned_then table given gathered =
-    ap (λ (ms : List Mention). with_all ms gathered)
+counted_joined : (first second : List Mention) (counting : Counting)
+    → with_counted (first ++ second) counting ≡ with_counted second (with_counted first counting)
+counted_joined first second (Mentions gathered) = ap Mentions (all_joined first second gathered)
+counted_joined first second Definitions = refl
+
+mentioned_then : (table : Table) (given : Given) (counting : Counting)
+    → with_counted (mentions table given) counting
+    ≡ with_counted (map (mention Knows) given.notes.symbols ++ mentions_by (stands table given) given)
+    (with_counted (mentions_of_labels given.live.line.text) counting)
+mentioned_then table given counting =
+    ap (λ (ms : List Mention). with_counted ms counting)
     (append_assoc (mentions_of_labels given.live.line.text) (map (mention Knows) given.notes.symbols)
     (mentions_by (stands table given) given))
-    ∙ all_joined (mentions_of_labels given.live.line.text)
-    (map (mention Knows) given.notes.symbols ++ mentions_by (stands table given) given) gathered
+    ∙ counted_joined (mentions_of_labels given.live.line.text)
+    (map (mention Knows) given.notes.symbols ++ mentions_by (stands table given) given) counting
 
 -- ---- one line, by the table before it
 
@@ -143,7 +165,7 @@ pub record IsActOf (known : Known) (text : Bytes) (before after : Stage) (done :
   pub notes_are : done.notes ≡ (act known before text).notes
   pub arguments_are : done.arguments ≡ argument_count before.left
 
-module _ (map_ : Map) (table : Table) (live : Live) (before after : Stage) (done : Act) (stood : Kept) (gathered : Gathered)
+module _ (map_ : Map) (table : Table) (live : Live) (before after : Stage) (done : Act) (stood : Kept) (counting : Counting)
     (stand : Matches stood (labels_stand table live.line.text))
     (acts : IsActOf (known_after_labels stood.table) live.line.text before after done) where
   abbrev text : Bytes
@@ -189,11 +211,11 @@ module _ (map_ : Map) (table : Table) (live : Live) (before after : Stage) (done
       ap (λ (n : Notes). map (mention Knows) n.symbols ++ deed_mentions stood.table text done.arguments (deed done.is_own text)) notes_so
       ∙ ap (λ (ms : List Mention). map (mention Knows) line.notes.symbols ++ ms) operator_mentions_so
 
-  pub gathered_so : with_all (mentions_after stood.table text done.notes done.arguments (deed done.is_own text))
-      (with_all (mentions_of_labels text) gathered) ≡ with_all (mentions table line) gathered
-  gathered_so =
-      ap (λ (ms : List Mention). with_all ms (with_all (mentions_of_labels text) gathered)) mentions_so
-      ∙ sym (mentioned_then table line gathered)
+  pub counting_so : with_counted (mentions_after stood.table text done.notes done.arguments (deed done.is_own text))
+      (with_counted (mentions_of_labels text) counting) ≡ with_counted (mentions table line) counting
+  counting_so =
+      ap (λ (ms : List Mention). with_counted ms (with_counted (mentions_of_labels text) counting)) mentions_so
+      ∙ sym (mentioned_then table line counting)
 
   change_so : change_after stood.table text done.arguments (deed done.is_own text)
       ≡ change_after stood.table text line.arguments (deed line.is_own text)
@@ -203,57 +225,66 @@ module _ (map_ : Map) (table : Table) (live : Live) (before after : Stage) (done
 
   -- ---- a refusal
 
-  module _ (fits : labels_fault gathered.names table text ≡ None) where
+  module _ (fits : labels_fault counting table text ≡ None) where
     -- unfolding refuses
     acting_refused : (fault : UnfoldFault) → act_fault before text ≡ Some fault
-        → line_fault map_ table gathered.names live before ≡ Some (of_unfolding fault)
+        → line_fault map_ table counting live before ≡ Some (of_unfolding fault)
     acting_refused fault refused = rw (fits, refused) refl
 
     -- what is mentioned passes a limit
-    pub mentions_refused : most_names < length (with_all (mentions_after stood.table text done.notes done.arguments
-        (deed done.is_own text)) (with_all (mentions_of_labels text) gathered)).names
-        → line_fault map_ table gathered.names live before ≡ Some TooManySymbols
+    pub mentions_refused : most_names < length (names_counted (with_counted (mentions_after stood.table text done.notes done.arguments
+        (deed done.is_own text)) (with_counted (mentions_of_labels text) counting)))
+        → line_fault map_ table counting live before ≡ Some TooManySymbols
     mentions_refused many =
-        let P : Gathered → Type 0 = λ g. most_names < length g.names in
-        let there = subst P gathered_so many in
+        let P : Counting → Type 0 = λ g. most_names < length (names_counted g) in
+        let there = subst P counting_so many in
         rw (fits, acts.fits)
-        (names_past (with_mentions (mentions table line) gathered.names) (after_line map_ table line) there)
+        (names_past (names_counted (with_counted (mentions table line) counting)) (after_line map_ table line) there)
 
     -- ---- what is mentioned stays within its limit
 
-    module _ (named : Gathered) (named_are : named ≡ with_all (mentions_of_labels text) gathered) (after_all : Gathered)
-        (all_are : after_all ≡ with_all (mentions_after stood.table text done.notes done.arguments (deed done.is_own text)) named)
+    module _ (named : Counting) (named_are : named ≡ with_counted (mentions_of_labels text) counting) (after_all : Counting)
+        (all_are : after_all ≡ with_counted (mentions_after stood.table text done.notes done.arguments (deed done.is_own text)) named)
       where
-        pub all_so : after_all ≡ with_all (mentions table line) gathered
+        pub all_so : after_all ≡ with_counted (mentions table line) counting
         all_so =
             all_are
-            ∙ ap (with_all (mentions_after stood.table text done.notes done.arguments (deed done.is_own text))) named_are
-            ∙ gathered_so
+            ∙ ap (with_counted (mentions_after stood.table text done.notes done.arguments (deed done.is_own text))) named_are
+            ∙ counting_so
 
         -- ---- what changes
 
         pub change_is : change_after stood.table text done.arguments (deed done.is_own text) ≡ line_change (firm_table (stands table line)) line
         change_is = change_so ∙ changes_as stood.table (stands table line) line stand.alike
 
-        module _ (few : length after_all.names ≤ most_names) where
-          few_mentioned : length (with_mentions (mentions table line) gathered.names) ≤ most_names
-          few_mentioned = let P : Gathered → Type 0 = λ g. length g.names ≤ most_names in subst P all_so few
+        -- a name that the line defines is one too many
+        pub defined_refused : has_too_many (changed map_ text
+            (change_after stood.table text done.arguments (deed done.is_own text)) (labels_stand table text)) ≡ true
+            → line_fault map_ table counting live before ≡ Some TooManySymbols
+        defined_refused many =
+            let P : Change → Type 0 = λ c. has_too_many (changed map_ text c (labels_stand table text)) ≡ true in
+            rw (fits, acts.fits)
+            (table_past (names_counted (with_counted (mentions table line) counting)) (after_line map_ table line) (subst P change_is many))
 
-          few_symbols : stood.local_symbols ≤ most_local_symbols → local_count (labels_stand table text) ≤ most_local_symbols
-          few_symbols within = let P : ℕ → Type 0 = λ n. n ≤ most_local_symbols in subst P stand.local_symbols within
+        module _ (few : length (names_counted after_all) ≤ most_names) where
+          few_mentioned : length (names_counted (with_counted (mentions table line) counting)) ≤ most_names
+          few_mentioned = let P : Counting → Type 0 = λ g. length (names_counted g) ≤ most_names in subst P all_so few
 
           -- its section is one too many
-          pub sections_refused : stood.local_symbols ≤ most_local_symbols
+          pub sections_refused : stood.names ≤ most_defined_names → stood.local_symbols ≤ most_local_symbols
+              → length stood.table.sections ≤ most_sections
               → most_sections < length (changed map_ text
               (change_after stood.table text done.arguments (deed done.is_own text)) (labels_stand table text)).sections
-              → line_fault map_ table gathered.names live before ≡ Some TooManySections
-          sections_refused symbols many =
+              → line_fault map_ table counting live before ≡ Some TooManySections
+          sections_refused names symbols sections many =
               let P : Change → Type 0 = λ c. most_sections < length (changed map_ text c (labels_stand table text)).sections in
-              let N : ℕ → Type 0 = λ n. n ≤ most_local_symbols in
-              let same = changed_counts map_ text (line_change (firm_table (stands table line)) line) (labels_stand table text) in
+              let S : List Section → Type 0 = λ l. length l ≤ most_sections in
+              let past = subst P change_is many in
+              let same = selects_only map_ text (line_change (firm_table (stands table line)) line) (labels_stand table text)
+              (subst S stand.alike.sections sections) past in
               rw (fits, acts.fits)
-              (sections_past (with_mentions (mentions table line) gathered.names) (after_line map_ table line) few_mentioned
-              (subst N (sym same) (few_symbols symbols)) (subst P change_is many))
+              (sections_past (names_counted (with_counted (mentions table line) counting)) (after_line map_ table line) few_mentioned
+              (same ∙ few_told stood (labels_stand table text) stand names symbols) past)
 
           module _ (new : Kept)
               (follows : Follows stood new
@@ -264,12 +295,11 @@ module _ (map_ : Map) (table : Table) (live : Live) (before after : Stage) (done
                 subst P change_is (follows (labels_stand table text) stand)
 
             -- the line passes no limit
-            pub line_fits : new.local_symbols ≤ most_local_symbols → length new.table.sections ≤ most_sections
-                → line_fault map_ table gathered.names live before ≡ None
-            line_fits symbols sections =
-                let S : ℕ → Type 0 = λ n. n ≤ most_local_symbols in
+            pub line_fits : new.names ≤ most_defined_names → new.local_symbols ≤ most_local_symbols
+                → length new.table.sections ≤ most_sections → line_fault map_ table counting live before ≡ None
+            line_fits names symbols sections =
                 let L : List Section → Type 0 = λ s. length s ≤ most_sections in
                 rw (fits, acts.fits)
                 (ap of_limit
-                (fits_limits (with_mentions (mentions table line) gathered.names) (after_line map_ table line) few_mentioned
-                (subst S matches_so.local_symbols symbols) (subst L matches_so.alike.sections sections)))
+                (fits_limits (names_counted (with_counted (mentions table line) counting)) (after_line map_ table line) few_mentioned
+                (few_told new (after_line map_ table line) matches_so names symbols) (subst L matches_so.alike.sections sections)))

@@ -23,4 +23,4 @@ pub turns_nowhere : (map : Map) (going : Going) (live : Live) (said : Said) → 
     → Turns map going going live said (Ok NeedLine)
 turns_nowhere map going live said is =
     let rests = rested going.unfolder.stage.left going.unfolder.stage.has_ended is in
-    ((unfolded.Leads.Stays, rests.0, rests.1), record { kept = refl; gathered = refl })
+    ((unfolded.Leads.Stays, rests.0, rests.1), record { kept = refl; counting = refl })

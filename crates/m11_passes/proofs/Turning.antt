@@ -18,7 +18,9 @@ use Rattle.m11_placement.specs.declared.settings.Settings.{Settings}
 use Rattle.m11_placing.proofs.Gathering.{added_then, failed_first}
 use Rattle.m11_placing.proofs.Refusals.{handed_on}
 use Rattle.m11_placing.specs.Faults.{Refuses}
+use Rattle.m11_placing.specs.Counting.{with_counted}
 use Rattle.m11_placing.specs.Mentioned.{Gathered, with_all}
+use Rattle.m11_placing.specs.declared.counting.Counting.{Counting}
 use Rattle.m11_placing.specs.Passes.{Kept, Matches}
 use Rattle.m11_passes.proofs.Counting.{leads_takes}
 use Rattle.m11_passes.specs.Bounds.{HasRoom}
@@ -114,7 +116,7 @@ module _ (map_ : Map) (old new : Going) (said : Said) where
 
   pub line_fails : (live here : Live) (stage : Stage) (fault : AsmFault) (result : Result Turn AsmFault)
       → Comes old.unfolder.stage live stage
-      → ((table : Table) → Matches old.kept table → Fails (line_fault map_ table old.gathered.names live stage) fault)
+      → ((table : Table) → Matches old.kept table → Fails (line_fault map_ table old.counting live stage) fault)
       → IsErrAnd result (λ f. f ≡ fault) → Turns map_ old new here said result
   line_fails live here stage fault (Ok turn) comes fails is = absurd is
   line_fails live here stage fault (Err other) comes fails is =
@@ -122,9 +124,9 @@ module _ (map_ : Map) (old new : Going) (said : Said) where
       subst P (sym is) (turning.FailsAt.AtLine live stage comes fails)
 
   pub line_places : (middle : Going) (live here : Live) (stage : Stage) → here ≡ live
-      → middle.kept ≡ old.kept → middle.gathered ≡ old.gathered
+      → middle.kept ≡ old.kept → middle.counting ≡ old.counting
       → Comes old.unfolder.stage live stage → Places map_ live stage middle new said (Ok tt) → PlacesNext map_ old new here said
-  line_places middle live here stage same kept gathered comes places =
+  line_places middle live here stage same kept counting comes places =
       let L : Live → Type 0 = λ l. PlacesNext map_ old new l said in
       subst L (sym same) (record {
         stage = stage;
@@ -134,10 +136,10 @@ module _ (map_ : Map) (old new : Going) (said : Said) where
             let after : PlacesAfter map_ table live stage middle new said = places table (subst K (sym kept) matches) in
             record {
               leaves = record {
-                fits = ap (λ (g : Gathered). line_fault map_ table g.names live stage) (sym gathered) ∙ after.leaves.fits;
+                fits = ap (λ (c : Counting). line_fault map_ table c live stage) (sym counting) ∙ after.leaves.fits;
                 stage_is = after.leaves.stage_is;
                 matches = after.leaves.matches;
-                gathered = after.leaves.gathered ∙ ap (with_all (mentions table (given_by table live stage))) gathered;
+                counting = after.leaves.counting ∙ ap (with_counted (mentions table (given_by table live stage))) counting;
               };
               is_said = after.is_said;
             };

@@ -17,7 +17,7 @@ use Rattle.m11_placement.specs.Meanings.{Map}
 use Rattle.m11_placement.specs.Tables.{Table}
 use Rattle.m11_placement.specs.Unfolded.{known_after_labels}
 use Rattle.m11_placing.specs.Deeds.{deed_fields, deed_seen}
-use Rattle.m11_placing.specs.Mentioned.{with_all}
+use Rattle.m11_placing.specs.Counting.{with_counted}
 use Rattle.m11_placing.specs.Passes.{Matches}
 use Rattle.m11_placing.specs.declared.deeds.Deed.{Deed}
 use Rattle.m11_passes.specs.Faults.{Fails}
@@ -35,8 +35,8 @@ pub record States (live : Live) (statement : Statement) : Type 0 where
 
 -- from before the line to where its labels stand and unfolding has done its operator
 pub record Begins (map : Map) (live : Live) (old new : Going) (does : Deed) (begun : Begun) : Type 0 where
-  pub labels : Labels map old.gathered.names live.line.text old.kept new.kept begun.found
-  pub named : new.gathered ≡ with_all (mentions_of_labels live.line.text) old.gathered
+  pub labels : Labels map old.counting live.line.text old.kept new.kept begun.found
+  pub named : new.counting ≡ with_counted (mentions_of_labels live.line.text) old.counting
   pub acts : Acts (known_after_labels new.kept.table) live.line.text old.unfolder.stage new.unfolder.stage (Ok begun.act)
   pub deed_is : deed_seen does ≡ deed begun.act.is_own live.line.text
   pub fields_are : fields_seen begun.fields ≡ deed_fields new.kept.table live.line.text does
@@ -46,4 +46,4 @@ abbrev pub Finishes : Map → Live → Stage → Going → Going → Result (Opt
 Finishes map live stage old new (Ok item) = (table : Table) → Matches old.kept table
     → LeavesAfter map table live stage old new × (option_to_list item ≡ assigned_items map table (given_by table live stage))
 Finishes map live stage old new (Err fault) =
-    (table : Table) → Matches old.kept table → Fails (line_fault map table old.gathered.names live stage) fault
+    (table : Table) → Matches old.kept table → Fails (line_fault map table old.counting live stage) fault

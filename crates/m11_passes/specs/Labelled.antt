@@ -1,38 +1,39 @@
 -- What the labels of a line leave. (MACRO-11 Language Reference Manual, "Label field", "Local symbols" and "Diagnostic error message
 -- summary", M and P.)
-use Rattle.std.specs.Prelude.{◌≡◌, ◌≤◌, ◌⊎◌, List, None, length}
+use Rattle.std.specs.Prelude.{◌≡◌, ◌≤◌, ◌⊎◌, false, None, length}
 use Rattle.std.specs.List.{flat_map}
 use Rattle.m11_base.specs.Devices.{Bytes}
-use Rattle.m11_base.specs.Rad50.{Name}
 use Rattle.m11_scan.specs.Views.{bits_of}
 use Rattle.m11_statements.specs.Labels.{labels_at}
 use Rattle.m11_placement.specs.Labels.{labels_letters, labels_stand, with_labels}
-use Rattle.m11_placement.specs.Limits.{local_count, most_local_symbols, most_names}
+use Rattle.m11_placement.specs.Limits.{has_too_many, most_names}
 use Rattle.m11_placement.specs.Meanings.{Map}
 use Rattle.m11_placement.specs.Mentions.{label_mentions}
 use Rattle.m11_placement.specs.Tables.{Table}
 use Rattle.m11_placing.specs.Labels.{FitsUpToLabel}
-use Rattle.m11_placing.specs.Mentioned.{Gathered, with_all}
+use Rattle.m11_placing.specs.Counting.{names_counted, with_counted}
 use Rattle.m11_placing.specs.Moved.{moved_letters}
 use Rattle.m11_placing.specs.Passes.{Kept, Matches}
+use Rattle.m11_placing.specs.declared.counting.Counting.{Counting}
 use Rattle.m11_placing.specs.declared.labels.LabelLetters.{LabelLetters}
 use Rattle.m11_passes.specs.Refusals.{labels_fault, mentions_of_labels}
 
-pub record LabelsStand (map : Map) (names : List Name) (line : Bytes) (table : Table) (new : Kept) (letters : LabelLetters) : Type 0 where
-  pub fits : labels_fault names table line ≡ None
+pub record LabelsStand (map : Map) (counting : Counting) (line : Bytes) (table : Table) (new : Kept) (letters : LabelLetters) : Type 0 where
+  pub fits : labels_fault counting table line ≡ None
   pub matches : Matches new (labels_stand table line)
   pub doubled : bits_of letters.doubled ≡ labels_letters line table (labels_at line)
   pub moved : bits_of letters.moved ≡ moved_letters map line table (labels_at line)
 
 -- whatever the lines before it are
-abbrev pub Labels : Map → List Name → Bytes → Kept → Kept → LabelLetters → Type 0
-Labels map names line old new letters =
-    (table : Table) → Matches old table → LabelsStand map names line table new letters
+abbrev pub Labels : Map → Counting → Bytes → Kept → Kept → LabelLetters → Type 0
+Labels map counting line old new letters =
+    (table : Table) → Matches old table → LabelsStand map counting line table new letters
 
--- memory was refused at one of the labels: the names up to it are none too many, or all names are none too many, and neither are the local
--- symbols up to it
-abbrev pub FitUpToOne : Gathered → Table → Bytes → Type 0
+-- memory was refused at one of the labels: the names that are counted up to it are none too many, or all that are counted are none too
+-- many, and neither are the names and local symbols that the table defines up to it
+abbrev pub FitUpToOne : Counting → Table → Bytes → Type 0
 FitUpToOne old table line =
-    FitsUpToLabel (labels_at line) (λ some. length (with_all (flat_map (label_mentions line) some) old).names ≤ most_names)
-    ⊎ ((length (with_all (mentions_of_labels line) old).names ≤ most_names)
-    × FitsUpToLabel (labels_at line) (λ some. local_count (with_labels line table some) ≤ most_local_symbols))
+    FitsUpToLabel (labels_at line)
+    (λ some. length (names_counted (with_counted (flat_map (label_mentions line) some) old)) ≤ most_names)
+    ⊎ ((length (names_counted (with_counted (mentions_of_labels line) old)) ≤ most_names)
+    × FitsUpToLabel (labels_at line) (λ some. has_too_many (with_labels line table some) ≡ false))

@@ -2,7 +2,6 @@
 -- one is read, and what is asked at a live line is said by the lines before it. No line passes a limit. (MACRO-11 Language Reference
 -- Manual, "Source program format", "Macro directives" and "Symbols and expressions".)
 use Rattle.std.specs.Prelude.{◌≡◌, ℕ, false, List, [], ◌∷◌, ◌++◌, length, map, None}
-use Rattle.m11_base.specs.Rad50.{Name}
 use Rattle.m11_expansions.specs.Left.{Line}
 use Rattle.m11_lines.specs.Line.{SourceLine}
 use Rattle.m11_unfolding.specs.Acting.{act}
@@ -10,10 +9,13 @@ use Rattle.m11_unfolding.specs.Limits.{next_fault}
 use Rattle.m11_unfolding.specs.Stages.{Stage, start}
 use Rattle.m11_unfolding.specs.Taking.{Gives, Live, move}
 use Rattle.m11_unfolding.specs.Unfolding.{Given, Leads}
-use Rattle.m11_placement.specs.Limits.{names_after}
+use Rattle.m11_placement.specs.Lines.{after_line}
 use Rattle.m11_placement.specs.Meanings.{Map}
+use Rattle.m11_placement.specs.Mentions.{mentions}
 use Rattle.m11_placement.specs.Placements.{table_after}
 use Rattle.m11_placement.specs.Tables.{Table, first_table}
+use Rattle.m11_placing.specs.Counting.{with_counted}
+use Rattle.m11_placing.specs.declared.counting.Counting.{Counting}
 use Rattle.m11_passes.specs.Refusals.{given_by, line_fault}
 
 -- a live line, and the number of lines of the source that were read when it became live
@@ -30,12 +32,17 @@ given_in line = line.given
 abbrev pub givens : List Numbered → List Given
 givens lines = map given_in lines
 
--- the table after some lines, and the names that they mention after others
+-- the table after some lines, and which names count after them
 abbrev pub table_at : Map → List Numbered → Table
 table_at map lines = table_after map (givens lines)
 
-abbrev pub names_at : Map → List Name → List Numbered → List Name
-names_at map names lines = names_after map first_table (givens lines) names
+abbrev pub counting_after : Map → Table → List Given → Counting → Counting
+counting_after map table [] counting = counting
+counting_after map table (given ∷ lines) counting =
+    counting_after map (after_line map table given) lines (with_counted (mentions table given) counting)
+
+abbrev pub counting_at : Map → Counting → List Numbered → Counting
+counting_at map counting lines = counting_after map first_table (givens lines) counting
 
 -- one more line of the source is there to be taken
 abbrev pub with_line : SourceLine → Stage → Stage
@@ -49,20 +56,20 @@ acted table live stage = (act (given_by table live stage).known stage live.line.
 abbrev pub Passed : Stage → Stage → Type 0
 Passed before after = Leads before [] after
 
--- the live lines of a source, under a map and after the names of an earlier pass, up to a stage of its unfolding
-pub data PassLines (map : Map) (names : List Name) : List SourceLine → List Numbered → Stage → Type 0 where
-  Begins : PassLines map names [] [] (start [])
+-- the live lines of a source, under a map and by which names count in a reading, up to a stage of its unfolding
+pub data PassLines (map : Map) (counting : Counting) : List SourceLine → List Numbered → Stage → Type 0 where
+  Begins : PassLines map counting [] [] (start [])
   -- the next line of the source is read where nothing is left to take, and `.END` didn't come
   Reading : (source : List SourceLine) (lines : List Numbered) (stage : Stage) (line : SourceLine)
-      → PassLines map names source lines stage → stage.left ≡ [] → stage.has_ended ≡ false
-      → PassLines map names (source ++ line ∷ []) lines (with_line line stage)
+      → PassLines map counting source lines stage → stage.left ≡ [] → stage.has_ended ≡ false
+      → PassLines map counting (source ++ line ∷ []) lines (with_line line stage)
   -- something is taken, and no line becomes live
   Passing : (source : List SourceLine) (lines : List Numbered) (before after : Stage)
-      → PassLines map names source lines before → Passed before after → PassLines map names source lines after
+      → PassLines map counting source lines before → Passed before after → PassLines map counting source lines after
   -- a line becomes live, and is placed
   Placing : (source : List SourceLine) (lines : List Numbered) (before after : Stage) (live : Live)
-      → PassLines map names source lines before → next_fault before ≡ None → move before ≡ Gives live after
-      → line_fault map (table_at map lines) (names_at map names lines) live after ≡ None
-      → PassLines map names source
+      → PassLines map counting source lines before → next_fault before ≡ None → move before ≡ Gives live after
+      → line_fault map (table_at map lines) (counting_at map counting lines) live after ≡ None
+      → PassLines map counting source
       (lines ++ numbered (length source) (given_by (table_at map lines) live after) ∷ [])
       (acted (table_at map lines) live after)

@@ -8,7 +8,6 @@ use Rattle.m11_asm_faults.specs.Faults.{of_unfolding}
 use Rattle.m11_asm_faults.specs.declared.fault.AsmFault.{AsmFault}
 use Rattle.m11_asm_faults.specs.declared.fault.AsmFault.TheVariants.{TooManySymbols, TooManySections}
 use Rattle.m11_base.specs.Devices.{Bytes}
-use Rattle.m11_base.specs.Rad50.{Name}
 use Rattle.m11_statements.specs.Labels.{labels_at}
 use Rattle.m11_unfolding.specs.Acting.{act_fault}
 use Rattle.m11_unfolding.specs.Stages.{Stage}
@@ -17,12 +16,14 @@ use Rattle.m11_unfolding.specs.Unfolding.{Given, given}
 use Rattle.m11_unfolding.specs.declared.fault.UnfoldFault.{UnfoldFault}
 use Rattle.m11_placement.specs.Labels.{labels_stand}
 use Rattle.m11_placement.specs.Limits as limits
-use Rattle.m11_placement.specs.Limits.{LimitFault, limit_fault, local_count, most_local_symbols, most_names, with_mentions}
+use Rattle.m11_placement.specs.Limits.{LimitFault, has_too_many, limit_fault, most_names}
 use Rattle.m11_placement.specs.Lines.{after_line}
 use Rattle.m11_placement.specs.Meanings.{Map}
 use Rattle.m11_placement.specs.Mentions.{Mention, label_mentions, mentions}
 use Rattle.m11_placement.specs.Tables.{Table}
 use Rattle.m11_placement.specs.Unfolded.{known_after_labels}
+use Rattle.m11_placing.specs.Counting.{names_counted, with_counted}
+use Rattle.m11_placing.specs.declared.counting.Counting.{Counting}
 
 abbrev pub act_refused : Option UnfoldFault → Option AsmFault
 act_refused (Some fault) = Some (of_unfolding fault)
@@ -38,10 +39,10 @@ of_limit None = None
 abbrev pub mentions_of_labels : Bytes → List Mention
 mentions_of_labels line = flat_map (label_mentions line) (labels_at line)
 
-abbrev pub labels_fault : List Name → Table → Bytes → Option AsmFault
-labels_fault names table line =
-    if nat_lt most_names (length (with_mentions (mentions_of_labels line) names))
-    || nat_lt most_local_symbols (local_count (labels_stand table line)) then Some TooManySymbols else None
+abbrev pub labels_fault : Counting → Table → Bytes → Option AsmFault
+labels_fault counting table line =
+    if nat_lt most_names (length (names_counted (with_counted (mentions_of_labels line) counting)))
+    || has_too_many (labels_stand table line) then Some TooManySymbols else None
 
 -- ---- a line
 
@@ -49,12 +50,12 @@ labels_fault names table line =
 abbrev pub given_by : Table → Live → Stage → Given
 given_by table live stage = given (known_after_labels (labels_stand table live.line.text)) live stage
 
-abbrev pub placing_fault : Map → Table → List Name → Given → Option AsmFault
-placing_fault map table names given =
-    of_limit (limit_fault (with_mentions (mentions table given) names) (after_line map table given))
+abbrev pub placing_fault : Map → Table → Counting → Given → Option AsmFault
+placing_fault map table counting given =
+    of_limit (limit_fault (names_counted (with_counted (mentions table given) counting)) (after_line map table given))
 
--- of a line that became live, after a table and after names
-abbrev pub line_fault : Map → Table → List Name → Live → Stage → Option AsmFault
-line_fault map table names live stage =
-    option_or (labels_fault names table live.line.text)
-    (option_or (act_refused (act_fault stage live.line.text)) (placing_fault map table names (given_by table live stage)))
+-- of a line that became live, after a table, by which names count
+abbrev pub line_fault : Map → Table → Counting → Live → Stage → Option AsmFault
+line_fault map table counting live stage =
+    option_or (labels_fault counting table live.line.text)
+    (option_or (act_refused (act_fault stage live.line.text)) (placing_fault map table counting (given_by table live stage)))

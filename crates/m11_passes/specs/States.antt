@@ -3,23 +3,19 @@ use Rattle.std.specs.Prelude.{◌≡◌, false, List, [], ◌∷◌, Option, Som
 use Rattle.m11_asm_faults.specs.declared.fault.AsmFault.{AsmFault}
 use Rattle.m11_lines.specs.Line.{SourceLine}
 use Rattle.m11_unfold.specs.Unfolder.{Unfolding}
-use Rattle.m11_unfolding.specs.Unfolding.{Given}
 use Rattle.m11_unfolding.specs.declared.fault.UnfoldFault.{UnfoldFault}
 use Rattle.m11_placement.specs.Contents.{Put}
-use Rattle.m11_placement.specs.Lines.{after_line}
 use Rattle.m11_placement.specs.Meanings.{Map}
-use Rattle.m11_placement.specs.Mentions.{mentions}
-use Rattle.m11_placement.specs.Tables.{Table, first_table}
-use Rattle.m11_placing.specs.Mentioned.{Gathered, with_all}
+use Rattle.m11_placing.specs.declared.counting.Counting.{Counting}
 use Rattle.m11_placing.specs.Passes.{Kept, Matches}
-use Rattle.m11_passes.specs.Lines.{Numbered, PassLines, givens, table_at, with_line}
+use Rattle.m11_passes.specs.Lines.{Numbered, PassLines, counting_at, table_at, with_line}
 use Rattle.m11_passes.specs.declared.state.State.{State}
 
--- the unfolding, what counts of the table, the names that were mentioned, and what the last line put
+-- the unfolding, what counts of the table, the names that count, and what the last line put
 pub record Going : Type 0 where
   pub unfolder : Unfolding
   pub kept : Kept
-  pub gathered : Gathered
+  pub counting : Counting
   pub put : Put
 
 -- and the fault that ended the pass, if one did
@@ -28,7 +24,7 @@ pub record PassState : Type 0 where
   pub fault : Option AsmFault
 
 abbrev pub going_of : State → Going
-going_of state = record { unfolder = state.unfolder; kept = state.pass; gathered = state.mentioned; put = state.put }
+going_of state = record { unfolder = state.unfolder; kept = state.pass; counting = state.counting; put = state.put }
 
 -- with a line of the source to be taken
 abbrev pub fed : SourceLine → Going → Going
@@ -45,14 +41,8 @@ abbrev pub GoesOnUntil : Option AsmFault → Option UnfoldFault → Type 0
 GoesOnUntil None fault = fault ≡ None
 GoesOnUntil (Some stopped) fault = Unit {0}
 
--- what lines mention, after what was mentioned before them
-abbrev pub gathered_after : Map → Table → List Given → Gathered → Gathered
-gathered_after map table [] gathered = gathered
-gathered_after map table (given ∷ lines) gathered =
-    gathered_after map (after_line map table given) lines (with_all (mentions table given) gathered)
-
--- a pass under a map, which began after names that were mentioned before, stands after the live lines of a source
-pub record PassStands (map : Map) (before : Gathered) (source : List SourceLine) (lines : List Numbered) (going : Going) : Type 0 where
-  pub lines_are : PassLines map before.names source lines going.unfolder.stage
+-- a pass under a map, of which it is given which names count before its first line, stands after the live lines of a source
+pub record PassStands (map : Map) (before : Counting) (source : List SourceLine) (lines : List Numbered) (going : Going) : Type 0 where
+  pub lines_are : PassLines map before source lines going.unfolder.stage
   pub matches : Matches going.kept (table_at map lines)
-  pub gathered : going.gathered ≡ gathered_after map first_table (givens lines) before
+  pub counting : going.counting ≡ counting_at map before lines

@@ -14,7 +14,7 @@ use Rattle.m11_placement.specs.Lines.{after_line}
 use Rattle.m11_placement.specs.Meanings.{Map}
 use Rattle.m11_placement.specs.Mentions.{mentions}
 use Rattle.m11_placement.specs.Tables.{Table}
-use Rattle.m11_placing.specs.Mentioned.{with_all}
+use Rattle.m11_placing.specs.Counting.{with_counted}
 use Rattle.m11_placing.specs.Passes.{Matches}
 use Rattle.m11_passes.specs.Faults.{Fails}
 use Rattle.m11_passes.specs.Lines.{acted}
@@ -28,10 +28,10 @@ use Rattle.m11_passes.specs.declared.turns.Turn.TheVariants.{NeedLine, End, Line
 
 -- a line that became live, up to a stage, passes no limit, and the pass stands after it
 pub record LeavesAfter (map : Map) (table : Table) (live : Live) (stage : Stage) (old new : Going) : Type 0 where
-  pub fits : line_fault map table old.gathered.names live stage ≡ None
+  pub fits : line_fault map table old.counting live stage ≡ None
   pub stage_is : new.unfolder.stage ≡ acted table live stage
   pub matches : Matches new.kept (after_line map table (given_by table live stage))
-  pub gathered : new.gathered ≡ with_all (mentions table (given_by table live stage)) old.gathered
+  pub counting : new.counting ≡ with_counted (mentions table (given_by table live stage)) old.counting
 
 -- what a call says of a line, by the table before it: that it is placed so, or what stands after its labels alone
 abbrev pub Said : Type 1
@@ -53,12 +53,12 @@ abbrev pub Places : Map → Live → Stage → Going → Going → Said → Resu
 Places map live stage old new said (Ok _) =
     (table : Table) → Matches old.kept table → PlacesAfter map table live stage old new said
 Places map live stage old new said (Err fault) =
-    (table : Table) → Matches old.kept table → Fails (line_fault map table old.gathered.names live stage) fault
+    (table : Table) → Matches old.kept table → Fails (line_fault map table old.counting live stage) fault
 
 -- nothing is placed
 pub record IsUnplaced (old new : Going) : Type 0 where
   pub kept : new.kept ≡ old.kept
-  pub gathered : new.gathered ≡ old.gathered
+  pub counting : new.counting ≡ old.counting
 
 -- a line becomes live, and is placed
 pub record PlacesNext (map : Map) (old new : Going) (live : Live) (said : Said) : Type 0 where
@@ -70,7 +70,7 @@ pub record PlacesNext (map : Map) (old new : Going) (live : Live) (said : Said) 
 pub data FailsAt (map : Map) (old : Going) (fault : AsmFault) : Type 0 where
   BeforeLine : (inner : UnfoldFault) → fault ≡ of_unfolding inner → Stops old.unfolder.stage inner → FailsAt map old fault
   AtLine : (live : Live) (stage : Stage) → Comes old.unfolder.stage live stage
-      → ((table : Table) → Matches old.kept table → Fails (line_fault map table old.gathered.names live stage) fault)
+      → ((table : Table) → Matches old.kept table → Fails (line_fault map table old.counting live stage) fault)
       → FailsAt map old fault
 
 -- from one live line to the next, which stands where the call puts it, or to the end of what is left

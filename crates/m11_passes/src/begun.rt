@@ -56,7 +56,7 @@ impl State {
         ensures same { live_in live.new ≡ live_in live.old }
         ensures begins { IfOk result (λ begun. Begins map.now (live_in live.new) (going_of self.old) (going_of self.new) live.new.deed begun) }
         ensures fails { IfErr result (λ fault. (table : LineTable) → Matches self.old.pass table
-            → Fails (line_fault map.now table self.old.mentioned.names (live_in live.old) self.old.unfolder.stage) fault) }
+            → Fails (line_fault map.now table self.old.counting (live_in live.old) self.old.unfolder.stage) fault) }
         ensures within { IfOk result (λ _. IsWithin (length live.old.line.text) live.new.deed) }
         ensures ends { IfOk result (λ begun. begun.fields.end ≤ length live.old.line.text) }
         ensures terms { IfOk result (λ begun. AreDeedTerms live.old.line.text live.new.deed begun.fields.list.items begun.fields.terms) }
@@ -69,7 +69,7 @@ impl State {
         let line = &live.line;
         let found = define_labels(
             &mut self.pass,
-            &mut self.mentioned,
+            &mut self.counting,
             map,
             line,
             statement.labels_end,

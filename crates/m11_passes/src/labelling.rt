@@ -3,7 +3,7 @@
 ghost use Rattle.std.specs.Prelude.{◌≡◌, ◌<◌, ◌≤◌, ◌+◌, ◌^◌, ◌∷◌, [], IfOk, IfErr, IfSome, length};
 ghost use Rattle.m11_placement.specs.Labels.{labels_stand};
 ghost use Rattle.m11_placement.specs.Tables.{Table as LineTable};
-ghost use Rattle.m11_placing.specs.Mentioned.{with_all};
+ghost use Rattle.m11_placing.specs.Counting.{with_counted};
 ghost use Rattle.m11_placing.specs.Passes.{Matches};
 ghost use Rattle.m11_statements.specs.Labels.{labels_at};
 ghost use Rattle.m11_table.specs.Alike as tables;
@@ -13,15 +13,15 @@ ghost use Rattle.m11_passes.specs.Refusals.{labels_fault, mentions_of_labels};
 ghost use Rattle.m11_asm_faults.specs.declared.fault.AsmFault.TheVariants.{NoMemory};
 
 use m11_asm_faults::AsmFault;
-use m11_placing::{LabelLetters, Mentioned, Pass};
+use m11_placing::{Counting, LabelLetters, Pass};
 use m11_scan::Line;
 use m11_statements::{Label, labels_of};
 use m11_table::Map;
 
-// Defines the labels of a line, by the place after the last one, and notes their names.
+// Defines the labels of a line, by the place after the last one, and counts their names.
 pub(crate) fn define_labels(
     pass: &mut Pass,
-    mentioned: &mut Mentioned,
+    counting: &mut Counting,
     map: &Map<'_>,
     line: &Line,
     labels_end: u8,
@@ -30,22 +30,22 @@ pub(crate) fn define_labels(
     requires unlabelled { labels_end ≡ 0 → labels_at line.now.text ≡ [] }
     requires lone { IfSome lone_label (λ label. labels_at line.now.text ≡ label ∷ []) }
     requires blocks { pass.old.table.settings.block + 66 < 2 ^ 64 }
-    ensures stand { IfOk result (λ letters. Labels map.now mentioned.old.names line.now.text pass.old pass.new letters) }
-    ensures mentions { IfOk result (λ _. mentioned.new ≡ with_all (mentions_of_labels line.now.text) mentioned.old) }
+    ensures stand { IfOk result (λ letters. Labels map.now counting.old line.now.text pass.old pass.new letters) }
+    ensures counts { IfOk result (λ _. counting.new ≡ with_counted (mentions_of_labels line.now.text) counting.old) }
     ensures tables { IfOk result (λ _. tables.Follows pass.old.table pass.new.table (λ before. labels_stand before line.now.text)) }
     ensures refuses { IfErr result (λ fault. (before : LineTable) → Matches pass.old before
-        → Fails (labels_fault mentioned.old.names before line.now.text) fault) }
+        → Fails (labels_fault counting.old before line.now.text) fault) }
     ensures limit_first { IfErr result (λ fault. fault ≡ NoMemory → (before : LineTable) → Matches pass.old before
-        → FitUpToOne mentioned.old before line.now.text) }
+        → FitUpToOne counting.old before line.now.text) }
     ensures fits { length (labels_at line.now.text) ≤ 66 }
 {
     // most lines have none, and most others one
     if labels_end == 0 {
-        return define_all(pass, mentioned, map, line, &[]);
+        return define_all(pass, counting, map, line, &[]);
     }
     match lone_label {
-        Some(label) => define_all(pass, mentioned, map, line, &[label]),
-        None => define_listed(pass, mentioned, map, line),
+        Some(label) => define_all(pass, counting, map, line, &[label]),
+        None => define_listed(pass, counting, map, line),
     }
 }
 
@@ -54,45 +54,45 @@ pub(crate) fn define_labels(
 #[inline(never)]
 fn define_listed(
     pass: &mut Pass,
-    mentioned: &mut Mentioned,
+    counting: &mut Counting,
     map: &Map<'_>,
     line: &Line,
 ) -> Result<LabelLetters, AsmFault>
     requires { pass.old.table.settings.block + 66 < 2 ^ 64 }
-    ensures stand { IfOk result (λ letters. Labels map.now mentioned.old.names line.now.text pass.old pass.new letters) }
-    ensures mentions { IfOk result (λ _. mentioned.new ≡ with_all (mentions_of_labels line.now.text) mentioned.old) }
+    ensures stand { IfOk result (λ letters. Labels map.now counting.old line.now.text pass.old pass.new letters) }
+    ensures counts { IfOk result (λ _. counting.new ≡ with_counted (mentions_of_labels line.now.text) counting.old) }
     ensures tables { IfOk result (λ _. tables.Follows pass.old.table pass.new.table (λ before. labels_stand before line.now.text)) }
     ensures refuses { IfErr result (λ fault. (before : LineTable) → Matches pass.old before
-        → Fails (labels_fault mentioned.old.names before line.now.text) fault) }
+        → Fails (labels_fault counting.old before line.now.text) fault) }
     ensures limit_first { IfErr result (λ fault. fault ≡ NoMemory → (before : LineTable) → Matches pass.old before
-        → FitUpToOne mentioned.old before line.now.text) }
+        → FitUpToOne counting.old before line.now.text) }
     ensures fits { length (labels_at line.now.text) ≤ 66 }
 {
     let labels = labels_of(line);
-    define_all(pass, mentioned, map, line, labels.as_slice())
+    define_all(pass, counting, map, line, labels.as_slice())
 }
 
 // Defines these labels of a line, which are all that it has.
 fn define_all(
     pass: &mut Pass,
-    mentioned: &mut Mentioned,
+    counting: &mut Counting,
     map: &Map<'_>,
     line: &Line,
     labels: &[Label],
 ) -> Result<LabelLetters, AsmFault>
     requires are { labels.now ≡ labels_at line.now.text }
     requires blocks { pass.old.table.settings.block + length labels.now < 2 ^ 64 }
-    ensures stand { IfOk result (λ letters. Labels map.now mentioned.old.names line.now.text pass.old pass.new letters) }
-    ensures mentions { IfOk result (λ _. mentioned.new ≡ with_all (mentions_of_labels line.now.text) mentioned.old) }
+    ensures stand { IfOk result (λ letters. Labels map.now counting.old line.now.text pass.old pass.new letters) }
+    ensures counts { IfOk result (λ _. counting.new ≡ with_counted (mentions_of_labels line.now.text) counting.old) }
     ensures tables { IfOk result (λ _. tables.Follows pass.old.table pass.new.table (λ before. labels_stand before line.now.text)) }
     ensures refuses { IfErr result (λ fault. (before : LineTable) → Matches pass.old before
-        → Fails (labels_fault mentioned.old.names before line.now.text) fault) }
+        → Fails (labels_fault counting.old before line.now.text) fault) }
     ensures limit_first { IfErr result (λ fault. fault ≡ NoMemory → (before : LineTable) → Matches pass.old before
-        → FitUpToOne mentioned.old before line.now.text) }
+        → FitUpToOne counting.old before line.now.text) }
 {
-    // the names are noted before any label is defined, so that want of memory for a label hides no limit on names
-    mentioned.add_labels(line, labels)?;
-    mentioned.names_are_within_the_limit();
+    // the names are counted before any label is defined, so that want of memory for a label hides no limit on names that are mentioned
+    counting.add_labels(line, labels)?;
+    counting.names_are_within_the_limit();
     let letters = pass.define_labels(map, line, labels)?;
     pass.counts_are_within_the_limits();
     Ok(letters)

@@ -4,7 +4,7 @@ ghost use Rattle.std.specs.Prelude.{◌≡◌, ◌++◌, ◌∷◌, List, [], Re
 ghost use Rattle.m11_asm_faults.specs.declared.fault.AsmFault.{AsmFault};
 ghost use Rattle.m11_lines.specs.Line.{SourceLine};
 ghost use Rattle.m11_placement.specs.Meanings.{Map, empty_map};
-ghost use Rattle.m11_placing.specs.Mentioned.{Gathered};
+ghost use Rattle.m11_placing.specs.declared.counting.Counting.{Counting};
 ghost use Rattle.m11_passes.specs.Lines.{Numbered};
 ghost use Rattle.m11_passes.specs.Reaching.{Reaches};
 ghost use Rattle.m11_passes.specs.States.{Going, PassStands, fed};
@@ -19,14 +19,14 @@ ghost use Rattle.m11_passes.specs.declared.turns.Turn.{Turn};
 /// of the first limit that the source passes.
 #[tactic(auto, using(crate::proofs::Standing::feeds, crate::proofs::Standing::next_turns, crate::proofs::Standing::define_turns))]
 pub fn the_calls_place_the_lines_of_a_source()
-    ensures feeds { (map : Map) (before : Gathered) (source : List SourceLine) (lines : List Numbered) (line : SourceLine) (going : Going)
+    ensures feeds { (map : Map) (before : Counting) (source : List SourceLine) (lines : List Numbered) (line : SourceLine) (going : Going)
         → PassStands map before source lines going → going.unfolder.stage.left ≡ [] → going.unfolder.stage.has_ended ≡ false
         → PassStands map before (source ++ line ∷ []) lines (fed line going) }
-    ensures turns { (map : Map) (before : Gathered) (source : List SourceLine) (lines : List Numbered) (old new : Going)
+    ensures turns { (map : Map) (before : Counting) (source : List SourceLine) (lines : List Numbered) (old new : Going)
         (placed : PlacedLine) (result : Result Turn AsmFault) → PassStands map before source lines old
         → Turns map old new (live_in placed.live) (SaysPlaced map placed new.put) result
         → Reaches map before source lines new (live_in placed.live) (SaysPlaced map placed new.put) result }
-    ensures defines { (before : Gathered) (source : List SourceLine) (lines : List Numbered) (old new : Going)
+    ensures defines { (before : Counting) (source : List SourceLine) (lines : List Numbered) (old new : Going)
         (live : LiveLine) (result : Result Turn AsmFault) → PassStands empty_map before source lines old
         → Turns empty_map old new (live_in live) (SaysLive live) result
         → Reaches empty_map before source lines new (live_in live) (SaysLive live) result }

@@ -8,16 +8,17 @@ ghost use Rattle.m11_fields.specs.Terms.{AreTerms};
 ghost use Rattle.m11_operators.specs.Reading.{operator_fields};
 ghost use Rattle.m11_placement.specs.Effects.{operator_change};
 ghost use Rattle.m11_placement.specs.Items.{deed_items, is_shown, number_items};
-ghost use Rattle.m11_placement.specs.Limits.{most_names, most_sections};
+ghost use Rattle.m11_placement.specs.Limits.{most_defined_names, most_names, most_sections};
 ghost use Rattle.m11_placement.specs.Lines.{put_by, put_place};
 ghost use Rattle.m11_placement.specs.Tables.{Table as LineTable, firm_table, place, section_name};
+ghost use Rattle.m11_placing.specs.Counting.{names_counted, with_counted};
 ghost use Rattle.m11_placing.specs.Deeds.{AreDeedTerms, IsWithin, deed_fields, deed_seen, is_listed};
 ghost use Rattle.m11_placement.specs.Mentions.{mention};
 ghost use Rattle.m11_placement.specs.declared.meanings.Context.TheVariants.{Knows};
 ghost use Rattle.m11_placing.specs.Mentioned.{Adds, with_all};
 ghost use Rattle.m11_placing.specs.Passes.{Follows, Matches};
 ghost use Rattle.m11_table.specs.Alike as tables;
-ghost use Rattle.m11_placing.specs.Faults.{Refuses};
+ghost use Rattle.m11_placing.specs.Faults.{Overfills, Refuses};
 ghost use Rattle.m11_passes.specs.Operated.{change_after, mentions_after};
 
 use m11_arguments::Notes;
@@ -27,7 +28,7 @@ use m11_fields::{Fields, is_even};
 use m11_listing::Item;
 use m11_operators::{Put, place_for};
 use m11_placement::{Context, Operator};
-use m11_placing::{Deed, Mentioned, Pass, put_deed};
+use m11_placing::{Counting, Deed, Mentioned, Pass, put_deed};
 use m11_scan::Line;
 use m11_table::Map;
 
@@ -68,7 +69,7 @@ fn mention_read(mentioned: &mut Mentioned, notes: &Notes) -> Result<(), AsmFault
 // The symbols that unfolding read, and those that the operator mentions, with the fields that it has by a table.
 // Inline: most lines mention nothing, or the fields of an instruction alone.
 #[inline(always)]
-pub(crate) fn mention_line(
+fn mention_line(
     mentioned: &mut Mentioned,
     line: &Line,
     notes: &Notes,
@@ -87,6 +88,32 @@ pub(crate) fn mention_line(
     mention_read(mentioned, notes)?;
     mentioned.add_deed(line, arguments, deed, fields)?;
     Ok(())
+}
+
+// The same, where what lines mention counts.
+#[inline(always)]
+pub(crate) fn count_line(
+    counting: &mut Counting,
+    line: &Line,
+    notes: &Notes,
+    arguments: Option<u16>,
+    deed: &Deed,
+    fields: &Fields,
+) -> Result<(), AsmFault>
+    requires within { IsWithin (length line.now.text) deed.now }
+    requires terms { AreDeedTerms line.now.text deed.now fields.now.list.items fields.now.terms }
+    ensures counts { (table : LineTable) → fields_seen fields.now ≡ deed_fields table line.now.text deed.now → IfOk result
+        (λ _. counting.new ≡ with_counted (mentions_after table line.now.text notes.now arguments (deed_seen deed.now)) counting.old) }
+    ensures refuses { (table : LineTable) → fields_seen fields.now ≡ deed_fields table line.now.text deed.now → IfErr result
+        (λ fault. Refuses fault (most_names < length (names_counted
+        (with_counted (mentions_after table line.now.text notes.now arguments (deed_seen deed.now)) counting.old))) ⊥) }
+{
+    match counting {
+        Counting::Mentions(mentioned) => {
+            mention_line(mentioned, line, notes, arguments, deed, fields)
+        }
+        Counting::Definitions => Ok(()),
+    }
 }
 
 // What a line changes for the lines after it, and what a listing shows of what it assigns.
@@ -111,11 +138,13 @@ pub(crate) fn change_line(
     ensures tables { IfOk result (λ _. tables.Follows pass.old.table pass.new.table (λ before. changed map.now line.now.text
         (change_after pass.old.table line.now.text arguments (deed_seen deed.now)) before)) }
     ensures symbols { IfOk result (λ _. pass.new.local_symbols ≡ pass.old.local_symbols) }
+    ensures names { IfOk result (λ _. pass.new.names ≤ most_defined_names) }
     ensures sections { IfOk result (λ _. length pass.new.table.sections ≤ most_sections) }
     ensures shows { IfOk result (λ item. option_to_list item ≡ deed_items map.now pass.old.table line.now.text
         (change_after pass.old.table line.now.text arguments (deed_seen deed.now)) (deed_seen deed.now)) }
-    ensures refuses { IfErr result (λ fault. (before : LineTable) → Matches pass.old before → Refuses fault ⊥ (most_sections < length
-        (changed map.now line.now.text (change_after pass.old.table line.now.text arguments (deed_seen deed.now)) before).sections)) }
+    ensures refuses { IfErr result (λ fault. (before : LineTable) → Matches pass.old before
+        → Overfills fault (changed map.now line.now.text
+        (change_after pass.old.table line.now.text arguments (deed_seen deed.now)) before)) }
 {
     // most lines change nothing
     match *deed {
@@ -153,11 +182,13 @@ fn operate_line(
     ensures tables { IfOk result (λ _. tables.Follows pass.old.table pass.new.table (λ before. changed map.now line.now.text
         (operator_change (firm_table pass.old.table) line.now.text start arguments operator) before)) }
     ensures symbols { IfOk result (λ _. pass.new.local_symbols ≡ pass.old.local_symbols) }
+    ensures names { IfOk result (λ _. pass.new.names ≤ most_defined_names) }
     ensures sections { IfOk result (λ _. length pass.new.table.sections ≤ most_sections) }
     ensures shows { IfOk result (λ item. option_to_list item
         ≡ number_items (operator_change (firm_table pass.old.table) line.now.text start arguments operator)) }
-    ensures refuses { IfErr result (λ fault. (before : LineTable) → Matches pass.old before → Refuses fault ⊥ (most_sections < length
-        (changed map.now line.now.text (operator_change (firm_table pass.old.table) line.now.text start arguments operator) before).sections)) }
+    ensures refuses { IfErr result (λ fault. (before : LineTable) → Matches pass.old before
+        → Overfills fault (changed map.now line.now.text
+        (operator_change (firm_table pass.old.table) line.now.text start arguments operator) before)) }
 {
     match operator {
         Operator::Instruction(operation) => {
@@ -194,11 +225,13 @@ fn change_any(
     ensures tables { IfOk result (λ _. tables.Follows pass.old.table pass.new.table (λ before. changed map.now line.now.text
         (change_after pass.old.table line.now.text arguments (deed_seen deed.now)) before)) }
     ensures symbols { IfOk result (λ _. pass.new.local_symbols ≡ pass.old.local_symbols) }
+    ensures names { IfOk result (λ _. pass.new.names ≤ most_defined_names) }
     ensures sections { IfOk result (λ _. length pass.new.table.sections ≤ most_sections) }
     ensures shows { IfOk result (λ item. option_to_list item ≡ deed_items map.now pass.old.table line.now.text
         (change_after pass.old.table line.now.text arguments (deed_seen deed.now)) (deed_seen deed.now)) }
-    ensures refuses { IfErr result (λ fault. (before : LineTable) → Matches pass.old before → Refuses fault ⊥ (most_sections < length
-        (changed map.now line.now.text (change_after pass.old.table line.now.text arguments (deed_seen deed.now)) before).sections)) }
+    ensures refuses { IfErr result (λ fault. (before : LineTable) → Matches pass.old before
+        → Overfills fault (changed map.now line.now.text
+        (change_after pass.old.table line.now.text arguments (deed_seen deed.now)) before)) }
 {
     let item = pass.take_deed(map, line, arguments, deed, fields)?;
     pass.counts_are_within_the_limits();

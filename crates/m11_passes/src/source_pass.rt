@@ -3,6 +3,7 @@
 ghost use Rattle.std.specs.Prelude.{◌≡◌, ◌<◌, [], None, Some, Err, IfOk};
 ghost use Rattle.std.specs.Result.{result_err};
 ghost use Rattle.m11_lines.specs.Line.{no_line};
+ghost use Rattle.m11_placing.specs.Counting.{gathered_in};
 ghost use Rattle.m11_placing.specs.Passes.{size_at};
 ghost use Rattle.m11_unfold.specs.Unfolder.{needs_line};
 ghost use Rattle.m11_unfolding.specs.Stages.{start};
@@ -18,16 +19,18 @@ use crate::turns::Turn;
 use m11_asm_faults::AsmFault;
 use m11_base::Latch;
 use m11_object_text::PieceContent;
-use m11_placing::{Mentioned, Pass};
+use m11_placing::{Counting, Mentioned, Pass};
 use m11_scan::Line;
 use m11_table::{Map, Table};
 use std::alloc::{AllocError, Global};
 use std::marker::Model;
 
-/// One pass over a source: lines are fed in order, and `next` gives each live line as it is placed, or `define` gives it with what it defines alone. It keeps at most 4,096 names besides
-/// those of the registers, 16,384 local symbols, 64 sections, and what an unfolder keeps. After a fault each call returns it again.
+/// One pass over a source: lines are fed in order, and `next` gives each live line as it is placed, or `define` gives it with what it
+/// defines alone. It defines at most 4,096 names besides those of the registers, and mentions at most as many where that counts; it keeps
+/// at most 16,384 local symbols, 64 sections, and what an unfolder keeps. After a fault each call returns it again.
 #[derive(Drop)]
 pub struct SourcePass {
+    alloc: Global,
     state: State,
     fault: Latch<AsmFault>,
 }
@@ -45,15 +48,15 @@ impl Model for SourcePass {
 }
 
 impl SourcePass {
-    /// Before the first line. The names that an earlier pass mentioned count with those of this one. Error: memory may be
-    /// refused.
-    pub fn new(alloc: Global, mentioned: Mentioned) -> Result<SourcePass, AllocError>
-        ensures stands { IfOk result (λ pass. (map : Meanings) → PassStands map mentioned [] [] pass.going) }
+    /// Before the first line, with the names that count so far beside those that the table defines. Error: memory may be refused.
+    pub fn new(alloc: Global, counting: Counting) -> Result<SourcePass, AllocError>
+        ensures stands { IfOk result (λ pass. (map : Meanings) → PassStands map counting [] [] pass.going) }
         ensures begins { IfOk result (λ pass. pass.going.unfolder.stage ≡ start []) }
         ensures goes_on { IfOk result (λ pass. pass.fault ≡ None) }
     {
         Ok(SourcePass {
-            state: State::new(alloc, mentioned)?,
+            alloc,
+            state: State::new(alloc, counting)?,
             fault: Latch::new(),
         })
     }
@@ -127,13 +130,13 @@ impl SourcePass {
         self.state.pass.size(number)
     }
 
-    /// What the pass leaves: its table with the sizes of sections, and the names that its lines mention.
+    /// What the pass leaves: its table with the sizes of sections, and the names that its lines mention, none where they don't count.
     pub fn end(self) -> (Pass, Mentioned)
         ensures pass { result.0 ≡ self.going.kept }
-        ensures mentioned { result.1 ≡ self.going.gathered }
+        ensures mentioned { result.1 ≡ gathered_in self.going.counting }
     {
         let state = self.state;
-        (state.pass, state.mentioned)
+        (state.pass, state.counting.into_mentioned(self.alloc))
     }
 
     /// What the last placed line puts.

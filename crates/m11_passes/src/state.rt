@@ -2,10 +2,11 @@
 
 ghost use Rattle.std.specs.Prelude.{◌≡◌, ◌≤◌, [], IfOk, false, None, length};
 ghost use Rattle.std.specs.Int.RustNames.{bit_or};
-ghost use Rattle.m11_placement.specs.Limits.{most_local_symbols, most_names, most_sections};
+ghost use Rattle.m11_placement.specs.Limits.{most_defined_names, most_local_symbols, most_names, most_sections};
 ghost use Rattle.m11_placement.specs.Meanings.{empty_map};
 ghost use Rattle.m11_placement.specs.Tables.{first_table};
 ghost use Rattle.m11_fields.specs.Reads.{fields_seen};
+ghost use Rattle.m11_placing.specs.Counting.{names_counted};
 ghost use Rattle.m11_placing.specs.Deeds.{AreDeedTerms, IsWithin, deed_fields};
 ghost use Rattle.m11_placing.specs.Lines.{letters_from};
 ghost use Rattle.m11_placing.specs.Passes.{Matches};
@@ -21,14 +22,14 @@ ghost use Rattle.m11_passes.specs.Turns.{IsEmpty, IsNext, Places, SaysLive, Says
 use crate::begun::Begun;
 use crate::blank::{is_blank, place_blank};
 use crate::operating::{
-    change_line, counter, is_shown, mention_line, put_line, put_place, section_name,
+    change_line, count_line, counter, is_shown, put_line, put_place, section_name,
 };
 use crate::placed::{LiveLine, PlacedLine};
 use crate::turns::Turn;
 use m11_asm_faults::AsmFault;
 use m11_listing::Item;
 use m11_operators::Put;
-use m11_placing::{Deed, Mentioned, Pass, line_letters};
+use m11_placing::{Counting, Deed, Pass, line_letters};
 use m11_scan::{Letters, Line};
 use m11_statements::{Statement, statement};
 use m11_table::Map;
@@ -40,28 +41,29 @@ use std::alloc::{AllocError, Global};
 pub struct State {
     pub(crate) unfolder: Unfolder,
     pub(crate) pass: Pass,
-    pub(crate) mentioned: Mentioned,
+    // Which names count beside those that the table defines.
+    pub(crate) counting: Counting,
     // What the last line put.
     pub(crate) put: Put,
 }
 
 impl State {
-    // Before the first line, after names that an earlier pass mentioned.
-    pub(crate) fn new(alloc: Global, mentioned: Mentioned) -> Result<State, AllocError>
+    // Before the first line.
+    pub(crate) fn new(alloc: Global, counting: Counting) -> Result<State, AllocError>
         ensures unfolder { IfOk result (λ state. state.unfolder ≡ record { stage = start []; has_statement = false; fault = None }) }
         ensures pass { IfOk result (λ state. Matches state.pass first_table) }
-        ensures mentioned { IfOk result (λ state. state.mentioned ≡ mentioned) }
+        ensures counting { IfOk result (λ state. state.counting ≡ counting) }
     {
         match Pass::new(alloc) {
             Ok(pass) => Ok(State {
                 unfolder: Unfolder::new(alloc),
                 pass,
-                mentioned,
+                counting,
                 put: Put::new(alloc),
             }),
             Err(error) => {
                 // by a call, which is proved sooner
-                drop(mentioned);
+                drop(counting);
                 Err(error)
             }
         }
@@ -171,7 +173,7 @@ impl State {
         Ok(())
     }
 
-    // What a line that has begun mentions and changes, and what a listing shows of what it assigns. It is put into both callers: the
+    // What a line that has begun mentions, where that counts, and changes, and what a listing shows of what it assigns. It is put into both callers: the
     // call, and the move of what it returns, took a sixth of its instructions.
     #[inline(always)]
     fn finish(
@@ -192,8 +194,8 @@ impl State {
     {
         let line = &live.line;
         let arguments = begun.act.arguments;
-        mention_line(
-            &mut self.mentioned,
+        count_line(
+            &mut self.counting,
             line,
             &begun.act.notes,
             arguments,
@@ -214,14 +216,15 @@ impl State {
     // The limits hold of each pass. It does nothing.
     #[inline(always)]
     fn counts_are_within_the_limits(&self)
+        ensures defined { self.now.pass.names ≤ most_defined_names }
         ensures symbols { self.now.pass.local_symbols ≤ most_local_symbols }
         ensures sections { length self.now.pass.table.sections ≤ most_sections }
-        ensures names { length self.now.mentioned.names ≤ most_names }
+        ensures names { length (names_counted self.now.counting) ≤ most_names }
         ensures unfolding { IsKept self.now.unfolder.stage }
     {
         self.unfolder.is_within_the_limits();
         self.pass.counts_are_within_the_limits();
-        self.mentioned.names_are_within_the_limit();
+        self.counting.names_are_within_the_limit();
     }
 }
 

@@ -1,10 +1,11 @@
-use Rattle.std.proofs.Common.{◌≡◌, ◌∙◌, ◌≤◌, List, flat_map, length, inl, inr, ap, subst}
+use Rattle.std.proofs.Common.{◌≡◌, ◌∙◌, ◌≤◌, List, false, flat_map, length, inl, inr, ap, subst}
 use Rattle.m11_placement.specs.Labels.{with_labels}
-use Rattle.m11_placement.specs.Limits.{local_count, most_local_symbols, most_names}
+use Rattle.m11_placement.specs.Limits.{has_too_many, most_names}
 use Rattle.m11_placement.specs.Mentions.{label_mentions}
 use Rattle.m11_placement.specs.Tables.{Table}
 use Rattle.m11_placing.specs.Labels.{FitsUpToLabel}
-use Rattle.m11_placing.specs.Mentioned.{Gathered, with_all}
+use Rattle.m11_placing.specs.Counting.{names_counted, with_counted}
+use Rattle.m11_placing.specs.declared.counting.Counting.{Counting}
 use Rattle.m11_placing.specs.Passes.{Matches}
 use Rattle.m11_statements.specs.declared.labels.Label.{Label}
 use Rattle.m11_placing.proofs.Refusals.{handed_on}
@@ -16,9 +17,9 @@ use Rattle.m11_passes.proofs.labelling.define_all.Goals as goal
 pub returns-in_err-add_labels-clause-limit_first : goal.returns-in_err-add_labels-clause-limit_first
 returns-in_err-add_labels-clause-limit_first c =
     let P : AsmFault → Type 0 = λ fault. fault ≡ NoMemory → (before : Table) → Matches c.args.pass.now before
-    → FitUpToOne c.args.mentioned.now before c.args.line.now.text in
+    → FitUpToOne c.args.counting.now before c.args.line.now.text in
     let L : List Label → Type 0 = λ labels. FitsUpToLabel labels (λ (some : List Label).
-    length (with_all (flat_map (label_mentions c.args.line.now.text) some) c.args.mentioned.now).names ≤ most_names) in
+    length (names_counted (with_counted (flat_map (label_mentions c.args.line.now.text) some) c.args.counting.now)) ≤ most_names) in
     handed_on P c.in_err-add_labels.field-0.0 c.from_residual.result
     (λ none before matches. inl (subst L c.requires.are (c.in_err-add_labels.ensures.limit_first none)))
     c.from_residual.ensures.1
@@ -26,14 +27,14 @@ returns-in_err-add_labels-clause-limit_first c =
 pub returns-in_err-letters-clause-limit_first : goal.returns-in_err-letters-clause-limit_first
 returns-in_err-letters-clause-limit_first c =
     let P : AsmFault → Type 0 = λ fault. fault ≡ NoMemory → (before : Table) → Matches c.args.pass.now before
-    → FitUpToOne c.args.mentioned.now before c.args.line.now.text in
-    let G : Gathered → Type 0 = λ g. length g.names ≤ most_names in
-    let all = c.in_ok-add_labels.ensures.adds
-    ∙ ap (λ (labels : List Label). with_all (flat_map (label_mentions c.args.line.now.text) labels) c.args.mentioned.now) c.requires.are in
+    → FitUpToOne c.args.counting.now before c.args.line.now.text in
+    let G : Counting → Type 0 = λ g. length (names_counted g) ≤ most_names in
+    let all = c.in_ok-add_labels.ensures.counts
+    ∙ ap (λ (labels : List Label). with_counted (flat_map (label_mentions c.args.line.now.text) labels) c.args.counting.now) c.requires.are in
     handed_on P c.in_err-letters.field-0.0 c.from_residual-in_err-letters.result
     (λ none before matches.
     let L : List Label → Type 0 = λ labels. FitsUpToLabel labels (λ (some : List Label).
-    local_count (with_labels c.args.line.now.text before some) ≤ most_local_symbols) in
+    has_too_many (with_labels c.args.line.now.text before some) ≡ false) in
     inr (
       subst G all c.names_are_within_the_limit.ensures,
       subst L c.requires.are (c.in_err-letters.ensures.limit_first none before matches),

@@ -3,10 +3,10 @@ use Rattle.m11_passes.proofs.source_pass.SourcePass.new.Goals as goal
 
 pub invariant_of-result : goal.invariant_of-result
 invariant_of-result c =
-    new_sound c.in_ok-new.field-0.unfolder c.in_ok-new.field-0.pass c.in_ok-new.field-0.mentioned c.args.mentioned
-    c.in_ok-new.ensures.unfolder c.in_ok-new.ensures.pass c.in_ok-new.ensures.mentioned c.new-2.result c.new-2.ensures
+    new_sound c.in_ok-new.field-0.unfolder c.in_ok-new.field-0.pass c.in_ok-new.field-0.counting c.args.counting
+    c.in_ok-new.ensures.unfolder c.in_ok-new.ensures.pass c.in_ok-new.ensures.counting c.new-2.result c.new-2.ensures
 
 pub returns-clause-stands : goal.returns-clause-stands
 returns-clause-stands c = λ map.
-    new_stands c.in_ok-new.field-0.unfolder c.in_ok-new.field-0.pass c.in_ok-new.field-0.mentioned c.args.mentioned
-    c.in_ok-new.ensures.unfolder c.in_ok-new.ensures.pass c.in_ok-new.ensures.mentioned c.in_ok-new.field-0.put map
+    new_stands c.in_ok-new.field-0.unfolder c.in_ok-new.field-0.pass c.in_ok-new.field-0.counting c.args.counting
+    c.in_ok-new.ensures.unfolder c.in_ok-new.ensures.pass c.in_ok-new.ensures.counting c.in_ok-new.field-0.put map

@@ -20,7 +20,7 @@ returns-then-is_blank-clause-places c =
       unlabelled = c.statement-statement.ensures.unlabelled (c.is_blank.ensures.unlabelled c.if-is_blank.true);
       bodiless = sym c.statement-statement.ensures.body ∙ c.is_blank.ensures.bodiless c.if-is_blank.true;
     } in
-    blank_places (live_in live) old blank c.counts_are_within_the_limits.ensures.symbols
+    blank_places (live_in live) old blank c.counts_are_within_the_limits.ensures.defined c.counts_are_within_the_limits.ensures.symbols
     c.counts_are_within_the_limits.ensures.sections c.counts_are_within_the_limits.ensures.names empty_map old.put (SaysLive live)
     (λ table matches. live_so (live_in live) old.unfolder.stage blank table live refl refl)
 

@@ -29,23 +29,24 @@ change_line-requires-clause-section c =
     let sections = c.counts_are_within_the_limits.ensures.sections in
     omega (arith, section, sections)
 
-pub returns-in_err-mention_line-clause-finishes : goal.returns-in_err-mention_line-clause-finishes
-returns-in_err-mention_line-clause-finishes c = λ old begins.
+pub returns-in_err-count_line-clause-finishes : goal.returns-in_err-count_line-clause-finishes
+returns-in_err-count_line-clause-finishes c = λ old begins.
     finish_fails c.args.map.now (live_in c.args.live.now) old.unfolder.stage old
-    (going_of (record c.args.self.now { mentioned = c.mention_line.new.mentioned }))
-    c.in_err-mention_line.field-0.0 c.from_residual.result
+    (going_of (record c.args.self.now { counting = c.count_line.new.counting }))
+    c.in_err-count_line.field-0.0 c.from_residual.result
     (mention_fails c.args.map.now (live_in c.args.live.now) old (going_of c.args.self.now) c.args.live.now.deed c.args.begun.now begins
-    c.in_err-mention_line.field-0.0 (c.in_err-mention_line.ensures.refuses c.args.self.now.pass.table c.requires.fields))
+    c.in_err-count_line.field-0.0 (c.in_err-count_line.ensures.refuses c.args.self.now.pass.table c.requires.fields))
     c.from_residual.ensures.1
 
 pub returns-clause-finishes : goal.returns-clause-finishes
 returns-clause-finishes c = λ old begins.
     finishes c.args.map.now (live_in c.args.live.now) old (going_of c.args.self.now) c.args.live.now.deed c.args.begun.now begins
-    c.mention_line.new.mentioned (c.in_ok-mention_line.ensures.mentions c.args.self.now.pass.table c.requires.fields)
-    c.counts_are_within_the_limits.ensures.names c.counts_are_within_the_limits.ensures.symbols
-    (going_of (record c.args.self.now { pass = c.change_line.new.pass; mentioned = c.mention_line.new.mentioned })) refl refl
+    c.count_line.new.counting (c.in_ok-count_line.ensures.counts c.args.self.now.pass.table c.requires.fields)
+    c.counts_are_within_the_limits.ensures.names c.counts_are_within_the_limits.ensures.defined
+    c.counts_are_within_the_limits.ensures.symbols c.counts_are_within_the_limits.ensures.sections
+    (going_of (record c.args.self.now { pass = c.change_line.new.pass; counting = c.count_line.new.counting })) refl refl
     c.change_line.result c.change_line.ensures.changes c.change_line.ensures.symbols
-    c.change_line.ensures.sections c.change_line.ensures.shows c.change_line.ensures.refuses
+    c.change_line.ensures.names c.change_line.ensures.sections c.change_line.ensures.shows c.change_line.ensures.refuses
 
 pub returns-clause-sound : goal.returns-clause-sound
 returns-clause-sound c =

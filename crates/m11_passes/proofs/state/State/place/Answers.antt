@@ -27,7 +27,8 @@ returns-then-is_blank-clause-places c =
       unlabelled = c.statement-statement.ensures.unlabelled (c.is_blank.ensures.unlabelled c.if-is_blank.true);
       bodiless = sym c.statement-statement.ensures.body ∙ c.is_blank.ensures.bodiless c.if-is_blank.true;
     } in
-    blank_places (live_in c.args.placed.now.live) old blank c.counts_are_within_the_limits.ensures.symbols
+    blank_places (live_in c.args.placed.now.live) old blank c.counts_are_within_the_limits.ensures.defined
+    c.counts_are_within_the_limits.ensures.symbols
     c.counts_are_within_the_limits.ensures.sections c.counts_are_within_the_limits.ensures.names map put
     (SaysPlaced map c.place_blank.new.placed put)
     (λ table matches. c.place_blank.ensures.placed map table old.unfolder.stage matches)
@@ -39,7 +40,7 @@ returns-in_err-placed-clause-places c =
     let new = going_of c.finish.new.self in
     let fault = c.in_err-placed.field-0.0 in
     let F : Live → Type 0 = λ l. (table : Table) → Matches old.kept table
-    → Fails (line_fault map table old.gathered.names l old.unfolder.stage) fault in
+    → Fails (line_fault map table old.counting l old.unfolder.stage) fault in
     places_fails map (live_in c.args.placed.now.live) old.unfolder.stage old new fault _ c.from_residual-in_err-placed.result
     (subst F c.begin.ensures.same
     (c.in_err-placed.ensures.finishes old
