@@ -27,6 +27,7 @@ use Rattle.m11_asm.specs.Writing.{Writing, WritingStands, most_counted}
 use Rattle.m11_asm.specs.Written.{flagged_count, flagged_in, is_flagged, last_place, last_writes, letters_after, pieces_in, written}
 use Rattle.m11_asm.specs.declared.done.AsmDone.{AsmDone}
 use Rattle.m11_asm.proofs.LinesWritten.{nothing_written}
+use Rattle.m11_placing.specs.declared.counting.Counting.TheVariants.{Definitions}
 
 -- ---- before the first line
 
@@ -38,7 +39,7 @@ begins_so pass fault first goes = record {
 }
 
 module _ (kept : Kept) (gathered : Gathered) (facts : Facts) (going : Going) (writing : Writing) (fault : Option AsmFault)
-    (stands : (map : Map) → PassStands map gathered [] [] going) (first_stage : going.unfolder.stage ≡ start [])
+    (stands : (map : Map) → PassStands map Definitions [] [] going) (first_stage : going.unfolder.stage ≡ start [])
     (keeps : WritingStands (program_kept kept gathered facts) [] writing) (goes : fault ≡ None) where
   begun : (first now : Outputs) → Gains first now []
       → SecondStands (program_in (record { kept = kept; gathered = gathered; facts = facts })) [] first now
@@ -105,7 +106,7 @@ module _ (program : Program) (source : List SourceLine) (first now : Outputs) (s
   pub few_flagged : flagged_count program stands.lines state.has_ended ≤ most_counted
   few_flagged =
       count_few program stands.lines state.has_ended
-      (at_most program.map program.mentioned.names source stands.lines state.going.unfolder.stage stands.taken.stands.lines_are)
+      (at_most program.map Definitions source stands.lines state.going.unfolder.stage stands.taken.stands.lines_are)
 
   pub second_finishes : (new : Outputs) (result : Result AsmDone AsmFault) → Writes now new (last_writes program stands.lines (ended_with state)) result
       → IfOk result (λ done. done.flagged ≡ flagged_count program stands.lines state.has_ended)

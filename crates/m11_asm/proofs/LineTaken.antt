@@ -12,14 +12,15 @@ use Rattle.m11_passes.specs.Lines as lines
 use Rattle.m11_passes.specs.Lines.{Numbered, with_line}
 use Rattle.m11_passes.specs.States.{Going, PassState, PassStands, fed}
 use Rattle.m11_placement.specs.Meanings.{Map}
-use Rattle.m11_placing.specs.Mentioned.{Gathered}
+use Rattle.m11_placing.specs.declared.counting.Counting.{Counting}
 use Rattle.m11_asm.specs.Program.{Program}
 use Rattle.m11_asm.specs.Second.{LineCall, SecondFails, SecondStands, SecondState, SecondTakes, Taken, TakesAll, TakesLeft}
 use Rattle.m11_asm.specs.Writing.{Writing}
+use Rattle.m11_placing.specs.declared.counting.Counting.TheVariants.{Definitions}
 
 -- the law of the calls of a pass
 abbrev pub Feeds : Type 0
-Feeds = (map : Map) (before : Gathered) (source : List SourceLine) (lines : List Numbered) (line : SourceLine) (going : Going)
+Feeds = (map : Map) (before : Counting) (source : List SourceLine) (lines : List Numbered) (line : SourceLine) (going : Going)
     → PassStands map before source lines going → going.unfolder.stage.left ≡ [] → going.unfolder.stage.has_ended ≡ false
     → PassStands map before (source ++ line ∷ []) lines (fed line going)
 
@@ -33,7 +34,7 @@ between before now old new = record { before = before; now = now; old = old; new
 module _ (program : Program) (source : List SourceLine) (line : SourceLine) (first before : Outputs) (map_ : Map) (going : Going)
     (writing : Writing) (read : ℕ) (has_ended : Bool) (stopped : Option AsmFault) (goes : has_ended ≡ false)
     (stands : SecondStands program source first before (state_of map_ going writing read has_ended stopped)) where
-  live_more : lines.PassLines program.map program.mentioned.names (source ++ line ∷ []) stands.lines (with_line line going.unfolder.stage)
+  live_more : lines.PassLines program.map Definitions (source ++ line ∷ []) stands.lines (with_line line going.unfolder.stage)
   live_more =
       lines.PassLines.Reading source stands.lines going.unfolder.stage line stands.taken.stands.lines_are (stands.needs goes)
       (sym stands.ended ∙ goes)
@@ -74,13 +75,13 @@ module _ (program : Program) (source : List SourceLine) (line : SourceLine) (fir
     left : TakesLeft program (source ++ line ∷ []) first now new_going new_writing outcome
     left =
         let all : List SourceLine = source ++ line ∷ [] in
-        let G : Going → Type 0 = λ g. PassStands program.map program.mentioned all stands.lines g in
+        let G : Going → Type 0 = λ g. PassStands program.map Definitions all stands.lines g in
         let fed_so : fed line going ≡ fed_pass.going =
         ap (fed line) (sym going_is) ∙ sym (ap (λ (p : PassState). p.going) fed_is) in
         takes program all stands.lines first (map_is ∙ stands.map_is)
         (number_so ∙ ap (λ (n : ℕ). n + 1) stands.read ∙ sym (one_longer source line)) (record {
           stands = subst G fed_so
-              (feeds program.map program.mentioned source stands.lines line going stands.taken.stands (stands.needs goes)
+              (feeds program.map Definitions source stands.lines line going stands.taken.stands (stands.needs goes)
               (sym stands.ended ∙ goes));
           keeps = stands.taken.keeps;
           gains = stands.taken.gains;

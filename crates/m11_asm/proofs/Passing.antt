@@ -16,17 +16,18 @@ use Rattle.m11_passes.specs.declared.turns.Turn.{Turn}
 use Rattle.m11_passes.specs.declared.turns.Turn.TheVariants.{NeedLine, End, Line}
 use Rattle.m11_placement.specs.Contents.{Put}
 use Rattle.m11_placement.specs.Meanings.{Map}
-use Rattle.m11_placing.specs.Mentioned.{Gathered}
+use Rattle.m11_placing.specs.declared.counting.Counting.{Counting}
 use Rattle.m11_writes.proofs.Writing.{gains_then, stops_after}
 use Rattle.m11_asm.specs.Program.{Program}
 use Rattle.m11_asm.specs.Second.{SecondFails, Taken, TakesAll, TakesLeft}
 use Rattle.m11_asm.specs.Writing.{Writing, WritingStands}
 use Rattle.m11_asm.specs.Written.{head_before, line_writes, written}
 use Rattle.m11_asm.proofs.LinesWritten.{next_writes, written_more}
+use Rattle.m11_placing.specs.declared.counting.Counting.TheVariants.{Definitions}
 
 -- the law of the calls of a pass
 abbrev pub TurnsSo : Type 0
-TurnsSo = (map : Map) (before : Gathered) (source : List SourceLine) (lines : List Numbered) (old new : Going)
+TurnsSo = (map : Map) (before : Counting) (source : List SourceLine) (lines : List Numbered) (old new : Going)
     (placed : PlacedLine) (result : Result Turn AsmFault) → PassStands map before source lines old
     → Turns map old new (live_in placed.live) (SaysPlaced map placed new.put) result
     → Reaches map before source lines new (live_in placed.live) (SaysPlaced map placed new.put) result
@@ -47,15 +48,15 @@ module _ (turn : TurnsSo) (program : Program) (source : List SourceLine) (first 
   }
 
   module _ (came : Turn) (turned : Turns map_ old new (live_in placed.live) (SaysPlaced map_ placed new.put) (Ok came)) where
-    reached : Reaches program.map program.mentioned source some.0 new (live_in placed.live) (SaysPlaced program.map placed new.put) (Ok came)
+    reached : Reaches program.map Definitions source some.0 new (live_in placed.live) (SaysPlaced program.map placed new.put) (Ok came)
     reached =
         let P : Map → Type 0 = λ m. Turns m old new (live_in placed.live) (SaysPlaced m placed new.put) (Ok came) in
-        turn program.map program.mentioned source some.0 old new placed (Ok came) some.1.stands (subst P same turned)
+        turn program.map Definitions source some.0 old new placed (Ok came) some.1.stands (subst P same turned)
 
     pub rests_all : came ≡ NeedLine → TakesAll program source first now new writing false
     rests_all is =
-        let P : Turn → Type 0 = λ t. Reaches program.map program.mentioned source some.0 new (live_in placed.live) (SaysPlaced program.map placed new.put) (Ok t) in
-        let here : Reaches program.map program.mentioned source some.0 new (live_in placed.live) (SaysPlaced program.map placed new.put) (Ok NeedLine) = subst P is reached in
+        let P : Turn → Type 0 = λ t. Reaches program.map Definitions source some.0 new (live_in placed.live) (SaysPlaced program.map placed new.put) (Ok t) in
+        let here : Reaches program.map Definitions source some.0 new (live_in placed.live) (SaysPlaced program.map placed new.put) (Ok NeedLine) = subst P is reached in
         record {
           lines = some.0;
           taken = record { stands = here.0; keeps = some.1.keeps; gains = some.1.gains };
@@ -64,8 +65,8 @@ module _ (turn : TurnsSo) (program : Program) (source : List SourceLine) (first 
 
     pub ends_all : came ≡ End → TakesAll program source first now new writing true
     ends_all is =
-        let P : Turn → Type 0 = λ t. Reaches program.map program.mentioned source some.0 new (live_in placed.live) (SaysPlaced program.map placed new.put) (Ok t) in
-        let here : Reaches program.map program.mentioned source some.0 new (live_in placed.live) (SaysPlaced program.map placed new.put) (Ok End) = subst P is reached in
+        let P : Turn → Type 0 = λ t. Reaches program.map Definitions source some.0 new (live_in placed.live) (SaysPlaced program.map placed new.put) (Ok t) in
+        let here : Reaches program.map Definitions source some.0 new (live_in placed.live) (SaysPlaced program.map placed new.put) (Ok End) = subst P is reached in
         record {
           lines = some.0;
           taken = record { stands = here.0; keeps = some.1.keeps; gains = some.1.gains };
@@ -73,8 +74,8 @@ module _ (turn : TurnsSo) (program : Program) (source : List SourceLine) (first 
         }
 
     module _ (is : came ≡ Line) where
-      here : PlacesLine program.map program.mentioned source some.0 new (live_in placed.live) (SaysPlaced program.map placed new.put)
-      here = let P : Turn → Type 0 = λ t. Reaches program.map program.mentioned source some.0 new (live_in placed.live) (SaysPlaced program.map placed new.put) (Ok t) in subst P is reached
+      here : PlacesLine program.map Definitions source some.0 new (live_in placed.live) (SaysPlaced program.map placed new.put)
+      here = let P : Turn → Type 0 = λ t. Reaches program.map Definitions source some.0 new (live_in placed.live) (SaysPlaced program.map placed new.put) (Ok t) in subst P is reached
 
       one : Numbered
       one = numbered (length source) (given_by (table_at program.map some.0) (live_in placed.live) here.stage)
@@ -132,12 +133,12 @@ module _ (turn : TurnsSo) (program : Program) (source : List SourceLine) (first 
 
   -- the pass passes a limit, or memory is refused
   module _ (limit : AsmFault) (turned : Turns map_ old new (live_in placed.live) (SaysPlaced map_ placed new.put) (Err limit)) where
-    refused : Refused program.map program.mentioned.names source some.0 limit
+    refused : Refused program.map Definitions source some.0 limit
     refused =
         let P : Map → Type 0 = λ m. Turns m old new (live_in placed.live) (SaysPlaced m placed new.put) (Err limit) in
-        turn program.map program.mentioned source some.0 old new placed (Err limit) some.1.stands (subst P same turned)
+        turn program.map Definitions source some.0 old new placed (Err limit) some.1.stands (subst P same turned)
 
-    fails_so : (stopped : AsmFault) → Refused program.map program.mentioned.names source some.0 stopped
+    fails_so : (stopped : AsmFault) → Refused program.map Definitions source some.0 stopped
         → SecondFails program source first now stopped
     fails_so fault.NoMemory r =
         record { lines = some.0; stage = old.unfolder.stage; live = some.1.stands.lines_are; stops = all_between }

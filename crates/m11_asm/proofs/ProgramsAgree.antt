@@ -11,6 +11,7 @@ use Rattle.m11_lines.specs.Line.{SourceLine}
 use Rattle.m11_pass_laws.proofs.MapsAlike.{maps_same}
 use Rattle.m11_passes.specs.Lines.{Numbered, givens}
 use Rattle.m11_placement.specs.Limits.{most_sections}
+use Rattle.m11_placing.specs.Counting.{gathered_in}
 use Rattle.m11_placing.specs.Mentioned.{Gathered}
 use Rattle.m11_asm.specs.Program.{all_names, mentioned_in, program_in, program_kept, program_of, directory_facts_in, directory_facts_of}
 use Rattle.m11_symbols.specs.Sections.{section_entries}
@@ -26,10 +27,10 @@ pub record LawsOfFirstPasses : Type 0 where
 
 module _ (source : List SourceLine) (lines : List Numbered) (first : FirstState) (taken : Taken source lines first.going first.facts)
     (few : length first.going.kept.table.sections ≤ most_sections) (laws : LawsOfFirstPasses) where
-  referred_same : first.going.gathered ≡ mentioned_in (givens lines)
-  referred_same = taken.stands.gathered
+  referred_same : gathered_in first.going.counting ≡ mentioned_in (givens lines)
+  referred_same = ap gathered_in taken.stands.counting
 
-  told_same : directory.FirstPassesAgree (directory_facts_in first.going.kept first.going.gathered first.facts) (directory_facts_of (givens lines))
+  told_same : directory.FirstPassesAgree (directory_facts_in first.going.kept (gathered_in first.going.counting) first.facts) (directory_facts_of (givens lines))
   told_same = record {
     tables = taken.stands.matches.alike;
     sizes = λ number within. taken.stands.matches.sizes number (omega (arith, within, few));
@@ -40,7 +41,7 @@ module _ (source : List SourceLine) (lines : List Numbered) (first : FirstState)
     transfer = ap (λ (f : Facts). f.transfer) taken.facts_are;
   }
 
-  names_same : directory.HaveTheSame (all_names first.going.gathered) (all_names (mentioned_in (givens lines)))
+  names_same : directory.HaveTheSame (all_names (gathered_in first.going.counting)) (all_names (mentioned_in (givens lines)))
   names_same name = ap (λ (g : Gathered). has_name name (all_names g)) referred_same
 
   pub programs_alike : AlikePrograms (program_in (symbols_of first)) (program_of (givens lines))

@@ -9,7 +9,6 @@ use Rattle.m11_asm_faults.specs.declared.fault.AsmFault.TheVariants as fault
 use Rattle.m11_asm_outputs.specs.Object.{content_writes, head_contents, records_closed_by}
 use Rattle.m11_asm_outputs.specs.Outputs.{Gains, Outputs, StopsBetween, StopsIn, Write}
 use Rattle.m11_base.specs.Devices.{Bytes}
-use Rattle.m11_base.specs.Rad50.{Name}
 use Rattle.m11_lines.specs.Line.{SourceLine}
 use Rattle.m11_listed.specs.Listed.{all_to_listing, lines_of, listing_writes}
 use Rattle.m11_listing.specs.Listing.{listed_lines}
@@ -30,7 +29,6 @@ use Rattle.m11_placement.specs.Lines.{after_line, deed, pieces, put_place, stand
 use Rattle.m11_placement.specs.Placements.{placed_from}
 use Rattle.m11_placement.specs.Sources.{directed, end_in}
 use Rattle.m11_placement.specs.Tables.{Table, first_table, place}
-use Rattle.m11_placing.specs.Mentioned.{Gathered}
 use Rattle.m11_readings.specs.Readings.{Reading}
 use Rattle.m11_scan.specs.Letters.{letters_text}
 use Rattle.m11_asm.specs.Program.{Program}
@@ -45,6 +43,7 @@ use Rattle.m11_asm.specs.Outcome as outcome
 use Rattle.m11_asm.specs.Outcome.{Ends, Refuses, Unended}
 use Rattle.m11_asm.specs.Passes as passes
 use Rattle.m11_asm.specs.Passes.{AreWrites, Pass, ReadsSecond, StopsAmongWrites}
+use Rattle.m11_placing.specs.declared.counting.Counting.TheVariants.{Definitions}
 
 pub record AlikePrograms (one other : Program) : Type 0 where
   pub maps : MapsAgree one.map other.map
@@ -175,36 +174,29 @@ module _ (one other : Program) (alike : AlikePrograms one other) where
 
   -- ---- passes
 
-  names_alike : one.mentioned.names ≡ other.mentioned.names
-  names_alike = ap (λ (g : Gathered). g.names) alike.mentioned
-
   lines_alike : (source : List SourceLine) (all : List Numbered) (stage : Stage)
-      → PassLines one.map one.mentioned.names source all stage → PassLines other.map other.mentioned.names source all stage
-  lines_alike source all stage live =
-      let P : List Name → Type 0 = λ ns. PassLines other.map ns source all stage in
-      subst P names_alike (pass_lines_same one.map other.map alike.maps one.mentioned.names source all stage live)
+      → PassLines one.map Definitions source all stage → PassLines other.map Definitions source all stage
+  lines_alike source all stage live = pass_lines_same one.map other.map alike.maps Definitions source all stage live
 
-  unended_alike : (source : List SourceLine) (all : List Numbered) → Unended one.map one.mentioned.names source all
-      → Unended other.map other.mentioned.names source all
+  unended_alike : (source : List SourceLine) (all : List Numbered) → Unended one.map Definitions source all
+      → Unended other.map Definitions source all
   unended_alike source all u =
       record { stage = u.stage; live = lines_alike source all u.stage u.live; left = u.left; goes_on = u.goes_on }
 
   exceeds_alike : (source : List SourceLine) (all : List Numbered) (limit : AsmFault)
-      → Exceeds one.map one.mentioned.names source all limit → Exceeds other.map other.mentioned.names source all limit
-  exceeds_alike source all limit exceeds =
-      let P : List Name → Type 0 = λ ns. Exceeds other.map ns source all limit in
-      subst P names_alike (exceeds_same one.map other.map alike.maps one.mentioned.names source all limit exceeds)
+      → Exceeds one.map Definitions source all limit → Exceeds other.map Definitions source all limit
+  exceeds_alike source all limit exceeds = exceeds_same one.map other.map alike.maps Definitions source all limit exceeds
 
   module _ (reading : Reading) where
-    ends_alike : (all : List Numbered) (ended : Ended) → Ends one.map one.mentioned.names reading all ended
-        → Ends other.map other.mentioned.names reading all ended
+    ends_alike : (all : List Numbered) (ended : Ended) → Ends one.map Definitions reading all ended
+        → Ends other.map Definitions reading all ended
     ends_alike all ended (outcome.Ends.AtEnd source more stage are live ends is) =
         outcome.Ends.AtEnd source more stage are (lines_alike source all stage live) ends is
     ends_alike all ended (outcome.Ends.WithoutEnd u none is) =
         outcome.Ends.WithoutEnd (unended_alike reading.lines all u) none is
 
-    refuses_alike : (all : List Numbered) (stopped : AsmFault) → Refuses one.map one.mentioned.names reading all stopped
-        → Refuses other.map other.mentioned.names reading all stopped
+    refuses_alike : (all : List Numbered) (stopped : AsmFault) → Refuses one.map Definitions reading all stopped
+        → Refuses other.map Definitions reading all stopped
     refuses_alike all stopped (outcome.Refuses.AtReading fault some is u) =
         outcome.Refuses.AtReading fault some is (unended_alike reading.lines all u)
     refuses_alike all stopped (outcome.Refuses.AtLimit source more limit are exceeds is) =
@@ -250,21 +242,21 @@ module _ (one other : Program) (alike : AlikePrograms one other) where
   -- how far feeds have given
 
   module _ {F : Type 0} (pass : Pass F) where
-    to_end_alike : (all : List Numbered) → GivesToEnd pass one.map one.mentioned.names all
-        → GivesToEnd pass other.map other.mentioned.names all
+    to_end_alike : (all : List Numbered) → GivesToEnd pass one.map Definitions all
+        → GivesToEnd pass other.map Definitions all
     to_end_alike all (extents.GivesToEnd.AtEnd source stage live ends given) =
         extents.GivesToEnd.AtEnd source stage (lines_alike source all stage live) ends given
     to_end_alike all (extents.GivesToEnd.WithoutEnd source u given) =
         extents.GivesToEnd.WithoutEnd source (unended_alike source all u) given
 
-    to_stop_alike : GivesToStop pass one.map one.mentioned.names → GivesToStop pass other.map other.mentioned.names
+    to_stop_alike : GivesToStop pass one.map Definitions → GivesToStop pass other.map Definitions
     to_stop_alike (extents.GivesToStop.InLine source all stage live given) =
         extents.GivesToStop.InLine source all stage (lines_alike source all stage live) given
     to_stop_alike (extents.GivesToStop.AfterAll source all u given) =
         extents.GivesToStop.AfterAll source all (unended_alike source all u) given
 
-    to_fault_alike : (stopped : AsmFault) → GivesToFault pass one.map one.mentioned.names stopped
-        → GivesToFault pass other.map other.mentioned.names stopped
+    to_fault_alike : (stopped : AsmFault) → GivesToFault pass one.map Definitions stopped
+        → GivesToFault pass other.map Definitions stopped
     to_fault_alike fault.Read s = (s.0, s.1, unended_alike s.0 s.1 s.2, s.3)
     to_fault_alike fault.TooMuchSource s = (s.0, s.1, unended_alike s.0 s.1 s.2, s.3, s.4)
     to_fault_alike fault.NoMemory s = to_stop_alike s

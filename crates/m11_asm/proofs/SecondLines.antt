@@ -30,11 +30,12 @@ use Rattle.m11_asm.specs.Passes as passes
 use Rattle.m11_asm.specs.Passes.{Pass, StopsAmongWrites, pass_of}
 use Rattle.m11_asm.specs.SecondReading.{PutsAll, SecondTaken}
 use Rattle.m11_asm.proofs.LinesRead.{Begun, SoFar, all_read, begun, failed, few_read, given_all, given_till, lines_given, one_more, past_bytes, past_lines, reader_begins, too_many, too_much}
+use Rattle.m11_placing.specs.declared.counting.Counting.TheVariants.{Definitions}
 
 -- where `.END` isn't live, nothing is left of the lines
 second_unended : (program : Program) (source : List SourceLine) (old now : Outputs) (second : SecondState)
     → (stands : SecondStands program source old now second) → second.has_ended ≡ false
-    → Unended program.map program.mentioned.names source stands.lines
+    → Unended program.map Definitions source stands.lines
 second_unended program source old now second stands goes = record {
   stage = second.going.unfolder.stage;
   live = stands.taken.stands.lines_are;
@@ -92,7 +93,7 @@ module _ {F : Type 0} (text : F → Option Text) (faults : F → ℕ) (program :
         }
 
     module _ (goes : second.has_ended ≡ false) (later : List F) (reader' : LineReading) where
-      unended : Unended program.map program.mentioned.names so.source so.stands.lines
+      unended : Unended program.map Definitions so.source so.stands.lines
       unended = second_unended program so.source old now second so.stands goes
 
       pub second_read : ReadsNext (place text faults here reader) (place text faults later reader') (Ok None)
@@ -193,7 +194,7 @@ module _ {F : Type 0} (text : F → Option Text) (faults : F → ℕ) (program :
         }
 
         gives_in_line : (Stop : List Write → Type 0) → StopsAmong Stop program all
-            → GivesToStop (pass_of text faults initial later) program.map program.mentioned.names
+            → GivesToStop (pass_of text faults initial later) program.map Definitions
         gives_in_line Stop s = extents.GivesToStop.InLine all s.lines s.stage s.live given_more
 
         too_long : length all ≡ most_lines + 1 → ⊥
@@ -228,24 +229,24 @@ module _ {F : Type 0} (text : F → Option Text) (faults : F → ℕ) (program :
 
   module _ (pass : Pass F) (now new : Outputs) (second : SecondState) (taken : SecondTaken pass program old now second)
       (result : Result AsmDone AsmFault) (ends : SecondEnds program taken.source old new second result) where
-    unended_so : second.has_ended ≡ false → Unended program.map program.mentioned.names taken.source ends.lines
+    unended_so : second.has_ended ≡ false → Unended program.map Definitions taken.source ends.lines
     unended_so is =
         record { stage = ends.stage; live = ends.live; left = ends.needs is; goes_on = sym ends.ended ∙ is }
 
     ended_so : (has_ended : Bool) → second.has_ended ≡ has_ended → IsTakenUp taken.reading taken.source has_ended
-        → Ends program.map program.mentioned.names taken.reading ends.lines (ended_with second)
+        → Ends program.map Definitions taken.reading ends.lines (ended_with second)
     ended_so true is up =
         let at : ℕ → Bool → Ended = λ n b. record { read = n; has_end = b } in
         outcome.Ends.AtEnd taken.source up.0 ends.stage up.1 ends.live (sym ends.ended ∙ is)
         (ap (λ (n : ℕ). at n second.has_ended) ends.read ∙ ap (at (length taken.source)) is)
     ended_so false is up =
         let at : ℕ → Bool → Ended = λ n b. record { read = n; has_end = b } in
-        let P : List SourceLine → Type 0 = λ s. Unended program.map program.mentioned.names s ends.lines in
+        let P : List SourceLine → Type 0 = λ s. Unended program.map Definitions s ends.lines in
         outcome.Ends.WithoutEnd (subst P (sym up.0) (unended_so is)) up.1
         (ap (λ (n : ℕ). at n second.has_ended) ends.read ∙ ap (at (length taken.source)) is
         ∙ ap (λ (s : List SourceLine). at (length s) false) (sym up.0))
 
-    all_ends : Ends program.map program.mentioned.names taken.reading ends.lines (ended_with second)
+    all_ends : Ends program.map Definitions taken.reading ends.lines (ended_with second)
     all_ends = ended_so second.has_ended refl taken.taken_up
 
     among_all : (Stop : List Write → Type 0) → Stop (program_writes program ends.lines (ended_with second))
@@ -257,14 +258,14 @@ module _ {F : Type 0} (text : F → Option Text) (faults : F → ℕ) (program :
     }
 
     gives_to_end : (has_ended : Bool) → second.has_ended ≡ has_ended → HaveGiven pass taken.source has_ended
-        → GivesToEnd pass program.map program.mentioned.names ends.lines
+        → GivesToEnd pass program.map Definitions ends.lines
     gives_to_end true is given =
         extents.GivesToEnd.AtEnd taken.source ends.stage ends.live (sym ends.ended ∙ is) given
     gives_to_end false is given = extents.GivesToEnd.WithoutEnd taken.source (unended_so is) given
 
     -- an output or memory failed at the end
     gives_to_stop : (has_ended : Bool) → second.has_ended ≡ has_ended → HaveGiven pass taken.source has_ended
-        → GivesToStop pass program.map program.mentioned.names
+        → GivesToStop pass program.map Definitions
     gives_to_stop true is given = extents.GivesToStop.InLine taken.source ends.lines ends.stage ends.live given
     gives_to_stop false is given = extents.GivesToStop.AfterAll taken.source ends.lines (unended_so is) given
 

@@ -3,12 +3,14 @@
 use Rattle.std.specs.Prelude.{◌≡◌, ◌⊎◌, Bool, true, false, List, [], Result, Ok, Err}
 use Rattle.m11_asm_faults.specs.declared.fault.AsmFault.{AsmFault}
 use Rattle.m11_asm_faults.specs.declared.fault.AsmFault.TheVariants as fault
-use Rattle.m11_base.specs.Rad50.{Name}
 use Rattle.m11_lines.specs.Line.{SourceLine}
 use Rattle.m11_lines.specs.declared.fault.LineFault.{LineFault}
 use Rattle.m11_passes.specs.Lines.{Numbered, PassLines, givens}
 use Rattle.m11_passes.specs.Reaching.{Exceeds}
 use Rattle.m11_placement.specs.Meanings.{Map, empty_map}
+use Rattle.m11_placing.specs.Counting.{none_mentioned}
+use Rattle.m11_placing.specs.declared.counting.Counting.{Counting}
+use Rattle.m11_placing.specs.declared.counting.Counting.TheVariants.{Definitions}
 use Rattle.m11_readings.specs.Extents.{GaveAll, GaveLines, GavePast, GaveTill}
 use Rattle.m11_asm.specs.Outcome.{Unended}
 use Rattle.m11_asm.specs.Passes.{Pass}
@@ -21,47 +23,47 @@ abbrev pub HaveGiven : {F : Type 0} → Pass F → List SourceLine → Bool → 
 HaveGiven pass source true = GaveLines pass.text pass.old pass.new source
 HaveGiven pass source false = GaveAll pass.text pass.old pass.new source
 
--- ---- a pass, under a map and after names that were mentioned before
+-- ---- a pass, under a map and by which names count
 
 -- it took the source up to the line in which `.END` became live, and the feeds gave just the lines up to that one; or it took all of the
 -- source, and the feeds gave all that they had
-pub data GivesToEnd {F : Type 0} (pass : Pass F) (map : Map) (names : List Name) (lines : List Numbered) : Type 0 where
-  AtEnd : (source : List SourceLine) (stage : Stage) → PassLines map names source lines stage → stage.has_ended ≡ true
-      → GaveLines pass.text pass.old pass.new source → GivesToEnd pass map names lines
-  WithoutEnd : (source : List SourceLine) → Unended map names source lines → GaveAll pass.text pass.old pass.new source
-      → GivesToEnd pass map names lines
+pub data GivesToEnd {F : Type 0} (pass : Pass F) (map : Map) (counting : Counting) (lines : List Numbered) : Type 0 where
+  AtEnd : (source : List SourceLine) (stage : Stage) → PassLines map counting source lines stage → stage.has_ended ≡ true
+      → GaveLines pass.text pass.old pass.new source → GivesToEnd pass map counting lines
+  WithoutEnd : (source : List SourceLine) → Unended map counting source lines → GaveAll pass.text pass.old pass.new source
+      → GivesToEnd pass map counting lines
 
 -- it stopped after some live lines of the source, and the feeds gave just the lines up to that to which these belong; or it stopped when
 -- all was taken, and the feeds gave all that they had
-pub data GivesToStop {F : Type 0} (pass : Pass F) (map : Map) (names : List Name) : Type 0 where
-  InLine : (source : List SourceLine) (lines : List Numbered) (stage : Stage) → PassLines map names source lines stage
-      → GaveLines pass.text pass.old pass.new source → GivesToStop pass map names
-  AfterAll : (source : List SourceLine) (lines : List Numbered) → Unended map names source lines
-      → GaveAll pass.text pass.old pass.new source → GivesToStop pass map names
+pub data GivesToStop {F : Type 0} (pass : Pass F) (map : Map) (counting : Counting) : Type 0 where
+  InLine : (source : List SourceLine) (lines : List Numbered) (stage : Stage) → PassLines map counting source lines stage
+      → GaveLines pass.text pass.old pass.new source → GivesToStop pass map counting
+  AfterAll : (source : List SourceLine) (lines : List Numbered) → Unended map counting source lines
+      → GaveAll pass.text pass.old pass.new source → GivesToStop pass map counting
 
 -- by its fault: the feeds gave no more than what came before one failed; up to the byte that passes a limit of reading; as far as that
 -- where memory or an output failed; or up to the end of the line in which a limit is passed
-abbrev pub GivesToFault : {F : Type 0} → Pass F → Map → List Name → AsmFault → Type 0
-GivesToFault pass map names fault.Read =
-    (source : List SourceLine) × (lines : List Numbered) × Unended map names source lines × GaveTill pass.text pass.old pass.new source
-GivesToFault pass map names fault.TooMuchSource =
-    (source : List SourceLine) × (lines : List Numbered) × Unended map names source lines
+abbrev pub GivesToFault : {F : Type 0} → Pass F → Map → Counting → AsmFault → Type 0
+GivesToFault pass map counting fault.Read =
+    (source : List SourceLine) × (lines : List Numbered) × Unended map counting source lines × GaveTill pass.text pass.old pass.new source
+GivesToFault pass map counting fault.TooMuchSource =
+    (source : List SourceLine) × (lines : List Numbered) × Unended map counting source lines
     × (limit : LineFault) × GavePast pass.text pass.old pass.new source limit
-GivesToFault pass map names fault.NoMemory = GivesToStop pass map names
-GivesToFault pass map names (fault.Write output) = GivesToStop pass map names
-GivesToFault pass map names stopped =
-    (source : List SourceLine) × (lines : List Numbered) × Exceeds map names source lines stopped
+GivesToFault pass map counting fault.NoMemory = GivesToStop pass map counting
+GivesToFault pass map counting (fault.Write output) = GivesToStop pass map counting
+GivesToFault pass map counting stopped =
+    (source : List SourceLine) × (lines : List Numbered) × Exceeds map counting source lines stopped
     × GaveLines pass.text pass.old pass.new source
 
 -- ---- both passes
 
 abbrev pub SecondGives : {F : Type 0} → Pass F → Program → Result AsmDone AsmFault → Type 0
-SecondGives pass program (Ok done) = (lines : List Numbered) × GivesToEnd pass program.map program.mentioned.names lines
-SecondGives pass program (Err stopped) = GivesToFault pass program.map program.mentioned.names stopped
+SecondGives pass program (Ok done) = (lines : List Numbered) × GivesToEnd pass program.map Definitions lines
+SecondGives pass program (Err stopped) = GivesToFault pass program.map Definitions stopped
 
 -- the first pass to its end, and the second one under what the first one gives; or the first one to its fault, and nothing of the second
 abbrev pub AsmGives : {F : Type 0} → Pass F → Pass F → Result AsmDone AsmFault → Type 0
 AsmGives first second (Ok done) =
-    (lines : List Numbered) × GivesToEnd first empty_map [] lines × SecondGives second (program_of (givens lines)) (Ok done)
-AsmGives first second (Err stopped) = (GivesToFault first empty_map [] stopped × (second.new ≡ second.old))
-    ⊎ ((lines : List Numbered) × GivesToEnd first empty_map [] lines × SecondGives second (program_of (givens lines)) (Err stopped))
+    (lines : List Numbered) × GivesToEnd first empty_map none_mentioned lines × SecondGives second (program_of (givens lines)) (Ok done)
+AsmGives first second (Err stopped) = (GivesToFault first empty_map none_mentioned stopped × (second.new ≡ second.old))
+    ⊎ ((lines : List Numbered) × GivesToEnd first empty_map none_mentioned lines × SecondGives second (program_of (givens lines)) (Err stopped))

@@ -5,39 +5,41 @@ use Rattle.std.specs.Prelude.{◌≡◌, ℕ, true, false, List, [], ◌++◌, l
 use Rattle.m11_asm_faults.specs.Faults.{of_lines}
 use Rattle.m11_asm_faults.specs.declared.fault.AsmFault.{AsmFault}
 use Rattle.m11_asm_outputs.specs.Outputs.{Write}
-use Rattle.m11_base.specs.Rad50.{Name}
 use Rattle.m11_lines.specs.Line.{SourceLine}
 use Rattle.m11_lines.specs.declared.fault.LineFault.{LineFault}
 use Rattle.m11_passes.specs.Lines.{Numbered, PassLines, givens}
 use Rattle.m11_passes.specs.Reaching.{Exceeds}
 use Rattle.m11_placement.specs.Meanings.{Map, empty_map}
+use Rattle.m11_placing.specs.Counting.{none_mentioned}
+use Rattle.m11_placing.specs.declared.counting.Counting.{Counting}
+use Rattle.m11_placing.specs.declared.counting.Counting.TheVariants.{Definitions}
 use Rattle.m11_readings.specs.Readings.{Reading}
 use Rattle.m11_asm.specs.Program.{Program, program_of}
 use Rattle.m11_asm.specs.Written.{Ended, flagged_count, program_writes, written}
 use Rattle.m11_unfolding.specs.Stages.{Stage}
 
--- ---- the live lines of a source, under a map and after names that were mentioned before
+-- ---- the live lines of a source, under a map and by which names count
 
 -- all lines were read, nothing is left of them, and `.END` didn't become live
-pub record Unended (map : Map) (names : List Name) (source : List SourceLine) (lines : List Numbered) : Type 0 where
+pub record Unended (map : Map) (counting : Counting) (source : List SourceLine) (lines : List Numbered) : Type 0 where
   pub stage : Stage
-  pub live : PassLines map names source lines stage
+  pub live : PassLines map counting source lines stage
   pub left : stage.left ≡ []
   pub goes_on : stage.has_ended ≡ false
 
 -- these are its live lines: up to the line in which `.END` becomes live, or up to the end
-pub data Ends (map : Map) (names : List Name) (reading : Reading) (lines : List Numbered) (ended : Ended) : Type 0 where
-  AtEnd : (source more : List SourceLine) (stage : Stage) → reading.lines ≡ source ++ more → PassLines map names source lines stage
-      → stage.has_ended ≡ true → ended ≡ record { read = length source; has_end = true } → Ends map names reading lines ended
-  WithoutEnd : Unended map names reading.lines lines → reading.fault ≡ None
-      → ended ≡ record { read = length reading.lines; has_end = false } → Ends map names reading lines ended
+pub data Ends (map : Map) (counting : Counting) (reading : Reading) (lines : List Numbered) (ended : Ended) : Type 0 where
+  AtEnd : (source more : List SourceLine) (stage : Stage) → reading.lines ≡ source ++ more → PassLines map counting source lines stage
+      → stage.has_ended ≡ true → ended ≡ record { read = length source; has_end = true } → Ends map counting reading lines ended
+  WithoutEnd : Unended map counting reading.lines lines → reading.fault ≡ None
+      → ended ≡ record { read = length reading.lines; has_end = false } → Ends map counting reading lines ended
 
 -- it is refused after these live lines: where reading stops, or at the first limit that is passed
-pub data Refuses (map : Map) (names : List Name) (reading : Reading) (lines : List Numbered) (stopped : AsmFault) : Type 0 where
-  AtReading : (fault : LineFault) → reading.fault ≡ Some fault → stopped ≡ of_lines fault → Unended map names reading.lines lines
-      → Refuses map names reading lines stopped
+pub data Refuses (map : Map) (counting : Counting) (reading : Reading) (lines : List Numbered) (stopped : AsmFault) : Type 0 where
+  AtReading : (fault : LineFault) → reading.fault ≡ Some fault → stopped ≡ of_lines fault → Unended map counting reading.lines lines
+      → Refuses map counting reading lines stopped
   AtLimit : (source more : List SourceLine) (limit : AsmFault) → reading.lines ≡ source ++ more
-      → Exceeds map names source lines limit → stopped ≡ limit → Refuses map names reading lines stopped
+      → Exceeds map counting source lines limit → stopped ≡ limit → Refuses map counting reading lines stopped
 
 -- ---- the outcome
 
@@ -50,14 +52,14 @@ pub data Outcome : Type 0 where
 -- the outcome of two readings. Those of one source are the same
 pub data HasOutcome (first second : Reading) : Outcome → Type 0 where
   -- a refusal of the first one has written nothing
-  FirstRefuses : (lines : List Numbered) (fault : AsmFault) → Refuses empty_map [] first lines fault
+  FirstRefuses : (lines : List Numbered) (fault : AsmFault) → Refuses empty_map none_mentioned first lines fault
       → HasOutcome first second (Refused fault [])
   -- one of the second one has written what the live lines before it write
   SecondRefuses : (lines : List Numbered) (ended : Ended) (program : Program) (others : List Numbered) (fault : AsmFault)
-      → Ends empty_map [] first lines ended → program ≡ program_of (givens lines)
-      → Refuses program.map program.mentioned.names second others fault
+      → Ends empty_map none_mentioned first lines ended → program ≡ program_of (givens lines)
+      → Refuses program.map Definitions second others fault
       → HasOutcome first second (Refused fault (written program others))
   Assembles : (lines : List Numbered) (ended : Ended) (program : Program) (others : List Numbered) (end : Ended)
-      → Ends empty_map [] first lines ended → program ≡ program_of (givens lines)
-      → Ends program.map program.mentioned.names second others end
+      → Ends empty_map none_mentioned first lines ended → program ≡ program_of (givens lines)
+      → Ends program.map Definitions second others end
       → HasOutcome first second (Assembled (program_writes program others end) (flagged_count program others end.has_end))

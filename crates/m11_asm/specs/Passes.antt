@@ -8,6 +8,8 @@ use Rattle.m11_base.specs.Feed.{NoneFailed, Text}
 use Rattle.m11_lines.specs.Line.{SourceLine}
 use Rattle.m11_passes.specs.Lines.{Numbered, PassLines}
 use Rattle.m11_placement.specs.Meanings.{empty_map}
+use Rattle.m11_placing.specs.Counting.{none_mentioned}
+use Rattle.m11_placing.specs.declared.counting.Counting.TheVariants.{Definitions}
 use Rattle.m11_readings.specs.Calls.{FailReading, HaveReading}
 use Rattle.m11_readings.specs.Readings.{Reading}
 use Rattle.m11_asm.specs.Program.{Program}
@@ -38,21 +40,21 @@ ReadsTill pass lines = FailReading pass.text pass.faults pass.old pass.new (reco
 
 -- the live lines of the source; or the source is refused; or a feed failed, and what had come till then isn't; or memory was refused
 abbrev pub ReadsFirst : {F : Type 0} → Pass F → Result (List Numbered) AsmFault → Type 0
-ReadsFirst pass (Ok lines) = (reading : Reading) × Reads pass reading × (ended : Ended) × Ends empty_map [] reading lines ended
+ReadsFirst pass (Ok lines) = (reading : Reading) × Reads pass reading × (ended : Ended) × Ends empty_map none_mentioned reading lines ended
 ReadsFirst pass (Err fault.Read) =
-    (source : List SourceLine) × ReadsTill pass source × (lines : List Numbered) × Unended empty_map [] source lines
+    (source : List SourceLine) × ReadsTill pass source × (lines : List Numbered) × Unended empty_map none_mentioned source lines
 ReadsFirst pass (Err fault.NoMemory) = NoneFailed pass.faults pass.old pass.new
 ReadsFirst pass (Err (fault.Write output)) = ⊥
 ReadsFirst pass (Err stopped) =
-    (reading : Reading) × Reads pass reading × (lines : List Numbered) × Refuses empty_map [] reading lines stopped
+    (reading : Reading) × Reads pass reading × (lines : List Numbered) × Refuses empty_map none_mentioned reading lines stopped
 
 -- ---- the second pass
 
 -- these are the writes of some first live lines of the source, or all writes
 pub data AreWrites (program : Program) (reading : Reading) : List Write → Type 0 where
   SoFar : (source more : List SourceLine) (lines : List Numbered) (stage : Stage) → reading.lines ≡ source ++ more
-      → PassLines program.map program.mentioned.names source lines stage → AreWrites program reading (written program lines)
-  All : (lines : List Numbered) (ended : Ended) → Ends program.map program.mentioned.names reading lines ended
+      → PassLines program.map Definitions source lines stage → AreWrites program reading (written program lines)
+  All : (lines : List Numbered) (ended : Ended) → Ends program.map Definitions reading lines ended
       → AreWrites program reading (program_writes program lines ended)
 
 -- it stops among such writes
@@ -65,7 +67,7 @@ pub record StopsAmongWrites (Stop : List Write → Type 0) (program : Program) (
 pub record WritesAll (program : Program) (reading : Reading) (old new : Outputs) (done : AsmDone) : Type 0 where
   pub lines : List Numbered
   pub ended : Ended
-  pub ends : Ends program.map program.mentioned.names reading lines ended
+  pub ends : Ends program.map Definitions reading lines ended
   pub gains : Gains old new (program_writes program lines ended)
   pub flushed : AreFlushed new
   pub count : done.flagged ≡ flagged_count program lines ended.has_end
@@ -81,11 +83,11 @@ abbrev pub ReadsSecond : {F : Type 0} → Pass F → Program → Outputs → Out
 ReadsSecond pass program old new (Ok done) = (reading : Reading) × Reads pass reading × WritesAll program reading old new done
 ReadsSecond pass program old new (Err fault.Read) =
     (source : List SourceLine) × ReadsTill pass source
-    × (lines : List Numbered) × Unended program.map program.mentioned.names source lines × WritesLines program lines old new
+    × (lines : List Numbered) × Unended program.map Definitions source lines × WritesLines program lines old new
 ReadsSecond pass program old new (Err fault.NoMemory) =
     (reading : Reading) × Reads pass reading × StopsAmongWrites (StopsBetween old new) program reading
 ReadsSecond pass program old new (Err (fault.Write output)) =
     (reading : Reading) × Reads pass reading × StopsAmongWrites (StopsIn output old new) program reading
 ReadsSecond pass program old new (Err stopped) =
     (reading : Reading) × Reads pass reading
-    × (lines : List Numbered) × Refuses program.map program.mentioned.names reading lines stopped × WritesLines program lines old new
+    × (lines : List Numbered) × Refuses program.map Definitions reading lines stopped × WritesLines program lines old new

@@ -9,12 +9,13 @@ use Rattle.m11_first.specs.First.{Symbols}
 use Rattle.m11_listing.specs.declared.symbol_table.SectionEntry.{SectionEntry}
 use Rattle.m11_listing.specs.declared.symbol_table.SymbolEntry.{SymbolEntry}
 use Rattle.m11_object_text.specs.declared.directory.DirectoryRow.{DirectoryRow}
-use Rattle.m11_passes.specs.States.{gathered_after}
+use Rattle.m11_passes.specs.Lines.{counting_after}
 use Rattle.m11_placement.specs.Meanings.{Map, empty_map, map_of}
 use Rattle.m11_placement.specs.Placements.{program_map, table_after}
 use Rattle.m11_placement.specs.Places.{size_in}
 use Rattle.m11_placement.specs.Tables.{first_table}
-use Rattle.m11_placing.specs.Mentioned.{Gathered, none_gathered}
+use Rattle.m11_placing.specs.Counting.{gathered_in, none_mentioned}
+use Rattle.m11_placing.specs.Mentioned.{Gathered}
 use Rattle.m11_placing.specs.Passes.{Kept}
 use Rattle.m11_symbols.specs.Sections.{section_entries}
 use Rattle.m11_symbols.specs.Symbols.{symbol_entries}
@@ -41,7 +42,7 @@ all_names mentioned = mentioned.names ++ mentioned.registers
 
 -- the names that they mention
 abbrev pub mentioned_in : List Given → Gathered
-mentioned_in lines = gathered_after empty_map first_table lines none_gathered
+mentioned_in lines = gathered_in (counting_after empty_map first_table lines none_mentioned)
 
 abbrev pub directory_facts_of : List Given → DirectoryFacts
 directory_facts_of lines = record {

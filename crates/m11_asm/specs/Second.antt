@@ -10,6 +10,7 @@ use Rattle.m11_placement.specs.Meanings.{Map}
 use Rattle.m11_passes.specs.Lines.{Numbered, PassLines}
 use Rattle.m11_passes.specs.Reaching.{Exceeds}
 use Rattle.m11_passes.specs.States.{Going, PassState, PassStands}
+use Rattle.m11_placing.specs.declared.counting.Counting.TheVariants.{Definitions}
 use Rattle.m11_asm_outputs.specs.Object.{AllFit, object_contents}
 use Rattle.m11_asm_outputs.specs.Outputs.{AreFlushed, Gains, Outputs, StopsBetween, StopsIn, Write, Writes}
 use Rattle.m11_asm.specs.Program.{Program}
@@ -34,7 +35,7 @@ pub record GoesOn (fault : Option AsmFault) (has_ended : Bool) (pass : PassState
 -- these are the live lines of a source, and exactly what they write was written, on outputs that were the first ones
 pub record Taken (program : Program) (source : List SourceLine) (lines : List Numbered) (first now : Outputs) (going : Going)
     (writing : Writing) : Type 0 where
-  pub stands : PassStands program.map program.mentioned source lines going
+  pub stands : PassStands program.map Definitions source lines going
   pub keeps : WritingStands program lines writing
   pub gains : Gains first now (written program lines)
 
@@ -54,13 +55,13 @@ pub record SecondStands (program : Program) (source : List SourceLine) (first no
 pub record StopsAmong (Stop : List Write → Type 0) (program : Program) (source : List SourceLine) : Type 0 where
   pub lines : List Numbered
   pub stage : Stage
-  pub live : PassLines program.map program.mentioned.names source lines stage
+  pub live : PassLines program.map Definitions source lines stage
   pub stops : Stop (written program lines)
 
 -- the source passes a limit after these live lines, and exactly what they write was written
 pub record StopsAtLimit (program : Program) (source : List SourceLine) (first now : Outputs) (stopped : AsmFault) : Type 0 where
   pub lines : List Numbered
-  pub exceeds : Exceeds program.map program.mentioned.names source lines stopped
+  pub exceeds : Exceeds program.map Definitions source lines stopped
   pub gains : Gains first now (written program lines)
 
 -- the source has one line too many, and exactly what the lines before it write was written
@@ -120,7 +121,7 @@ pub record SecondEnds (program : Program) (source : List SourceLine) (first now 
     (result : Result AsmDone AsmFault) : Type 0 where
   pub lines : List Numbered
   pub stage : Stage
-  pub live : PassLines program.map program.mentioned.names source lines stage
+  pub live : PassLines program.map Definitions source lines stage
   pub read : state.read ≡ length source
   pub ended : state.has_ended ≡ stage.has_ended
   pub needs : state.has_ended ≡ false → stage.left ≡ []

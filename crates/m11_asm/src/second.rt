@@ -14,7 +14,7 @@ use m11_asm_faults::AsmFault;
 use m11_base::{Latch, Sink};
 use m11_first::{Symbols, number_after};
 use m11_passes::{PlacedLine, SourcePass, the_calls_place_the_lines_of_a_source};
-use m11_placing::Pass;
+use m11_placing::{Counting, Pass};
 use m11_scan::Line;
 use m11_table::Map;
 use std::alloc::{AllocError, Global};
@@ -65,8 +65,9 @@ impl Second {
         let begun = Writing::new(alloc, &first, &mentioned, &facts);
         // what isn't kept goes by calls, which are proved far sooner
         drop(facts);
+        drop(mentioned);
         match begun {
-            Ok(writing) => match SourcePass::new(alloc, mentioned) {
+            Ok(writing) => match SourcePass::new(alloc, Counting::Definitions) {
                 Ok(pass) => Ok(Second {
                     first,
                     placed: pass.room_for_line(),
@@ -84,7 +85,6 @@ impl Second {
             },
             Err(error) => {
                 drop(first);
-                drop(mentioned);
                 Err(error)
             }
         }

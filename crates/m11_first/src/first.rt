@@ -13,7 +13,7 @@ use crate::symbols::Symbols;
 use m11_asm_faults::AsmFault;
 use m11_base::Latch;
 use m11_passes::{LiveLine, SourcePass, Turn, the_calls_place_the_lines_of_a_source};
-use m11_placing::Mentioned;
+use m11_placing::{Counting, Mentioned};
 use m11_scan::Line;
 use std::alloc::{AllocError, Global};
 use std::marker::Model;
@@ -54,7 +54,7 @@ impl First {
         ensures { IfOk result (λ first. FirstStands [] first) }
     {
         Ok(First {
-            pass: SourcePass::new(alloc, Mentioned::new(alloc))?,
+            pass: SourcePass::new(alloc, Counting::Mentions(Mentioned::new(alloc)))?,
             facts: Facts::new(alloc),
             read: 0,
             has_ended: false,

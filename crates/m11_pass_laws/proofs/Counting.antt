@@ -3,9 +3,9 @@ use Rattle.std.proofs.Common.{◌≡◌, ◌≤◌, ◌<◌, ◌+◌, Bool, true
 use Rattle.std.specs.Prelude.{if◌then◌else◌, nat_le}
 use Rattle.std.proofs.lemmas.Bool.Decides.{nat_tests}
 use Rattle.std.proofs.lemmas.List.{length-append}
-use Rattle.m11_base.specs.Rad50.{Name}
 use Rattle.m11_expansions.specs.Left.{Left, Line, End}
 use Rattle.m11_lines.specs.Line.{SourceLine}
+use Rattle.m11_placing.specs.declared.counting.Counting.{Counting}
 use Rattle.m11_passes.specs.Lines.{Numbered, PassLines, acted, numbered, table_at, with_line}
 use Rattle.m11_passes.specs.Lines as lines
 use Rattle.m11_passes.specs.Refusals.{given_by}
@@ -45,13 +45,13 @@ giving_below stage after live fits moves = below_by stage.has_ended stage.left s
 
 -- ---- the lines of a pass
 
-module _ (map_ : Map) (names : List Name) where
+module _ (map_ : Map) (counting : Counting) where
   -- a live line more
   one_more : (all : List Numbered) (one : Numbered) → length (all ++ one ∷ []) ≡ length all + 1
   one_more all one = length-append all (one ∷ [])
 
   -- each of them was taken
-  pub were_taken : (source : List SourceLine) (all : List Numbered) (stage : Stage) → PassLines map_ names source all stage
+  pub were_taken : (source : List SourceLine) (all : List Numbered) (stage : Stage) → PassLines map_ counting source all stage
       → length all ≤ stage.taken
   were_taken _ _ _ lines.PassLines.Begins = omega arith
   were_taken _ all _ (lines.PassLines.Reading source _ stage line before none goes) = were_taken source all stage before
@@ -67,7 +67,7 @@ module _ (map_ : Map) (names : List Name) where
       let more = one_more all (numbered (length source) one) in
       omega (arith, first, next, same, more)
 
-  pub at_most : (source : List SourceLine) (all : List Numbered) (stage : Stage) → PassLines map_ names source all stage
+  pub at_most : (source : List SourceLine) (all : List Numbered) (stage : Stage) → PassLines map_ counting source all stage
       → length all ≤ most_lines
   at_most _ _ _ lines.PassLines.Begins = omega arith
   at_most _ all _ (lines.PassLines.Reading source _ stage line before none goes) = at_most source all stage before

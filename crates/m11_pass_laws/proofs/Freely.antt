@@ -1,11 +1,11 @@
--- A pass whose live lines pass no limit, whatever the names are. Its steps are the same under every map, and each pass over the same lines
+-- A pass whose live lines pass no limit, whatever the counting are. Its steps are the same under every map, and each pass over the same lines
 -- takes the same steps, up to its end or to a limit.
 use Rattle.std.proofs.Common.{◌≡◌, ◌∙◌, Bool, false, List, [], ◌∷◌, ◌++◌, length, append-nil, Option, Some, None, inl, inr, refl, sym, ap}
 use Rattle.std.specs.Prelude.{◌⊎◌}
 use Rattle.m11_asm_faults.specs.declared.fault.AsmFault.{AsmFault}
-use Rattle.m11_base.specs.Rad50.{Name}
 use Rattle.m11_lines.specs.Line.{SourceLine}
-use Rattle.m11_passes.specs.Lines.{Numbered, PassLines, acted, names_at, numbered, table_at}
+use Rattle.m11_placing.specs.declared.counting.Counting.{Counting}
+use Rattle.m11_passes.specs.Lines.{Numbered, PassLines, acted, counting_at, numbered, table_at}
 use Rattle.m11_passes.specs.Refusals.{given_by, line_fault}
 use Rattle.m11_placement.specs.Meanings.{Map}
 use Rattle.m11_unfolding.specs.Acting.{act}
@@ -54,24 +54,24 @@ next_freely map here live after fits moves = freely_moved map here (Gives live a
 
 -- ---- a step of a pass is one of these
 
-module _ (map : Map) (names : List Name) where
+module _ (map : Map) (counting : Counting) where
   places_freely : (fault : Option AsmFault) (live : Live) (after : Stage) (here next : At)
-      → places map names fault live after here ≡ Some next → Some (placed_at map live after here) ≡ Some next
+      → places map counting fault live after here ≡ Some next → Some (placed_at map live after here) ≡ Some next
   places_freely (Some fault) live after here next goes = absurd (cc)
   places_freely None live after here next goes = goes
 
-  moves_freely : (by : Move) (here next : At) → moves_by map names by here ≡ Some next → freely_by map by here ≡ Some next
+  moves_freely : (by : Move) (here next : At) → moves_by map counting by here ≡ Some next → freely_by map by here ≡ Some next
   moves_freely Rests here next goes = goes
   moves_freely (Passes after) here next goes = goes
   moves_freely (Gives live after) here next goes =
-      places_freely (line_fault map (table_at map here.lines) (names_at map names here.lines) live after) live after here next goes
+      places_freely (line_fault map (table_at map here.lines) (counting_at map counting here.lines) live after) live after here next goes
 
-  within_freely : (fault : Option UnfoldFault) (here next : At) → within map names fault here ≡ Some next
+  within_freely : (fault : Option UnfoldFault) (here next : At) → within map counting fault here ≡ Some next
       → freely_within map fault here ≡ Some next
   within_freely (Some fault) here next goes = goes
   within_freely None here next goes = moves_freely (move here.stage) here next goes
 
-  pub is_freer : (here next : At) → step map names here ≡ Some next → freely map here ≡ Some next
+  pub is_freer : (here next : At) → step map counting here ≡ Some next → freely map here ≡ Some next
   unfolding step freely
   is_freer here next goes = within_freely (next_fault here.stage) here next goes
 
@@ -96,11 +96,11 @@ module _ (alike : PlaceAlike) (one other : Map) where
   unfolding freely
   freely_alike here = within_alike (next_fault here.stage) here
 
-  pub goes_freely : (names : List Name) (before after : At) → LeadsTo one names before after → Onward At (freely other) before after
-  goes_freely names before _ onward.Onward.Stays = onward.Onward.Stays
-  goes_freely names before after (onward.Onward.Goes middle _ leads goes) =
-      onward.Onward.Goes middle after (goes_freely names before middle leads)
-      (sym (freely_alike middle) ∙ is_freer one names middle after goes)
+  pub goes_freely : (counting : Counting) (before after : At) → LeadsTo one counting before after → Onward At (freely other) before after
+  goes_freely counting before _ onward.Onward.Stays = onward.Onward.Stays
+  goes_freely counting before after (onward.Onward.Goes middle _ leads goes) =
+      onward.Onward.Goes middle after (goes_freely counting before middle leads)
+      (sym (freely_alike middle) ∙ is_freer one counting middle after goes)
 
 -- ---- where nothing comes any more, nothing comes so either
 
@@ -133,47 +133,47 @@ module _ (map : Map) where
   follows here there (inl on) = inl (grown_by (freely map) grows_freely here there on)
   follows here there (inr on) = inr (grown_by (freely map) grows_freely there here on)
 
-pub go_on : PlaceAlike → (one other : Map) (names others : List Name) (all source more read rest : List SourceLine)
-    (first second : List Numbered) (stage after : Stage) → PassLines one names source first stage
+pub go_on : PlaceAlike → (one other : Map) (counting others : Counting) (all source more read rest : List SourceLine)
+    (first second : List Numbered) (stage after : Stage) → PassLines one counting source first stage
     → PassLines other others read second after → source ++ more ≡ all → read ++ rest ≡ all
     → BeginWith second first ⊎ BeginWith first second
-go_on alike one other names others all source more read rest first second stage after passes passes' whole whole' =
+go_on alike one other counting others all source more read rest first second stage after passes passes' whole whole' =
     let here : At = at source more first stage in
     let there : At = at read rest second after in
     follows one here there (in_order At (freely one) (begin all) here there
-    (goes_freely alike one one names (begin all) here (reached one names all source more first stage passes whole))
+    (goes_freely alike one one counting (begin all) here (reached one counting all source more first stage passes whole))
     (goes_freely alike other one others (begin all) there (reached other others all read rest second after passes' whole')))
 
 -- ---- a pass at its end went through each state of any other pass over the same lines
 
-module _ (alike : PlaceAlike) (one other : Map) (names others : List Name) (all source : List SourceLine) (lines : List Numbered)
-    (stage : Stage) (end : EndsAfter one names all source lines stage) where
+module _ (alike : PlaceAlike) (one other : Map) (counting others : Counting) (all source : List SourceLine) (lines : List Numbered)
+    (stage : Stage) (end : EndsAfter one counting all source lines stage) where
   abbrev last : At
   last = at source end.more lines stage
 
-  pub went_through : (here : At) → Onward At (freely one) (begin all) here → LeadsTo one names here last
+  pub went_through : (here : At) → Onward At (freely one) (begin all) here → LeadsTo one counting here last
   went_through here leads =
-      on_the_way At (step one names) (freely one) (is_freer one names) (begin all) last here (over_freely one last end.is_over)
-      (reached one names all source end.more lines stage end.lines_are end.whole) leads
+      on_the_way At (step one counting) (freely one) (is_freer one counting) (begin all) last here (over_freely one last end.is_over)
+      (reached one counting all source end.more lines stage end.lines_are end.whole) leads
 
   module _ (read rest : List SourceLine) (later : List Numbered) (after : Stage) (passes : PassLines other others read later after)
       (whole : read ++ rest ≡ all) where
     abbrev here : At
     here = at read rest later after
 
-    pub came_by : LeadsTo one names here last
+    pub came_by : LeadsTo one counting here last
     came_by =
         went_through here (goes_freely alike other one others (begin all) here (reached other others all read rest later after passes whole))
 
     pub begins_with : BeginWith lines later
-    begins_with = grown one names here last came_by
+    begins_with = grown one counting here last came_by
 
   pub ends_alike : (read : List SourceLine) (later : List Numbered) (after : Stage) → EndsAfter other others all read later after
       → (source ≡ read) × (lines ≡ later) × (stage ≡ after)
   ends_alike read later after ends =
       let there : At = at read ends.more later after in
       let same : last ≡ there
-      = stays At (step one names) there last (over_stops one names there ends.is_over)
+      = stays At (step one counting) there last (over_stops one counting there ends.is_over)
       (came_by read ends.more later after ends.lines_are ends.whole) in (
         ap (λ (a : At). a.source) same,
         ap (λ (a : At). a.lines) same,

@@ -2,9 +2,9 @@
 use Rattle.std.proofs.Common.{◌≡◌, ◌∙◌, Bool, true, false, List, [], ◌∷◌, ◌++◌, length, append_assoc, append-nil, Option, Some, None, inl, inr, refl, sym, ap, subst}
 use Rattle.std.specs.Prelude.{◌⊎◌}
 use Rattle.m11_asm_faults.specs.declared.fault.AsmFault.{AsmFault}
-use Rattle.m11_base.specs.Rad50.{Name}
 use Rattle.m11_lines.specs.Line.{SourceLine}
-use Rattle.m11_passes.specs.Lines.{Numbered, PassLines, names_at, numbered, table_at}
+use Rattle.m11_placing.specs.declared.counting.Counting.{Counting}
+use Rattle.m11_passes.specs.Lines.{Numbered, PassLines, counting_at, numbered, table_at}
 use Rattle.m11_passes.specs.Refusals.{given_by, line_fault}
 use Rattle.m11_placement.specs.Meanings.{Map}
 use Rattle.m11_unfolding.specs.Limits.{next_fault}
@@ -37,36 +37,36 @@ module _ (go : At → Option At) (grows : (here : At) → Grows here (go here)) 
   grown_by before after (onward.Onward.Goes middle _ leads steps) =
       further before.lines middle.lines after.lines (grown_by before middle leads) (subst (Grows middle) steps (grows middle))
 
-module _ (map_ : Map) (names : List Name) where
+module _ (map_ : Map) (counting : Counting) where
   grows_placed : (fault : Option AsmFault) (live : Live) (after : Stage) (here : At)
-      → Grows here (places map_ names fault live after here)
+      → Grows here (places map_ counting fault live after here)
   grows_placed (Some fault) live after here = tt
   grows_placed None live after here =
       (numbered (length here.source) (given_by (table_at map_ here.lines) live after) ∷ [], refl)
 
-  grows_moved : (next : Move) (here : At) → Grows here (moves_by map_ names next here)
+  grows_moved : (next : Move) (here : At) → Grows here (moves_by map_ counting next here)
   grows_moved Rests here = grows_read here.stage.has_ended here.more here
   grows_moved (Passes after) here = ([], sym (append-nil here.lines))
   grows_moved (Gives live after) here =
-      grows_placed (line_fault map_ (table_at map_ here.lines) (names_at map_ names here.lines) live after) live after here
+      grows_placed (line_fault map_ (table_at map_ here.lines) (counting_at map_ counting here.lines) live after) live after here
 
-  grows_within : (fault : Option UnfoldFault) (here : At) → Grows here (within map_ names fault here)
+  grows_within : (fault : Option UnfoldFault) (here : At) → Grows here (within map_ counting fault here)
   grows_within (Some fault) here = tt
   grows_within None here = grows_moved (move here.stage) here
 
-  grows_by : (here : At) → Grows here (step map_ names here)
+  grows_by : (here : At) → Grows here (step map_ counting here)
   unfolding step
   grows_by here = grows_within (next_fault here.stage) here
 
-  pub grown : (before after : At) → LeadsTo map_ names before after → BeginWith after.lines before.lines
-  grown before after leads = grown_by (step map_ names) grows_by before after leads
+  pub grown : (before after : At) → LeadsTo map_ counting before after → BeginWith after.lines before.lines
+  grown before after leads = grown_by (step map_ counting) grows_by before after leads
 
   pub goes_on : (all source other more rest : List SourceLine) (first second : List Numbered) (stage after : Stage)
-      → PassLines map_ names source first stage → PassLines map_ names other second after → source ++ more ≡ all → other ++ rest ≡ all
+      → PassLines map_ counting source first stage → PassLines map_ counting other second after → source ++ more ≡ all → other ++ rest ≡ all
       → BeginWith second first ⊎ BeginWith first second
   goes_on all source other more rest first second stage after lines lines' whole whole' =
-      go (in_order At (step map_ names) (begin all) here there (reached map_ names all source more first stage lines whole)
-      (reached map_ names all other rest second after lines' whole'))
+      go (in_order At (step map_ counting) (begin all) here there (reached map_ counting all source more first stage lines whole)
+      (reached map_ counting all other rest second after lines' whole'))
     where
       here : At
       here = at source more first stage
@@ -74,6 +74,6 @@ module _ (map_ : Map) (names : List Name) where
       there : At
       there = at other rest second after
 
-      go : LeadsTo map_ names here there ⊎ LeadsTo map_ names there here → BeginWith second first ⊎ BeginWith first second
+      go : LeadsTo map_ counting here there ⊎ LeadsTo map_ counting there here → BeginWith second first ⊎ BeginWith first second
       go (inl on) = inl (grown here there on)
       go (inr on) = inr (grown there here on)

@@ -42,7 +42,7 @@ use Rattle.m11_placement.specs.Exports as exports
 use Rattle.m11_placement.specs.Instructions.{assembled, fields, setting}
 use Rattle.m11_placement.specs.Items.{assigned_items, deed_items, items, items_of, value_items}
 use Rattle.m11_placement.specs.Labels.{global_if, label_name, labels_letters, with_definition, with_doubled, with_label}
-use Rattle.m11_placement.specs.Limits.{limit_fault, with_mentions}
+use Rattle.m11_placement.specs.Limits.{limit_fault}
 use Rattle.m11_placement.specs.Lines.{Assigning, Deed, Operating, Rests, Setting as SetsPlace, after_line, deed, known_end, letters, line_change, line_put, pieces, put_by, put_place, stands}
 use Rattle.m11_placement.specs.Meanings.{Map, defined_or, known_at, letter_D, map_of, meaning_of, quantity_of, stands_for, undefined}
 use Rattle.m11_placement.specs.Mentions.{mentions}
@@ -62,6 +62,8 @@ use Rattle.m11_placement.specs.declared.operators.Operator.TheVariants.{Instruct
 use Rattle.m11_table.specs.Alike.{Alike}
 use Rattle.m11_placing.specs.Moved.{is_place_of, letter_P, moved_key, moved_kind, moved_letters, moved_name}
 use Rattle.m11_passes.specs.Placed.{all_letters}
+use Rattle.m11_placing.specs.Counting.{names_counted, with_counted}
+use Rattle.m11_placing.specs.declared.counting.Counting.{Counting}
 use Rattle.m11_passes.specs.Refusals.{act_refused, given_by, labels_fault, line_fault, of_limit}
 use Rattle.m11_pass_laws.specs.Maps.{MapsAgree}
 
@@ -314,10 +316,10 @@ module _ (one other : Map) (same : MapsAgree one other) where
 
   -- ---- limits
 
-  pub line_fault_same : (table : Table) (names : List Name) (live : Live) (stage : Stage)
-      → line_fault one table names live stage ≡ line_fault other table names live stage
-  line_fault_same table names live stage =
+  pub line_fault_same : (table : Table) (counting : Counting) (live : Live) (stage : Stage)
+      → line_fault one table counting live stage ≡ line_fault other table counting live stage
+  line_fault_same table counting live stage =
       let given = given_by table live stage in
-      ap (λ (t : Table). option_or (labels_fault names table live.line.text)
-      (option_or (act_refused (act_fault stage live.line.text)) (of_limit (limit_fault (with_mentions (mentions table given) names) t))))
+      ap (λ (t : Table). option_or (labels_fault counting table live.line.text)
+      (option_or (act_refused (act_fault stage live.line.text)) (of_limit (limit_fault (names_counted (with_counted (mentions table given) counting)) t))))
       (after_line_same table given)

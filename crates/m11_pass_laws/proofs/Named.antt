@@ -13,7 +13,7 @@ use Rattle.m11_placement.specs.Limits.{is_counted, names_after, with_mentions, w
 use Rattle.m11_placement.specs.Lines.{Assigning, Deed, Operating, Rests, Setting, after_line, deed, stands}
 use Rattle.m11_placement.specs.Meanings.{Map, empty_map, known_at}
 use Rattle.m11_placement.specs.Mentions.{Mention, deed_mentions, field_mentions, label_mentions, mention, mentions}
-use Rattle.m11_placement.specs.Placements.{after_lines, table_after}
+use Rattle.m11_placement.specs.Placements.{table_after}
 use Rattle.m11_placement.specs.Tables.{Table, firm_table, first_table, place}
 use Rattle.m11_placement.specs.declared.definitions.Key.TheVariants.{Named}
 use Rattle.m11_placement.specs.declared.meanings.Context.TheVariants.{Knows}
@@ -130,10 +130,6 @@ mentioned (mention ∷ some) names = (
   mentioned some (with_symbol mention.symbol names),
 )
 
-pub first_there : (some others : List Mention) (names : List Name) → AreThere (some ++ others) names → AreThere some names
-first_there [] others names there = tt
-first_there (mention ∷ some) others names there = (there.0, first_there some others names there.1)
-
 -- ---- lines whose names are all there
 
 abbrev pub AllThere : Map → Table → List Given → List Name → Type 0
@@ -162,11 +158,6 @@ pub lines_before : (map : Map) (table : Table) (first second : List Given) (name
 lines_before map table [] second names there = tt
 lines_before map table (given ∷ first) second names there =
     (there.0, lines_before map (after_line map table given) first second names there.1)
-
-pub last_there : (map : Map) (table : Table) (lines : List Given) (one : Given) (names : List Name)
-    → AllThere map table (lines ++ one ∷ []) names → AreThere (mentions (after_lines map table lines) one) names
-last_there map table [] one names there = there.0
-last_there map table (given ∷ lines) one names there = last_there map (after_line map table given) lines one names there.1
 
 -- ---- the same under every map
 

@@ -2,10 +2,10 @@
 use Rattle.std.proofs.Common.{◌≡◌, ◌∙◌, Bool, true, false, List, [], ◌∷◌, ◌++◌, length, append_assoc, Option, Some, None, refl, sym, ap, subst}
 use Rattle.std.specs.Prelude.{if◌then◌else◌}
 use Rattle.m11_asm_faults.specs.declared.fault.AsmFault.{AsmFault}
-use Rattle.m11_base.specs.Rad50.{Name}
 use Rattle.m11_expansions.specs.Left.{Left}
 use Rattle.m11_lines.specs.Line.{SourceLine}
-use Rattle.m11_passes.specs.Lines.{Numbered, PassLines, acted, names_at, numbered, table_at, with_line}
+use Rattle.m11_placing.specs.declared.counting.Counting.{Counting}
+use Rattle.m11_passes.specs.Lines.{Numbered, PassLines, acted, counting_at, numbered, table_at, with_line}
 use Rattle.m11_passes.specs.Lines as lines
 use Rattle.m11_passes.specs.Refusals.{given_by, line_fault}
 use Rattle.m11_placement.specs.Meanings.{Map}
@@ -54,7 +54,7 @@ reads true more here = None
 reads false [] here = None
 reads false (line ∷ more) here = Some (at (here.source ++ line ∷ []) more here.lines (with_line line here.stage))
 
-module _ (map_ : Map) (names : List Name) where
+module _ (map_ : Map) (counting : Counting) where
   -- ---- a step
 
   -- a live line that passes no limit
@@ -70,7 +70,7 @@ module _ (map_ : Map) (names : List Name) where
   moves_by Rests here = reads here.stage.has_ended here.more here
   moves_by (Passes after) here = Some (at here.source here.more here.lines after)
   moves_by (Gives live after) here =
-      places (line_fault map_ (table_at map_ here.lines) (names_at map_ names here.lines) live after) live after here
+      places (line_fault map_ (table_at map_ here.lines) (counting_at map_ counting here.lines) live after) live after here
 
   -- none where the next line passes a limit
   abbrev pub within : Option UnfoldFault → At → Option At
@@ -99,7 +99,7 @@ module _ (map_ : Map) (names : List Name) where
   -- the next live line passes one
   pub exceeds_at : (here : At) (live : Live) (after : Stage) (fault : AsmFault) → next_fault here.stage ≡ None
       → move here.stage ≡ Gives live after
-      → line_fault map_ (table_at map_ here.lines) (names_at map_ names here.lines) live after ≡ Some fault → step here ≡ None
+      → line_fault map_ (table_at map_ here.lines) (counting_at map_ counting here.lines) live after ≡ Some fault → step here ≡ None
   exceeds_at here live after fault fits moves exceeds =
       moved here (Gives live after) fits moves ∙ ap (λ (f : Option AsmFault). places f live after here) exceeds
 
@@ -124,7 +124,7 @@ module _ (map_ : Map) (names : List Name) where
       ∙ ap (λ (b : Bool). reads b (line ∷ more) here) goes
 
   line_placed : (source more : List SourceLine) (all : List Numbered) (stage after : Stage) (live : Live) → next_fault stage ≡ None
-      → move stage ≡ Gives live after → line_fault map_ (table_at map_ all) (names_at map_ names all) live after ≡ None
+      → move stage ≡ Gives live after → line_fault map_ (table_at map_ all) (counting_at map_ counting all) live after ≡ None
       → step (at source more all stage) ≡ Some (at source more
       (all ++ numbered (length source) (given_by (table_at map_ all) live after) ∷ []) (acted (table_at map_ all) live after))
   line_placed source more all stage after live fits moves placed =
@@ -148,7 +148,7 @@ module _ (map_ : Map) (names : List Name) where
   passed_on before source more all stage _ _ (steps.Leads.Giving done middle after live known first fits moves acts) none leads =
       absurd (not_empty done (steps.given known live after) none)
 
-  pub reached : (all source more : List SourceLine) (placed : List Numbered) (stage : Stage) → PassLines map_ names source placed stage
+  pub reached : (all source more : List SourceLine) (placed : List Numbered) (stage : Stage) → PassLines map_ counting source placed stage
       → source ++ more ≡ all → LeadsTo (begin all) (at source more placed stage)
   reached all _ more _ _ lines.PassLines.Begins whole =
       let P : List SourceLine → Type 0 = λ ls. LeadsTo (begin ls) (at [] more [] (start [])) in

@@ -9,6 +9,7 @@ use Rattle.m11_base.specs.Devices.{Bytes}
 use Rattle.m11_base.proofs.SameNames.{same_name_itself}
 use Rattle.m11_base.specs.Rad50.{Name, is_same_name}
 use Rattle.m11_lines.specs.Line.{SourceLine}
+use Rattle.m11_placing.specs.declared.counting.Counting.{Counting}
 use Rattle.m11_passes.specs.Lines.{Numbered, PassLines, givens}
 use Rattle.m11_passes.specs.Lines as lines
 use Rattle.m11_placement.specs.Definitions.{firm_part, firm_standing, is_defined, last_definition}
@@ -153,13 +154,13 @@ none_moved map before more one solves =
 abbrev pub MapSolves : Type 0
 MapSolves = (lines : List Given) → Solves (program_map lines) lines
 
-pub none_moves : PlaceAlike → MapSolves → (one : Map) (names others : List Name) (all source read rest : List SourceLine)
-    (lines later before more : List Numbered) (this : Numbered) (stage after : Stage) → EndsAfter one names all source lines stage
+pub none_moves : PlaceAlike → MapSolves → (one : Map) (counting others : Counting) (all source read rest : List SourceLine)
+    (lines later before more : List Numbered) (this : Numbered) (stage after : Stage) → EndsAfter one counting all source lines stage
     → PassLines (map_from lines) others read later after → read ++ rest ≡ all → later ≡ before ++ this ∷ more
     → moved_after (map_from lines) before this ≡ 0
-none_moves alike solves one names others all source read rest lines later before more this stage after ends passes whole parts =
+none_moves alike solves one counting others all source read rest lines later before more this stage after ends passes whole parts =
     let begins : BeginWith lines later
-    = begins_with alike one (map_from lines) names others all source lines stage ends read rest later after passes whole in
+    = begins_with alike one (map_from lines) counting others all source lines stage ends read rest later after passes whole in
     let same : lines ≡ before ++ this ∷ (more ++ begins.0)
     = begins.1 ∙ ap (λ (ls : List Numbered). ls ++ begins.0) parts ∙ append_assoc before (this ∷ more) begins.0 in
     none_moved (map_from lines) before (more ++ begins.0) this

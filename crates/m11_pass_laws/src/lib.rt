@@ -1,5 +1,5 @@
-//! Laws of passes: how many live lines a pass over a source has at most; that any two passes over one source, under one map and after
-//! the same names, have the same live lines and one end, which each pass reaches; what holds of a second pass over the lines of a
+//! Laws of passes: how many live lines a pass over a source has at most; that any two passes over one source, under one map and where the
+//! same names count, have the same live lines and one end, which each pass reaches; what holds of a second pass over the lines of a
 //! first one, under another map; and that a pass places lines alike under all definitions of a source and under the last of each key.
 //! Each is the contract of a function that does nothing, but to call the laws that its own follows from. (MACRO-11 Language Reference
 //! Manual, "Symbols".)

@@ -3,7 +3,6 @@
 ghost use Rattle.std.specs.Prelude.{◌≡◌, List};
 ghost use Rattle.m11_asm_faults.specs.declared.fault.AsmFault.{AsmFault};
 ghost use Rattle.m11_base.specs.Devices.{Bytes};
-ghost use Rattle.m11_base.specs.Rad50.{Name};
 ghost use Rattle.m11_lines.specs.Line.{SourceLine};
 ghost use Rattle.m11_statements.specs.declared.labels.Label.{Label};
 ghost use Rattle.m11_unfolding.specs.Stages.{Stage};
@@ -14,7 +13,8 @@ ghost use Rattle.m11_placement.specs.Meanings.{Map, map_of};
 ghost use Rattle.m11_placement.specs.Tables.{Table};
 ghost use Rattle.m11_table.specs.Alike.{Alike};
 ghost use Rattle.m11_placing.specs.Moved.{moved_letters};
-ghost use Rattle.m11_passes.specs.Lines.{Numbered, PassLines, names_at, table_at};
+ghost use Rattle.m11_placing.specs.declared.counting.Counting.{Counting};
+ghost use Rattle.m11_passes.specs.Lines.{Numbered, PassLines, counting_at, table_at};
 ghost use Rattle.m11_passes.specs.Placed.{all_letters};
 ghost use Rattle.m11_passes.specs.Reaching.{Exceeds};
 ghost use Rattle.m11_passes.specs.Refusals.{line_fault};
@@ -26,7 +26,7 @@ pub fn tables_alike_give_maps_that_agree()
 {}
 
 /// Under maps that agree each line puts and changes the same after any table, and has the same pieces, the same letters and the
-/// same fault; after any lines the table is the same, and the names that are mentioned are.
+/// same fault; after any lines the table is the same, and the names that count are.
 pub fn maps_that_agree_place_lines_alike()
     ensures puts { (one other : Map) → MapsAgree one other → (table : Table) (given : Given)
         → line_put one table given ≡ line_put other table given }
@@ -41,18 +41,18 @@ pub fn maps_that_agree_place_lines_alike()
     ensures all_letters { (one other : Map) → MapsAgree one other → (table : Table) (given : Given)
         → all_letters one table given ≡ all_letters other table given }
     ensures tables { (one other : Map) → MapsAgree one other → (lines : List Numbered) → table_at one lines ≡ table_at other lines }
-    ensures names { (one other : Map) → MapsAgree one other → (names : List Name) (lines : List Numbered)
-        → names_at one names lines ≡ names_at other names lines }
-    ensures faults { (one other : Map) → MapsAgree one other → (table : Table) (names : List Name) (live : Live) (stage : Stage)
-        → line_fault one table names live stage ≡ line_fault other table names live stage }
+    ensures names { (one other : Map) → MapsAgree one other → (counting : Counting) (lines : List Numbered)
+        → counting_at one counting lines ≡ counting_at other counting lines }
+    ensures faults { (one other : Map) → MapsAgree one other → (table : Table) (counting : Counting) (live : Live) (stage : Stage)
+        → line_fault one table counting live stage ≡ line_fault other table counting live stage }
 {}
 
 /// Under maps that agree a source has the same live lines, and passes the same limits.
 pub fn maps_that_agree_have_the_same_live_lines()
     ensures lines { (one other : Map) → MapsAgree one other
-        → (names : List Name) (source : List SourceLine) (lines : List Numbered) (stage : Stage)
-        → PassLines one names source lines stage → PassLines other names source lines stage }
+        → (counting : Counting) (source : List SourceLine) (lines : List Numbered) (stage : Stage)
+        → PassLines one counting source lines stage → PassLines other counting source lines stage }
     ensures limits { (one other : Map) → MapsAgree one other
-        → (names : List Name) (source : List SourceLine) (lines : List Numbered) (fault : AsmFault)
-        → Exceeds one names source lines fault → Exceeds other names source lines fault }
+        → (counting : Counting) (source : List SourceLine) (lines : List Numbered) (fault : AsmFault)
+        → Exceeds one counting source lines fault → Exceeds other counting source lines fault }
 {}

@@ -1,4 +1,4 @@
-use Rattle.m11_pass_laws.proofs.LiveLines.{names_at_same, table_at_same}
+use Rattle.m11_pass_laws.proofs.LiveLines.{counting_at_same, table_at_same}
 use Rattle.m11_pass_laws.proofs.MapsAlike as alike
 use Rattle.m11_pass_laws.proofs.maps.maps_that_agree_place_lines_alike.Goals as goal
 
@@ -24,7 +24,7 @@ pub returns-clause-tables : goal.returns-clause-tables
 returns-clause-tables c = table_at_same
 
 pub returns-clause-names : goal.returns-clause-names
-returns-clause-names c = names_at_same
+returns-clause-names c = counting_at_same
 
 pub returns-clause-faults : goal.returns-clause-faults
 returns-clause-faults c = alike.line_fault_same
