@@ -9,6 +9,8 @@ use Rattle.m11_readings.specs.Readings.{Reading}
 use Rattle.m11_asm.specs.Program.{Program, program_of}
 use Rattle.m11_asm.specs.Written.{Ended, flagged_count, program_writes, written}
 use Rattle.m11_outcome_laws.proofs.OnePass.{EndsOnce, EndsOrExceeds, ExceedsOnce, not_both, one_end, one_refusal}
+use Rattle.m11_placing.specs.declared.counting.Counting.TheVariants.{Definitions}
+use Rattle.m11_placing.specs.Counting.{none_mentioned}
 
 -- the same lines of the first pass say the second one the same
 same_program : (lines later : List Numbered) (program program' : Program) → program ≡ program_of (givens lines)
@@ -22,54 +24,54 @@ module _ (once : EndsOnce) (limit_once : ExceedsOnce) (either : EndsOrExceeds) (
   -- ---- of the second pass, under one program and under another that is the same
 
   module _ (program program' : Program) (same : program ≡ program') (others others' : List Numbered) where
-    ends_under : (end : Ended) → Ends program'.map program'.mentioned.names second others' end
-        → Ends program.map program.mentioned.names second others' end
-    ends_under end = subst (λ (p : Program). Ends p.map p.mentioned.names second others' end) (sym same)
+    ends_under : (end : Ended) → Ends program'.map Definitions second others' end
+        → Ends program.map Definitions second others' end
+    ends_under end = subst (λ (p : Program). Ends p.map Definitions second others' end) (sym same)
 
-    refuses_under : (fault : AsmFault) → Refuses program'.map program'.mentioned.names second others' fault
-        → Refuses program.map program.mentioned.names second others' fault
-    refuses_under fault = subst (λ (p : Program). Refuses p.map p.mentioned.names second others' fault) (sym same)
+    refuses_under : (fault : AsmFault) → Refuses program'.map Definitions second others' fault
+        → Refuses program.map Definitions second others' fault
+    refuses_under fault = subst (λ (p : Program). Refuses p.map Definitions second others' fault) (sym same)
 
-    same_refusal : (fault fault' : AsmFault) → Refuses program.map program.mentioned.names second others fault
-        → Refuses program'.map program'.mentioned.names second others' fault'
+    same_refusal : (fault fault' : AsmFault) → Refuses program.map Definitions second others fault
+        → Refuses program'.map Definitions second others' fault'
         → Refused fault (written program others) ≡ Refused fault' (written program' others')
     same_refusal fault fault' refuses refuses' =
-        let alike = one_refusal once limit_once either program.map program.mentioned.names second others others' fault fault' refuses
+        let alike = one_refusal once limit_once either program.map Definitions second others others' fault fault' refuses
         (refuses_under fault' refuses') in
         ap (λ (f : AsmFault). Refused f (written program others)) alike.1
         ∙ ap (λ (ls : List Numbered). Refused fault' (written program ls)) alike.0
         ∙ ap (λ (p : Program). Refused fault' (written p others')) same
 
-    same_all : (end end' : Ended) → Ends program.map program.mentioned.names second others end
-        → Ends program'.map program'.mentioned.names second others' end' → all_of program others end ≡ all_of program' others' end'
+    same_all : (end end' : Ended) → Ends program.map Definitions second others end
+        → Ends program'.map Definitions second others' end' → all_of program others end ≡ all_of program' others' end'
     same_all end end' ends ends' =
-        let alike = one_end once limit_once either program.map program.mentioned.names second others others' end end' ends
+        let alike = one_end once limit_once either program.map Definitions second others others' end end' ends
         (ends_under end' ends') in
         ap (λ (e : Ended). all_of program others e) alike.1
         ∙ ap (λ (ls : List Numbered). all_of program ls end') alike.0
         ∙ ap (λ (p : Program). all_of p others' end') same
 
-    never_both : (end : Ended) (fault : AsmFault) → Ends program.map program.mentioned.names second others end
-        → Refuses program'.map program'.mentioned.names second others' fault → ⊥
+    never_both : (end : Ended) (fault : AsmFault) → Ends program.map Definitions second others end
+        → Refuses program'.map Definitions second others' fault → ⊥
     never_both end fault ends refuses =
-        not_both once limit_once either program.map program.mentioned.names second others others' end fault ends
+        not_both once limit_once either program.map Definitions second others others' end fault ends
         (refuses_under fault refuses)
 
   -- ---- of the first one
 
-  first_lines : (lines later : List Numbered) (ended end : Ended) → Ends empty_map [] first lines ended
-      → Ends empty_map [] first later end → lines ≡ later
-  first_lines lines later ended end ends ends' = (one_end once limit_once either empty_map [] first lines later ended end ends ends').0
+  first_lines : (lines later : List Numbered) (ended end : Ended) → Ends empty_map none_mentioned first lines ended
+      → Ends empty_map none_mentioned first later end → lines ≡ later
+  first_lines lines later ended end ends ends' = (one_end once limit_once either empty_map none_mentioned first lines later ended end ends ends').0
 
-  first_not_both : (lines later : List Numbered) (ended : Ended) (fault : AsmFault) → Ends empty_map [] first lines ended
-      → Refuses empty_map [] first later fault → ⊥
+  first_not_both : (lines later : List Numbered) (ended : Ended) (fault : AsmFault) → Ends empty_map none_mentioned first lines ended
+      → Refuses empty_map none_mentioned first later fault → ⊥
   first_not_both lines later ended fault ends refuses =
-      not_both once limit_once either empty_map [] first lines later ended fault ends refuses
+      not_both once limit_once either empty_map none_mentioned first lines later ended fault ends refuses
 
   pub one_outcome : (one other : Outcome) → HasOutcome first second one → HasOutcome first second other → one ≡ other
   one_outcome _ _ (outcome.HasOutcome.FirstRefuses lines fault refuses) (outcome.HasOutcome.FirstRefuses lines' fault' refuses') =
       ap (λ (f : AsmFault). Refused f [])
-      (one_refusal once limit_once either empty_map [] first lines lines' fault fault' refuses refuses').1
+      (one_refusal once limit_once either empty_map none_mentioned first lines lines' fault fault' refuses refuses').1
   one_outcome _ _ (outcome.HasOutcome.FirstRefuses lines fault refuses)
       (outcome.HasOutcome.SecondRefuses lines' ended' program' others' fault' ends' is' refuses') =
       absurd (first_not_both lines' lines ended' fault ends' refuses)

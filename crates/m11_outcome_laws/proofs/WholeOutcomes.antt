@@ -5,7 +5,6 @@ use Rattle.m11_asm.specs.Outcome.{Ends, HasOutcome, Outcome, Refuses, Unended}
 use Rattle.m11_asm.specs.Program.{Program, program_of}
 use Rattle.m11_asm.specs.Written.{Ended}
 use Rattle.m11_asm_faults.specs.declared.fault.AsmFault.{AsmFault}
-use Rattle.m11_base.specs.Rad50.{Name}
 use Rattle.m11_lines.specs.Line.{SourceLine}
 use Rattle.m11_outcome_laws.specs.WholeSources.{IsOfWholeSources, IsProgramOf}
 use Rattle.m11_pass_laws.specs.Ends.{EndsAfter}
@@ -18,15 +17,18 @@ use Rattle.m11_placement.specs.Unfolded.{AreLines}
 use Rattle.m11_readings.specs.Readings.{Reading}
 use Rattle.m11_unfolding.specs.Histories.{with_more}
 use Rattle.m11_unfolding.specs.Stages.{Stage}
+use Rattle.m11_placing.specs.declared.counting.Counting.{Counting}
+use Rattle.m11_placing.specs.declared.counting.Counting.TheVariants.{Definitions}
+use Rattle.m11_placing.specs.Counting.{none_mentioned}
 
 -- the two parts of the law of passes
 abbrev pub SoFar : Type 0
-SoFar = (map : Map) (names : List Name) (source more : List SourceLine) (lines : List Numbered) (stage : Stage)
-    → PassLines map names source lines stage → AreLines map (source ++ more) (givens lines) (with_more more stage)
+SoFar = (map : Map) (counting : Counting) (source more : List SourceLine) (lines : List Numbered) (stage : Stage)
+    → PassLines map counting source lines stage → AreLines map (source ++ more) (givens lines) (with_more more stage)
 
 abbrev pub AllLines : Type 0
-AllLines = (map : Map) (names : List Name) (all source : List SourceLine) (lines : List Numbered) (stage : Stage)
-    (end : EndsAfter map names all source lines stage) → AreAllLines map all (givens lines) (with_more end.more stage)
+AllLines = (map : Map) (counting : Counting) (all source : List SourceLine) (lines : List Numbered) (stage : Stage)
+    (end : EndsAfter map counting all source lines stage) → AreAllLines map all (givens lines) (with_more end.more stage)
 
 -- the lines of a pass that ends
 record IsWhole (map : Map) (reading : Reading) (lines : List Numbered) (ended : Ended) : Type 0 where
@@ -41,66 +43,66 @@ record IsFirst (map : Map) (reading : Reading) (lines : List Numbered) : Type 0 
   first : AreLines map reading.lines (givens lines) stage
 
 module _ (so_far : SoFar) (all_lines : AllLines) where
-  module _ (map : Map) (names : List Name) (reading : Reading) (lines : List Numbered) where
-    whole : (ended : Ended) → Ends map names reading lines ended → IsWhole map reading lines ended
+  module _ (map : Map) (counting : Counting) (reading : Reading) (lines : List Numbered) where
+    whole : (ended : Ended) → Ends map counting reading lines ended → IsWhole map reading lines ended
     whole ended (outcome.Ends.AtEnd source more stage parts passes came is) =
-        let end : EndsAfter map names reading.lines source lines stage
+        let end : EndsAfter map counting reading.lines source lines stage
         = record { lines_are = passes; more = more; whole = sym parts; is_over = inl came } in record {
           stage = with_more more stage;
-          all = all_lines map names reading.lines source lines stage end;
+          all = all_lines map counting reading.lines source lines stage end;
           has_end = ap (λ (e : Ended). e.has_end) is ∙ sym came;
           read = λ goes. absurd (let bad : true ≡ false = sym came ∙ goes in cc);
         }
     whole ended (outcome.Ends.WithoutEnd unended none is) =
-        let end : EndsAfter map names reading.lines reading.lines lines unended.stage = record {
+        let end : EndsAfter map counting reading.lines reading.lines lines unended.stage = record {
           lines_are = unended.live;
           more = [];
           whole = append-nil reading.lines;
           is_over = inr (refl, unended.left, unended.goes_on);
         } in record {
           stage = with_more [] unended.stage;
-          all = all_lines map names reading.lines reading.lines lines unended.stage end;
+          all = all_lines map counting reading.lines reading.lines lines unended.stage end;
           has_end = ap (λ (e : Ended). e.has_end) is ∙ sym unended.goes_on;
           read = λ goes. ap (λ (e : Ended). e.read) is;
         }
 
     first_lines : (source more : List SourceLine) (stage : Stage) → reading.lines ≡ source ++ more
-        → PassLines map names source lines stage → IsFirst map reading lines
+        → PassLines map counting source lines stage → IsFirst map reading lines
     first_lines source more stage parts passes =
         let P : List SourceLine → Type 0 = λ s. AreLines map s (givens lines) (with_more more stage) in record {
           stage = with_more more stage;
-          first = subst P (sym parts) (so_far map names source more lines stage passes);
+          first = subst P (sym parts) (so_far map counting source more lines stage passes);
         }
 
     exceeded : (source more : List SourceLine) (limit : AsmFault) → reading.lines ≡ source ++ more
-        → Exceeds map names source lines limit → IsFirst map reading lines
+        → Exceeds map counting source lines limit → IsFirst map reading lines
     exceeded source more limit parts (reaching.Exceeds.BeforeLine stage inner passes exceeds is) =
         first_lines source more stage parts passes
     exceeded source more limit parts (reaching.Exceeds.AtLine stage after live passes fits moves exceeds) =
         first_lines source more stage parts passes
 
-    refused : (stopped : AsmFault) → Refuses map names reading lines stopped → IsFirst map reading lines
+    refused : (stopped : AsmFault) → Refuses map counting reading lines stopped → IsFirst map reading lines
     refused stopped (outcome.Refuses.AtReading fault found is unended) =
         first_lines reading.lines [] unended.stage (sym (append-nil reading.lines)) unended.live
     refused stopped (outcome.Refuses.AtLimit source more limit parts exceeds is) = exceeded source more limit parts exceeds
 
   programmed : (reading : Reading) (lines : List Numbered) (ended : Ended) (program : Program)
-      → Ends empty_map [] reading lines ended → program ≡ program_of (givens lines) → IsProgramOf reading program
+      → Ends empty_map none_mentioned reading lines ended → program ≡ program_of (givens lines) → IsProgramOf reading program
   programmed reading lines ended program ends is =
-      let these : IsWhole empty_map reading lines ended = whole empty_map [] reading lines ended ends in
+      let these : IsWhole empty_map reading lines ended = whole empty_map none_mentioned reading lines ended ends in
       record { gives = givens lines; stage = these.stage; all = these.all; is = is }
 
   pub of_whole : (first second : Reading) (outcome : Outcome) → HasOutcome first second outcome → IsOfWholeSources first second outcome
   of_whole first second _ (outcome.HasOutcome.FirstRefuses lines fault refuses) = inl refl
   of_whole first second _ (outcome.HasOutcome.SecondRefuses lines ended program others fault ends is refuses) =
-      let these : IsFirst program.map second others = refused program.map program.mentioned.names second others fault refuses in
+      let these : IsFirst program.map second others = refused program.map Definitions second others fault refuses in
       inr (
         program,
         programmed first lines ended program ends is,
         record { lines = others; stage = these.stage; first = these.first; are = refl },
       )
   of_whole first second _ (outcome.HasOutcome.Assembles lines ended program others end ends is all) =
-      let these : IsWhole program.map second others end = whole program.map program.mentioned.names second others end all in (
+      let these : IsWhole program.map second others end = whole program.map Definitions second others end all in (
         program,
         programmed first lines ended program ends is,
         record {

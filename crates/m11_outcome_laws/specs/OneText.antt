@@ -8,6 +8,8 @@ use Rattle.m11_placement.specs.Meanings.{empty_map}
 use Rattle.m11_readings.specs.Readings.{Reading}
 use Rattle.m11_asm.specs.Program.{Program, program_of}
 use Rattle.m11_asm.specs.Written.{Ended, flagged_count, program_writes}
+use Rattle.m11_placing.specs.declared.counting.Counting.TheVariants.{Definitions}
+use Rattle.m11_placing.specs.Counting.{none_mentioned}
 
 -- what the live lines of the first pass give the second one
 abbrev pub program_after : List Numbered → Program
@@ -15,12 +17,12 @@ program_after lines = program_of (givens lines)
 
 -- the second pass has the live lines of the first one, up to the same end, and none of their labels has another place than the map says
 pub record Repeats (reading : Reading) (lines : List Numbered) (ended : Ended) : Type 0 where
-  pub ends : Ends (program_after lines).map (program_after lines).mentioned.names reading lines ended
+  pub ends : Ends (program_after lines).map Definitions reading lines ended
   pub unmoved : (before more : List Numbered) (this : Numbered) → lines ≡ before ++ this ∷ more
       → moved_after (program_after lines).map before this ≡ 0
 
 -- the first pass decides the outcome: it is refused, and nothing is written; or its live lines are written
 abbrev pub IsDecidedByFirst : Reading → Outcome → Type 0
-IsDecidedByFirst reading (Refused fault writes) = (writes ≡ []) × (lines : List Numbered) × Refuses empty_map [] reading lines fault
-IsDecidedByFirst reading (Assembled writes flagged) = (lines : List Numbered) × (ended : Ended) × Ends empty_map [] reading lines ended
+IsDecidedByFirst reading (Refused fault writes) = (writes ≡ []) × (lines : List Numbered) × Refuses empty_map none_mentioned reading lines fault
+IsDecidedByFirst reading (Assembled writes flagged) = (lines : List Numbered) × (ended : Ended) × Ends empty_map none_mentioned reading lines ended
     × (writes ≡ program_writes (program_after lines) lines ended) × (flagged ≡ flagged_count (program_after lines) lines ended.has_end)

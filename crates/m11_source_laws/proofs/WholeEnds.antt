@@ -4,11 +4,10 @@ use Rattle.std.specs.Option.{option_or}
 use Rattle.std.specs.Prelude.{◌⊎◌, if◌then◌else◌}
 use Rattle.m11_arguments.specs.Expressions.{Known}
 use Rattle.m11_asm_faults.specs.declared.fault.AsmFault.{AsmFault}
-use Rattle.m11_base.specs.Rad50.{Name}
 use Rattle.m11_expansions.specs.Conditions.{OpenConditions}
 use Rattle.m11_expansions.specs.Left.{Left, Line, End}
 use Rattle.m11_lines.specs.Line.{SourceLine}
-use Rattle.m11_passes.specs.Lines.{Numbered, PassLines, acted, givens, names_at, table_at}
+use Rattle.m11_passes.specs.Lines.{Numbered, PassLines, acted, counting_at, givens, table_at}
 use Rattle.m11_passes.specs.Reaching.{Exceeds}
 use Rattle.m11_passes.specs.Reaching as reaching
 use Rattle.m11_passes.specs.Refusals.{act_refused, given_by, labels_fault, line_fault, placing_fault}
@@ -31,6 +30,7 @@ use Rattle.m11_source_laws.proofs.WholeSources.{all_lines, kept_at, know_more, k
 use Rattle.m11_pass_laws.specs.Ends.{EndsAfter, ExceedsAfter, HasEnd}
 use Rattle.m11_pass_laws.specs.Ends as ends
 use Rattle.m11_source_laws.specs.WholeSources.{AreAllLines, EndsWith, KeepLimits}
+use Rattle.m11_placing.specs.declared.counting.Counting.{Counting}
 
 -- ---- stages from which nothing is led to
 
@@ -137,7 +137,7 @@ no_fault labels acting placing none none' none'' =
     ap (λ (f : Option AsmFault). option_or f (option_or (act_refused acting) placing)) none
     ∙ ap (λ (f : Option UnfoldFault). option_or (act_refused f) placing) none' ∙ none''
 
-module _ (compare : Compared) (once : EndsOnce) (map_ : Map) (names : List Name) (all : List SourceLine) where
+module _ (compare : Compared) (once : EndsOnce) (map_ : Map) (counting : Counting) (all : List SourceLine) where
   same_lines : (one other : List Given) (first second : Stage) → AreAllLines map_ all one first → AreAllLines map_ all other second
       → one ≡ other
   same_lines one other first second are are' =
@@ -145,13 +145,13 @@ module _ (compare : Compared) (once : EndsOnce) (map_ : Map) (names : List Name)
       are.are.0 are'.are.0 are.rests are'.rests).0
 
   pub just_these : (source : List SourceLine) (placed_lines : List Numbered) (gives : List Given) (stage after : Stage)
-      → EndsAfter map_ names all source placed_lines stage → AreAllLines map_ all gives after → givens placed_lines ≡ gives
+      → EndsAfter map_ counting all source placed_lines stage → AreAllLines map_ all gives after → givens placed_lines ≡ gives
   just_these source placed_lines gives stage after end whole =
       same_lines (givens placed_lines) gives (with_more end.more stage) after
-      (all_lines map_ names all source placed_lines stage end) whole
+      (all_lines map_ counting all source placed_lines stage end) whole
 
   module _ (gives : List Given) (after : Stage) (whole : AreAllLines map_ all gives after)
-      (kept : KeepLimits map_ first_table names gives) where
+      (kept : KeepLimits map_ first_table counting gives) where
     -- any other unfolding goes on to this end
     on_to_end : (done : List Given) (stage : Stage) → AreLines map_ all done stage → GoesOn done stage gives after
     on_to_end done stage are =
@@ -176,11 +176,11 @@ module _ (compare : Compared) (once : EndsOnce) (map_ : Map) (names : List Name)
         stuck_moves stage stuck (ap move (sym still.1) ∙ whole.rests)
 
     module _ (source more : List SourceLine) (placed_lines : List Numbered) (parts : source ++ more ≡ all) (stage : Stage)
-        (passes : PassLines map_ names source placed_lines stage) where
+        (passes : PassLines map_ counting source placed_lines stage) where
       are_lines : AreLines map_ all (givens placed_lines) (with_more more stage)
       are_lines =
           let P : List SourceLine → Type 0 = λ s. AreLines map_ s (givens placed_lines) (with_more more stage) in
-          subst P parts (so_far map_ names source more placed_lines stage passes)
+          subst P parts (so_far map_ counting source more placed_lines stage passes)
 
       no_limit : IsStuck stage → ⊥
       no_limit stuck = not_stuck (givens placed_lines) (with_more more stage) are_lines (stuck_on more stage stuck)
@@ -189,8 +189,8 @@ module _ (compare : Compared) (once : EndsOnce) (map_ : Map) (names : List Name)
         abbrev table : Table
         table = table_at map_ placed_lines
 
-        abbrev named : List Name
-        named = names_at map_ names placed_lines
+        abbrev named : Counting
+        named = counting_at map_ counting placed_lines
 
         abbrev one : Given
         one = given_by table live there
@@ -213,8 +213,8 @@ module _ (compare : Compared) (once : EndsOnce) (map_ : Map) (names : List Name)
             = on_to_end (givens placed_lines ++ one ∷ []) (with_more more (acted table live there)) (with_line acts) in
             let split : gives ≡ givens placed_lines ++ one ∷ on.more
             = on.whole ∙ append_assoc (givens placed_lines) (one ∷ []) on.more in
-            let P : List Given → Type 0 = KeepLimits map_ first_table names in
-            let here = kept_at map_ first_table names (givens placed_lines) on.more one (subst P split kept) in
+            let P : List Given → Type 0 = KeepLimits map_ first_table counting in
+            let here = kept_at map_ first_table counting (givens placed_lines) on.more one (subst P split kept) in
             no_fault (labels_fault named table live.line.text) (act_fault there live.line.text) (placing_fault map_ table named one) here.0 acts
             here.1
 
@@ -226,16 +226,16 @@ module _ (compare : Compared) (once : EndsOnce) (map_ : Map) (names : List Name)
             by None acts = let bad : Some fault ≡ None = sym is ∙ within acts in cc
 
     never_exceeds : (source more : List SourceLine) (placed_lines : List Numbered) (fault : AsmFault) → source ++ more ≡ all
-        → Exceeds map_ names source placed_lines fault → ⊥
+        → Exceeds map_ counting source placed_lines fault → ⊥
     never_exceeds source more placed_lines fault parts (reaching.Exceeds.BeforeLine stage inner passes exceeds is) =
         no_limit source more placed_lines parts stage passes (Taking inner exceeds)
     never_exceeds source more placed_lines fault parts (reaching.Exceeds.AtLine stage there live passes fits moves exceeds) =
         no_fault_at source more placed_lines parts stage passes there live fits moves fault exceeds
 
-    pub ends_with : EndsWith map_ names all gives
-    ends_with = by_end (has_end map_ names all)
+    pub ends_with : EndsWith map_ counting all gives
+    ends_with = by_end (has_end map_ counting all)
       where
-        by_end : HasEnd map_ names all → EndsWith map_ names all gives
+        by_end : HasEnd map_ counting all → EndsWith map_ counting all gives
         by_end (ends.HasEnd.AtEnd source placed_lines stage end) = record {
           source = source;
           lines = placed_lines;

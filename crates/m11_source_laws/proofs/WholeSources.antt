@@ -4,14 +4,13 @@ use Rattle.std.specs.Option.{option_or}
 use Rattle.std.proofs.lemmas.List.{map-append}
 use Rattle.m11_arguments.specs.Expressions.{Known}
 use Rattle.m11_asm_faults.specs.declared.fault.AsmFault.{AsmFault}
-use Rattle.m11_base.specs.Rad50.{Name}
 use Rattle.m11_expansions.specs.Left.{Left}
 use Rattle.m11_lines.specs.Line.{SourceLine}
-use Rattle.m11_passes.specs.Lines.{Numbered, PassLines, acted, given_in, givens, names_at, numbered, table_at, with_line}
+use Rattle.m11_placing.specs.Counting.{with_counted}
+use Rattle.m11_passes.specs.Lines.{Numbered, PassLines, acted, counting_after, counting_at, given_in, givens, numbered, table_at, with_line}
 use Rattle.m11_passes.specs.Lines as lines
 use Rattle.m11_passes.specs.Refusals.{act_refused, given_by, labels_fault, line_fault, placing_fault}
 use Rattle.m11_placement.specs.Labels.{labels_stand}
-use Rattle.m11_placement.specs.Limits.{names_after, with_mentions}
 use Rattle.m11_placement.specs.Lines.{after_line, stands}
 use Rattle.m11_placement.specs.Meanings.{Map}
 use Rattle.m11_placement.specs.Mentions.{mentions}
@@ -31,6 +30,7 @@ use Rattle.m11_unfolding.specs.declared.fault.UnfoldFault.{UnfoldFault}
 use Rattle.m11_pass_laws.proofs.Stepping.{ended_rests, none_rests}
 use Rattle.m11_pass_laws.specs.Ends.{EndsAfter, IsOver}
 use Rattle.m11_source_laws.specs.WholeSources.{AreAllLines, KeepLimits}
+use Rattle.m11_placing.specs.declared.counting.Counting.{Counting}
 
 -- ---- a line that passes no limit
 
@@ -46,13 +46,13 @@ not_refused : (fault : Option UnfoldFault) → act_refused fault ≡ None → fa
 not_refused None is = refl
 not_refused (Some fault) is = absurd (let bad = is in cc)
 
-pub acts_within : (map_ : Map) (table : Table) (names : List Name) (live : Live) (after : Stage)
-    → line_fault map_ table names live after ≡ None → act_fault after live.line.text ≡ None
-acts_within map_ table names live after within =
+pub acts_within : (map_ : Map) (table : Table) (counting : Counting) (live : Live) (after : Stage)
+    → line_fault map_ table counting live after ≡ None → act_fault after live.line.text ≡ None
+acts_within map_ table counting live after within =
     let acting : Option AsmFault = act_refused (act_fault after live.line.text) in
-    let placing : Option AsmFault = placing_fault map_ table names (given_by table live after) in
+    let placing : Option AsmFault = placing_fault map_ table counting (given_by table live after) in
     not_refused (act_fault after live.line.text)
-    (first_none acting placing (second_none (labels_fault names table live.line.text) (option_or acting placing) within))
+    (first_none acting placing (second_none (labels_fault counting table live.line.text) (option_or acting placing) within))
 
 -- ---- what lines know
 
@@ -87,7 +87,7 @@ known_by map_ done are_told earlier later one is = told_from map_ first_table do
 
 -- ---- the lines of a pass
 
-module _ (map_ : Map) (names : List Name) where
+module _ (map_ : Map) (counting : Counting) where
   -- one line of the source is read
   read : (source more : List SourceLine) (done : List Given) (stage : Stage) (line : SourceLine) → stage.left ≡ []
       → Leads (start (source ++ line ∷ more)) done (with_more (line ∷ more) stage)
@@ -109,7 +109,7 @@ module _ (map_ : Map) (names : List Name) where
   -- a line becomes live
   placed : (source more : List SourceLine) (placed_lines : List Numbered) (before after : Stage) (live : Live)
       → next_fault before ≡ None → move before ≡ Gives live after
-      → line_fault map_ (table_at map_ placed_lines) (names_at map_ names placed_lines) live after ≡ None
+      → line_fault map_ (table_at map_ placed_lines) (counting_at map_ counting placed_lines) live after ≡ None
       → AreLines map_ (source ++ more) (givens placed_lines) (with_more more before)
       → AreLines map_ (source ++ more) (givens placed_lines ++ given_by (table_at map_ placed_lines) live after ∷ [])
       (with_more more (acted (table_at map_ placed_lines) live after))
@@ -117,14 +117,14 @@ module _ (map_ : Map) (names : List Name) where
       let one : Given = given_by (table_at map_ placed_lines) live after in
       let next : Stage = acted (table_at map_ placed_lines) live after in
       let here : Leads before (one ∷ []) next = steps.Leads.Giving [] before after live one.known steps.Leads.Stays fits moves
-      (acts_within map_ (table_at map_ placed_lines) (names_at map_ names placed_lines) live after within) in (
+      (acts_within map_ (table_at map_ placed_lines) (counting_at map_ counting placed_lines) live after within) in (
         follows (start (source ++ more)) (with_more more before) (with_more more next) (givens placed_lines) (one ∷ []) are.0
             (leads_on more before next (one ∷ []) here),
         know_more map_ first_table (givens placed_lines) one are.1 refl,
       )
 
   pub so_far : (source more : List SourceLine) (placed_lines : List Numbered) (stage : Stage)
-      → PassLines map_ names source placed_lines stage → AreLines map_ (source ++ more) (givens placed_lines) (with_more more stage)
+      → PassLines map_ counting source placed_lines stage → AreLines map_ (source ++ more) (givens placed_lines) (with_more more stage)
   so_far _ more _ _ lines.PassLines.Begins = (steps.Leads.Stays, tt)
   so_far _ more placed_lines _ (lines.PassLines.Reading source _ stage line before none goes) =
       let here = so_far source (line ∷ more) placed_lines stage before in
@@ -146,7 +146,7 @@ module _ (map_ : Map) (names : List Name) where
       none_rests (with_more more stage) (ap (λ (l : List Left). l ++ map line_left more) none ∙ ap (map line_left) all) goes
 
   pub all_lines : (all source : List SourceLine) (placed_lines : List Numbered) (stage : Stage)
-      (end : EndsAfter map_ names all source placed_lines stage)
+      (end : EndsAfter map_ counting all source placed_lines stage)
       → AreAllLines map_ all (givens placed_lines) (with_more end.more stage)
   all_lines all source placed_lines stage end =
       let P : List SourceLine → Type 0 = λ s. AreLines map_ s (givens placed_lines) (with_more end.more stage) in record {
@@ -156,38 +156,38 @@ module _ (map_ : Map) (names : List Name) where
 
 -- ---- limits
 
-kept_more : (map_ : Map) (table : Table) (names : List Name) (done : List Given) (one : Given)
-    → KeepLimits map_ table names done
-    → labels_fault (names_after map_ table done names) (after_lines map_ table done) one.live.line.text ≡ None
-    → placing_fault map_ (after_lines map_ table done) (names_after map_ table done names) one ≡ None
-    → KeepLimits map_ table names (done ++ one ∷ [])
-kept_more map_ table names [] one kept labels placing = (labels, placing, tt)
-kept_more map_ table names (given ∷ done) one kept labels placing =
-    (kept.0, kept.1, kept_more map_ (after_line map_ table given) (with_mentions (mentions table given) names) done one kept.2 labels placing)
+kept_more : (map_ : Map) (table : Table) (counting : Counting) (done : List Given) (one : Given)
+    → KeepLimits map_ table counting done
+    → labels_fault (counting_after map_ table done counting) (after_lines map_ table done) one.live.line.text ≡ None
+    → placing_fault map_ (after_lines map_ table done) (counting_after map_ table done counting) one ≡ None
+    → KeepLimits map_ table counting (done ++ one ∷ [])
+kept_more map_ table counting [] one kept labels placing = (labels, placing, tt)
+kept_more map_ table counting (given ∷ done) one kept labels placing =
+    (kept.0, kept.1, kept_more map_ (after_line map_ table given) (with_counted (mentions table given) counting) done one kept.2 labels placing)
 
-pub kept_at : (map_ : Map) (table : Table) (names : List Name) (done more : List Given) (one : Given)
-    → KeepLimits map_ table names (done ++ one ∷ more)
-    → (labels_fault (names_after map_ table done names) (after_lines map_ table done) one.live.line.text ≡ None)
-    × (placing_fault map_ (after_lines map_ table done) (names_after map_ table done names) one ≡ None)
-kept_at map_ table names [] more one kept = (kept.0, kept.1)
-kept_at map_ table names (given ∷ done) more one kept =
-    kept_at map_ (after_line map_ table given) (with_mentions (mentions table given) names) done more one kept.2
+pub kept_at : (map_ : Map) (table : Table) (counting : Counting) (done more : List Given) (one : Given)
+    → KeepLimits map_ table counting (done ++ one ∷ more)
+    → (labels_fault (counting_after map_ table done counting) (after_lines map_ table done) one.live.line.text ≡ None)
+    × (placing_fault map_ (after_lines map_ table done) (counting_after map_ table done counting) one ≡ None)
+kept_at map_ table counting [] more one kept = (kept.0, kept.1)
+kept_at map_ table counting (given ∷ done) more one kept =
+    kept_at map_ (after_line map_ table given) (with_counted (mentions table given) counting) done more one kept.2
 
-module _ (map_ : Map) (names : List Name) where
+module _ (map_ : Map) (counting : Counting) where
   pub keeps : (source : List SourceLine) (placed_lines : List Numbered) (stage : Stage)
-      → PassLines map_ names source placed_lines stage → KeepLimits map_ first_table names (givens placed_lines)
+      → PassLines map_ counting source placed_lines stage → KeepLimits map_ first_table counting (givens placed_lines)
   keeps _ _ _ lines.PassLines.Begins = tt
   keeps _ placed_lines _ (lines.PassLines.Reading source _ stage line before none goes) = keeps source placed_lines stage before
   keeps source placed_lines _ (lines.PassLines.Passing _ _ stage _ before moves) = keeps source placed_lines stage before
   keeps source _ _ (lines.PassLines.Placing _ placed_lines stage after live before fits moves within) =
       let table : Table = table_at map_ placed_lines in
-      let named : List Name = names_at map_ names placed_lines in
+      let named : Counting = counting_at map_ counting placed_lines in
       let one : Numbered = numbered (length source) (given_by table live after) in
       let acting : Option AsmFault = act_refused (act_fault after live.line.text) in
       let placing : Option AsmFault = placing_fault map_ table named one.given in
       let labels : Option AsmFault = labels_fault named table live.line.text in
-      let P : List Given → Type 0 = KeepLimits map_ first_table names in
+      let P : List Given → Type 0 = KeepLimits map_ first_table counting in
       subst P (sym (map-append given_in placed_lines (one ∷ [])))
-      (kept_more map_ first_table names (givens placed_lines) one.given (keeps source placed_lines stage before)
+      (kept_more map_ first_table counting (givens placed_lines) one.given (keeps source placed_lines stage before)
       (first_none labels (option_or acting placing) within)
       (second_none acting placing (second_none labels (option_or acting placing) within)))

@@ -1,12 +1,10 @@
 -- The live lines of a pass and those of the rewriting of a whole source. (MACRO-11 Language Reference Manual, "Macro directives" and
 -- "Conditional assembly directives".)
 use Rattle.std.specs.Prelude.{◌≡◌, List, [], ◌∷◌, None, ⊤}
-use Rattle.m11_base.specs.Rad50.{Name}
 use Rattle.m11_lines.specs.Line.{SourceLine}
 use Rattle.m11_pass_laws.specs.Ends.{EndsAfter}
 use Rattle.m11_passes.specs.Lines.{Numbered, givens}
 use Rattle.m11_passes.specs.Refusals.{labels_fault, placing_fault}
-use Rattle.m11_placement.specs.Limits.{with_mentions}
 use Rattle.m11_placement.specs.Lines.{after_line}
 use Rattle.m11_placement.specs.Meanings.{Map}
 use Rattle.m11_placement.specs.Mentions.{mentions}
@@ -15,23 +13,25 @@ use Rattle.m11_placement.specs.Unfolded.{AreLines}
 use Rattle.m11_unfolding.specs.Stages.{Stage}
 use Rattle.m11_unfolding.specs.Taking.{Rests, move}
 use Rattle.m11_unfolding.specs.Unfolding.{Given}
+use Rattle.m11_placing.specs.Counting.{with_counted}
+use Rattle.m11_placing.specs.declared.counting.Counting.{Counting}
 
 -- these are all live lines of a source under a map: nothing is taken after them
 pub record AreAllLines (map : Map) (source : List SourceLine) (gives : List Given) (stage : Stage) : Type 0 where
   pub are : AreLines map source gives stage
   pub rests : move stage ≡ Rests
 
--- no live line passes a limit where it is placed, after a table and after names that were mentioned before it
-abbrev pub KeepLimits : Map → Table → List Name → List Given → Type 0
-KeepLimits map table names [] = ⊤
-KeepLimits map table names (given ∷ lines) =
-    (labels_fault names table given.live.line.text ≡ None) × (placing_fault map table names given ≡ None)
-    × KeepLimits map (after_line map table given) (with_mentions (mentions table given) names) lines
+-- no live line passes a limit where it is placed, after a table and by which names count before it
+abbrev pub KeepLimits : Map → Table → Counting → List Given → Type 0
+KeepLimits map table counting [] = ⊤
+KeepLimits map table counting (given ∷ lines) =
+    (labels_fault counting table given.live.line.text ≡ None) × (placing_fault map table counting given ≡ None)
+    × KeepLimits map (after_line map table given) (with_counted (mentions table given) counting) lines
 
 -- a pass over all lines of a source ends, with these live lines
-pub record EndsWith (map : Map) (names : List Name) (all : List SourceLine) (gives : List Given) : Type 0 where
+pub record EndsWith (map : Map) (counting : Counting) (all : List SourceLine) (gives : List Given) : Type 0 where
   pub source : List SourceLine
   pub lines : List Numbered
   pub stage : Stage
-  pub ends : EndsAfter map names all source lines stage
+  pub ends : EndsAfter map counting all source lines stage
   pub are : givens lines ≡ gives

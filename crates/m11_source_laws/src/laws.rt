@@ -2,7 +2,6 @@
 //! contract of a function that does nothing.
 
 ghost use Rattle.std.specs.Prelude.{◌≡◌, ◌++◌, List};
-ghost use Rattle.m11_base.specs.Rad50.{Name};
 ghost use Rattle.m11_lines.specs.Line.{SourceLine};
 ghost use Rattle.m11_pass_laws.specs.Ends.{EndsAfter};
 ghost use Rattle.m11_source_laws.specs.WholeSources.{AreAllLines, EndsWith, KeepLimits};
@@ -13,6 +12,7 @@ ghost use Rattle.m11_placement.specs.Unfolded.{AreLines};
 ghost use Rattle.m11_unfolding.specs.Histories.{with_more};
 ghost use Rattle.m11_unfolding.specs.Stages.{Stage};
 ghost use Rattle.m11_unfolding.specs.Unfolding.{Given};
+ghost use Rattle.m11_placing.specs.declared.counting.Counting.{Counting};
 
 use m11_unfolding::a_source_has_one_unfolding;
 
@@ -20,21 +20,21 @@ use m11_unfolding::a_source_has_one_unfolding;
 /// leads to the stage of the pass, with the lines that aren't read left; and none of them passes a limit where it is placed. Where
 /// the pass ends, they are all live lines of the source.
 pub fn the_lines_of_a_pass_are_those_of_the_whole_source()
-    ensures so_far { (map : Map) (names : List Name) (source more : List SourceLine) (lines : List Numbered) (stage : Stage)
-        → PassLines map names source lines stage → AreLines map (source ++ more) (givens lines) (with_more more stage) }
-    ensures limits { (map : Map) (names : List Name) (source : List SourceLine) (lines : List Numbered) (stage : Stage)
-        → PassLines map names source lines stage → KeepLimits map first_table names (givens lines) }
-    ensures all { (map : Map) (names : List Name) (all source : List SourceLine) (lines : List Numbered) (stage : Stage)
-        (end : EndsAfter map names all source lines stage) → AreAllLines map all (givens lines) (with_more end.more stage) }
+    ensures so_far { (map : Map) (counting : Counting) (source more : List SourceLine) (lines : List Numbered) (stage : Stage)
+        → PassLines map counting source lines stage → AreLines map (source ++ more) (givens lines) (with_more more stage) }
+    ensures limits { (map : Map) (counting : Counting) (source : List SourceLine) (lines : List Numbered) (stage : Stage)
+        → PassLines map counting source lines stage → KeepLimits map first_table counting (givens lines) }
+    ensures all { (map : Map) (counting : Counting) (all source : List SourceLine) (lines : List Numbered) (stage : Stage)
+        (end : EndsAfter map counting all source lines stage) → AreAllLines map all (givens lines) (with_more end.more stage) }
 {}
 
 /// Where these are all live lines of the rewriting of a whole source, and none of them passes a limit where it is placed, a pass
 /// over the source ends with them. A pass that ends has no others.
 pub fn a_pass_has_the_lines_of_the_whole_source()
-    ensures ends { (map : Map) (names : List Name) (all : List SourceLine) (gives : List Given) (stage : Stage)
-        → AreAllLines map all gives stage → KeepLimits map first_table names gives → EndsWith map names all gives }
-    ensures just_these { (map : Map) (names : List Name) (all source : List SourceLine) (lines : List Numbered)
-        (gives : List Given) (stage after : Stage) → EndsAfter map names all source lines stage → AreAllLines map all gives after
+    ensures ends { (map : Map) (counting : Counting) (all : List SourceLine) (gives : List Given) (stage : Stage)
+        → AreAllLines map all gives stage → KeepLimits map first_table counting gives → EndsWith map counting all gives }
+    ensures just_these { (map : Map) (counting : Counting) (all source : List SourceLine) (lines : List Numbered)
+        (gives : List Given) (stage after : Stage) → EndsAfter map counting all source lines stage → AreAllLines map all gives after
         → givens lines ≡ gives }
 {
     a_source_has_one_unfolding();
