@@ -3,11 +3,14 @@ use Rattle.std.specs.Prelude.{ℕ, zero, suc, ◌+◌, ◌/◌, ◌%◌, List, [
 use Rattle.m11_asm_faults.specs.declared.fault.AsmFault.{AsmFault}
 use Rattle.m11_asm_faults.specs.declared.fault.AsmFault.TheVariants.{TooManySections}
 use Rattle.m11_base.specs.Devices.{Bytes}
+use Rattle.m11_passes.specs.Lines.{counting_after}
 use Rattle.m11_passes.specs.Refusals.{placing_fault}
-use Rattle.m11_placement.specs.Limits.{names_after}
 use Rattle.m11_placement.specs.Meanings.{Map, empty_map}
 use Rattle.m11_placement.specs.Placements.{program_map, table_after}
 use Rattle.m11_placement.specs.Tables.{first_table}
+use Rattle.m11_placing.specs.Counting.{none_mentioned}
+use Rattle.m11_placing.specs.declared.counting.Counting.{Counting}
+use Rattle.m11_placing.specs.declared.counting.Counting.TheVariants.{Definitions}
 use Rattle.m11_placements.specs.Worked.{plain}
 use Rattle.m11_unfolding.specs.Unfolding.{Given}
 
@@ -21,15 +24,15 @@ sections zero = []
 sections (suc number) = section_line number ∷ sections number
 
 -- a line after others, each of which passes no limit
-abbrev pub fault_after : Map → List Given → Given → Option AsmFault
-fault_after map lines line = placing_fault map (table_after map lines) (names_after map first_table lines []) line
+abbrev pub fault_after : Map → Counting → List Given → Given → Option AsmFault
+fault_after map counting lines line = placing_fault map (table_after map lines) (counting_after map first_table lines counting) line
 
 -- in the first pass, and in the second
 abbrev pub first_fault : List Bytes → Bytes → Option AsmFault
-first_fault lines line = fault_after empty_map (map plain lines) (plain line)
+first_fault lines line = fault_after empty_map none_mentioned (map plain lines) (plain line)
 
 abbrev pub second_fault : List Bytes → Bytes → Option AsmFault
-second_fault lines line = fault_after (program_map (map plain (line ∷ lines))) (map plain lines) (plain line)
+second_fault lines line = fault_after (program_map (map plain (line ∷ lines))) Definitions (map plain lines) (plain line)
 
 abbrev pub faults : List (Option AsmFault)
 faults =
