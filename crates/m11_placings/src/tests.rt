@@ -15,7 +15,7 @@ mod texts;
 use crate::tests::texts::{put_line, put_number};
 use m11_asm_faults::AsmFault;
 use m11_passes::{SourcePass, Turn};
-use m11_placing::Mentioned;
+use m11_placing::{Counting, Mentioned};
 use m11_scan::Line;
 use m11_table::Map;
 use std::alloc::Global;
@@ -55,15 +55,21 @@ fn go_over(
     Ok(())
 }
 
+// A first pass, in which the names that lines mention count.
+fn first_of(alloc: Global) -> Counting {
+    Counting::Mentions(Mentioned::new(alloc))
+}
+
 // One pass over a source. The text is that of its lines.
 fn read(
     alloc: Global,
+    counting: Counting,
     map: &Map<'_>,
     source: &[&str],
     text: &mut Vec<u8>,
 ) -> Result<SourcePass, AsmFault> {
     text.clear();
-    let mut pass = SourcePass::new(alloc, Mentioned::new(alloc))?;
+    let mut pass = SourcePass::new(alloc, counting)?;
     match go_over(&mut pass, map, source, text) {
         Ok(()) => Ok(pass),
         Err(fault) => {
@@ -80,8 +86,9 @@ fn read_changed(
     source: &[&str],
     text: &mut Vec<u8>,
 ) -> Result<(), AsmFault> {
-    let first = read(alloc, &Map::none(), before, text)?;
-    let outcome = read(alloc, &Map::of(first.table()), source, text);
+    let first = read(alloc, first_of(alloc), &Map::none(), before, text)?;
+    let map = Map::of(first.table());
+    let outcome = read(alloc, Counting::Definitions, &map, source, text);
     drop(first);
     match outcome {
         Ok(second) => {
@@ -92,11 +99,16 @@ fn read_changed(
     }
 }
 
-// The first pass over a source. The text is that of the sizes that it leaves.
-fn read_sizes(alloc: Global, source: &[&str], text: &mut Vec<u8>) -> Result<(), AsmFault> {
-    let first = read(alloc, &Map::none(), source, text)?;
-    let outcome = put_sizes(&first, text);
-    drop(first);
+// A pass over a source. The text is that of the sizes that it leaves.
+fn read_sizes(
+    alloc: Global,
+    counting: Counting,
+    source: &[&str],
+    text: &mut Vec<u8>,
+) -> Result<(), AsmFault> {
+    let pass = read(alloc, counting, &Map::none(), source, text)?;
+    let outcome = put_sizes(&pass, text);
+    drop(pass);
     outcome
 }
 
@@ -128,7 +140,7 @@ fn check_lines(rt: &impl Abort, alloc: Global, rows: &[Row]) {
 fn check_sizes(rt: &impl Abort, alloc: Global, rows: &[Row]) {
     let mut text = Vec::new(alloc);
     'rows: for (source, wanted) in rows {
-        let outcome = read_sizes(alloc, source, &mut text);
+        let outcome = read_sizes(alloc, first_of(alloc), source, &mut text);
         check_text(rt, outcome, text.as_slice(), wanted);
     }
 }

@@ -1,3 +1,5 @@
+mod Defining
 mod MoreLines
+mod Noted
 mod WholeEnds
 mod WholeSources

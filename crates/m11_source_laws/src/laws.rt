@@ -1,12 +1,15 @@
 //! That a pass, which reads one line after the other, has the live lines of the rewriting of the whole source. Each law is the
 //! contract of a function that does nothing.
 
-ghost use Rattle.std.specs.Prelude.{◌≡◌, ◌++◌, List};
+ghost use Rattle.std.specs.Prelude.{◌≡◌, ◌≤◌, ◌+◌, ◌++◌, List, [], length};
 ghost use Rattle.m11_lines.specs.Line.{SourceLine};
 ghost use Rattle.m11_pass_laws.specs.Ends.{EndsAfter};
 ghost use Rattle.m11_source_laws.specs.WholeSources.{AreAllLines, EndsWith, KeepLimits};
 ghost use Rattle.m11_passes.specs.Lines.{Numbered, PassLines, givens};
+ghost use Rattle.m11_placement.specs.Definitions.{registers};
+ghost use Rattle.m11_placement.specs.Limits.{name_count, names_after};
 ghost use Rattle.m11_placement.specs.Meanings.{Map};
+ghost use Rattle.m11_placement.specs.Placements.{table_after};
 ghost use Rattle.m11_placement.specs.Tables.{first_table};
 ghost use Rattle.m11_placement.specs.Unfolded.{AreLines};
 ghost use Rattle.m11_unfolding.specs.Histories.{with_more};
@@ -39,3 +42,11 @@ pub fn a_pass_has_the_lines_of_the_whole_source()
 {
     a_source_has_one_unfolding();
 }
+
+/// Lines mention each name that they define. So a reading that counts the names that its lines mention never has more names defined than
+/// it may before it has more mentioned than it may.
+#[tactic(auto, using(crate::proofs::Defining::few_defined))]
+pub fn what_lines_define_they_mention()
+    ensures { (map : Map) (lines : List Given)
+        → name_count (table_after map lines) ≤ length registers + length (names_after map first_table lines []) }
+{}

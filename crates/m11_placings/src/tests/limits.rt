@@ -1,7 +1,8 @@
 //! Each limit of names, local symbols and sections at its last accepted value, and one past it.
 
-use super::read_sizes;
+use super::{first_of, read_sizes};
 use m11_asm_faults::AsmFault;
+use m11_placing::Counting;
 use std::alloc::Global;
 use std::process::Abort;
 
@@ -33,6 +34,53 @@ static NAMES: [Row; 2] = [
             "DEFINE \\X",
             "X=X+1",
             ".ENDR",
+        ],
+        Err(AsmFault::TooManySymbols),
+    ),
+];
+
+// The same, with names that are only read, and with a label and an assignment after them.
+static DEFINITIONS: [Row; 3] = [
+    (
+        &[
+            ".MACRO DEFINE N",
+            "A'N=0",
+            ".ENDM",
+            "X=0",
+            ".REPT 7777",
+            "DEFINE \\X",
+            "X=X+1",
+            ".ENDR",
+            ".WORD Y,Z",
+            "A7776: X=1",
+        ],
+        Ok(()),
+    ),
+    (
+        &[
+            ".MACRO DEFINE N",
+            "A'N=0",
+            ".ENDM",
+            "X=0",
+            ".REPT 7777",
+            "DEFINE \\X",
+            "X=X+1",
+            ".ENDR",
+            "Y:",
+        ],
+        Err(AsmFault::TooManySymbols),
+    ),
+    (
+        &[
+            ".MACRO DEFINE N",
+            "A'N=0",
+            ".ENDM",
+            "X=0",
+            ".REPT 7777",
+            "DEFINE \\X",
+            "X=X+1",
+            ".ENDR",
+            "Y=1",
         ],
         Err(AsmFault::TooManySymbols),
     ),
@@ -92,7 +140,16 @@ static SECTIONS: [Row; 2] = [
 fn check_limits(rt: &impl Abort, alloc: Global, rows: &[Row]) {
     let mut text = Vec::new(alloc);
     'rows: for (source, wanted) in rows {
-        let outcome = read_sizes(alloc, source, &mut text);
+        let outcome = read_sizes(alloc, first_of(alloc), source, &mut text);
+        assert_eq!(rt; outcome, *wanted);
+    }
+}
+
+// In a second reading.
+fn check_definitions(rt: &impl Abort, alloc: Global, rows: &[Row]) {
+    let mut text = Vec::new(alloc);
+    'rows: for (source, wanted) in rows {
+        let outcome = read_sizes(alloc, Counting::Definitions, source, &mut text);
         assert_eq!(rt; outcome, *wanted);
     }
 }
@@ -100,6 +157,11 @@ fn check_limits(rt: &impl Abort, alloc: Global, rows: &[Row]) {
 #[test]
 fn a_source_has_4096_names(rt: HostRuntime) {
     check_limits(&rt, rt.alloc(), &NAMES);
+}
+
+#[test]
+fn a_second_reading_has_4096_definitions(rt: HostRuntime) {
+    check_definitions(&rt, rt.alloc(), &DEFINITIONS);
 }
 
 #[test]
