@@ -240,12 +240,17 @@ class Pass:
 
     # --- names ---
     def mention(self, name):
-        if name not in self.mentioned:
+        """A name that the text names. The first reading counts those, besides the registers."""
+        if self.first is None and name not in self.mentioned:
             self.mentioned[name] = True
             regs = {"R0", "R1", "R2", "R3", "R4", "R5", "SP", "PC"}
-            known = set(self.mentioned) | (set(self.first.mentioned) if self.first else set())
-            if name not in regs and len(known - regs) > 4096:
+            if name not in regs and len(set(self.mentioned) - regs) > 4096:
                 raise Fault("3 TooManySymbols")
+
+    def name_defined(self, name):
+        """A name that gets a definition. Each reading counts those, besides the eight registers, which are there from the beginning."""
+        if name not in self.names and len(self.names) >= 4096 + 8:
+            raise Fault("3 TooManySymbols")
 
     def lookup(self, key, where):
         return (self.locals if isinstance(key, tuple) else self.names).get(key)
@@ -690,6 +695,7 @@ class Pass:
             self.flags.add("M")
             self.names[key].doubled = True
             return
+        self.name_defined(key)
         self.names[key] = Sym(val, True, place)
         self.defined.add(key)
         self.block += 1
@@ -709,6 +715,7 @@ class Pass:
             self.flags.add("M")
             old.doubled = True
             return
+        self.name_defined(key)
         self.names[key] = Sym(val, firm, None, old.doubled if old else False)
         self.defined.add(key)
         if is_global:
@@ -1741,7 +1748,7 @@ def assemble(sources, again=None):
     obj = b"".join(out)
     table = []
     numbers = {s.name: i for i, s in enumerate(one.sections)}
-    for n in sorted(two.mentioned if False else {**one.mentioned, **two.mentioned}, key=name_key):
+    for n in sorted(one.mentioned, key=name_key):
         s = one.names.get(n)
         eq = " = " if s is not None and s.place is None else "   "
         val = "******"
