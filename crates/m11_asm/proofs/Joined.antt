@@ -1,5 +1,5 @@
 -- Both passes make the run.
-use Rattle.std.proofs.Common.{◌≤◌, ℕ, List, [], length, Result, Ok, Err, refl, sym, subst, inr}
+use Rattle.std.proofs.Common.{◌≤◌, ℕ, List, length, Result, Ok, Err, refl, sym, subst, inr}
 use Rattle.m11_asm_faults.specs.declared.fault.AsmFault.{AsmFault}
 use Rattle.m11_asm_outputs.specs.Outputs.{AreFlushed, Gains, Outputs, Write}
 use Rattle.m11_first.specs.First.{Symbols}

@@ -1,6 +1,6 @@
 -- How far the feeds of a pass have given where it ends: the bytes that it took of them, be it one by one or many at a time. (MACRO-11
 -- Language Reference Manual, ".END directive". That no byte after the line in which it becomes live is taken is this project's own.)
-use Rattle.std.specs.Prelude.{◌≡◌, ◌⊎◌, Bool, true, false, List, [], Result, Ok, Err}
+use Rattle.std.specs.Prelude.{◌≡◌, ◌⊎◌, Bool, true, false, List, Result, Ok, Err}
 use Rattle.m11_asm_faults.specs.declared.fault.AsmFault.{AsmFault}
 use Rattle.m11_asm_faults.specs.declared.fault.AsmFault.TheVariants as fault
 use Rattle.m11_lines.specs.Line.{SourceLine}

@@ -1,5 +1,5 @@
 -- The first pass over feeds, call by call. (This project's own.)
-use Rattle.std.specs.Prelude.{◌≡◌, Bool, true, false, List, ◌++◌, None, Result, Ok, Err, []}
+use Rattle.std.specs.Prelude.{◌≡◌, Bool, true, false, List, ◌++◌, None, Result, Ok, Err}
 use Rattle.m11_asm_faults.specs.declared.fault.AsmFault.{AsmFault}
 use Rattle.m11_first.specs.First.{FirstStands, FirstState, Symbols, symbols_of}
 use Rattle.m11_lines.specs.Line.{SourceLine}

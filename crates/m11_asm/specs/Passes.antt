@@ -1,5 +1,5 @@
 -- Passes over feeds: what their texts yield, and where a pass ends early. (This project's own.)
-use Rattle.std.specs.Prelude.{◌≡◌, List, [], ◌++◌, None, Option, ℕ, Result, Ok, Err}
+use Rattle.std.specs.Prelude.{◌≡◌, List, ◌++◌, None, Option, ℕ, Result, Ok, Err}
 use Rattle.m11_asm_outputs.specs.Object.{AllFit, object_contents}
 use Rattle.m11_asm_faults.specs.declared.fault.AsmFault.{AsmFault}
 use Rattle.m11_asm_faults.specs.declared.fault.AsmFault.TheVariants as fault

@@ -1,5 +1,5 @@
 -- A run over known sources comes to what their live lines say.
-use Rattle.std.proofs.Common.{◌≡◌, ℕ, List, [], Option, Result, Ok, Err, inl, inr, sym, subst}
+use Rattle.std.proofs.Common.{◌≡◌, ℕ, List, Option, Result, Ok, Err, inl, inr, sym, subst}
 use Rattle.m11_asm.specs.Outcome.{Ends, Refuses}
 use Rattle.m11_asm.specs.Passes.{ReadsFirst, ReadsSecond, pass_of}
 use Rattle.m11_asm.specs.Run.{AsmRuns}

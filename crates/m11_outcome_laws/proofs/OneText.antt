@@ -1,5 +1,5 @@
 -- Two passes over one text: the second one does what the first one did.
-use Rattle.std.proofs.Common.{◌≡◌, ◌∙◌, List, [], ◌∷◌, ◌++◌, inl, inr, refl, sym, ap, subst}
+use Rattle.std.proofs.Common.{◌≡◌, ◌∙◌, List, ◌∷◌, ◌++◌, inl, inr, refl, sym, ap, subst}
 use Rattle.m11_asm.specs.Outcome as outcome
 use Rattle.m11_asm.specs.Outcome.{Ends, HasOutcome, Outcome, Refuses}
 use Rattle.m11_asm_faults.specs.declared.fault.AsmFault.{AsmFault}

@@ -1,6 +1,6 @@
 -- What a run over known sources comes to by their live lines, of which the first pass alone decides. (That sources are read twice, and what
 -- may end a run early, is this project's own.)
-use Rattle.std.specs.Prelude.{◌⊎◌, List, [], Result, Ok, Err}
+use Rattle.std.specs.Prelude.{◌⊎◌, List, Result, Ok, Err}
 use Rattle.m11_asm.specs.Outcome.{Ends, Refuses}
 use Rattle.m11_asm.specs.Written.{Ended, pieces_in, program_writes}
 use Rattle.m11_asm.specs.declared.done.AsmDone.{AsmDone}

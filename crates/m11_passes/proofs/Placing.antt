@@ -19,7 +19,6 @@ use Rattle.m11_placement.specs.Changes.{Change, Keeps, Counts, Selects, Assigns,
 use Rattle.m11_placement.specs.Definitions.{is_labelled}
 use Rattle.m11_placement.specs.Contents.{Put}
 use Rattle.m11_placement.specs.Labels.{global_if, labels_stand, with_definition, with_doubled}
-use Rattle.m11_placement.specs.declared.definitions.Definition.{Definition}
 use Rattle.m11_placement.specs.declared.definitions.Key.TheVariants.{Named}
 use Rattle.m11_placement.specs.Limits as limits
 use Rattle.m11_placement.specs.Limits.{has_too_many, limit_fault, most_defined_names, most_local_symbols, most_names, most_sections}

@@ -1,5 +1,5 @@
 -- What a pass keeps between two calls, and after which lines it stands. (This project's own.)
-use Rattle.std.specs.Prelude.{◌≡◌, false, List, [], ◌∷◌, Option, Some, None}
+use Rattle.std.specs.Prelude.{◌≡◌, false, List, Option, Some, None}
 use Rattle.m11_asm_faults.specs.declared.fault.AsmFault.{AsmFault}
 use Rattle.m11_lines.specs.Line.{SourceLine}
 use Rattle.m11_unfold.specs.Unfolder.{Unfolding}

@@ -8,8 +8,7 @@ use Rattle.m11_placement.specs.Tables.{Table}
 use Rattle.m11_placement.specs.declared.sections.Section.{Section}
 use Rattle.m11_table.specs.Alike.{Alike}
 use Rattle.m11_asm_faults.specs.declared.fault.AsmFault.{AsmFault}
-use Rattle.m11_asm_faults.specs.declared.fault.AsmFault.TheVariants.{TooManySymbols, NoMemory}
-use Rattle.m11_placing.specs.Faults.{Refuses}
+use Rattle.m11_asm_faults.specs.declared.fault.AsmFault.TheVariants.{NoMemory}
 
 pub handed_on : {A : Type 0} (P : AsmFault → Type 0) (fault : AsmFault) (result : Result A AsmFault) → P fault
     → IsErrAnd result (λ f. f ≡ fault) → IfErr result P

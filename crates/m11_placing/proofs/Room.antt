@@ -1,17 +1,11 @@
 -- Whether a table has too many names or local symbols, by what a pass counts.
-use Rattle.std.proofs.Common.{◌≡◌, ◌∙◌, ◌<◌, ◌≤◌, ℕ, ◌+◌, ◌||◌, not, Bool, true, false, cond, List, refl, sym, ap, subst, arith}
+use Rattle.std.proofs.Common.{◌≡◌, ◌∙◌, ◌<◌, ◌≤◌, ℕ, ◌||◌, Bool, true, false, refl, ap, subst, arith}
 use Rattle.std.proofs.lemmas.Bool.Decides.{nat_tests}
 use Rattle.std.specs.Prelude.{nat_lt}
 use Rattle.m11_asm_faults.specs.declared.fault.AsmFault.{AsmFault}
 use Rattle.m11_asm_faults.specs.declared.fault.AsmFault.TheVariants.{TooManySymbols, TooManySections, NoMemory}
-use Rattle.m11_placement.proofs.NamesDefined.{known_counts, new_counts, none_fewer, symbol_counts}
-use Rattle.m11_placement.specs.Definitions.{is_defined}
-use Rattle.m11_placement.specs.Labels.{with_definition}
-use Rattle.m11_placement.specs.Limits.{has_too_many, is_local, local_count, most_defined_names, most_local_symbols, name_count}
+use Rattle.m11_placement.specs.Limits.{has_too_many, local_count, most_defined_names, most_local_symbols, name_count}
 use Rattle.m11_placement.specs.Tables.{Table}
-use Rattle.m11_placement.specs.declared.definitions.Definition.{Definition}
-use Rattle.m11_placement.specs.declared.definitions.Key.{Key}
-use Rattle.m11_placement.specs.declared.definitions.Key.TheVariants.{Named, Numbered}
 use Rattle.m11_placing.specs.Faults.{Overfills, Refuses}
 use Rattle.m11_placing.specs.Passes.{Kept, Matches}
 

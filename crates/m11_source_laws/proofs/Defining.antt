@@ -1,9 +1,9 @@
 -- Each name that lines define they mention, so that no more are defined than mentioned.
-use Rattle.std.proofs.Common.{◌≡◌, ◌∙◌, ◌≤◌, ℕ, zero, suc, ◌+◌, ◌==◌, ◌&&◌, ◌||◌, Bool, true, false, true≢false, if◌then◌else◌, List, [], ◌∷◌, ◌++◌, length, map, Option, Some, None, refl, sym, ap, subst, arith}
+use Rattle.std.proofs.Common.{◌≡◌, ◌∙◌, ◌≤◌, ℕ, suc, ◌+◌, ◌==◌, ◌&&◌, ◌||◌, Bool, true, false, true≢false, if◌then◌else◌, List, [], ◌∷◌, ◌++◌, length, map, Option, Some, None, refl, sym, ap, subst, arith}
 use Rattle.std.proofs.lemmas.Bool.Decides.{nat_tests}
 use Rattle.std.proofs.lemmas.List.{length-append}
 use Rattle.std.proofs.lemmas.List.Folds.{list_any-append}
-use Rattle.std.specs.List.{flat_map, list_any}
+use Rattle.std.specs.List.{flat_map}
 use Rattle.m11_base.proofs.SameNames.{same_name_equal, same_name_itself}
 use Rattle.m11_base.specs.Devices.{Bytes}
 use Rattle.m11_base.specs.Rad50.{Name, is_same_name}
@@ -11,7 +11,7 @@ use Rattle.m11_placement.proofs.NamesDefined.{among_defined, is_among}
 use Rattle.m11_placement.specs.Assignments.{assigned}
 use Rattle.m11_placement.specs.Changes.{Change, Keeps, Counts, Selects, Assigns, Numbers, Exports, Sets, becomes_global, changed, numbered}
 use Rattle.m11_placement.specs.Definitions.{is_defined, is_labelled, is_same, registers}
-use Rattle.m11_placement.specs.Labels.{global_if, label_name, labelled, with_definition, with_doubled, with_kind, with_label, with_labels, with_name}
+use Rattle.m11_placement.specs.Labels.{global_if, label_name, labelled, with_definition, with_kind, with_label, with_labels, with_name}
 use Rattle.m11_placement.specs.Limits.{is_counted, name_count, names_after, names_defined, with_defined, with_mentions, with_symbol}
 use Rattle.m11_placement.specs.Lines.{after_line, deed, line_change, stands}
 use Rattle.m11_placement.specs.Meanings.{Map}
