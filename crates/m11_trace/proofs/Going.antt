@@ -1,0 +1,202 @@
+-- How far steps with lines have come, and how they end.
+use Rattle.std.proofs.Common.{◌≡◌, ◌∙◌, ℕ, zero, suc, ◌+◌, ◌<◌, ◌≤◌, true, false, List, [], ◌∷◌, ◌++◌, length, map, take, append-nil, append_assoc, Option, Some, None, Err, refl, sym, subst, ap, ap₂, arith}
+use Rattle.std.specs.List.{AllByRecursion}
+use Rattle.std.specs.Io.KnownBytes.{Appends}
+use Rattle.m11_base.specs.Devices.{Rises}
+use Rattle.m11_base.specs.Sink.{AppendsBeginning}
+use Rattle.m11_base.proofs.Known.{Appends-Appends}
+use Rattle.m11_cpu.specs.Messages.{PutsMessages}
+use Rattle.m11_cpu.specs.Runs.{run_counted}
+use Rattle.m11_cpu.proofs.RunsDone.{ran}
+use Rattle.m11_cpu.specs.declared.fault.SimFault.{SimFault}
+use Rattle.m11_cpu.specs.declared.fault.SimFault.TheVariants.{Load, Write, NoMemory}
+use Rattle.m11_machine.specs.Dialogue.{Devices, Does, Output}
+use Rattle.m11_machine.specs.Steps.{step}
+use Rattle.m11_machine.specs.declared.machine.Machine.{Machine}
+use Rattle.m11_machine.specs.declared.stop.Stop.{Stop}
+use Rattle.m11_machine.specs.declared.stop.Stop.TheVariants.{Limit}
+use Rattle.m11_machine.specs.declared.stop.Turn.{Turn}
+use Rattle.m11_machine.specs.declared.stop.Turn.TheVariants.{Next, Stopped}
+use Rattle.m11_trace.specs.Shots.{is_at, shot_of}
+use Rattle.m11_trace.specs.Stepping.{StepsWithLines}
+use Rattle.m11_trace.specs.Taken.{Follow, Taken, Yielded, kept, line_from, lines_from}
+use Rattle.m11_trace.specs.Tracing.{Goes, IsElsewhere}
+use Rattle.m11_trace.specs.declared.ending.Ending.{Ending}
+use Rattle.m11_trace.specs.declared.ending.Ending.TheVariants as ending
+use Rattle.m11_trace.specs.declared.shots.Shot.{Shot}
+use Rattle.m11_trace.proofs.Following.{runs_out, runs_stop}
+
+-- ---- texts
+
+pub appends_nothing : (text : Option (List ℕ)) → Appends text text []
+appends_nothing None = tt
+appends_nothing (Some text) = sym (append-nil text)
+
+-- a beginning of the second part was put after the first one
+pub begins_after : (a b c : Option (List ℕ)) (first second : List ℕ) → Appends a b first → AppendsBeginning b c second
+    → AppendsBeginning a c (first ++ second)
+begins_after a b c first second h k =
+    let whole = ap (λ (t : List ℕ). first ++ t) k.2 ∙ sym (append_assoc first k.0 k.1) in
+    (first ++ k.0, k.1, whole, Appends-Appends a b c first k.0 h k.3)
+
+-- a beginning of the first part is one of the whole
+pub begins_whole : (a b : Option (List ℕ)) (first second : List ℕ) → AppendsBeginning a b first
+    → AppendsBeginning a b (first ++ second)
+begins_whole a b first second k =
+    (k.0, k.1 ++ second, ap (λ (t : List ℕ). t ++ second) k.2 ∙ append_assoc k.0 k.1 second, k.3)
+
+-- ---- the last ones
+
+take_less : {X : Type 0} (n : ℕ) (xs : List X) → take n (take (suc n) xs) ≡ take n xs
+take_less zero xs = refl
+take_less (suc n) [] = refl
+take_less {X = X} (suc n) (x ∷ xs) = ap (λ (t : List X). x ∷ t) (take_less n xs)
+
+take_again : {X : Type 0} (n : ℕ) (x : X) (xs : List X) → take (suc n) (x ∷ take (suc n) xs) ≡ take (suc n) (x ∷ xs)
+take_again {X = X} n x xs = ap (λ (t : List X). x ∷ t) (take_less n xs)
+
+-- ---- how far they have come
+
+-- these steps were made, the latest first, which yielded this
+pub record Going (limit count : ℕ) (places : List ℕ) (m m' : Machine) (old new : Devices) (turn : Turn) (taken : List Taken)
+    : Type 0 where
+  pub steps : Follow m old taken m' new
+  pub yielded : Yielded turn taken
+  pub elsewhere : AllByRecursion (IsElsewhere places) taken
+  pub long : count ≡ length taken
+  pub within : count ≤ limit
+
+-- the lines of some steps were put, and the last of them are kept
+pub record Shown (first : ℕ) (taken : List Taken) (recent : List Shot) (output output' : Output) : Type 0 where
+  pub kept : recent ≡ take 16 (map kept taken)
+  pub text : Appends output.text output'.text (lines_from first taken)
+  pub faults : output'.faults ≡ output.faults
+
+pub none_made : (limit : ℕ) (places : List ℕ) (m : Machine) (old : Devices) → Going limit 0 places m m old old Next []
+none_made limit places m old = record {
+  steps = (refl, refl);
+  yielded = refl;
+  elsewhere = tt;
+  long = refl;
+  within = omega arith;
+}
+
+pub none_shown : (first : ℕ) (recent : List Shot) (output : Output) → recent ≡ [] → Shown first [] recent output output
+none_shown first recent output e = record { kept = e; text = appends_nothing output.text; faults = refl }
+
+abbrev pub made : Machine → Turn → Machine → Taken
+made before turn later = record { before = before; turn = turn; later = later }
+
+module _ (limit count : ℕ) (places : List ℕ) (m m' : Machine) (old middle : Devices) (taken : List Taken)
+    (g : Going limit count places m m' old middle Next taken) where
+  -- one more step
+  pub one_made : (m'' : Machine) (new : Devices) (turn : Turn) → count < limit → is_at places m' ≡ false
+      → Does (step m') middle new (turn, m'')
+      → Going limit (count + 1) places m m'' old new turn (made m' turn m'' ∷ taken)
+  one_made m'' new turn lt away does = record {
+    steps = (middle, g.steps, g.yielded, does, refl);
+    yielded = refl;
+    elsewhere = (away, g.elsewhere);
+    long = omega (arith, g.long);
+    within = omega arith;
+  }
+
+  -- no more are allowed
+  pub at_limit : limit ≤ count → Goes (λ n. run_counted n m) limit places m old taken (ending.Stopped Limit) m' middle
+  at_limit le =
+      let same : length taken ≡ limit = omega (arith, g.long, g.within) in
+      let P : ℕ → Type 0 = λ n. Does (run_counted n m) old middle (ran Limit (length taken), m') in
+      record {
+        steps = g.steps;
+        elsewhere = g.elsewhere;
+        ends = tt;
+        runs = subst P same (runs_out taken m m' old middle g.steps g.yielded);
+      }
+
+  pub at_place : count < limit → is_at places m' ≡ true → Goes (λ n. run_counted n m) limit places m old taken ending.Reached m' middle
+  at_place lt there = record {
+    steps = g.steps;
+    elsewhere = g.elsewhere;
+    ends = (omega (arith, g.long), there);
+    runs = runs_out taken m m' old middle g.steps g.yielded;
+  }
+
+pub at_stop : (limit count : ℕ) (places : List ℕ) (m m' : Machine) (old new : Devices) (stop : Stop) (taken : List Taken)
+    → Going limit count places m m' old new (Stopped stop) taken → Goes (λ n. run_counted n m) limit places m old taken (ending.Stopped stop) m' new
+at_stop limit count places m m' old new stop taken g = record {
+  steps = g.steps;
+  elsewhere = g.elsewhere;
+  ends = tt;
+  runs = runs_stop limit stop taken m m' old new (omega (arith, g.long, g.within)) g.steps g.yielded;
+}
+
+-- whatever the last step yielded, they are those of a run of as many steps
+pub at_any : (limit count : ℕ) (places : List ℕ) (m m' : Machine) (old new : Devices) (turn : Turn) (taken : List Taken)
+    → Going limit count places m m' old new turn taken
+    → (most : ℕ) × (most ≤ limit) × (e : Ending) × Goes (λ n. run_counted n m) most places m old taken e m' new
+at_any limit count places m m' old new Next taken g =
+    let at : Going (length taken) count places m m' old new Next taken = record {
+      steps = g.steps;
+      yielded = g.yielded;
+      elsewhere = g.elsewhere;
+      long = g.long;
+      within = omega (arith, g.long);
+    } in
+    (length taken, omega (arith, g.long, g.within), ending.Stopped Limit, at_limit (length taken) count places m m' old new taken at (omega (arith, g.long)))
+at_any limit count places m m' old new (Stopped stop) taken g =
+    (limit, omega arith, ending.Stopped stop, at_stop limit count places m m' old new stop taken g)
+
+-- ---- with their lines
+
+module _ (first : ℕ) (taken : List Taken) (recent : List Shot) (output middle : Output) (s : Shown first taken recent output middle) where
+  line_of : (m m'' : Machine) (turn : Turn) (count : ℕ) (shot : Shot) → count ≡ length taken → shot ≡ shot_of m m''
+      → lines_from first taken ++ line_from first (count + 1) shot ≡ lines_from first (made m turn m'' ∷ taken)
+  line_of m m'' turn count shot long is =
+      let one : count + 1 ≡ suc (length taken) = omega (arith, long) in
+      let to : ℕ → Shot → List ℕ = λ n x. lines_from first taken ++ line_from first n x in
+      ap₂ to one is
+
+  pub one_shown : (m m'' : Machine) (turn : Turn) (count : ℕ) (shot : Shot) (recent' : List Shot) (output' : Output)
+      → count ≡ length taken → shot ≡ shot_of m m'' → recent' ≡ take 16 (shot ∷ recent)
+      → Appends middle.text output'.text (line_from first (count + 1) shot) → output'.faults ≡ middle.faults
+      → Shown first (made m turn m'' ∷ taken) recent' output output'
+  one_shown m m'' turn count shot recent' output' long is kept_is text faults =
+      let P : List ℕ → Type 0 = λ t. Appends output.text output'.text t in
+      let Q : List Shot → Type 0 = λ r. recent' ≡ take 16 (shot ∷ r) in
+      let R : Shot → Type 0 = λ x. recent' ≡ take 16 (x ∷ map kept taken) in
+      record {
+        kept = subst R is (subst Q s.kept kept_is ∙ take_again 15 shot (map kept taken));
+        text = subst P (line_of m m'' turn count shot long is)
+            (Appends-Appends output.text middle.text output'.text (lines_from first taken) _ s.text text);
+        faults = faults ∙ s.faults;
+      }
+
+  pub part_shown : (m m'' : Machine) (turn : Turn) (count : ℕ) (shot : Shot) (output' : Output)
+      → count ≡ length taken → shot ≡ shot_of m m''
+      → AppendsBeginning middle.text output'.text (line_from first (count + 1) shot) → Rises middle.faults output'.faults
+      → AppendsBeginning output.text output'.text (lines_from first (made m turn m'' ∷ taken))
+      × Rises output.faults output'.faults
+  part_shown m m'' turn count shot output' long is text faults =
+      let P : List ℕ → Type 0 = λ t. AppendsBeginning output.text output'.text t in
+      let Q : ℕ → Type 0 = λ n. Rises n output'.faults in (
+        subst P (line_of m m'' turn count shot long is)
+            (begins_after output.text middle.text output'.text (lines_from first taken) _ s.text text),
+        subst Q s.faults faults,
+      )
+
+-- the line of a step was not put
+pub not_put : (limit count first : ℕ) (places : List ℕ) (m m' m'' : Machine) (old middle new : Devices) (taken : List Taken)
+    (recent : List Shot) (output held output' : Output) (turn : Turn) (shot : Shot) (fault : SimFault)
+    → Going limit count places m m' old middle Next taken → Shown first taken recent output held → count < limit
+    → is_at places m' ≡ false → Does (step m') middle new (turn, m'') → shot ≡ shot_of m' m''
+    → PutsMessages {A = Unit {0}} held.text output'.text held.faults output'.faults (line_from first (count + 1) shot) (Err fault)
+    → StepsWithLines (λ n. run_counted n m) limit first places m m'' old new output output' (Err fault)
+not_put limit count first places m m' m'' old middle new taken recent output held output' turn shot Write g s lt away does is p =
+    let more = one_made limit count places m m' old middle taken g m'' new turn lt away does in
+    let any = at_any limit (count + 1) places m m'' old new turn (made m' turn m'' ∷ taken) more in
+    let part = part_shown first taken recent output held s m' m'' turn count shot output' g.long is p.0 p.1 in
+    (any.0, any.1, any.2, made m' turn m'' ∷ taken, any.3, part.0, part.1)
+not_put limit count first places m m' m'' old middle new taken recent output held output' turn shot NoMemory g s lt away does is p =
+    absurd p
+not_put limit count first places m m' m'' old middle new taken recent output held output' turn shot (Load f) g s lt away does is p =
+    absurd p

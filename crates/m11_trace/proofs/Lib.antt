@@ -1,0 +1,5 @@
+pub mod Pieces
+pub mod Following
+pub mod Going
+pub mod Reports
+pub mod Whole

@@ -1,0 +1,75 @@
+use Rattle.std.proofs.Common.{◌∙◌, [], sym}
+use Rattle.std.proofs.lemmas.Result.{err_from_is_err_and}
+use Rattle.m11_machine.specs.Dialogue.{output_of}
+use Rattle.m11_machine.specs.declared.stop.Turn.TheVariants.{Stopped}
+use Rattle.m11_trace.proofs.Going.{at_limit, at_place, at_stop, none_made, none_shown, not_put, one_made, one_shown}
+use Rattle.m11_trace.proofs.steps.steps_with_lines.Goals as goal
+
+pub steps-init : goal.steps-init
+steps-init g c = ([], none_made _ _ _ _, none_shown _ _ _ c.new-recent.ensures)
+
+pub returns-then-is_at : goal.returns-then-is_at
+returns-then-is_at g c =
+    let taken = c.steps.invariant.0 in
+    let going = c.steps.invariant.1 in
+    let shown = c.steps.invariant.2 in (
+      taken,
+      at_place _ _ _ _ _ _ _ taken going c.steps-test.true (sym c.is_at.ensures ∙ c.if-is_at.true),
+      going.long,
+      shown.kept,
+      shown.text,
+      shown.faults,
+    )
+
+pub returns-in_err-put_line : goal.returns-in_err-put_line
+returns-in_err-put_line g c =
+    let r = c.from_residual in
+    let p = err_from_is_err_and r.result r.ensures.1 in
+    rw (p.1, p.2)
+    (not_put _ _ _ _ _ _ _ _ _ _ c.steps.invariant.0 _ _
+    (output_of (g.M.Sink.text c.steps.messages) (g.M.Sink.faults c.steps.messages)) _ _ _ _
+    c.steps.invariant.1 c.steps.invariant.2 c.steps-test.true (sym c.is_at.ensures ∙ c.if-is_at.false) c.take_step-turn.ensures.does
+    c.take_step-turn.ensures.shot c.in_err-put_line.ensures)
+
+pub returns-in-Stopped : goal.returns-in-Stopped
+returns-in-Stopped g c =
+    let taken = c.steps.invariant.0 in
+    let going =
+    one_made _ _ _ _ _ _ _ taken c.steps.invariant.1 _ _ _ c.steps-test.true (sym c.is_at.ensures ∙ c.if-is_at.false)
+    (rw c.in-Stopped.is at c.take_step-turn.ensures.does) in
+    let shown =
+    one_shown _ _ _ _ (output_of (g.M.Sink.text c.steps.messages) (g.M.Sink.faults c.steps.messages)) c.steps.invariant.2 c.steps.machine
+    c.take_step-turn.new.machine (Stopped c.in-Stopped.stop) _ _ _
+    (output_of (g.M.Sink.text c.put_line.new.messages) (g.M.Sink.faults c.put_line.new.messages))
+    c.steps.invariant.1.long c.take_step-turn.ensures.shot c.keep.ensures c.in_ok-put_line.ensures.0 c.in_ok-put_line.ensures.1 in (
+      _,
+      at_stop _ _ _ _ _ _ _ _ _ going,
+      going.long,
+      shown.kept,
+      shown.text,
+      shown.faults,
+    )
+
+pub steps-preserved : goal.steps-preserved
+steps-preserved g c =
+    let taken = c.steps.invariant.0 in (
+      _,
+      one_made _ _ _ _ _ _ _ taken c.steps.invariant.1 _ _ _ c.steps-test.true (sym c.is_at.ensures ∙ c.if-is_at.false)
+          (rw c.in-Next.is at c.take_step-turn.ensures.does),
+      one_shown _ _ _ _ (output_of (g.M.Sink.text c.steps.messages) (g.M.Sink.faults c.steps.messages)) c.steps.invariant.2 _ _ _ _ _ _
+          (output_of (g.M.Sink.text c.put_line.new.messages) (g.M.Sink.faults c.put_line.new.messages))
+          c.steps.invariant.1.long c.take_step-turn.ensures.shot c.keep.ensures c.in_ok-put_line.ensures.0 c.in_ok-put_line.ensures.1,
+    )
+
+pub returns : goal.returns
+returns g c =
+    let taken = c.steps.invariant.0 in
+    let going = c.steps.invariant.1 in
+    let shown = c.steps.invariant.2 in (
+      taken,
+      at_limit _ _ _ _ _ _ _ taken going c.steps-test.false,
+      going.long,
+      shown.kept,
+      shown.text,
+      shown.faults,
+    )

@@ -1,0 +1,6 @@
+pub mod Shots
+pub mod Lines
+pub mod Taken
+pub mod Messages
+pub mod Tracing
+pub mod Stepping

@@ -1,0 +1,56 @@
+-- The line of a step: its number, the program counter, the instruction there as a line of source, and what the step changed, with
+-- tabs between them. (This project's own; the line of source: MACRO-11 Language Reference Manual, "Assembler statements".)
+use Rattle.std.specs.Prelude.{ℕ, ◌/◌, ◌%◌, ◌==◌, if◌then◌else◌, List, [], ◌∷◌, ◌++◌, codes}
+use Rattle.std.specs.Fmt.{decimal}
+use Rattle.m11_base.specs.Devices.{Bytes}
+use Rattle.m11_base.specs.Octal.{octal_text}
+use Rattle.m11_disassembly.specs.Instructions.{statement_of}
+use Rattle.m11_disassembly.specs.Texts.{statement_text}
+use Rattle.m11_trace.specs.Shots.{numbered, words_in}
+use Rattle.m11_trace.specs.declared.shots.Shot.{Shot}
+use Rattle.m11_trace.specs.declared.shots.View.{View}
+
+-- the instruction whose words lie at a place; nothing, where no word lies there
+abbrev pub source_text : ℕ → List ℕ → Bytes
+source_text place [] = []
+source_text place (word ∷ more) = statement_text (statement_of place word more)
+
+-- a register that has another value than before
+abbrev pub register_change : Bytes → ℕ → ℕ → Bytes
+register_change name before later = if before == later then [] else 9 ∷ (name ++ octal_text later)
+
+-- the registers that have other values, but for the program counter, which the next line begins with
+unfoldable pub register_changes : List ℕ → List ℕ → Bytes
+register_changes before later =
+    register_change (codes "R0 ") (numbered before 0) (numbered later 0)
+    ++ (register_change (codes "R1 ") (numbered before 1) (numbered later 1)
+    ++ (register_change (codes "R2 ") (numbered before 2) (numbered later 2)
+    ++ (register_change (codes "R3 ") (numbered before 3) (numbered later 3)
+    ++ (register_change (codes "R4 ") (numbered before 4) (numbered later 4)
+    ++ (register_change (codes "R5 ") (numbered before 5) (numbered later 5)
+    ++ register_change (codes "SP ") (numbered before 6) (numbered later 6))))))
+
+-- the letter of a condition code that is set, or a hyphen
+abbrev pub code_letter : ℕ → ℕ → ℕ → ℕ
+code_letter psw weight letter = if psw / weight % 2 == 1 then letter else 45
+
+-- N, Z, V and C
+abbrev pub code_letters : ℕ → Bytes
+code_letters psw = code_letter psw 8 78 ∷ code_letter psw 4 90 ∷ code_letter psw 2 86 ∷ code_letter psw 1 67 ∷ []
+
+-- the processor status, where it is another one than before
+abbrev pub status_change : ℕ → ℕ → Bytes
+status_change before later =
+    if before == later then [] else codes "\tPSW " ++ (octal_text later ++ 32 ∷ code_letters later)
+
+abbrev pub changes : View → View → Bytes
+changes before later = register_changes before.registers later.registers ++ status_change before.psw later.psw
+
+-- where a step found its instruction
+abbrev pub place_of : Shot → ℕ
+place_of shot = numbered shot.before.registers 7
+
+unfoldable pub step_line : ℕ → Shot → Bytes
+step_line number shot =
+    decimal number ++ (9 ∷ (octal_text (place_of shot)
+    ++ (9 ∷ (source_text (place_of shot) (words_in shot.fetched) ++ (changes shot.before shot.later ++ 10 ∷ [])))))

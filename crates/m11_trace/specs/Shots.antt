@@ -1,0 +1,58 @@
+-- What is kept of a step for its line: the words at the program counter, and the registers and the processor status before and after
+-- it. (This project's own.)
+use Rattle.std.specs.Prelude.{ℕ, ◌+◌, ◌%◌, ◌==◌, Bool, nat_lt, if◌then◌else◌, List, [], ◌∷◌, length, slice_index_or, Option, Some, None}
+use Rattle.std.specs.List.{list_any}
+use Rattle.m11_base.specs.Devices.{Bytes}
+use Rattle.m11_machine.specs.Machine.{psw_in}
+use Rattle.m11_machine.specs.Memory.{word_at}
+use Rattle.m11_machine.specs.declared.machine.Machine.{Machine}
+use Rattle.m11_trace.specs.declared.shots.Fetched.{Fetched}
+use Rattle.m11_trace.specs.declared.shots.Shot.{Shot}
+use Rattle.m11_trace.specs.declared.shots.View.{View}
+
+-- a register by its number
+abbrev pub numbered : List ℕ → ℕ → ℕ
+numbered registers number = slice_index_or registers number 0
+
+abbrev pub counter_of : Machine → ℕ
+counter_of m = numbered m.registers 7
+
+-- the program counter is at one of these places
+abbrev pub is_at : List ℕ → Machine → Bool
+is_at places m = list_any (λ place. place == counter_of m) places
+
+-- the word some bytes after an even place, where the memory has one there
+abbrev pub word_past : Bytes → ℕ → ℕ → Option ℕ
+word_past memory place distance =
+    if nat_lt (place + distance) (length memory) then Some (word_at memory (place + distance)) else None
+
+-- the words that an instruction at a place may have; none at an odd one
+abbrev pub fetched_at : Bytes → ℕ → Fetched
+fetched_at memory place =
+    if place % 2 == 1 then record { first = None; second = None; third = None }
+    else record {
+      first = word_past memory place 0;
+      second = word_past memory place 2;
+      third = word_past memory place 4;
+    }
+
+-- those that are there, up to the first that isn't
+abbrev pub words_by : Option ℕ → Option ℕ → Option ℕ → List ℕ
+words_by None second third = []
+words_by (Some first) None third = first ∷ []
+words_by (Some first) (Some second) None = first ∷ second ∷ []
+words_by (Some first) (Some second) (Some third) = first ∷ second ∷ third ∷ []
+
+abbrev pub words_in : Fetched → List ℕ
+words_in fetched = words_by fetched.first fetched.second fetched.third
+
+-- what of a machine can change in a line
+abbrev pub view_of : Machine → View
+view_of m = record { registers = m.registers; psw = psw_in m }
+
+abbrev pub shot_of : Machine → Machine → Shot
+shot_of before later = record {
+  fetched = fetched_at before.memory (counter_of before);
+  before = view_of before;
+  later = view_of later;
+}

@@ -1,0 +1,35 @@
+-- What steps with lines leave. (This project's own.)
+use Rattle.std.specs.Prelude.{◌≡◌, ℕ, ◌≤◌, nat_lt, if◌then◌else◌, List, [], ◌++◌, length, map, take, Result, Ok, Err}
+use Rattle.std.specs.Io.KnownBytes.{Appends}
+use Rattle.m11_base.specs.Devices.{Bytes, Rises}
+use Rattle.m11_base.specs.Sink.{AppendsBeginning}
+use Rattle.m11_cpu.specs.declared.fault.SimFault.{SimFault}
+use Rattle.m11_cpu.specs.declared.fault.SimFault.TheVariants.{Load, Write, NoMemory}
+use Rattle.m11_cpu.specs.declared.runs.Ran.{Ran}
+use Rattle.m11_machine.specs.Dialogue.{Devices, Dialogue, Output}
+use Rattle.m11_machine.specs.declared.machine.Machine.{Machine}
+use Rattle.m11_trace.specs.Messages.{ending_text}
+use Rattle.m11_trace.specs.Taken.{Taken, kept, lines_from, shots_text}
+use Rattle.m11_trace.specs.Tracing.{Goes}
+use Rattle.m11_trace.specs.declared.ending.Ending.{Ending}
+use Rattle.m11_trace.specs.declared.steps.Steps.{Steps}
+
+-- steps of a run with lines end, and the last 16 are kept; or a line was put in part, and the steps are those of a run with no more
+-- steps than that
+abbrev pub StepsWithLines : (ℕ → Dialogue (Ran × Machine)) → ℕ → ℕ → List ℕ → Machine → Machine → Devices → Devices
+    → Output → Output → Result Steps SimFault → Type 0
+StepsWithLines run limit first places m m' old new output output' (Ok steps) =
+    (taken : List Taken) × Goes run limit places m old taken steps.ending m' new × (steps.count ≡ length taken)
+    × (steps.recent.items ≡ take 16 (map kept taken))
+    × Appends output.text output'.text (lines_from first taken) × (output'.faults ≡ output.faults)
+StepsWithLines run limit first places m m' old new output output' (Err Write) =
+    (most : ℕ) × (most ≤ limit) × (ending : Ending) × (taken : List Taken) × Goes run most places m old taken ending m' new
+    × AppendsBeginning output.text output'.text (lines_from first taken) × Rises output.faults output'.faults
+StepsWithLines run limit first places m m' old new output output' (Err NoMemory) = ⊥
+StepsWithLines run limit first places m m' old new output output' (Err (Load fault)) = ⊥
+
+-- what is put after the lines
+abbrev pub end_text : ℕ → Steps → Machine → Bytes
+end_text first steps m =
+    (if nat_lt steps.count first then shots_text steps.count steps.recent.items else [])
+    ++ ending_text steps.ending steps.count m

@@ -1,0 +1,80 @@
+-- A whole run with lines: a tape is loaded and run as without them, up to a place that was named, and the lines of its steps and its
+-- end are reported. (This project's own.)
+use Rattle.std.specs.Prelude.{◌≡◌, ℕ, ◌<◌, ◌≤◌, true, false, List, ◌++◌, length, unwrap_or, Result, Ok, Err, ⊤}
+use Rattle.std.specs.List.{AllByRecursion}
+use Rattle.std.specs.Io.KnownBytes.{Appends}
+use Rattle.m11_base.specs.Devices.{Bytes, Rises}
+use Rattle.m11_base.specs.Sink.{AppendsBeginning}
+use Rattle.m11_cpu.specs.Simulation.{HasRun, Loaded, Request, RunDevices}
+use Rattle.m11_cpu.specs.declared.fault.SimFault.{SimFault}
+use Rattle.m11_cpu.specs.declared.fault.SimFault.TheVariants.{Load, Write, NoMemory}
+use Rattle.m11_cpu.specs.declared.runs.Ran.{Ran}
+use Rattle.m11_machine.specs.Dialogue.{Devices, Dialogue, Does}
+use Rattle.m11_machine.specs.declared.machine.Machine.{Machine}
+use Rattle.m11_machine.specs.declared.stop.Stop.TheVariants.{Limit}
+use Rattle.m11_trace.specs.Messages.{ending_text}
+use Rattle.m11_trace.specs.Shots.{is_at}
+use Rattle.m11_trace.specs.Taken.{Follow, Taken, begun, lines_from, recent_lines}
+use Rattle.m11_trace.specs.declared.ending.Ending.{Ending}
+use Rattle.m11_trace.specs.declared.ending.Ending.TheVariants.{Stopped, Reached}
+
+-- a step was made elsewhere than at these places
+abbrev pub IsElsewhere : List ℕ → Taken → Type 0
+IsElsewhere places taken = is_at places taken.before ≡ false
+
+-- the outcome of the run without lines: all of it; or where a place was reached, that of as many steps as were made
+abbrev pub ran_by : Ending → ℕ → Ran
+ran_by (Stopped stop) steps = record { stop = stop; steps = steps }
+ran_by Reached steps = record { stop = Limit; steps = steps }
+
+abbrev pub limit_by : Ending → ℕ → ℕ → ℕ
+limit_by (Stopped stop) steps limit = limit
+limit_by Reached steps limit = steps
+
+-- where a place was reached, there were steps left to make
+abbrev pub EndsAt : Ending → List ℕ → ℕ → ℕ → Machine → Type 0
+EndsAt (Stopped stop) places steps limit m = ⊤
+EndsAt Reached places steps limit m = (steps < limit) × (is_at places m ≡ true)
+
+-- from a machine on these steps were made, the latest first, up to this end, and none of them at one of the places; they are
+-- those of a run
+pub record Goes (run : ℕ → Dialogue (Ran × Machine)) (limit : ℕ) (places : List ℕ) (m : Machine) (old : Devices)
+    (taken : List Taken) (ending : Ending) (m' : Machine) (new : Devices) : Type 0 where
+  pub steps : Follow m old taken m' new
+  pub elsewhere : AllByRecursion (IsElsewhere places) taken
+  pub ends : EndsAt ending places (length taken) limit m'
+  pub runs : Does (run (limit_by ending (length taken) limit)) old new (ran_by ending (length taken), m')
+
+-- a tape was loaded, and run from its start, or from the one that replaces it: machine, console and stop are those of a run of
+-- `m11 sim`, and these are its steps, the latest first
+pub record HasTraced (request : Request) (places : List ℕ) (before after : RunDevices) (taken : List Taken) (ending : Ending)
+    (m : Machine) : Type 0 where
+  pub run : HasRun (record request { limit = limit_by ending (length taken) request.limit }) before after
+      (ran_by ending (length taken)) m
+  pub steps : Follow (begun (unwrap_or request.start run.transfer) run.loaded) before.console taken m after.console
+  pub elsewhere : AllByRecursion (IsElsewhere places) taken
+  pub ends : EndsAt ending places (length taken) request.limit m
+
+-- what is reported: the lines of steps, from the one of a number on, or of the last ones; and the end
+abbrev pub report : ℕ → List Taken → Ending → Machine → Bytes
+report first taken ending m =
+    lines_from first taken ++ (recent_lines first taken ++ ending_text ending (length taken) m)
+
+-- what a whole run with lines yields: its end, and the report was put whole; or the tape was not loaded, and nothing was run or
+-- reported; or it is a run with no more steps than that, and the report was put in part; or memory was refused before
+-- anything was read
+abbrev pub Traces : Request → ℕ → List ℕ → RunDevices → RunDevices → Result Ending SimFault → Type 0
+Traces request first places before after (Ok ending) =
+    (m : Machine) × (taken : List Taken) × HasTraced request places before after taken ending m
+    × Appends before.messages.text after.messages.text (report first taken ending m)
+    × (after.messages.faults ≡ before.messages.faults)
+Traces request first places before after (Err (Load fault)) =
+    (m : Machine) × Loaded request.words before.tape after.tape m (Err fault) × (after.console ≡ before.console)
+    × (after.messages ≡ before.messages)
+Traces request first places before after (Err Write) =
+    (limit : ℕ) × (limit ≤ request.limit) × (ending : Ending) × (m : Machine) × (taken : List Taken)
+    × HasTraced (record request { limit = limit }) places before after taken ending m
+    × AppendsBeginning before.messages.text after.messages.text (report first taken ending m)
+    × Rises before.messages.faults after.messages.faults
+Traces request first places before after (Err NoMemory) =
+    (after.tape ≡ before.tape) × (after.console ≡ before.console) × (after.messages ≡ before.messages)

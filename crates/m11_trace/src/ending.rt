@@ -1,0 +1,12 @@
+//! How runs with lines end.
+
+use m11_machine::Stop;
+
+/// How a run with lines ends.
+#[derive(Clone, Copy, Debug, PartialEq, Eq)]
+pub enum Ending {
+    /// As a run without them.
+    Stopped(Stop),
+    /// At a place that was named, before its instruction.
+    Reached,
+}

@@ -1,0 +1,44 @@
+//! Lines in the making.
+
+ghost use Rattle.std.specs.Prelude.{◌≡◌, ◌≤◌, ◌+◌, ◌++◌, length};
+ghost use Rattle.arrayvec.specs.ArrayVec.{array_vec_len};
+ghost use Rattle.m11_base.specs.Octal.{octal_text};
+ghost use Rattle.m11_cpu.specs.Messages.{PutsMessages};
+
+use arrayvec::ArrayVec;
+use m11_base::{Sink, octal6, put_all};
+use m11_cpu::SimFault;
+
+/// A line, or the two lines of a stop. The line of a step has at most 175 characters, of which 40 are for a number that has ten at
+/// most, since `itoa` has room for so many.
+pub(crate) type Line = ArrayVec<u8, 180>;
+
+/// Adds bytes. There is room for them, so nothing of them is left out.
+pub(crate) fn add(line: &mut Line, bytes: &[u8])
+    requires { array_vec_len line.old + length bytes.now ≤ 180 }
+    ensures items { line.new.items ≡ line.old.items ++ bytes.now }
+    ensures size { array_vec_len line.new ≡ array_vec_len line.old + length bytes.now }
+{
+    line.try_extend_from_slice(bytes).unwrap();
+}
+
+/// Adds a label and the six octal digits of a word.
+pub(crate) fn add_word(line: &mut Line, label: &[u8], word: u16)
+    requires { array_vec_len line.old + (length label.now + 6) ≤ 180 }
+    ensures items { line.new.items ≡ line.old.items ++ (label.now ++ octal_text word) }
+    ensures size { array_vec_len line.new ≡ array_vec_len line.old + (length label.now + 6) }
+{
+    add(line, label);
+    add(line, &octal6(word));
+}
+
+/// Puts a text. `Write`: the sink failed after a beginning of it.
+pub(crate) fn put_text<M: Sink>(messages: &mut M, text: &[u8]) -> Result<(), SimFault>
+    ensures { PutsMessages (M.text messages.old) (M.text messages.new) (M.faults messages.old) (M.faults messages.new)
+        text.now result }
+{
+    match put_all(messages, text) {
+        Ok(()) => Ok(()),
+        Err(_) => Err(SimFault::Write),
+    }
+}

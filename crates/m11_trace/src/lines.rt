@@ -1,0 +1,133 @@
+//! The lines of steps.
+
+ghost use Rattle.std.specs.Prelude.{◌≡◌, ◌≤◌, ◌+◌, ◌∷◌, ◌++◌, [], length};
+ghost use Rattle.arrayvec.specs.ArrayVec.{array_vec_len};
+ghost use Rattle.m11_trace.specs.Shots.{words_in};
+ghost use Rattle.m11_trace.specs.Lines as spec;
+
+use crate::line::{Line, add, add_word};
+use crate::shots::{Fetched, Shot, View};
+use itoa::Buffer;
+use m11_disassembly::disassembled;
+
+// The line of source of words at a place.
+fn add_words(line: &mut Line, place: u16, word: u16, more: &[u16])
+    requires { array_vec_len line.old ≤ 60 }
+    ensures items { line.new.items ≡ line.old.items ++ spec.source_text place (word ∷ more.now) }
+    ensures size { array_vec_len line.new ≤ array_vec_len line.old + 40 }
+{
+    let disassembly = disassembled(place, word, more);
+    add(line, disassembly.source.as_slice());
+}
+
+// The instruction whose words lie at a place.
+fn add_source(line: &mut Line, place: u16, fetched: Fetched)
+    requires { array_vec_len line.old ≤ 60 }
+    ensures items { line.new.items ≡ line.old.items ++ spec.source_text place (words_in fetched) }
+    ensures size { array_vec_len line.new ≤ array_vec_len line.old + 40 }
+{
+    match (fetched.first, fetched.second, fetched.third) {
+        (None, _, _) => {}
+        (Some(first), None, _) => add_words(line, place, first, &[]),
+        (Some(first), Some(second), None) => add_words(line, place, first, &[second]),
+        (Some(first), Some(second), Some(third)) => add_words(line, place, first, &[second, third]),
+    }
+}
+
+// A register, where it has another value than before.
+fn add_change(line: &mut Line, name: &[u8; 3], before: u16, later: u16)
+    requires { array_vec_len line.old ≤ 170 }
+    ensures items { line.new.items ≡ line.old.items ++ spec.register_change name.now before later }
+    ensures size { array_vec_len line.new ≤ array_vec_len line.old + 10 }
+{
+    if before != later {
+        add(line, b"\t");
+        add_word(line, name, later);
+    }
+}
+
+// The registers that have other values than before.
+
+fn add_registers(line: &mut Line, before: &[u16; 8], later: &[u16; 8])
+    requires { array_vec_len line.old ≤ 100 }
+    ensures items { line.new.items ≡ line.old.items ++ spec.register_changes before.now later.now }
+    ensures size { array_vec_len line.new ≤ array_vec_len line.old + 70 }
+{
+    let [r0, r1, r2, r3, r4, r5, sp, _] = *before;
+    let [
+        r0_later,
+        r1_later,
+        r2_later,
+        r3_later,
+        r4_later,
+        r5_later,
+        sp_later,
+        _,
+    ] = *later;
+    add_change(line, b"R0 ", r0, r0_later);
+    add_change(line, b"R1 ", r1, r1_later);
+    add_change(line, b"R2 ", r2, r2_later);
+    add_change(line, b"R3 ", r3, r3_later);
+    add_change(line, b"R4 ", r4, r4_later);
+    add_change(line, b"R5 ", r5, r5_later);
+    add_change(line, b"SP ", sp, sp_later);
+}
+
+// The letter of a condition code that is set, or a hyphen.
+fn code_letter(psw: u16, weight: u16, letter: u8) -> u8
+    requires { 1 ≤ weight }
+    ensures { result ≡ spec.code_letter psw weight letter }
+{
+    if psw / weight % 2 == 1 { letter } else { b'-' }
+}
+
+// The letters of the condition codes.
+fn code_letters(psw: u16) -> [u8; 4]
+    ensures { result ≡ spec.code_letters psw }
+{
+    [
+        code_letter(psw, 0o10, b'N'),
+        code_letter(psw, 4, b'Z'),
+        code_letter(psw, 2, b'V'),
+        code_letter(psw, 1, b'C'),
+    ]
+}
+
+// The processor status, where it is another one than before.
+fn add_status(line: &mut Line, before: u16, later: u16)
+    requires { array_vec_len line.old ≤ 160 }
+    ensures items { line.new.items ≡ line.old.items ++ spec.status_change before later }
+    ensures size { array_vec_len line.new ≤ array_vec_len line.old + 16 }
+{
+    if before != later {
+        add_word(line, b"\tPSW ", later);
+        add(line, b" ");
+        add(line, &code_letters(later));
+    }
+}
+
+// What a step changed.
+fn add_changes(line: &mut Line, before: &View, later: &View)
+    requires { array_vec_len line.old ≤ 90 }
+    ensures items { line.new.items ≡ line.old.items ++ spec.changes before.now later.now }
+    ensures size { array_vec_len line.new ≤ array_vec_len line.old + 86 }
+{
+    add_registers(line, &before.registers, &later.registers);
+    add_status(line, before.psw, later.psw);
+}
+
+/// The line of a step with its number.
+#[tactic(auto, unfolding(crate::specs::Lines::step_line))]
+pub(crate) fn step_line(number: u32, shot: &Shot) -> Line
+    ensures { result.items ≡ spec.step_line number shot.now }
+{
+    let place = shot.before.registers[7];
+    let mut line = Line::new();
+    add(&mut line, Buffer::new().format(number).as_bytes());
+    add_word(&mut line, b"\t", place);
+    add(&mut line, b"\t");
+    add_source(&mut line, place, shot.fetched);
+    add_changes(&mut line, &shot.before, &shot.later);
+    add(&mut line, b"\n");
+    line
+}

@@ -1,0 +1,84 @@
+//! What is kept of a step for its line.
+
+ghost use Rattle.std.specs.Prelude.{◌≡◌, ◌%◌};
+ghost use Rattle.m11_trace.specs.Shots as spec;
+
+use m11_machine::{Machine, Memory};
+
+/// The words that an instruction may have, as far as the memory has them.
+#[derive(Clone, Copy, Debug, Default)]
+pub struct Fetched {
+    /// The word at the program counter.
+    pub first: Option<u16>,
+    /// The next word.
+    pub second: Option<u16>,
+    /// The word after that.
+    pub third: Option<u16>,
+}
+
+/// What of a machine can change in a line.
+#[derive(Clone, Copy, Debug, Default)]
+pub struct View {
+    /// R0 to R5, SP and PC.
+    pub registers: [u16; 8],
+    /// The processor status word.
+    pub psw: u16,
+}
+
+/// What is kept of a step.
+#[derive(Clone, Copy, Debug, Default)]
+pub struct Shot {
+    /// The words at the program counter before the step.
+    pub fetched: Fetched,
+    /// The registers and the processor status before it.
+    pub before: View,
+    /// The same after it.
+    pub later: View,
+}
+
+// The word some bytes after an even place, where the memory has one there.
+fn word_past(memory: &Memory, place: u16, distance: u16) -> Option<u16>
+    requires place { place % 2 ≡ 0 }
+    requires distance { distance % 2 ≡ 0 }
+    ensures { result ≡ spec.word_past memory.now place distance }
+{
+    match memory.place_past(place, distance) {
+        Some(address) => Some(memory.word(address)),
+        None => None,
+    }
+}
+
+/// The words that an instruction at a place may have.
+pub(crate) fn fetched_at(memory: &Memory, place: u16) -> Fetched
+    ensures { result ≡ spec.fetched_at memory.now place }
+{
+    if place % 2 == 1 {
+        return Fetched {
+            first: None,
+            second: None,
+            third: None,
+        };
+    }
+    Fetched {
+        first: word_past(memory, place, 0),
+        second: word_past(memory, place, 2),
+        third: word_past(memory, place, 4),
+    }
+}
+
+/// The registers and the processor status of a machine.
+pub(crate) fn view_of(machine: &Machine) -> View
+    ensures { result ≡ spec.view_of machine.now }
+{
+    View {
+        registers: machine.registers,
+        psw: machine.psw(),
+    }
+}
+
+/// The address of the next instruction.
+pub(crate) fn counter_of(machine: &Machine) -> u16
+    ensures { result ≡ spec.counter_of machine.now }
+{
+    machine.registers[7]
+}

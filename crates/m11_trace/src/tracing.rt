@@ -1,0 +1,114 @@
+//! A whole run with lines: a tape is loaded and started, and its steps and its end are reported.
+
+ghost use Rattle.std.specs.Prelude.{◌≤◌};
+ghost use Rattle.m11_cpu.specs.Messages.{PutsMessages};
+ghost use Rattle.m11_cpu.specs.Simulation.{request_of, run_devices, started};
+ghost use Rattle.m11_machine.specs.Dialogue.{both, input_of, output_of};
+ghost use Rattle.m11_machine.specs.Memory.{least_words, most_words};
+ghost use Rattle.m11_trace.specs.Stepping.{StepsWithLines, end_text};
+ghost use Rattle.m11_trace.specs.Taken.{begun};
+ghost use Rattle.m11_trace.specs.Tracing.{Traces};
+
+use crate::ending::Ending;
+use crate::messages::put_ending;
+use crate::recent::{Recent, put_recent};
+use crate::steps::{Steps, steps_with_lines};
+use m11_base::{Feed, Sink};
+use m11_cpu::{SimFault, load};
+use m11_machine::{Machine, Stop};
+use std::alloc::Global;
+
+/// Loads a tape into a new machine of `words` words of memory, 4,096 to 28,672, and makes steps from its start on, `limit` of them at
+/// most, as `m11_cpu::sim_run` does with the same words: the machine, what the console gives and takes, and the stop are the same. Where
+/// the program counter comes to one of `places` and a step is left to make, it stops there before that step, as that run does after so
+/// many steps.
+///
+/// The line of each step goes to `messages` as soon as the step was made, from the one of the number `first` on. At the end come the
+/// lines of the last 16 steps, where no step had that number, and the two lines of the end.
+///
+/// Faults: `NoMemory`, where memory was refused, before anything was read; `Load`, where the tape was not loaded, and nothing was run;
+/// `Write`, where `messages` failed, and a beginning of what was to be written was: no step is made after that. No other memory is taken
+/// than the machine's.
+pub fn trace_run<T: Feed, I: Feed, O: Sink, M: Sink>(
+    alloc: Global,
+    tape: &mut T,
+    start: Option<u16>,
+    words: u16,
+    limit: u32,
+    first: u32,
+    places: &[u16],
+    input: &mut I,
+    output: &mut O,
+    messages: &mut M,
+) -> Result<Ending, SimFault>
+    requires least { least_words ≤ words }
+    requires most { words ≤ most_words }
+    ensures { Traces (request_of start words limit) first places.now
+        (run_devices (input_of (T.text tape.old) (T.faults tape.old))
+        (both (I.text input.old) (I.faults input.old) (O.text output.old) (O.faults output.old))
+        (output_of (M.text messages.old) (M.faults messages.old)))
+        (run_devices (input_of (T.text tape.new) (T.faults tape.new))
+        (both (I.text input.new) (I.faults input.new) (O.text output.new) (O.faults output.new))
+        (output_of (M.text messages.new) (M.faults messages.new)))
+        result }
+{
+    let mut machine = Machine::new(alloc, words)?;
+    let transfer = load(&mut machine, tape)?;
+    let steps = started(
+        &mut machine,
+        start.unwrap_or(transfer),
+        limit,
+        first,
+        places,
+        input,
+        output,
+        messages,
+    )?;
+    put_end(messages, first, &steps, &machine)?;
+    Ok(steps.ending)
+}
+
+// Makes steps from an even address on. An odd one starts nothing.
+fn started<I: Feed, O: Sink, M: Sink>(
+    machine: &mut Machine,
+    address: u16,
+    limit: u32,
+    first: u32,
+    places: &[u16],
+    input: &mut I,
+    output: &mut O,
+    messages: &mut M,
+) -> Result<Steps, SimFault>
+    ensures { StepsWithLines (λ most. started address most machine.old) limit first places.now (begun address machine.old) machine.new
+        (both (I.text input.old) (I.faults input.old) (O.text output.old) (O.faults output.old))
+        (both (I.text input.new) (I.faults input.new) (O.text output.new) (O.faults output.new))
+        (output_of (M.text messages.old) (M.faults messages.old)) (output_of (M.text messages.new) (M.faults messages.new))
+        result }
+{
+    if address % 2 == 1 {
+        return Ok(Steps {
+            ending: Ending::Stopped(Stop::NoStart),
+            count: 0,
+            recent: Recent::new(),
+        });
+    }
+    machine.start_at(address);
+    steps_with_lines(machine, limit, first, places, input, output, messages)
+}
+
+// Puts what comes after the lines: those of the last steps, and the end.
+#[tactic(auto, using(crate::proofs::Reports::puts_then, crate::proofs::Reports::puts_part))]
+fn put_end<M: Sink>(
+    messages: &mut M,
+    first: u32,
+    steps: &Steps,
+    machine: &Machine,
+) -> Result<(), SimFault>
+    ensures { PutsMessages (M.text messages.old) (M.text messages.new) (M.faults messages.old) (M.faults messages.new)
+        (end_text first steps.now machine.now) result }
+{
+    match put_recent(messages, first, steps.count, steps.recent.as_slice()) {
+        Ok(()) => put_ending(messages, steps.ending, steps.count, machine),
+        Err(fault) => Err(fault),
+    }
+}
