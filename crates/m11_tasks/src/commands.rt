@@ -43,15 +43,19 @@ fn bare_command<'a>(alloc: Global) -> Command<'a>
         .subcommand_required(true)
 }
 
-// A command without its arguments, which are added one by one.
-fn leaf_command<'a>(alloc: Global, name: &'a str, about: &'a str) -> Result<Command<'a>, AllocError>
+/// A command without its arguments, which are added one by one.
+pub fn leaf_command<'a>(
+    alloc: Global,
+    name: &'a str,
+    about: &'a str,
+) -> Result<Command<'a>, AllocError>
     ensures { IfOk result (IsCommand (new_app name.entry.now)) }
 {
     Ok(Command::new(alloc, name).about(about))
 }
 
-// A command with one more argument, where there was memory for it.
-fn with_argument<'a>(
+/// A command with one more argument, where there was memory for it.
+pub fn with_argument<'a>(
     command: Result<Command<'a>, AllocError>,
     argument: Arg<'a>,
 ) -> Result<Command<'a>, AllocError>
@@ -100,8 +104,8 @@ fn sim_command<'a>(alloc: Global) -> Result<Command<'a>, AllocError>
     with_argument(command, tape_argument(alloc))
 }
 
-// An option with one value, which its name reads back.
-fn option_argument<'a>(
+/// An option with one value, which its name reads back.
+pub fn option_argument<'a>(
     alloc: Global,
     name: &'a str,
     letter: char,
@@ -181,7 +185,7 @@ fn objects_argument<'a>(alloc: Global) -> Arg<'a>
 }
 
 /// `-n STEPS`, which the parser reads: in decimal, and within its range.
-fn steps_argument<'a>(alloc: Global) -> Arg<'a>
+pub fn steps_argument<'a>(alloc: Global) -> Arg<'a>
     ensures { IsArgument steps_rule result }
 {
     let help = "The most steps to make, in decimal: 0 to 1000000000 [default: 1000000]";
@@ -190,7 +194,7 @@ fn steps_argument<'a>(alloc: Global) -> Arg<'a>
 }
 
 /// `-s OCTAL`, any text as of `-b`.
-fn start_argument<'a>(alloc: Global) -> Arg<'a>
+pub fn start_argument<'a>(alloc: Global) -> Arg<'a>
     ensures { IsArgument start_rule result }
 {
     let help = "Where to start in place of the tape's start: even, at most 157776";
@@ -198,7 +202,7 @@ fn start_argument<'a>(alloc: Global) -> Arg<'a>
 }
 
 /// `-k WORDS`, which the parser reads: in decimal, and within its range.
-fn words_argument<'a>(alloc: Global) -> Arg<'a>
+pub fn words_argument<'a>(alloc: Global) -> Arg<'a>
     ensures { IsArgument words_rule result }
 {
     let help = "The words of memory, in decimal: 4096 to 28672 [default: 28672]";
@@ -207,7 +211,7 @@ fn words_argument<'a>(alloc: Global) -> Arg<'a>
 }
 
 /// `TAPE`, just one.
-fn tape_argument<'a>(alloc: Global) -> Arg<'a>
+pub fn tape_argument<'a>(alloc: Global) -> Arg<'a>
     ensures { IsArgument tape_rule result }
 {
     operand_argument(

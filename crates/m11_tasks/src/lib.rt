@@ -9,8 +9,14 @@ mod tasks;
 mod usage;
 
 pub use arguments::{WordsFault, refusal_line, words};
+pub use commands::{
+    leaf_command, option_argument, start_argument, steps_argument, tape_argument, with_argument,
+    words_argument,
+};
 pub use opened::{
     AsmFiles, Inputs, LinkFiles, OpenFault, open_asm_files, open_link_files, open_sim_file,
 };
-pub use tasks::{AsmTask, LinkTask, SimTask, Task, plan};
+pub use tasks::{
+    AsmTask, LinkTask, SimTask, Task, address, all_texts, number_given, plan, sim_task,
+};
 pub use usage::UsageFault;

@@ -151,8 +151,8 @@ fn bottom_given(entries: &ArgMatches<'_>) -> Result<u16, UsageFault>
     }
 }
 
-// The task that the entries of `sim` state, or the fault of their start.
-fn sim_task<'a>(entries: &ArgMatches<'a>) -> Result<SimTask<'a>, UsageFault>
+/// The task that the entries of `sim` state, or the fault of their start.
+pub fn sim_task<'a>(entries: &ArgMatches<'a>) -> Result<SimTask<'a>, UsageFault>
     ensures task { IfOk result (IsSimTask (rows_of (found_of entries.now))) }
     ensures doable { IfOk result (λ task. IsDoable (Sim task)) }
     ensures fault { IfErr result (λ fault.
@@ -177,8 +177,8 @@ fn start_given(entries: &ArgMatches<'_>) -> Result<Option<u16>, UsageFault>
     }
 }
 
-// The address that a text spells in octal. `BadOctal`, then `OddAddress`, then `BadAddress` past 157776.
-fn address(text: &str) -> Result<u16, UsageFault>
+/// The address that a text spells in octal. `BadOctal`, then `OddAddress`, then `BadAddress` past 157776.
+pub fn address(text: &str) -> Result<u16, UsageFault>
     ensures { result ≡ address_of text.now }
 {
     let word = read_octal(text.as_bytes())?;
@@ -191,9 +191,9 @@ fn address(text: &str) -> Result<u16, UsageFault>
     Ok(word)
 }
 
-// The number that an option states, where it lies within bounds, else another one. The parser takes
-// no number outside the bounds.
-fn number_given(entries: &ArgMatches<'_>, id: &str, least: u32, most: u32, other: u32) -> u32
+/// The number that an option states, where it lies within bounds, else another one. The parser takes
+/// no number outside the bounds.
+pub fn number_given(entries: &ArgMatches<'_>, id: &str, least: u32, most: u32, other: u32) -> u32
     ensures number { result ≡ number_or other least most
         (one_of id.now (rows_of (found_of entries.now))) }
     ensures within { least ≤ other → other ≤ most → (least ≤ result) × (result ≤ most) }
@@ -219,8 +219,8 @@ fn first_text<'a>(entries: &ArgMatches<'a>, id: &str) -> &'a str
     entries.get_str(id).unwrap_or("")
 }
 
-// The values of an argument, in order; none where it isn't there.
-fn all_texts<'a>(
+/// The values of an argument, in order; none where it isn't there.
+pub fn all_texts<'a>(
     alloc: Global,
     entries: &ArgMatches<'a>,
     id: &str,
