@@ -1,4 +1,4 @@
-# Completion for bash of the commands m11 and m11-dump: source this file, or let ./install put it where bash-completion looks.
+# Completion for bash of the commands m11, m11-dump and m11-trace: source this file, or let ./install put it where bash-completion looks.
 
 # Files that end so, in large or in small letters, and folders.
 _m11_files() {
@@ -44,5 +44,14 @@ _m11_dump() {
     _m11_words "${COMP_WORDS[COMP_CWORD]}" OBJ '-d --disassemble -h --help'
 }
 
+_m11_trace() {
+    COMPREPLY=()
+    case ${COMP_WORDS[COMP_CWORD - 1]} in
+        -[nskfp] | --steps | --start | --words | --from | --place) ;;
+        *) _m11_words "${COMP_WORDS[COMP_CWORD]}" TAP '-n --steps -s --start -k --words -f --from -p --place -h --help' ;;
+    esac
+}
+
 complete -F _m11 m11
 complete -F _m11_dump m11-dump
+complete -F _m11_trace m11-trace

@@ -1,4 +1,4 @@
-"""Checks of the scripts at the top, m11, m11-dump and install, over a small repository and a stand-in for rt. CHECKS lists them for tools/test.py.
+"""Checks of the scripts at the top, m11, m11-dump, m11-trace and install, over a small repository and a stand-in for rt. CHECKS lists them for tools/test.py.
 
 The stand-in `builds` programs that print their words, and counts how often it was asked to. The folder has a blank in its name."""
 import os
@@ -7,8 +7,9 @@ import subprocess
 import tempfile
 
 TOP = os.path.dirname(os.path.dirname(os.path.dirname(os.path.realpath(__file__))))
-COPIED = ("m11", "m11-dump", "install", "docs/man/m11.1", "docs/man/m11-dump.1", "tools/completion.bash", "tools/program.bash")
-LISTS = "# a list for each crate\nm11_low: std\nm11_other: m11_low\nm11: m11_low\nm11_dumper: m11_low\n"
+COPIED = ("m11", "m11-dump", "m11-trace", "install", "docs/man/m11.1", "docs/man/m11-dump.1", "docs/man/m11-trace.1", "tools/completion.bash",
+          "tools/program.bash")
+LISTS = "# a list for each crate\nm11_low: std\nm11_other: m11_low\nm11: m11_low\nm11_dumper: m11_low\nm11_tracer: m11_low\n"
 NOBODY = 65534
 
 RT = r"""#!/bin/sh
@@ -50,7 +51,8 @@ class Repository:
             shutil.copy(os.path.join(TOP, name), os.path.join(self.top, name))
         put(self.at("crates.txt"), LISTS)
         for name in ("m11/src/main.rt", "m11_low/src/lib.rt", "m11_low/specs/Lib.antt", "m11_low/proofs/one/Answers.antt",
-                     "m11_other/src/lib.rt", "m11/data/P.MAC", "m11/args", "m11_dumper/src/main.rt"):
+                     "m11_other/src/lib.rt", "m11/data/P.MAC", "m11/args", "m11_dumper/src/main.rt",
+                     "m11_tracer/src/main.rt"):
             put(self.at("crates/" + name), name + "\n")
         put(os.path.join(folder, "bin", "rt"), RT)
         os.chmod(os.path.join(folder, "bin", "rt"), 0o755)
@@ -227,13 +229,14 @@ def check_install(repository):
     prefix = os.path.join(repository.folder, "pre fix")
     copied = [os.path.join(prefix, name) for name in (
         "bin/m11", "share/man/man1/m11.1", "share/bash-completion/completions/m11",
-        "bin/m11-dump", "share/man/man1/m11-dump.1", "share/bash-completion/completions/m11-dump")]
+        "bin/m11-dump", "share/man/man1/m11-dump.1", "share/bash-completion/completions/m11-dump",
+        "bin/m11-trace", "share/man/man1/m11-trace.1", "share/bash-completion/completions/m11-trace")]
     put(repository.at("crates/m11/out/m11"), "")
     for words in ([], [""], ["-x"], ["a", "b"]):
         repository.expect(f"install {words}", repository.run(words, "install")[0], 2)
     for _ in range(2):
         repository.expect("install", repository.run([prefix], "install")[:2], (0, "".join(f"copied to {path}\n" for path in copied)))
-    for at, called in ((0, "M11"), (3, "M11-DUMP")):
+    for at, called in ((0, "M11"), (3, "M11-DUMP"), (6, "M11-TRACE")):
         done = subprocess.run([copied[at], "y"], capture_output=True, text=True, check=False)
         repository.expect("the installed program", done.stdout, "ran y\n")
         with open(copied[at + 1], encoding="utf-8") as file:
@@ -270,6 +273,17 @@ def check_dump_completion(repository):
         repository.expect(f"after {words}", (" ".join(sorted(said.stdout.split())), said.stderr), (wanted, ""))
 
 
+def check_trace_completion(repository):
+    """What is completed after some words of m11-trace."""
+    for name in ("q.tap", "P.OBJ", "P.TAP"):
+        put(os.path.join(repository.folder, "work", name), "")
+    for words, wanted in (([""], "P.TAP q.tap"), (["-p", "1000", "q"], "q.tap"), (["-p", ""], ""), (["--f"], "--from")):
+        said = subprocess.run(["bash", "-c", 'source "$0"; COMP_WORDS=("$@"); COMP_CWORD=$(($# - 1)); _m11_trace; printf "%s\\n" "${COMPREPLY[@]}"',
+                               repository.at("tools/completion.bash"), "m11-trace", *words], cwd=os.path.join(repository.folder, "work"),
+                              capture_output=True, text=True, check=False)
+        repository.expect(f"after {words}", (" ".join(sorted(said.stdout.split())), said.stderr), (wanted, ""))
+
+
 def over_a_repository(check):
     """A check, as a call without words that gives the differences that it found."""
     def checked():
@@ -283,4 +297,4 @@ def over_a_repository(check):
 
 CHECKS = [(check.__name__.replace("check_", "scripts-"), over_a_repository(check), ())
           for check in (check_builds, check_dump, check_copies, check_failures, check_progress, check_version, check_paths, check_install, check_completion,
-                        check_dump_completion)]
+                        check_dump_completion, check_trace_completion)]

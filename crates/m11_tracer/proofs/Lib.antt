@@ -1,0 +1,4 @@
+pub mod Carried
+pub mod Places
+pub mod Reporting
+pub mod Planned

@@ -1,0 +1,22 @@
+use Rattle.std.proofs.Common.{◌++◌, [], ◌∷◌, codes}
+use Rattle.m11_tracer.proofs.Reporting.{at_error, begins, begins_after, then_at_error}
+use Rattle.m11_tracer.proofs.reports.not_opened_line.Goals as goal
+
+pub returns-in_err-put_all-clause-beginning : goal.returns-in_err-put_all-clause-beginning
+returns-in_err-put_all-clause-beginning g c =
+    at_error c.from_residual.result _
+    (begins _ _ (codes "?M11 OPEN ") (c.args.path.now ++ 10 ∷ []) c.in_err-put_all.ensures.beginning)
+
+pub returns-in_err-put_all-2-clause-beginning : goal.returns-in_err-put_all-2-clause-beginning
+returns-in_err-put_all-2-clause-beginning g c =
+    at_error c.from_residual-in_err-put_all-2.result _
+    (begins_after _ _ _ (codes "?M11 OPEN ") (c.args.path.now ++ 10 ∷ [])
+    c.in_ok-put_all.ensures.whole
+    (begins _ _ c.args.path.now (10 ∷ []) (rw c.as_bytes.ensures.value at c.in_err-put_all-2.ensures.beginning)))
+
+pub returns-clause-beginning : goal.returns-clause-beginning
+returns-clause-beginning g c =
+    then_at_error c.put_all-3.result _ _ (λ h. begins_after _ _ _ (codes "?M11 OPEN ") (c.args.path.now ++ 10 ∷ [])
+    c.in_ok-put_all.ensures.whole (begins_after _ _ _ c.args.path.now (10 ∷ [])
+    (rw c.as_bytes.ensures.value at c.in_ok-put_all-2.ensures.whole) h))
+    c.put_all-3.ensures.beginning

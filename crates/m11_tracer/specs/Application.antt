@@ -1,0 +1,20 @@
+-- The words that the program takes, in the words of `clap`'s definitions: those of `m11 sim`, and some more. (This project's own.)
+use Rattle.std.specs.Prelude.{Some, codes, pos}
+use Rattle.clap.specs.Words.{App, Rule, new_app, with_rule}
+use Rattle.clap.specs.declared.builder.action.ArgAction.TheVariants.{Append}
+use Rattle.clap.specs.declared.builder.value_parser.ValueParser.TheVariants.{Signed}
+use Rattle.m11_tasks.specs.Commands.{most_steps, option_rule, start_rule, steps_rule, tape_rule, words_rule}
+
+-- `-f FROM`, `--from FROM`: the step whose line is the first
+abbrev pub from_rule : Rule
+from_rule = record (option_rule (codes "from") 0o146) { parser = Some (Signed (pos 0) (pos most_steps)) }
+
+-- `-p OCTAL`, `--place OCTAL`: a place to stop at
+abbrev pub place_rule : Rule
+place_rule = record (option_rule (codes "place") 0o160) { action = Some Append }
+
+-- `m11-trace [-n STEPS] [-s OCTAL] [-k WORDS] [-f FROM] [-p OCTAL]... TAPE`
+abbrev pub application : App
+application =
+    with_rule (with_rule (with_rule (with_rule (with_rule (with_rule (new_app (codes "m11-trace")) steps_rule) start_rule) words_rule)
+    from_rule) place_rule) tape_rule

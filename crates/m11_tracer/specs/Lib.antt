@@ -1,0 +1,5 @@
+pub mod Application
+pub mod Task
+pub mod Outcome
+pub mod Reports
+pub mod Driver

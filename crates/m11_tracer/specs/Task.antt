@@ -1,0 +1,65 @@
+-- What the words of a command line ask for. (This project's own.)
+use Rattle.std.specs.Prelude.{◌≡◌, ◌≢◌, ◌⊎◌, ℕ, List, [], ◌∷◌, ◌++◌, Result, Ok, Err, codes, unwrap_or, ⊤}
+use Rattle.clap.specs.Words.{IsAmong, Row, Text, all_of, fault_of, first_of, kind_of, matches_of, one_of}
+use Rattle.clap.specs.declared.error.kind.ErrorKind.TheVariants as kind
+use Rattle.m11_tasks.specs.Commands.{most_steps}
+use Rattle.m11_tasks.specs.Tasks.{IsSimTask, address_of, number_or, start_of}
+use Rattle.m11_tasks.specs.declared.usage.UsageFault.{UsageFault}
+use Rattle.m11_tasks.specs.declared.usage.UsageFault.TheVariants.{Help, Words, BadOctal, OddAddress, BadAddress, NoMemory}
+use Rattle.m11_tracer.specs.Application.{application}
+use Rattle.m11_tracer.specs.declared.task.TraceTask.{TraceTask}
+
+-- addresses one after another, up to the first fault
+abbrev pub with_address : Result ℕ UsageFault → Result (List ℕ) UsageFault → Result (List ℕ) UsageFault
+with_address (Err fault) more = Err fault
+with_address (Ok address) (Err fault) = Err fault
+with_address (Ok address) (Ok addresses) = Ok (address ∷ addresses)
+
+-- the addresses that texts spell, or the fault of the first that has one
+abbrev pub addresses_of : List Text → Result (List ℕ) UsageFault
+addresses_of [] = Ok []
+addresses_of (text ∷ texts) = with_address (address_of text) (addresses_of texts)
+
+-- the places to stop at
+abbrev pub places_of : List Row → Result (List ℕ) UsageFault
+places_of rows = addresses_of (unwrap_or (all_of (codes "place") rows) [])
+
+-- a run with lines, as entries state it: the run is that of `m11 sim`; the first line is that of the number of `from`, or of the
+-- first step; the places are the addresses of `place`, in order
+pub record IsTraceTask (rows : List Row) (task : TraceTask) : Type 0 where
+  pub sim : IsSimTask rows task.sim
+  pub first : task.from ≡ number_or 0 0 most_steps (one_of (codes "from") rows)
+  pub places : places_of rows ≡ Ok task.places.items
+
+-- why entries that the parser takes give no task: the start has this fault, or a place; or memory was refused
+abbrev pub IsRefused : List Row → UsageFault → Type 0
+IsRefused rows fault =
+    (fault ≡ NoMemory) ⊎ ((start_of (first_of (codes "start") rows) ≡ Err fault) ⊎ (places_of rows ≡ Err fault))
+
+abbrev pub EntriesGive : List Row → Result TraceTask UsageFault → Type 0
+EntriesGive rows (Ok task) = IsTraceTask rows task
+EntriesGive rows (Err fault) = IsRefused rows fault
+
+-- the parser refuses the words
+abbrev pub ParserRefuses : List Text → UsageFault → Type 0
+ParserRefuses words (Help error) =
+    (kind_of error ≡ kind.DisplayHelp) × IsAmong kind.DisplayHelp (fault_of application words)
+ParserRefuses words (Words error) =
+    (kind_of error ≢ kind.DisplayHelp) × IsAmong (kind_of error) (fault_of application words)
+ParserRefuses words BadOctal = ⊥
+ParserRefuses words OddAddress = ⊥
+ParserRefuses words BadAddress = ⊥
+ParserRefuses words NoMemory = ⊤
+
+-- words that aren't refused yield their task; others one of the refusals that they have; memory may run out at any words
+abbrev pub Plans : List Text → Result TraceTask UsageFault → Type 0
+Plans words (Ok task) = (fault_of application words ≡ []) × IsTraceTask (matches_of application words) task
+Plans words (Err fault) =
+    ParserRefuses words fault ⊎ ((fault_of application words ≡ []) × IsRefused (matches_of application words) fault)
+
+-- ---- parts of it
+
+-- the addresses of texts were added; or the first fault among them, or memory was refused
+abbrev pub AddsPlaces : List Text → List ℕ → List ℕ → Result (Unit {0}) UsageFault → Type 0
+AddsPlaces texts old new (Ok done) = (more : List ℕ) × (addresses_of texts ≡ Ok more) × (new ≡ old ++ more)
+AddsPlaces texts old new (Err fault) = (fault ≡ NoMemory) ⊎ (addresses_of texts ≡ Err fault)

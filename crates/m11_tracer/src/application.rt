@@ -1,0 +1,43 @@
+//! What the parser of command lines is given.
+
+ghost use Rattle.std.specs.Prelude.{IfOk};
+ghost use Rattle.m11_tasks.specs.Commands.{IsArgument, IsCommand};
+ghost use Rattle.m11_tracer.specs.Application.{application, from_rule, place_rule};
+
+use clap::{Arg, ArgAction, Command, value_parser};
+use m11_tasks::{
+    leaf_command, option_argument, start_argument, steps_argument, tape_argument, with_argument,
+    words_argument,
+};
+use std::alloc::{AllocError, Global};
+
+/// The parser of `m11-trace [-n STEPS] [-s OCTAL] [-k WORDS] [-f FROM] [-p PLACE]... TAPE`. `AllocError` where memory is refused.
+pub(crate) fn application_command<'a>(alloc: Global) -> Result<Command<'a>, AllocError>
+    ensures { IfOk result (IsCommand application) }
+{
+    let about = "Load a tape into a PDP-11/40 and run it, with a line for each step";
+    let command = leaf_command(alloc, "m11-trace", about);
+    let command = with_argument(command, steps_argument(alloc));
+    let command = with_argument(command, start_argument(alloc));
+    let command = with_argument(command, words_argument(alloc));
+    let command = with_argument(command, from_argument(alloc));
+    let command = with_argument(command, place_argument(alloc));
+    with_argument(command, tape_argument(alloc))
+}
+
+// `-f FROM`, which the parser reads: in decimal, and within its range.
+fn from_argument<'a>(alloc: Global) -> Arg<'a>
+    ensures { IsArgument from_rule result }
+{
+    let help = "The step whose line is the first, in decimal: 0 to 1000000000 [default: 0]";
+    let bounds = value_parser!(u32).range(0..=1_000_000_000);
+    option_argument(alloc, "from", 'f', "FROM", help).value_parser(bounds)
+}
+
+// `-p OCTAL`, any number of times. The parser takes any text: it is read once all words are taken, since its faults come after theirs.
+fn place_argument<'a>(alloc: Global) -> Arg<'a>
+    ensures { IsArgument place_rule result }
+{
+    let help = "A place to stop at, before its instruction: even, at most 157776";
+    option_argument(alloc, "place", 'p', "OCTAL", help).action(ArgAction::Append)
+}

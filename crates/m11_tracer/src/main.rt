@@ -1,0 +1,35 @@
+//! `m11-trace`: runs a tape with a line for each step. The words are read here, and the tape is opened; the run and its lines are the work
+//! of `m11_trace`.
+#![tactic(auto)]
+
+mod application;
+mod driver;
+mod outcome;
+mod reports;
+mod task;
+
+use crate::driver::{command, command_without_words};
+use m11_base::{ReaderFeed, WriterSink};
+use m11_files::SystemFiles;
+use m11_tasks::words;
+use std::process::ExitCode;
+
+fn main(rt: HostRuntime) -> ExitCode {
+    // Made before anything else is opened, so that no file takes the place of a stream that the caller closed.
+    let mut files = SystemFiles::new(&rt);
+    let mut input = ReaderFeed::new(rt.stdin());
+    let mut out = WriterSink::new(rt.stdout());
+    let mut err = WriterSink::new(rt.stderr());
+    let status = match words(&rt) {
+        Ok(words) => command(
+            rt.alloc(),
+            &mut files,
+            &mut input,
+            &mut out,
+            &mut err,
+            words.as_slice(),
+        ),
+        Err(fault) => command_without_words(rt.alloc(), fault, &mut err),
+    };
+    ExitCode::from(status)
+}

@@ -1,0 +1,95 @@
+#!/usr/bin/env python3
+"""Runs a built m11-trace on tapes that are made here: tools/test_trace.py PROGRAM
+
+Each check writes a tape into a fresh folder, runs PROGRAM there, and compares its status, what the tape's program prints and each byte of
+the lines. What has to be said is written out by hand. The last line is `N passed, M failed`, and the status is 1 where one failed."""
+import os
+import subprocess
+import sys
+import tempfile
+
+
+def word(number):
+    """The two bytes of a word, the low one first."""
+    return bytes([number & 255, number >> 8])
+
+
+def block(content):
+    """The block of a tape, of its address and data."""
+    front = b"\1\0" + word(len(content) + 4) + content
+    return front + bytes([-sum(front) & 255])
+
+
+# Prints a letter and a line feed, each when the transmitter is ready.
+CODE = (0o012701, 0o001026, 0o112100, 0o001406, 0o105737, 0o177564, 0o100375, 0o110037, 0o177566, 0o000770, 0o000000)
+TAPE = block(word(0o1000) + b"".join(map(word, CODE)) + b"H\n\0\0") + block(word(0o1000))
+
+LINES = """\
+1	001000	MOV    #1026,R1	R1 001026
+2	001004	MOVB   (R1)+,R0	R0 000110	R1 001027
+3	001006	BEQ    1024
+4	001010	TSTB   @#177564	PSW 000010 N---
+5	001014	BPL    1010
+6	001016	MOVB   R0,@#177566	PSW 000000 ----
+7	001022	BR     1004
+8	001004	MOVB   (R1)+,R0	R0 000012	R1 001030
+9	001006	BEQ    1024
+10	001010	TSTB   @#177564	PSW 000010 N---
+11	001014	BPL    1010
+12	001016	MOVB   R0,@#177566	PSW 000000 ----
+13	001022	BR     1004
+14	001004	MOVB   (R1)+,R0	R0 000000	R1 001031	PSW 000004 -Z--
+15	001006	BEQ    1024
+16	001024	HALT
+""".splitlines(keepends=True)
+
+
+def registers(r0, r1, counter, psw):
+    """The line of the registers at an end."""
+    return f"R0 {r0} R1 {r1} R2 000000 R3 000000 R4 000000 R5 000000 SP 000000 PC {counter} PSW {psw}\n"
+
+
+NONE = registers("000000", "000000", "001000", "000000")
+END = "HALT AFTER 16 STEPS\n" + registers("000000", "001031", "001026", "000004")
+AT_HALT = registers("000000", "001031", "001024", "000004")
+LOOP = block(word(0o1000) + word(0o005200) + word(0o000776)) + block(word(0o1000))
+LAST = "".join(f"{number}\t001002\tBR     1000\n{number + 1}\t001000\tINC    R0\tR0 {number // 2 + 1:06o}\n" for number in range(84, 100, 2))
+
+# The words, the tape, and the status, the output and the lines.
+CHECKS = (
+    ("each step", "HI.TAP", TAPE, 0, "H\n", "".join(LINES) + END),
+    ("from a step on", "-f 15 HI.TAP", TAPE, 0, "H\n", "".join(LINES[14:]) + END),
+    ("from the last step on", "--from=16 HI.TAP", TAPE, 0, "H\n", "".join(LINES[15:]) + END),
+    ("the last steps, where there are sixteen", "-f 17 HI.TAP", TAPE, 0, "H\n", "".join(LINES) + END),
+    ("the last steps, where there are more", "-n 99 -f 1000 HI.TAP", LOOP, 1, "", LAST + "LIMIT AFTER 99 STEPS\n" + registers("000062", "000000", "001002", "000000")),
+    ("a place", "-p 1024 -f 15 HI.TAP", TAPE, 1, "H\n", LINES[14] + "REACHED AFTER 15 STEPS\n" + AT_HALT),
+    ("a place of several", "-p 1024 -p 1010 HI.TAP", TAPE, 1, "", "".join(LINES[:3]) + "REACHED AFTER 3 STEPS\n" + registers("000110", "001027", "001010", "000000")),
+    ("a place at the start", "-p 1000 HI.TAP", TAPE, 1, "", "REACHED AFTER 0 STEPS\n" + NONE),
+    ("a place after the last step that is allowed", "-n 0 -p 1000 HI.TAP", TAPE, 1, "", "LIMIT AFTER 0 STEPS\n" + NONE),
+    ("a limit", "-n 2 HI.TAP", TAPE, 1, "", "".join(LINES[:2]) + "LIMIT AFTER 2 STEPS\n" + registers("000110", "001027", "001006", "000000")),
+    ("another start", "-s 1024 HI.TAP", TAPE, 0, "", "1\t001024\tHALT\nHALT AFTER 1 STEPS\n" + registers("000000", "000000", "001026", "000000")),
+    ("no start", "HI.TAP", block(word(1)), 1, "", "NO START AFTER 0 STEPS\n" + registers("000000", "000000", "000000", "000000")),
+    ("an odd place", "-p 1001 HI.TAP", TAPE, 2, "", "?M11 USAGE 4 OddAddress\n"),
+    ("the start before a place", "-p 8 -s 160000 HI.TAP", TAPE, 2, "", "?M11 USAGE 5 BadAddress\n"),
+    ("a tape that isn't there", "NONE.TAP", TAPE, 3, "", "?M11 OPEN NONE.TAP\n"),
+    ("half a tape", "HI.TAP", TAPE[:9], 4, "", "?M11 SIM 2 Truncated\n"),
+)
+
+
+def main():
+    program, failed = os.path.abspath(sys.argv[1]), 0
+    for name, words, tape, *wanted in CHECKS:
+        with tempfile.TemporaryDirectory() as folder:
+            with open(os.path.join(folder, "HI.TAP"), "wb") as file:
+                file.write(tape)
+            done = subprocess.run([program, *words.split()], cwd=folder, stdin=subprocess.DEVNULL, capture_output=True, check=False)
+        got = [done.returncode, done.stdout.decode("latin-1"), done.stderr.decode("latin-1")]
+        if got != wanted:
+            failed += 1
+            print(f"{name}\n--- is\n{got[0]}\n{got[1]}{got[2]}--- should be\n{wanted[0]}\n{wanted[1]}{wanted[2]}")
+    print(f"{len(CHECKS) - failed} passed, {failed} failed")
+    return 1 if failed else 0
+
+
+if __name__ == "__main__":
+    sys.exit(main())
