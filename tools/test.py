@@ -1,5 +1,5 @@
 #!/usr/bin/env python3
-"""Runs the tests of tools/adapt and tools/lines, and of the scripts at the top: python3 tools/test.py [NAME]...
+"""Runs the tests of tools/adapt, tools/lines and tools/names, and of the scripts at the top: python3 tools/test.py [NAME]...
 
 Each file of tools/tests is a case. Its parts begin with a word at the beginning of a line, and their lines with `|`:
   words ..        words of adapt beside -o OUT and the sources
@@ -259,10 +259,32 @@ def check_objects():
     return wrong
 
 
+# A page, and the names of it that aren't there. A name that stood here whole would be there.
+PAGE = """A call `GONE_call` and a file `crates/m11_base/src/GONE.rt`, beside `decode`, `crates/m11_base/src/lib.rt` and
+`Rad50::GONE_call`, `m11_GONE`, `..GONE_end`, `m11_base`, `Rad50::pack`, `page-..`, `.WORD GONE_word` and `X/2`.
+
+    `GONE_in_a_block`
+"""
+NOT_THERE = ("1: GONE_call", "1: crates/m11_base/src/GONE.rt", "2: Rad50::GONE_call", "2: m11_GONE", "2: ..GONE_end")
+
+
+def check_names():
+    """The pages name nothing that isn't there; and of a page that does, just that is said."""
+    done = run("names", [], ROOT)
+    wrong = differ("names of the pages", (done.stdout.decode(), done.returncode), ("", 0))
+    with tempfile.TemporaryDirectory() as folder:
+        put(folder, "PAGE.md", PAGE.replace("GONE", "no" + "where").encode())
+        page = os.path.join(folder, "PAGE.md")
+        done = run("names", [page], ROOT)
+        wanted = "".join(f"{os.path.relpath(page, ROOT)}:{text} is nowhere\n" for text in NOT_THERE).replace("GONE", "no" + "where")
+        wrong += differ("names of a page", (done.stdout.decode(), done.returncode), (wanted, 1))
+    return wrong
+
+
 def main(names):
     tests = [(os.path.basename(path)[:-5], check_case, (path,)) for path in sorted(glob.glob(os.path.join(HERE, "tests", "*.case")))]
     tests += [("codes-of-instructions", check_codes, ()), ("sources-that-are-taken", check_taken, ()), ("refusals", check_refusals, ()),
-              ("objects-of-a-link", check_objects, ())]
+              ("objects-of-a-link", check_objects, ()), ("page-names", check_names, ())]
     tests += scripts.CHECKS + examples.CHECKS + coming.CHECKS + disassembly.CHECKS
     passed = failed = 0
     for name, check, given in tests:
