@@ -52,6 +52,10 @@ def registers(r0, r1, counter, psw):
 NONE = registers("000000", "000000", "001000", "000000")
 END = "HALT AFTER 16 STEPS\n" + registers("000000", "001031", "001026", "000004")
 AT_HALT = registers("000000", "001031", "001024", "000004")
+# A jump to a place without memory, which traps through 4 to a HALT at 0; and one to the last word of a memory of 4,096 words, the first of two.
+AWAY = block(word(0o1000) + b"".join(map(word, (0o012706, 0o1000, 0o137, 0o160000)))) + block(word(0o1000))
+EDGE = block(word(0o1000) + b"".join(map(word, (0o012706, 0o1000, 0o137, 0o17776)))) + block(word(0o17776) + word(0o012700)) + block(word(0o1000))
+TRAPPED = "HALT AFTER 4 STEPS\n" + registers("000000", "000000", "000002", "000000").replace("SP 000000", "SP 000774")
 LOOP = block(word(0o1000) + word(0o005200) + word(0o000776)) + block(word(0o1000))
 LAST = "".join(f"{number}\t001002\tBR     1000\n{number + 1}\t001000\tINC    R0\tR0 {number // 2 + 1:06o}\n" for number in range(84, 100, 2))
 
@@ -69,6 +73,10 @@ CHECKS = (
     ("a limit", "-n 2 HI.TAP", TAPE, 1, "", "".join(LINES[:2]) + "LIMIT AFTER 2 STEPS\n" + registers("000110", "001027", "001006", "000000")),
     ("another start", "-s 1024 HI.TAP", TAPE, 0, "", "1\t001024\tHALT\nHALT AFTER 1 STEPS\n" + registers("000000", "000000", "001026", "000000")),
     ("no start", "HI.TAP", block(word(1)), 1, "", "NO START AFTER 0 STEPS\n" + registers("000000", "000000", "000000", "000000")),
+    ("a place without memory", "HI.TAP", AWAY, 0, "",
+     "1\t001000\tMOV    #1000,SP\tSP 001000\n2\t001004\tJMP    @#160000\n3\t160000\t\tSP 000774\n4\t000000\tHALT\n" + TRAPPED),
+    ("an instruction across the end of memory", "-k 4096 HI.TAP", EDGE, 0, "",
+     "1\t001000\tMOV    #1000,SP\tSP 001000\n2\t001004\tJMP    @#17776\n3\t017776\t.WORD  12700\tSP 000774\n4\t000000\tHALT\n" + TRAPPED),
     ("an odd place", "-p 1001 HI.TAP", TAPE, 2, "", "?M11 USAGE 4 OddAddress\n"),
     ("the start before a place", "-p 8 -s 160000 HI.TAP", TAPE, 2, "", "?M11 USAGE 5 BadAddress\n"),
     ("a tape that isn't there", "NONE.TAP", TAPE, 3, "", "?M11 OPEN NONE.TAP\n"),
