@@ -47,8 +47,8 @@ _m11_dump() {
 _m11_trace() {
     COMPREPLY=()
     case ${COMP_WORDS[COMP_CWORD - 1]} in
-        -[nskfp] | --steps | --start | --words | --from | --place) ;;
-        *) _m11_words "${COMP_WORDS[COMP_CWORD]}" TAP '-n --steps -s --start -k --words -f --from -p --place -h --help' ;;
+        -[nskfpr] | --steps | --start | --words | --from | --place | --range) ;;
+        *) _m11_words "${COMP_WORDS[COMP_CWORD]}" TAP '-n --steps -s --start -k --words -f --from -p --place -r --range -h --help' ;;
     esac
 }
 

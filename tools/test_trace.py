@@ -77,6 +77,13 @@ CHECKS = (
      "1\t001000\tMOV    #1000,SP\tSP 001000\n2\t001004\tJMP    @#160000\n3\t160000\t\tSP 000774\n4\t000000\tHALT\n" + TRAPPED),
     ("an instruction across the end of memory", "-k 4096 HI.TAP", EDGE, 0, "",
      "1\t001000\tMOV    #1000,SP\tSP 001000\n2\t001004\tJMP    @#17776\n3\t017776\t.WORD  12700\tSP 000774\n4\t000000\tHALT\n" + TRAPPED),
+    ("parts of memory", "-k 4096 -n 3 -f 4 -r 1000:1020 -r 17774:20004 -r 2:0 HI.TAP", LOOP, 1, "",
+     "1\t001000\tINC    R0\tR0 000001\n2\t001002\tBR     1000\n3\t001000\tINC    R0\tR0 000002\nLIMIT AFTER 3 STEPS\n"
+     + registers("000002", "000000", "001002", "000000")
+     + "MEMORY 001000:001020\n  001000 005200 000776 000000 000000 000000 000000 000000 000000\n  001020 000000\n"
+     + "MEMORY 017774:020004\n  017774 000000 000000\nMEMORY 000002:000000\n"),
+    ("a part without an end", "-r 1000 HI.TAP", TAPE, 2, "", "?M11 USAGE 3 BadOctal\n"),
+    ("an odd end of a part", "-r 1000:1001 HI.TAP", TAPE, 2, "", "?M11 USAGE 4 OddAddress\n"),
     ("an odd place", "-p 1001 HI.TAP", TAPE, 2, "", "?M11 USAGE 4 OddAddress\n"),
     ("the start before a place", "-p 8 -s 160000 HI.TAP", TAPE, 2, "", "?M11 USAGE 5 BadAddress\n"),
     ("a tape that isn't there", "NONE.TAP", TAPE, 3, "", "?M11 OPEN NONE.TAP\n"),

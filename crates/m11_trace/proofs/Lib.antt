@@ -1,5 +1,6 @@
 pub mod Pieces
 pub mod Following
 pub mod Going
+pub mod Parts
 pub mod Reports
 pub mod Whole

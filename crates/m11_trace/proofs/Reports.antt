@@ -82,3 +82,9 @@ latest_last number before (shot ∷ earlier) d line some e is =
     let to : ℕ → List Shot → List ℕ → List ℕ = λ n s t. shots_text n s ++ t in
     ap (λ (n : ℕ). to n (take (suc (length earlier) - 1) earlier) line) e
     ∙ ap (λ (s : List Shot). to (number - 1) s line) all ∙ ap (λ (t : List ℕ). to (number - 1) earlier t) is
+
+-- a text that is another one by what a call returned
+pub puts_same : (a b : Option (List ℕ)) (f g : ℕ) (text other : List ℕ) (fault : SimFault) → text ≡ other
+    → PutsMessages {A = Unit {0}} a b f g text (Err fault) → PutsMessages {A = Unit {0}} a b f g other (Err fault)
+puts_same a b f g text other fault e p =
+    let P : List ℕ → Type 0 = λ t. PutsMessages {A = Unit {0}} a b f g t (Err fault) in subst P e p

@@ -20,11 +20,13 @@ use Rattle.m11_machine.specs.declared.machine.Machine.{Machine}
 use Rattle.m11_machine.specs.declared.stop.Stop.TheVariants.{NoStart}
 use Rattle.m11_machine.proofs.Dialogues.{comes}
 use Rattle.m11_trace.specs.Messages.{ending_text}
+use Rattle.m11_trace.specs.Ranges.{ranges_text}
 use Rattle.m11_trace.specs.Stepping.{StepsWithLines, end_text}
 use Rattle.m11_trace.specs.Taken.{Follow, Taken, begun, lines_from, recent_lines}
 use Rattle.m11_trace.specs.Tracing.{Goes, HasTraced, Traces, limit_by, ran_by}
 use Rattle.m11_trace.specs.declared.ending.Ending.{Ending}
 use Rattle.m11_trace.specs.declared.ending.Ending.TheVariants.{Stopped}
+use Rattle.m11_trace.specs.declared.ranges.Range.{Range}
 use Rattle.m11_trace.specs.declared.steps.Steps.{Steps}
 use Rattle.m11_trace.proofs.Going.{appends_nothing, begins_after, begins_whole}
 use Rattle.m11_trace.proofs.Reports.{recent_are}
@@ -86,15 +88,15 @@ module _ (address limit : ℕ) (places : List ℕ) (m m' : Machine) (old new : D
 
 -- ---- the whole
 
-pub not_loaded : (request : Request) (first : ℕ) (places : List ℕ) (tape tape' : Input) (console : Devices) (reported : Output)
+pub not_loaded : (request : Request) (first : ℕ) (places : List ℕ) (ranges : List Range) (tape tape' : Input) (console : Devices) (reported : Output)
     (machine m : Machine) (fault : LoadFault) → machine ≡ new_machine request.words
     → LoadsInto tape.text tape'.text tape.faults tape'.faults machine m (Err fault)
-    → Traces request first places (run_devices tape console reported) (run_devices tape' console reported) (Err (Load fault))
-not_loaded request first places tape tape' console reported machine m fault e h =
+    → Traces request first places ranges (run_devices tape console reported) (run_devices tape' console reported) (Err (Load fault))
+not_loaded request first places ranges tape tape' console reported machine m fault e h =
     let P : Machine → Type 0 = λ n. LoadsInto tape.text tape'.text tape.faults tape'.faults n m (Err fault) in
     (m, subst P e h, refl, refl)
 
-module _ (request : Request) (first : ℕ) (places : List ℕ) (before after : RunDevices) (machine loaded m : Machine)
+module _ (request : Request) (first : ℕ) (places : List ℕ) (ranges : List Range) (before after : RunDevices) (machine loaded m : Machine)
     (transfer address : ℕ) (new : machine ≡ new_machine request.words)
     (loads : LoadsInto before.tape.text after.tape.text before.tape.faults after.tape.faults machine loaded (Ok transfer))
     (start : address ≡ unwrap_or request.start transfer) where
@@ -118,9 +120,9 @@ module _ (request : Request) (first : ℕ) (places : List ℕ) (before after : R
   pub line_failed : (fault : SimFault)
       → StepsWithLines (λ n. started address n loaded) request.limit first places (begun address loaded) m before.console
       after.console before.messages after.messages (Err fault)
-      → Traces request first places before after (Err fault)
+      → Traces request first places ranges before after (Err fault)
   line_failed Write h =
-      let rest = recent_lines first h.3 ++ ending_text h.2 (length h.3) m in (
+      let rest = recent_lines first h.3 ++ (ending_text h.2 (length h.3) m ++ ranges_text m.memory ranges) in (
         h.0,
         h.1,
         h.2,
@@ -136,14 +138,15 @@ module _ (request : Request) (first : ℕ) (places : List ℕ) (before after : R
   module _ (steps : Steps) (middle : Output)
       (h : StepsWithLines (λ n. started address n loaded) request.limit first places (begun address loaded) m before.console
       after.console before.messages middle (Ok steps)) where
-    end_is : end_text first steps m ≡ recent_lines first h.0 ++ ending_text steps.ending (length h.0) m
+    end_is : end_text first steps ranges m
+        ≡ recent_lines first h.0 ++ (ending_text steps.ending (length h.0) m ++ ranges_text m.memory ranges)
     end_is =
-        let to : ℕ → List ℕ = λ n. ending_text steps.ending n m in
+        let to : ℕ → List ℕ = λ n. ending_text steps.ending n m ++ ranges_text m.memory ranges in
         ap₂ (λ (x y : List ℕ). x ++ y) (recent_are first steps.count h.0 steps.recent.items h.2 h.3) (ap to h.2)
 
     -- all of the report was written
     pub all_reported : PutsMessages {A = Unit {0}} middle.text after.messages.text middle.faults after.messages.faults
-        (end_text first steps m) (Ok tt) → Traces request first places before after (Ok steps.ending)
+        (end_text first steps ranges m) (Ok tt) → Traces request first places ranges before after (Ok steps.ending)
     all_reported p =
         let P : List ℕ → Type 0 = λ t. Appends middle.text after.messages.text t in (
           m,
@@ -155,7 +158,7 @@ module _ (request : Request) (first : ℕ) (places : List ℕ) (before after : R
 
     -- a beginning of it was
     pub end_failed : (fault : SimFault) → PutsMessages {A = Unit {0}} middle.text after.messages.text middle.faults
-        after.messages.faults (end_text first steps m) (Err fault) → Traces request first places before after (Err fault)
+        after.messages.faults (end_text first steps ranges m) (Err fault) → Traces request first places ranges before after (Err fault)
     end_failed Write p =
         let P : List ℕ → Type 0 = λ t. AppendsBeginning middle.text after.messages.text t in
         let Q : ℕ → Type 0 = λ n. Rises n after.messages.faults in (

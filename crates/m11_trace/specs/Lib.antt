@@ -2,5 +2,6 @@ pub mod Shots
 pub mod Lines
 pub mod Taken
 pub mod Messages
+pub mod Ranges
 pub mod Tracing
 pub mod Stepping

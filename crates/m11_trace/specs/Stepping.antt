@@ -9,9 +9,11 @@ use Rattle.m11_cpu.specs.declared.runs.Ran.{Ran}
 use Rattle.m11_machine.specs.Dialogue.{Devices, Dialogue, Output}
 use Rattle.m11_machine.specs.declared.machine.Machine.{Machine}
 use Rattle.m11_trace.specs.Messages.{ending_text}
+use Rattle.m11_trace.specs.Ranges.{ranges_text}
 use Rattle.m11_trace.specs.Taken.{Taken, kept, lines_from, shots_text}
 use Rattle.m11_trace.specs.Tracing.{Goes}
 use Rattle.m11_trace.specs.declared.ending.Ending.{Ending}
+use Rattle.m11_trace.specs.declared.ranges.Range.{Range}
 use Rattle.m11_trace.specs.declared.steps.Steps.{Steps}
 
 -- steps of a run with lines end, and the last 16 are kept; or a line was put in part, and the steps are those of a run with no more
@@ -29,7 +31,9 @@ StepsWithLines run limit first places m m' old new output output' (Err NoMemory)
 StepsWithLines run limit first places m m' old new output output' (Err (Load fault)) = ⊥
 
 -- what is put after the lines
-abbrev pub end_text : ℕ → Steps → Machine → Bytes
-end_text first steps m =
-    (if nat_lt steps.count first then shots_text steps.count steps.recent.items else [])
-    ++ ending_text steps.ending steps.count m
+abbrev pub stop_text : Steps → List Range → Machine → Bytes
+stop_text steps ranges m = ending_text steps.ending steps.count m ++ ranges_text m.memory ranges
+
+abbrev pub end_text : ℕ → Steps → List Range → Machine → Bytes
+end_text first steps ranges m =
+    (if nat_lt steps.count first then shots_text steps.count steps.recent.items else []) ++ stop_text steps ranges m

@@ -13,10 +13,12 @@ use Rattle.m11_machine.specs.Dialogue.{Devices, Dialogue, Does}
 use Rattle.m11_machine.specs.declared.machine.Machine.{Machine}
 use Rattle.m11_machine.specs.declared.stop.Stop.TheVariants.{Limit}
 use Rattle.m11_trace.specs.Messages.{ending_text}
+use Rattle.m11_trace.specs.Ranges.{ranges_text}
 use Rattle.m11_trace.specs.Shots.{is_at}
 use Rattle.m11_trace.specs.Taken.{Follow, Taken, begun, lines_from, recent_lines}
 use Rattle.m11_trace.specs.declared.ending.Ending.{Ending}
 use Rattle.m11_trace.specs.declared.ending.Ending.TheVariants.{Stopped, Reached}
+use Rattle.m11_trace.specs.declared.ranges.Range.{Range}
 
 -- a step was made elsewhere than at these places
 abbrev pub IsElsewhere : List ℕ → Taken → Type 0
@@ -55,26 +57,26 @@ pub record HasTraced (request : Request) (places : List ℕ) (before after : Run
   pub elsewhere : AllByRecursion (IsElsewhere places) taken
   pub ends : EndsAt ending places (length taken) request.limit m
 
--- what is reported: the lines of steps, from the one of a number on, or of the last ones; and the end
-abbrev pub report : ℕ → List Taken → Ending → Machine → Bytes
-report first taken ending m =
-    lines_from first taken ++ (recent_lines first taken ++ ending_text ending (length taken) m)
+-- what is reported: the lines of steps, from the one of a number on, or of the last ones; the end; and parts of memory
+abbrev pub report : ℕ → List Range → List Taken → Ending → Machine → Bytes
+report first ranges taken ending m =
+    lines_from first taken ++ (recent_lines first taken ++ (ending_text ending (length taken) m ++ ranges_text m.memory ranges))
 
 -- what a whole run with lines yields: its end, and the report was put whole; or the tape was not loaded, and nothing was run or
 -- reported; or it is a run with no more steps than that, and the report was put in part; or memory was refused before
 -- anything was read
-abbrev pub Traces : Request → ℕ → List ℕ → RunDevices → RunDevices → Result Ending SimFault → Type 0
-Traces request first places before after (Ok ending) =
+abbrev pub Traces : Request → ℕ → List ℕ → List Range → RunDevices → RunDevices → Result Ending SimFault → Type 0
+Traces request first places ranges before after (Ok ending) =
     (m : Machine) × (taken : List Taken) × HasTraced request places before after taken ending m
-    × Appends before.messages.text after.messages.text (report first taken ending m)
+    × Appends before.messages.text after.messages.text (report first ranges taken ending m)
     × (after.messages.faults ≡ before.messages.faults)
-Traces request first places before after (Err (Load fault)) =
+Traces request first places ranges before after (Err (Load fault)) =
     (m : Machine) × Loaded request.words before.tape after.tape m (Err fault) × (after.console ≡ before.console)
     × (after.messages ≡ before.messages)
-Traces request first places before after (Err Write) =
+Traces request first places ranges before after (Err Write) =
     (limit : ℕ) × (limit ≤ request.limit) × (ending : Ending) × (m : Machine) × (taken : List Taken)
     × HasTraced (record request { limit = limit }) places before after taken ending m
-    × AppendsBeginning before.messages.text after.messages.text (report first taken ending m)
+    × AppendsBeginning before.messages.text after.messages.text (report first ranges taken ending m)
     × Rises before.messages.faults after.messages.faults
-Traces request first places before after (Err NoMemory) =
+Traces request first places ranges before after (Err NoMemory) =
     (after.tape ≡ before.tape) × (after.console ≡ before.console) × (after.messages ≡ before.messages)

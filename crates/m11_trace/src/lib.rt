@@ -6,11 +6,13 @@ mod ending;
 mod line;
 mod lines;
 mod messages;
+mod ranges;
 mod recent;
 mod shots;
 mod steps;
 mod tracing;
 
 pub use ending::Ending;
+pub use ranges::Range;
 pub use shots::{Fetched, Shot, View};
 pub use tracing::trace_run;

@@ -36,8 +36,8 @@ pub struct Shot {
     pub later: View,
 }
 
-// The word some bytes after an even place, where the memory has one there.
-fn word_past(memory: &Memory, place: u16, distance: u16) -> Option<u16>
+/// The word some bytes after an even place, where the memory has one there.
+pub(crate) fn word_past(memory: &Memory, place: u16, distance: u16) -> Option<u16>
     requires place { place % 2 ≡ 0 }
     requires distance { distance % 2 ≡ 0 }
     ensures { result ≡ spec.word_past memory.now place distance }

@@ -5,12 +5,13 @@ ghost use Rattle.m11_cpu.specs.Messages.{PutsMessages};
 ghost use Rattle.m11_cpu.specs.Simulation.{request_of, run_devices, started};
 ghost use Rattle.m11_machine.specs.Dialogue.{both, input_of, output_of};
 ghost use Rattle.m11_machine.specs.Memory.{least_words, most_words};
-ghost use Rattle.m11_trace.specs.Stepping.{StepsWithLines, end_text};
+ghost use Rattle.m11_trace.specs.Stepping.{StepsWithLines, end_text, stop_text};
 ghost use Rattle.m11_trace.specs.Taken.{begun};
 ghost use Rattle.m11_trace.specs.Tracing.{Traces};
 
 use crate::ending::Ending;
 use crate::messages::put_ending;
+use crate::ranges::{Range, put_ranges};
 use crate::recent::{Recent, put_recent};
 use crate::steps::{Steps, steps_with_lines};
 use m11_base::{Feed, Sink};
@@ -24,7 +25,7 @@ use std::alloc::Global;
 /// many steps.
 ///
 /// The line of each step goes to `messages` as soon as the step was made, from the one of the number `first` on. At the end come the
-/// lines of the last 16 steps, where no step had that number, and the two lines of the end.
+/// lines of the last 16 steps, where no step had that number, the two lines of the end, and the words of `ranges`.
 ///
 /// Faults: `NoMemory`, where memory was refused, before anything was read; `Load`, where the tape was not loaded, and nothing was run;
 /// `Write`, where `messages` failed, and a beginning of what was to be written was: no step is made after that. No other memory is taken
@@ -37,13 +38,14 @@ pub fn trace_run<T: Feed, I: Feed, O: Sink, M: Sink>(
     limit: u32,
     first: u32,
     places: &[u16],
+    ranges: &[Range],
     input: &mut I,
     output: &mut O,
     messages: &mut M,
 ) -> Result<Ending, SimFault>
     requires least { least_words ≤ words }
     requires most { words ≤ most_words }
-    ensures { Traces (request_of start words limit) first places.now
+    ensures { Traces (request_of start words limit) first places.now ranges.now
         (run_devices (input_of (T.text tape.old) (T.faults tape.old))
         (both (I.text input.old) (I.faults input.old) (O.text output.old) (O.faults output.old))
         (output_of (M.text messages.old) (M.faults messages.old)))
@@ -64,7 +66,7 @@ pub fn trace_run<T: Feed, I: Feed, O: Sink, M: Sink>(
         output,
         messages,
     )?;
-    put_end(messages, first, &steps, &machine)?;
+    put_end(messages, first, &steps, ranges, &machine)?;
     Ok(steps.ending)
 }
 
@@ -96,19 +98,35 @@ fn started<I: Feed, O: Sink, M: Sink>(
     steps_with_lines(machine, limit, first, places, input, output, messages)
 }
 
-// Puts what comes after the lines: those of the last steps, and the end.
-#[tactic(auto, using(crate::proofs::Reports::puts_then, crate::proofs::Reports::puts_part))]
+// Puts what comes after the lines: those of the last steps, and the rest.
 fn put_end<M: Sink>(
     messages: &mut M,
     first: u32,
     steps: &Steps,
+    ranges: &[Range],
     machine: &Machine,
 ) -> Result<(), SimFault>
     ensures { PutsMessages (M.text messages.old) (M.text messages.new) (M.faults messages.old) (M.faults messages.new)
-        (end_text first steps.now machine.now) result }
+        (end_text first steps.now ranges.now machine.now) result }
 {
     match put_recent(messages, first, steps.count, steps.recent.as_slice()) {
-        Ok(()) => put_ending(messages, steps.ending, steps.count, machine),
+        Ok(()) => put_stop(messages, steps, ranges, machine),
+        Err(fault) => Err(fault),
+    }
+}
+
+// Puts the two lines of the end, and parts of memory.
+fn put_stop<M: Sink>(
+    messages: &mut M,
+    steps: &Steps,
+    ranges: &[Range],
+    machine: &Machine,
+) -> Result<(), SimFault>
+    ensures { PutsMessages (M.text messages.old) (M.text messages.new) (M.faults messages.old) (M.faults messages.new)
+        (stop_text steps.now ranges.now machine.now) result }
+{
+    match put_ending(messages, steps.ending, steps.count, machine) {
+        Ok(()) => put_ranges(messages, &machine.memory, ranges),
         Err(fault) => Err(fault),
     }
 }

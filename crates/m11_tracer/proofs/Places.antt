@@ -2,7 +2,8 @@
 use Rattle.std.proofs.Common.{◌≡◌, ◌∙◌, ℕ, List, [], ◌∷◌, ◌++◌, append_assoc, Result, Ok, Err, inl, inr, sym, ap, ap₂}
 use Rattle.m11_tasks.specs.Tasks.{address_of}
 use Rattle.m11_tasks.specs.declared.usage.UsageFault.{UsageFault}
-use Rattle.m11_tracer.specs.Task.{AddsPlaces, addresses_of, with_address}
+use Rattle.m11_tracer.specs.Task.{AddsPlaces, AddsRanges, addresses_of, range_of, ranges_by, with_address, with_range}
+use Rattle.m11_trace.specs.declared.ranges.Range.{Range}
 
 -- one was added, and then the others
 pub one_added : (text : List ℕ) (texts : List (List ℕ)) (address : ℕ) (old middle new : List ℕ) (result : Result (Unit {0}) UsageFault)
@@ -20,4 +21,21 @@ pub first_refused : (text : List ℕ) (texts : List (List ℕ)) (old new : List 
     → Err fault ≡ address_of text → AddsPlaces (text ∷ texts) old new (Err fault)
 first_refused text texts old new fault is =
     let to : Result ℕ UsageFault → Result (List ℕ) UsageFault = λ r. with_address r (addresses_of texts) in
+    inr (sym (ap to is))
+
+-- the same of parts of memory
+pub one_range_added : (text : List ℕ) (texts : List (List ℕ)) (range : Range) (old middle new : List Range)
+    (result : Result (Unit {0}) UsageFault) → Ok range ≡ range_of text → middle ≡ old ++ range ∷ []
+    → AddsRanges texts middle new result → AddsRanges (text ∷ texts) old new result
+one_range_added text texts range old middle new (Ok done) is added more =
+    let whole = ap₂ with_range (sym is) more.1 in
+    let long = more.2 ∙ ap (λ (xs : List Range). xs ++ more.0) added ∙ append_assoc old (range ∷ []) more.0 in
+    (range ∷ more.0, whole, long)
+one_range_added text texts range old middle new (Err fault) is added (inl memory) = inl memory
+one_range_added text texts range old middle new (Err fault) is added (inr e) = inr (ap₂ with_range (sym is) e)
+
+pub first_range_refused : (text : List ℕ) (texts : List (List ℕ)) (old new : List Range) (fault : UsageFault)
+    → Err fault ≡ range_of text → AddsRanges (text ∷ texts) old new (Err fault)
+first_range_refused text texts old new fault is =
+    let to : Result Range UsageFault → Result (List Range) UsageFault = λ r. with_range r (ranges_by texts) in
     inr (sym (ap to is))

@@ -19,7 +19,7 @@ use Rattle.m11_tracer.specs.declared.task.TraceTask.{TraceTask}
 -- an open tape is run by what the task says, with the console
 abbrev pub RunsOpen : TraceTask → Input → Streams → Streams → Result Ending SimFault → Type 0
 RunsOpen task tape before after result = (tape' : Input)
-    × Traces (request_of task.sim.start task.sim.words task.sim.limit) task.from task.places.items
+    × Traces (request_of task.sim.start task.sim.words task.sim.limit) task.from task.places.items task.ranges.items
     (run_devices tape (both before.input.text before.input.faults before.printed.text before.printed.faults) before.reported)
     (run_devices tape' (both after.input.text after.input.faults after.printed.text after.printed.faults) after.reported)
     result

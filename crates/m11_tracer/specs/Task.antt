@@ -1,11 +1,12 @@
 -- What the words of a command line ask for. (This project's own.)
-use Rattle.std.specs.Prelude.{◌≡◌, ◌≢◌, ◌⊎◌, ℕ, List, [], ◌∷◌, ◌++◌, Result, Ok, Err, codes, unwrap_or, ⊤}
+use Rattle.std.specs.Prelude.{◌≡◌, ◌≢◌, ◌⊎◌, ◌+◌, ◌==◌, if◌then◌else◌, take, drop, ℕ, suc, List, [], ◌∷◌, ◌++◌, Result, Ok, Err, codes, unwrap_or, ⊤}
 use Rattle.clap.specs.Words.{IsAmong, Row, Text, all_of, fault_of, first_of, kind_of, matches_of, one_of}
 use Rattle.clap.specs.declared.error.kind.ErrorKind.TheVariants as kind
 use Rattle.m11_tasks.specs.Commands.{most_steps}
 use Rattle.m11_tasks.specs.Tasks.{IsSimTask, address_of, number_or, start_of}
 use Rattle.m11_tasks.specs.declared.usage.UsageFault.{UsageFault}
 use Rattle.m11_tasks.specs.declared.usage.UsageFault.TheVariants.{Help, Words, BadOctal, OddAddress, BadAddress, NoMemory}
+use Rattle.m11_trace.specs.declared.ranges.Range.{Range}
 use Rattle.m11_tracer.specs.Application.{application}
 use Rattle.m11_tracer.specs.declared.task.TraceTask.{TraceTask}
 
@@ -24,17 +25,46 @@ addresses_of (text ∷ texts) = with_address (address_of text) (addresses_of tex
 abbrev pub places_of : List Row → Result (List ℕ) UsageFault
 places_of rows = addresses_of (unwrap_or (all_of (codes "place") rows) [])
 
+-- where the colon of a text stands, or its end where it has none
+abbrev pub colon_in : Text → ℕ
+colon_in [] = 0
+colon_in (character ∷ characters) = if character == 58 then 0 else suc (colon_in characters)
+
+abbrev pub range_by : Result ℕ UsageFault → Result ℕ UsageFault → Result Range UsageFault
+range_by (Err fault) last = Err fault
+range_by (Ok first) (Err fault) = Err fault
+range_by (Ok first) (Ok last) = Ok (record { first = first; last = last })
+
+-- the part of memory from the address before the colon of a text to the one after it, or the first fault of these
+abbrev pub range_of : Text → Result Range UsageFault
+range_of text = range_by (address_of (take (colon_in text) text)) (address_of (drop (colon_in text + 1) text))
+
+abbrev pub with_range : Result Range UsageFault → Result (List Range) UsageFault → Result (List Range) UsageFault
+with_range (Err fault) more = Err fault
+with_range (Ok range) (Err fault) = Err fault
+with_range (Ok range) (Ok ranges) = Ok (range ∷ ranges)
+
+abbrev pub ranges_by : List Text → Result (List Range) UsageFault
+ranges_by [] = Ok []
+ranges_by (text ∷ texts) = with_range (range_of text) (ranges_by texts)
+
+-- the parts of memory to show
+abbrev pub ranges_of : List Row → Result (List Range) UsageFault
+ranges_of rows = ranges_by (unwrap_or (all_of (codes "range") rows) [])
+
 -- a run with lines, as entries state it: the run is that of `m11 sim`; the first line is that of the number of `from`, or of the
--- first step; the places are the addresses of `place`, in order
+-- first step; the places are the addresses of `place`, and the parts of memory those of `range`, in order
 pub record IsTraceTask (rows : List Row) (task : TraceTask) : Type 0 where
   pub sim : IsSimTask rows task.sim
   pub first : task.from ≡ number_or 0 0 most_steps (one_of (codes "from") rows)
   pub places : places_of rows ≡ Ok task.places.items
+  pub ranges : ranges_of rows ≡ Ok task.ranges.items
 
--- why entries that the parser takes give no task: the start has this fault, or a place; or memory was refused
+-- why entries that the parser takes give no task: the start has this fault, or a place, or a part of memory; or memory was refused
 abbrev pub IsRefused : List Row → UsageFault → Type 0
 IsRefused rows fault =
-    (fault ≡ NoMemory) ⊎ ((start_of (first_of (codes "start") rows) ≡ Err fault) ⊎ (places_of rows ≡ Err fault))
+    (fault ≡ NoMemory) ⊎ ((start_of (first_of (codes "start") rows) ≡ Err fault)
+    ⊎ ((places_of rows ≡ Err fault) ⊎ (ranges_of rows ≡ Err fault)))
 
 abbrev pub EntriesGive : List Row → Result TraceTask UsageFault → Type 0
 EntriesGive rows (Ok task) = IsTraceTask rows task
@@ -63,3 +93,8 @@ Plans words (Err fault) =
 abbrev pub AddsPlaces : List Text → List ℕ → List ℕ → Result (Unit {0}) UsageFault → Type 0
 AddsPlaces texts old new (Ok done) = (more : List ℕ) × (addresses_of texts ≡ Ok more) × (new ≡ old ++ more)
 AddsPlaces texts old new (Err fault) = (fault ≡ NoMemory) ⊎ (addresses_of texts ≡ Err fault)
+
+-- the same of parts of memory
+abbrev pub AddsRanges : List Text → List Range → List Range → Result (Unit {0}) UsageFault → Type 0
+AddsRanges texts old new (Ok done) = (more : List Range) × (ranges_by texts ≡ Ok more) × (new ≡ old ++ more)
+AddsRanges texts old new (Err fault) = (fault ≡ NoMemory) ⊎ (ranges_by texts ≡ Err fault)

@@ -170,6 +170,7 @@ fn run_tape<T: Feed + Drop, I: Feed, O: Sink, E: Sink>(
         sim.limit,
         task.from,
         task.places.as_slice(),
+        task.ranges.as_slice(),
         input,
         out,
         err,

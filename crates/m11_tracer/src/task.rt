@@ -1,15 +1,17 @@
 //! What a command line asks for.
 
-ghost use Rattle.std.specs.Prelude.{◌≡◌, IfOk, map};
+ghost use Rattle.std.specs.Prelude.{◌≡◌, ◌≤◌, ◌+◌, IfOk, drop, length, map};
 ghost use Rattle.clap.specs.Words.{found_of, rows_of};
 ghost use Rattle.m11_tasks.specs.Opened.{texts};
-ghost use Rattle.m11_tasks.specs.Tasks.{IsDoable};
+ghost use Rattle.m11_tasks.specs.Tasks.{IsDoable, address_of};
 ghost use Rattle.m11_tasks.specs.declared.tasks.Task.TheVariants.{Sim};
-ghost use Rattle.m11_tracer.specs.Task.{AddsPlaces, EntriesGive, Plans};
+ghost use Rattle.m11_tracer.specs.Task.{AddsPlaces, AddsRanges, EntriesGive, Plans, colon_in, range_of};
 
 use crate::application::application_command;
 use clap::ArgMatches;
+use m11_base::read_octal;
 use m11_tasks::{SimTask, UsageFault, address, all_texts, number_given, sim_task};
+use m11_trace::Range;
 use std::alloc::Global;
 use std::convert::AsStr;
 
@@ -22,6 +24,8 @@ pub struct TraceTask<'a> {
     pub from: u32,
     /// The places to stop at, each an even address up to 0o157776.
     pub places: Vec<u16>,
+    /// The parts of memory to show at the end, of such addresses.
+    pub ranges: Vec<Range>,
 }
 
 /// The most steps that may be allowed.
@@ -30,7 +34,7 @@ const MOST_STEPS: u32 = 1_000_000_000;
 /// Reads a command line, whose first word is the program's name.
 ///
 /// `Help` where help is asked for, and `Words` where the parser refuses the words; where it takes them, `BadOctal`, `OddAddress` and
-/// `BadAddress` of the start, and then of the first place that has a fault, in this order; and `NoMemory`.
+/// `BadAddress` of the start, of the first place that has a fault, and of the first part of memory that has one, in this order; and `NoMemory`.
 pub(crate) fn plan<'a, S: AsStr>(alloc: Global, words: &'a [S]) -> Result<TraceTask<'a>, UsageFault>
     ensures planned { Plans (map S.text words.entry.now) result }
     ensures doable { IfOk result (λ task. IsDoable (Sim task.sim)) }
@@ -51,10 +55,14 @@ fn task_given<'a>(alloc: Global, entries: &ArgMatches<'a>) -> Result<TraceTask<'
     let named = all_texts(alloc, entries, "place")?;
     let mut places = Vec::new(alloc);
     add_places(&mut places, named.as_slice())?;
+    let parts = all_texts(alloc, entries, "range")?;
+    let mut ranges = Vec::new(alloc);
+    add_ranges(&mut ranges, parts.as_slice())?;
     Ok(TraceTask {
         sim,
         from: number_given(entries, "from", 0, MOST_STEPS, 0),
         places,
+        ranges,
     })
 }
 
@@ -69,4 +77,66 @@ fn add_places(places: &mut Vec<u16>, named: &[&str]) -> Result<(), UsageFault>
             add_places(places, others)
         }
     }
+}
+
+// Adds the parts of memory that texts spell.
+fn add_ranges(ranges: &mut Vec<Range>, named: &[&str]) -> Result<(), UsageFault>
+    ensures { AddsRanges (texts named.now) ranges.old.items ranges.new.items result }
+{
+    match named {
+        [] => Ok(()),
+        [text, others @ ..] => {
+            ranges.push(range_of(*text)?)?;
+            add_ranges(ranges, others)
+        }
+    }
+}
+
+// The part of memory that a text spells.
+fn range_of(text: &str) -> Result<Range, UsageFault>
+    ensures { result ≡ range_of text.now }
+{
+    let bytes = text.as_bytes();
+    let colon = colon_in(bytes);
+    Ok(Range {
+        first: address_of(&bytes[..colon])?,
+        last: address_of(after(bytes, colon))?,
+    })
+}
+
+// Where the colon of a text stands, or its end.
+fn colon_in(text: &[u8]) -> usize
+    ensures colon { result ≡ colon_in text.now }
+    ensures within { result ≤ length text.now }
+{
+    match text {
+        [] => 0,
+        [b':', ..] => 0,
+        [_, others @ ..] => colon_in(others) + 1,
+    }
+}
+
+// What stands after the byte at an index.
+fn after(text: &[u8], index: usize) -> &[u8]
+    ensures { result.now ≡ drop (index + 1) text.now }
+{
+    if index < text.len() {
+        &text[index + 1..]
+    } else {
+        &[]
+    }
+}
+
+// The address that bytes spell, as `address` has it.
+fn address_of(text: &[u8]) -> Result<u16, UsageFault>
+    ensures { result ≡ address_of text.now }
+{
+    let word = read_octal(text)?;
+    if word % 2 == 1 {
+        return Err(UsageFault::OddAddress);
+    }
+    if word > 0o157776 {
+        return Err(UsageFault::BadAddress);
+    }
+    Ok(word)
 }

@@ -1,0 +1,120 @@
+//! Parts of memory, shown at the end of a run.
+
+ghost use Rattle.std.specs.Prelude.{◌≡◌, ◌≤◌, ◌%◌};
+ghost use Rattle.m11_cpu.specs.Messages.{PutsMessages};
+ghost use Rattle.m11_trace.specs.Ranges as spec;
+
+use crate::line::{Line, add_word, put_text};
+use crate::shots::word_past;
+use m11_base::Sink;
+use m11_cpu::SimFault;
+use m11_machine::Memory;
+
+/// A part of memory, from one even address to another, both with it.
+#[derive(Clone, Copy, Debug, PartialEq, Eq)]
+pub struct Range {
+    /// The address of the first word.
+    pub first: u16,
+    /// The address of the last word.
+    pub last: u16,
+}
+
+// A word by its index in its part.
+fn word_cell(first: u16, index: u16, word: u16) -> Line
+    ensures { result.items ≡ spec.word_cell first index word }
+{
+    let mut cell = Line::new();
+    if index % 8 == 0 {
+        add_word(
+            &mut cell,
+            b"\n  ",
+            first.wrapping_add(index.wrapping_mul(2)),
+        );
+    }
+    add_word(&mut cell, b" ", word);
+    cell
+}
+
+// Puts the words of a part, up to the end of the memory.
+fn put_words<M: Sink>(
+    messages: &mut M,
+    memory: &Memory,
+    first: u16,
+    count: u16,
+) -> Result<(), SimFault>
+    requires even { first % 2 ≡ 0 }
+    requires few { count ≤ 32768 }
+    ensures { PutsMessages (M.text messages.old) (M.text messages.new) (M.faults messages.old) (M.faults messages.new)
+        (spec.words_from memory.now first 0 count) result }
+{
+    let mut index = 0;
+    'words: while index < count {
+        match word_past(memory, first, 2 * index) {
+            None => return Ok(()),
+            Some(word) => match put_text(messages, word_cell(first, index, word).as_slice()) {
+                Ok(()) => index += 1,
+                Err(fault) => return Err(fault),
+            },
+        }
+    }
+    Ok(())
+}
+
+// How many words a part has.
+fn count_of(range: &Range) -> u16
+    ensures count { result ≡ spec.count_of range.now }
+    ensures few { result ≤ 32768 }
+{
+    ((u32::from(range.last) + 2).saturating_sub(u32::from(range.first)) / 2) as u16
+}
+
+// Puts the words of a part, and ends its last line.
+fn put_part<M: Sink>(messages: &mut M, memory: &Memory, range: &Range) -> Result<(), SimFault>
+    ensures { PutsMessages (M.text messages.old) (M.text messages.new) (M.faults messages.old) (M.faults messages.new)
+        (spec.words_text memory.now range.now) result }
+{
+    let first = range.first - range.first % 2;
+    match put_words(messages, memory, first, count_of(range)) {
+        Ok(()) => put_text(messages, b"\n"),
+        Err(fault) => Err(fault),
+    }
+}
+
+// The line before the words of a part.
+fn head(range: &Range) -> Line
+    ensures { result.items ≡ spec.head_text range.now }
+{
+    let mut line = Line::new();
+    add_word(&mut line, b"MEMORY ", range.first);
+    add_word(&mut line, b":", range.last);
+    line
+}
+
+// Puts a part of memory.
+fn put_range<M: Sink>(messages: &mut M, memory: &Memory, range: &Range) -> Result<(), SimFault>
+    ensures { PutsMessages (M.text messages.old) (M.text messages.new) (M.faults messages.old) (M.faults messages.new)
+        (spec.range_text memory.now range.now) result }
+{
+    match put_text(messages, head(range).as_slice()) {
+        Ok(()) => put_part(messages, memory, range),
+        Err(fault) => Err(fault),
+    }
+}
+
+/// Puts parts of memory, one after another. `Write`: the sink failed after a beginning of them.
+pub(crate) fn put_ranges<M: Sink>(
+    messages: &mut M,
+    memory: &Memory,
+    ranges: &[Range],
+) -> Result<(), SimFault>
+    ensures { PutsMessages (M.text messages.old) (M.text messages.new) (M.faults messages.old) (M.faults messages.new)
+        (spec.ranges_text memory.now ranges.now) result }
+{
+    match ranges {
+        [] => Ok(()),
+        [range, others @ ..] => match put_range(messages, memory, range) {
+            Ok(()) => put_ranges(messages, memory, others),
+            Err(fault) => Err(fault),
+        },
+    }
+}
