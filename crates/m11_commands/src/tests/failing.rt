@@ -1,6 +1,8 @@
 //! Devices that fail: the console of a program that runs, and its messages; the object and the listing of an assembly.
 
-use m11_base::{BufferedSink, FuseFeed, FuseSink, MemoryFeed, MemorySink, WriterSink};
+use m11_base::{
+    BufferedSink, DeviceFault, FuseFeed, FuseSink, MemoryFeed, MemorySink, Sink, WriterSink,
+};
 use m11_cli::{MemoryFile, MemoryFiles, OpenRefusal, Opens, command};
 use std::alloc::{AllocError, Global};
 use std::io;
@@ -145,6 +147,30 @@ impl Write for ShortFile {
     }
 }
 
+// Such a file behind a buffer.
+#[derive(Drop)]
+struct HeldFile {
+    sink: BufferedSink<ShortFile>,
+}
+
+impl Sink for HeldFile {
+    ghost use Rattle.std.specs.Prelude.{None};
+
+    ghost text = { λ _. None };
+
+    ghost faults = { λ s. ⟦<BufferedSink<ShortFile> as Sink>⟧.faults s.sink };
+
+    ghost held = { λ s. ⟦<BufferedSink<ShortFile> as Sink>⟧.held s.sink };
+
+    fn put(&mut self, bytes: &[u8]) -> Result<usize, DeviceFault> {
+        self.sink.put(bytes)
+    }
+
+    fn flush(&mut self) -> Result<(), DeviceFault> {
+        self.sink.flush()
+    }
+}
+
 // The files of an assembly of that source, each behind a buffer of `capacity` bytes. One that is created at the path `short` takes `room`
 // bytes.
 #[derive(Drop)]
@@ -162,7 +188,7 @@ impl Opens for ShortFiles {
 
     type Input = MemoryFeed<'static>;
 
-    type Output = BufferedSink<ShortFile>;
+    type Output = HeldFile;
 
     ghost files = { λ _. None };
 
@@ -172,7 +198,7 @@ impl Opens for ShortFiles {
         Ok(MemoryFeed::new(b".WORD 1\n.END\n"))
     }
 
-    fn create(&mut self, path: &str) -> Result<BufferedSink<ShortFile>, OpenRefusal> {
+    fn create(&mut self, path: &str) -> Result<HeldFile, OpenRefusal> {
         let room = if path == self.short {
             self.room
         } else {
@@ -183,13 +209,15 @@ impl Opens for ShortFiles {
             room,
         };
         match BufWriter::with_capacity(self.alloc, self.capacity, file) {
-            Ok(writer) => Ok(BufferedSink::new(writer)),
+            Ok(writer) => Ok(HeldFile {
+                sink: BufferedSink::new(writer),
+            }),
             Err(_) => Err(OpenRefusal::NoMemory),
         }
     }
 
-    fn keep(&mut self, path: &str, output: BufferedSink<ShortFile>) {
-        let taken = output.into_writer().taken;
+    fn keep(&mut self, path: &str, output: HeldFile) {
+        let taken = output.sink.into_writer().taken;
         match path {
             "P.LST" => self.listing = taken,
             _ => self.object = taken,
