@@ -1,21 +1,23 @@
 -- A layout that stands after parts, and after more of them.
-use Rattle.std.proofs.Common.{◌≡◌, ℕ, List, [], ◌∷◌, ◌++◌, append-nil, inl, Option, Some, None, Result, Ok, Err, IsErrAnd, refl, sym, subst}
+use Rattle.std.proofs.Common.{◌≡◌, ℕ, List, [], ◌∷◌, ◌++◌, map, append-nil, inl, inr, Option, Some, None, Result, Ok, Err, IsErrAnd, refl, sym, subst, ap, ◌∙◌}
 use Rattle.std.specs.Option.{option_or}
 use Rattle.std.proofs.Math.Seq.{append_snoc}
 use Rattle.m11_obj.specs.declared.fault.RecordFault.{RecordFault}
+use Rattle.m11_obj.specs.declared.gsd.GsdEntry.{GsdEntry}
 use Rattle.m11_modules.specs.declared.fault.ModuleFault.{ModuleFault}
 use Rattle.m11_modules.specs.declared.fault.ModuleFault.TheVariants as rule
 use Rattle.m11_modules.proofs.KnownAfter.{taken_after}
+use Rattle.m11_modules.specs.Grammar.{directory_parts}
 use Rattle.m11_modules.specs.Laws.{TakesAfter}
-use Rattle.m11_modules.specs.Parts.{Part, EndOfFile, Text, record_parts}
+use Rattle.m11_modules.specs.Parts.{Part, Entry, EndOfDirectory, EndOfFile, EndOfModule, Text, record_parts}
 use Rattle.m11_modules.specs.Places.{Known, known_of}
 use Rattle.m11_modules.specs.Rules.{fault_of, first_fault}
 use Rattle.m11_modules.specs.Steps.{RulesTake}
 use Rattle.m11_layout.specs.Fault.{of_module}
-use Rattle.m11_layout.specs.Tables.{Gathered, gathered_after, gathered_after_all, nothing_gathered}
+use Rattle.m11_layout.specs.Tables.{Gathered, gathered_after, gathered_after_all, nothing_gathered, with_end}
 use Rattle.m11_layout.specs.Layout.{FirstFault, LayoutState, LayoutStands, TakesBlock, TakesParts}
 use Rattle.m11_layout.specs.declared.fault.LinkFault.{LinkFault}
-use Rattle.m11_layout.specs.declared.fault.LinkFault.TheVariants.{Record}
+use Rattle.m11_layout.specs.declared.fault.LinkFault.TheVariants.{NoMemory, Record}
 
 pub begins : (bottom : ℕ) (reading : LayoutState) → reading.known ≡ known_of [] → reading.gathered ≡ nothing_gathered
     → reading.bottom ≡ bottom → reading.fault ≡ None → LayoutStands bottom [] reading
@@ -109,6 +111,16 @@ fault_reported before parts old new broken state bottom (Err stopped) is h e =
     let P : LinkFault → Type 0 = λ said. FirstFault before parts said in
     subst P (sym e) (fault_found before parts old new broken is h)
 
+-- parts were judged, and memory was refused for what they say
+pub memory_refused : {seen : LayoutState} (bottom : ℕ) (before parts : List Part) (old state : LayoutState) (new : Known)
+    (result : Result (Unit {0}) LinkFault) → seen ≡ old → LayoutStands bottom before old
+    → RulesTake seen.known new parts (Ok tt) → IsErrAnd result (λ e. e ≡ NoMemory) → TakesParts bottom before state parts result
+memory_refused {seen} bottom before parts old state new (Ok done) is s h e = absurd e
+memory_refused {seen} bottom before parts old state new (Err stopped) is s h e =
+    let k = ap (λ (l : LayoutState). l.known) is ∙ s.known in
+    let P : LinkFault → Type 0 = λ said. FirstFault before parts said in
+    subst P (sym e) (inr (taken_after before seen.known new parts (Ok tt) k h).0)
+
 -- ---- a block
 
 no_record : (broken : ModuleFault) (inner : RecordFault) → Record inner ≡ of_module broken → ⊥
@@ -142,6 +154,24 @@ pub text_noted : (bottom address : ℕ) (bytes : List ℕ) (g : Gathered)
     → g ≡ gathered_after_all bottom g (Text address bytes ∷ [])
 unfolding gathered_after
 text_noted bottom address bytes g = refl
+
+-- nor of the end of a directory
+pub end_of_directory_noted : (bottom : ℕ) (g : Gathered) → g ≡ gathered_after_all bottom g (EndOfDirectory ∷ [])
+unfolding gathered_after
+end_of_directory_noted bottom g = refl
+
+-- the end of a module is noted
+pub end_of_module_noted : (bottom : ℕ) (g later : Gathered) → later ≡ with_end g
+    → later ≡ gathered_after_all bottom g (EndOfModule ∷ [])
+unfolding gathered_after
+end_of_module_noted bottom g later e = e
+
+-- and so are the entries of a directory record
+pub directory_noted : (bottom : ℕ) (entries : List GsdEntry) (g later : Gathered)
+    → later ≡ gathered_after_all bottom g (map (λ entry. Entry entry) entries)
+    → later ≡ gathered_after_all bottom g (directory_parts entries)
+unfolding gathered_after
+directory_noted bottom entries g later e = e
 
 -- the end of a file was taken
 nothing_noted : (bottom : ℕ) (g : Gathered) → g ≡ gathered_after_all bottom g (EndOfFile ∷ [])

@@ -14,19 +14,16 @@ use Rattle.m11_obj.specs.declared.gsd.GsdKind.TheVariants.{ModuleName, ControlSe
 use Rattle.m11_modules.specs.Names.{is_among}
 use Rattle.m11_modules.specs.Parts.{Part, Directory, Entry, EndOfDirectory, Text, Relocations, Relocated, EndOfModule, EndOfFile}
 use Rattle.m11_modules.specs.Places.{Known, distinct, ends_module, global_in, global_names, global_of, known_of, modules_in, section_by, section_in, section_names, sections_in, stage_after, this_module}
-use Rattle.m11_modules.specs.Rules.{defines, fault_of, first_fault, most_modules, most_sections}
+use Rattle.m11_modules.specs.Rules.{defines, fault_of, first_fault}
 use Rattle.m11_obj.specs.Gsd.{has_bits}
 use Rattle.m11_modules.proofs.KnownAfter.{known_after_part, this_module_goes_on}
 use Rattle.m11_layout.specs.Tables.{Gathered, gathered_after, gathered_after_all, is_contribution, nothing_gathered, with_definition, with_entry, with_reference, with_relocated, with_weak}
-use Rattle.m11_layout.specs.Globals.{definitions_of, references_of}
 use Rattle.m11_layout.proofs.Finding.{Apart, apart_inserted}
 use Rattle.m11_layout.proofs.Keeping.{relocated_keeps, symbol_keeps}
 use Rattle.m11_layout.proofs.ModulesOfParts.{modules_more, one_ended}
-use Rattle.m11_layout.proofs.PlansOfParts.{gathered_means}
 use Rattle.m11_layout.proofs.Walking.{walked}
 use Rattle.m11_layout.proofs.FewerNames.{Within, distinct_no_more, no_more, among_distinct}
-use Rattle.m11_layout.proofs.KnownBounded.{Bounded, bounded_step, modules_within}
-use Rattle.m11_layout.proofs.NamesReported.{definitions_within, references_within, weak_within}
+use Rattle.m11_layout.proofs.KnownBounded.{Bounded, bounded_step}
 
 -- ---- contributions: one more at most for each entry of a section
 

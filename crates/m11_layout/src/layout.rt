@@ -1,11 +1,11 @@
 //! The first pass of a link: what it gathers, record by record.
 
-ghost use Rattle.std.specs.Prelude.{◌≡◌, ◌≢◌, ◌∷◌, [], ℕ, List, Some, None, Ok, Err, IfErr, IfOk, map};
+ghost use Rattle.std.specs.Prelude.{◌≡◌, ◌∷◌, [], ℕ, List, Some, None, Ok, Err, IfErr, IfOk, map};
 ghost use Rattle.std.specs.Result.{result_err};
-ghost use Rattle.m11_obj.specs.Contents.{unread_content};
-ghost use Rattle.m11_obj.specs.Reading.{AreRelocations, IsRecord, checked, content_of, record_kind, relocations_left, relocations_of};
-ghost use Rattle.m11_obj.specs.declared.records.RecordKind.{RecordKind};
-ghost use Rattle.m11_modules.specs.Parts.{Part, EndOfFile, Relocated, Relocations, Text, record_parts};
+ghost use Rattle.m11_obj.specs.Contents.{unread_content, unread_directory};
+ghost use Rattle.m11_obj.specs.Reading.{AreEntries, AreRelocations, IsRecord, checked, content_of, relocations_left, relocations_of};
+ghost use Rattle.m11_modules.specs.Grammar.{directory_parts};
+ghost use Rattle.m11_modules.specs.Parts.{Part, EndOfDirectory, EndOfFile, EndOfModule, Relocated, Relocations, Text};
 ghost use Rattle.m11_modules.specs.Places.{global_of};
 ghost use Rattle.m11_modules.specs.Steps.{RulesTake, TakesOne};
 ghost use Rattle.m11_layout.specs.Tables.{gathered_after_all, with_relocated};
@@ -18,7 +18,10 @@ use crate::plan::{Plan, plan_of};
 use crate::tables::Tables;
 use m11_base::Latch;
 use m11_modules::{ModuleFault, Rules, refuse};
-use m11_obj::{Block, Contents, Record, RecordFault, Relocation, UnreadRelocations, read_contents};
+use m11_obj::{
+    Block, Contents, GsdEntry, RecordFault, Relocation, UnreadEntries, UnreadRelocations,
+    read_contents,
+};
 use std::alloc::Global;
 use std::marker::Model;
 
@@ -137,10 +140,46 @@ impl Layout {
         ensures kept { self.new.fault ≡ self.old.fault }
     {
         match read_contents(block)? {
+            Contents::Directory(unread) => self.take_directory(&unread),
+            Contents::EndOfDirectory => self.take_end_of_directory(),
             Contents::Text(address, bytes) => self.take_text(address, bytes),
             Contents::Relocations(mut unread) => self.take_relocations(&mut unread),
-            Contents::Other(record) => self.take_other(&record),
+            Contents::InternalSymbols => Ok(()),
+            Contents::EndOfModule => self.take_end_of_module(),
         }
+    }
+
+    // Takes the entries of a directory record, which stand in a block of these bytes. All of them are read before one is
+    // judged, since a fault of the record itself comes first.
+    fn take_directory(&mut self, unread: &UnreadEntries<'_>) -> Result<(), LinkFault>
+        ensures takes { (bottom : ℕ) (before : List Part) (bytes : List ℕ) → LayoutStands bottom before self.old
+            → content_of bytes ≡ unread_directory unread.now → TakesBlock bottom before self.new bytes result }
+        ensures are { IfOk result (λ _. AreEntries unread.now) }
+        ensures kept { self.new.fault ≡ self.old.fault }
+    {
+        let entries = unread.read()?;
+        self.take_entries(entries.as_slice())
+    }
+
+    // Takes a directory record of these entries: they are judged, and then noted.
+    fn take_entries(&mut self, entries: &[GsdEntry]) -> Result<(), LinkFault>
+        ensures takes { (bottom : ℕ) (before : List Part) → LayoutStands bottom before self.old
+            → TakesParts bottom before self.new (directory_parts entries.now) result }
+        ensures kept { self.new.fault ≡ self.old.fault }
+    {
+        self.rules.directory(entries)?;
+        self.tables.note_entries(self.bottom, entries)?;
+        Ok(())
+    }
+
+    // Takes the end of a directory, of which nothing is noted.
+    fn take_end_of_directory(&mut self) -> Result<(), LinkFault>
+        ensures takes { (bottom : ℕ) (before : List Part) → LayoutStands bottom before self.old
+            → TakesParts bottom before self.new (EndOfDirectory ∷ []) result }
+        ensures kept { self.new.fault ≡ self.old.fault }
+    {
+        self.rules.end_of_directory()?;
+        Ok(())
     }
 
     // Takes a text, of which nothing is noted.
@@ -153,15 +192,14 @@ impl Layout {
         Ok(())
     }
 
-    // Takes a record that holds no relocations: it is judged, and then noted.
-    fn take_other(&mut self, record: &Record<'_>) -> Result<(), LinkFault>
-        requires { record_kind «record».now ≢ Ok RecordKind.Relocations }
+    // Takes the end of a module: it is judged, and then noted.
+    fn take_end_of_module(&mut self) -> Result<(), LinkFault>
         ensures takes { (bottom : ℕ) (before : List Part) → LayoutStands bottom before self.old
-            → TakesParts bottom before self.new (record_parts «record».now) result }
+            → TakesParts bottom before self.new (EndOfModule ∷ []) result }
         ensures kept { self.new.fault ≡ self.old.fault }
     {
-        self.rules.record(record)?;
-        self.tables.note(self.bottom, record)?;
+        self.rules.end_of_module()?;
+        self.tables.note_end()?;
         Ok(())
     }
 

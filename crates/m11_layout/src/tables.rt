@@ -1,9 +1,7 @@
 //! The tables that a layout gathers while records come.
 
-ghost use Rattle.std.specs.Prelude.{◌≡◌, ◌≢◌, ◌≤◌, ◌<◌, IfErr, IfSome, Ok, Some, get_or, is_some, option_map, length, map, slice_get, true};
-ghost use Rattle.m11_obj.specs.Reading.{record_entries, record_kind};
+ghost use Rattle.std.specs.Prelude.{◌≡◌, ◌≤◌, ◌<◌, IfErr, IfSome, Some, get_or, is_some, option_map, length, map, slice_get, true};
 ghost use Rattle.m11_modules.specs.Parts.{Entry};
-ghost use Rattle.m11_modules.specs.Parts.{record_parts};
 ghost use Rattle.std.specs.Map.{lookup};
 ghost use Rattle.m11_base.specs.Names.{blank_name};
 ghost use Rattle.m11_base.specs.Rad50.{is_same_name};
@@ -17,7 +15,7 @@ use crate::definition::{Definition, GlobalPlace, Total, Transfer};
 use bitflags::Flags;
 use indexmap::{IndexMap, IndexSet};
 use m11_base::{Name, absolute_section, blank_name};
-use m11_obj::{GsdEntry, GsdKind, Record, RecordKind, SectionFlags, SymbolFlags, Target};
+use m11_obj::{GsdEntry, GsdKind, SectionFlags, SymbolFlags, Target};
 use std::alloc::{AllocError, Global};
 use std::marker::Model;
 
@@ -299,29 +297,16 @@ impl Tables {
         }
     }
 
-    /// Notes what a record says, which the rules have taken. What relocations say is noted one by one, by `note_target`.
-    #[tactic(auto, unfolding(crate::specs::Tables::gathered_after))]
-    pub(crate) fn note(&mut self, bottom: u16, record: &Record<'_>) -> Result<(), AllocError>
-        requires { record_kind «record».now ≢ Ok RecordKind.Relocations }
-        ensures { TablesKeep self.new (gathered_after_all bottom self.old (record_parts «record».now)) result }
+    /// Notes the entries of a directory record, which the rules have taken.
+    pub(crate) fn note_entries(
+        &mut self,
+        bottom: u16,
+        entries: &[GsdEntry],
+    ) -> Result<(), AllocError>
+        ensures { TablesKeep self.new (gathered_after_all bottom self.old (map (λ entry. Entry entry) entries.now)) result }
     {
-        match record.kind() {
-            RecordKind::Gsd => self.note_entries(bottom, record),
-            RecordKind::EndOfGsd => Ok(()),
-            RecordKind::Text => Ok(()),
-            RecordKind::Relocations => unreachable!(),
-            RecordKind::InternalSymbols => Ok(()),
-            RecordKind::EndOfModule => self.note_end(),
-        }
-    }
-
-    // The entries of a directory record.
-    fn note_entries(&mut self, bottom: u16, record: &Record<'_>) -> Result<(), AllocError>
-        ensures { TablesKeep self.new (gathered_after_all bottom self.old
-            (map (λ entry. Entry entry) (record_entries «record».now))) result }
-    {
-        'entries: for index in 0..record.entry_count() {
-            match self.note_entry(bottom, &record.entry(index)) {
+        'entries: for entry in entries {
+            match self.note_entry(bottom, entry) {
                 Ok(()) => {}
                 Err(refused) => return Err(refused),
             }
@@ -461,8 +446,8 @@ impl Tables {
         }
     }
 
-    /// An entry of a directory.
-    pub(crate) fn note_entry(&mut self, bottom: u16, entry: &GsdEntry) -> Result<(), AllocError>
+    // An entry of a directory.
+    fn note_entry(&mut self, bottom: u16, entry: &GsdEntry) -> Result<(), AllocError>
         ensures { TablesKeep self.new (with_entry bottom entry.now.kind entry.now self.old) result }
     {
         match entry.kind {

@@ -1,17 +1,19 @@
 -- A second pass that stands after parts, and after more of them.
 use Rattle.std.proofs.Common.{◌≡◌, ℕ, Bool, true, false, if◌then◌else◌, List, [], ◌∷◌, ◌++◌, append_assoc, append-nil, Option, Some, None, Result, Ok, Err, IsErrAnd, inl, inr, refl, sym, subst, ap, ap₂, ◌∙◌}
-use Rattle.std.proofs.lemmas.Bool.{false≢true, true≢false}
+use Rattle.std.proofs.lemmas.Bool.{true≢false}
 use Rattle.std.specs.Prelude.{is_ok}
-use Rattle.m11_obj.specs.Reading.{◌>>=◌, IsRecord, content_of, entries_in, kind_in, relocations_in, text_in}
+use Rattle.m11_obj.specs.Reading.{IsRecord, content_of}
+use Rattle.m11_obj.specs.declared.gsd.GsdEntry.{GsdEntry}
 use Rattle.m11_obj.specs.declared.relocations.Relocation.{Relocation}
 use Rattle.m11_obj.specs.Records as records
 use Rattle.m11_obj.specs.declared.fault.RecordFault.{RecordFault}
+use Rattle.m11_modules.specs.Grammar.{directory_parts}
 use Rattle.m11_modules.specs.Laws.{TakesAfter}
 use Rattle.m11_modules.specs.declared.stage.Stage.{Stage}
 use Rattle.m11_modules.specs.declared.stage.Stage.TheVariants.{Between, InDirectory, InBody}
 use Rattle.m11_modules.specs.Parts.{Part, Directory, Entry, EndOfDirectory, Text, Relocations, Relocated, EndOfModule, EndOfFile, parts_in, parts_of, record_parts}
-use Rattle.m11_modules.specs.Steps.{RulesTake, TakesOne, known_after, with_optional_global}
-use Rattle.m11_modules.proofs.Taking.{taken_one}
+use Rattle.m11_modules.specs.Steps.{RulesTake, known_after, with_optional_global}
+use Rattle.m11_modules.proofs.Taking.{none_taken}
 use Rattle.m11_modules.proofs.KnownAfter.{known_after_part, taken_after}
 use Rattle.m11_layout.specs.Globals.{definitions_of}
 use Rattle.m11_modules.specs.Places.{Known, current_section, distinct, global_of, known_of, modules_in, this_module}
@@ -25,7 +27,7 @@ use Rattle.m11_layout.specs.Plan.{Planned}
 use Rattle.m11_layout.specs.Tables.{Gathered, nothing_gathered}
 use Rattle.m11_layout.specs.declared.fault.LinkFault.{LinkFault}
 use Rattle.m11_layout.specs.declared.fault.LinkFault.TheVariants as fault
-use Rattle.m11_link.specs.Emit.{EmitStands, Emitting, Goes, GoesOn, Reporting, TakesBlock, TakesParts, begin_writes, begun_reporting, bytes_writes, call_of, entries_writes, held_at, held_text, held_with, held_with_all, held_writes, record_writes, relocated_parts, with_bytes, with_count, with_held, with_record, with_reporting, with_text, written}
+use Rattle.m11_link.specs.Emit.{EmitStands, Emitting, Goes, GoesOn, Reporting, TakesBlock, TakesParts, begin_writes, begun_reporting, call_of, directory_writes, entries_writes, held_at, held_text, held_with, held_with_all, held_writes, relocated_parts, with_count, with_directory, with_held, with_reporting, with_text, written}
 use Rattle.m11_link_text.specs.Findings.{Findings, planned}
 use Rattle.m11_link.specs.Front.{front_writes}
 use Rattle.m11_link.specs.Outputs.{Outputs, Write, Gains, Stops, StopsBetween, StopsIn, Writes, link}
@@ -67,19 +69,36 @@ held_alone count held =
 
 -- ---- a record
 
+-- what a record of this content writes, by what stands before it
+abbrev pub made_by : List Part → records.Content → Reporting → List Write
+made_by before (records.Gsd entries) t = directory_writes (modules_in before) entries t
+made_by before records.EndOfGsd t = held_writes t.held
+made_by before (records.Text address bytes) t = held_writes t.held
+made_by before (records.Relocations relocations) t = []
+made_by before records.InternalSymbols t = []
+made_by before records.EndOfModule t = held_writes t.held
+
+abbrev pub relocating : List Relocation → Reporting → Reporting
+relocating relocations t = with_held (held_with_all (planned t.plan) t.held relocations) t
+
+-- and what stands after it
+abbrev pub following : List Part → records.Content → Reporting → Reporting
+following before (records.Gsd entries) t = with_directory (modules_in before) entries t
+following before records.EndOfGsd t = with_held None t
+following before (records.Text address bytes) t =
+    with_text (modules_in before) (current_section (this_module before)) address bytes t
+following before (records.Relocations relocations) t = relocating relocations t
+following before records.InternalSymbols t = t
+following before records.EndOfModule t = with_held None t
+
 content_reported_by : (plan : Planned) (before : List Part) (t : Reporting) (c : records.Content) → Holds plan before t
-    → record_writes (modules_in before) (Ok (kind_in c)) (entries_in (Ok c)) t
-    ≡ content_reported (planned plan) before (held_text (planned plan) before) c
+    → made_by before c t ≡ content_reported (planned plan) before (held_text (planned plan) before) c
 content_reported_by plan before t (records.Gsd entries) h = rw (h.planned_so, h.defined, h.held) refl
 content_reported_by plan before t records.EndOfGsd h = ap held_writes h.held
 content_reported_by plan before t (records.Text address bytes) h = ap held_writes h.held
 content_reported_by plan before t (records.Relocations relocations) h = refl
 content_reported_by plan before t records.InternalSymbols h = refl
 content_reported_by plan before t records.EndOfModule h = ap held_writes h.held
-
-abbrev following : List Part → records.Content → Reporting → Reporting
-following before c t = with_record (modules_in before) (current_section (this_module before)) (Ok (kind_in c))
-    (entries_in (Ok c)) (text_in (Ok c)) (relocations_in (Ok c)) t
 
 after_plan : (before : List Part) (c : records.Content) (t : Reporting) → (following before c t).plan ≡ t.plan
 after_plan before (records.Gsd entries) t = refl
@@ -112,8 +131,7 @@ after_defined plan before records.InternalSymbols t h =
 after_defined plan before records.EndOfModule t h = h.defined ∙ sym (content_defined_is before records.EndOfModule)
 
 after_counts : (before : List Part) (c : records.Content) (t : Reporting)
-    → (following before c t).messages
-    ≡ counted t.messages (record_writes (modules_in before) (Ok (kind_in c)) (entries_in (Ok c)) t)
+    → (following before c t).messages ≡ counted t.messages (made_by before c t)
 after_counts before (records.Gsd entries) t = sym (held_uncounted t.messages t.held
     (entries_writes (planned t.plan) (modules_in before) t.defined entries))
 after_counts before records.EndOfGsd t = sym (held_alone t.messages t.held)
@@ -123,8 +141,7 @@ after_counts before records.InternalSymbols t = refl
 after_counts before records.EndOfModule t = sym (held_alone t.messages t.held)
 
 content_makes : (plan : Planned) (before : List Part) (c : records.Content)
-    → Makes plan before (parts_of c)
-    (λ t. record_writes (modules_in before) (Ok (kind_in c)) (entries_in (Ok c)) t) (following before c)
+    → Makes plan before (parts_of c) (made_by before c) (following before c)
 content_makes plan before c = record {
   reported = λ t h. content_reported_by plan before t c h
       ∙ sym (content_reported_is (planned plan) before (held_text (planned plan) before) c);
@@ -138,17 +155,6 @@ content_makes plan before c = record {
   };
   counts = λ t. after_counts before c t;
 }
-
--- the parts of a block that is a record
-pub block_makes : (plan : Planned) (before : List Part) (bytes : List ℕ) (c : records.Content) → content_of bytes ≡ Ok c
-    → Makes plan before (record_parts bytes) (bytes_writes (modules_in before) bytes)
-    (with_bytes (modules_in before) (current_section (this_module before)) bytes)
-block_makes plan before bytes c e =
-    let P : Result records.Content RecordFault → Type 0 = λ r. Makes plan before (parts_in r)
-    (λ t. record_writes (modules_in before) (r >>= λ content. Ok (kind_in content)) (entries_in r) t)
-    (λ t. with_record (modules_in before) (current_section (this_module before)) (r >>= λ content. Ok (kind_in content))
-    (entries_in r) (text_in r) (relocations_in r) t) in
-    subst P (sym e) (content_makes plan before c)
 
 -- the end of an object
 pub end_makes : (plan : Planned) (before : List Part)
@@ -468,11 +474,62 @@ module _ {seen : Emitting} (plan : Planned) (before : List Part) (s : Emitting) 
       subst P is (parts_taken plan before (EndOfFile ∷ []) (λ t. held_writes t.held) (with_held None) (end_makes plan before)
       seen here a b s' known result t.0 t.1 k)
 
-content_there : (r : Result records.Content RecordFault) → is_ok r ≡ true → (c : records.Content) × (r ≡ Ok c)
-content_there (Ok c) e = (c, refl)
-content_there (Err refused) e = absurd (false≢true e)
+-- ---- a record, by calls
 
--- where the next record stands
+module _ {seen : Emitting} (plan : Planned) (before : List Part) (s : Emitting) (c : records.Content) (is : seen ≡ s)
+    (stands : EmitStands plan before s) where
+  pub content_refused : (a : Outputs) (s' : Emitting) (new : Known) (broken : ModuleFault) (result : Result (Unit {0}) LinkFault)
+      → RulesTake seen.known new (parts_of c) (Err broken) → IsErrAnd result (λ f. f ≡ of_module broken)
+      → TakesParts plan before (call_of a a s s') (parts_of c) result
+  content_refused a s' new broken result h f =
+      let P : Emitting → Type 0 = λ x. TakesParts plan before (call_of a a x s') (parts_of c) result in
+      let now = here plan before s is stands in
+      subst P is (parts_refused plan before (parts_of c) (made_by before c) (following before c) (content_makes plan before c)
+      seen now a s' new broken result (taken_after before seen.known new (parts_of c) (Err broken) now.known h) f)
+
+  pub content_taken : (a b : Outputs) (s' : Emitting) (known : Known) (result : Result (Unit {0}) LinkFault)
+      → RulesTake seen.known known (parts_of c) (Ok tt)
+      → Goes a b (begin_writes seen ++ made_by before c (begun_reporting seen)) s'
+      (let now : Emitting = record seen { known = known } in with_reporting (following before c (begun_reporting seen)) now) result
+      → TakesParts plan before (call_of a b s s') (parts_of c) result
+  content_taken a b s' known result h k =
+      let P : Emitting → Type 0 = λ x. TakesParts plan before (call_of a b x s') (parts_of c) result in
+      let now = here plan before s is stands in
+      let t = taken_after before seen.known known (parts_of c) (Ok tt) now.known h in
+      subst P is (parts_taken plan before (parts_of c) (made_by before c) (following before c) (content_makes plan before c)
+      seen now a b s' known result t.0 t.1 k)
+
+-- one that has no parts
+pub nothing_taken : (plan : Planned) (before : List Part) (s : Emitting) → EmitStands plan before s → (a b : Outputs) (s' : Emitting)
+    (result : Result (Unit {0}) LinkFault) → Goes a b (begin_writes s) s' (with_reporting (begun_reporting s) s) result
+    → TakesParts plan before (call_of a b s s') [] result
+nothing_taken plan before s stands a b s' result k =
+    let P : List Write → Type 0 = λ ws. Goes a b ws s' (with_reporting (begun_reporting s) s) result in
+    content_taken plan before s records.InternalSymbols refl stands a b s' s.known result (none_taken s.known tt)
+    (subst P (sym (append-nil (begin_writes s))) k)
+
+-- the module in which the next record stands
+index_of : (before : List Part) (known : Known) → known ≡ known_of before → known.modules ≡ modules_in before
+unfolding known_of
+index_of before known e = ap (λ k. k.modules) e
+
+-- a directory record in the module of this index
+pub directory_taken : {seen : Emitting} (plan : Planned) (before : List Part) (s : Emitting) (entries : List GsdEntry) → seen ≡ s
+    → EmitStands plan before s → (a b : Outputs) (s' : Emitting) (known : Known) (index : ℕ) (result : Result (Unit {0}) LinkFault)
+    → index ≡ seen.known.modules → RulesTake seen.known known (directory_parts entries) (Ok tt)
+    → Goes a b (begin_writes seen ++ directory_writes index entries (begun_reporting seen)) s'
+    (let now : Emitting = record seen { known = known } in
+    with_reporting (with_directory index entries (begun_reporting seen)) now) result
+    → TakesParts plan before (call_of a b s s') (directory_parts entries) result
+directory_taken {seen} plan before s entries is stands a b s' known index result l h k =
+    let expected : ℕ → Emitting = λ i. let x : Emitting = record seen { known = known } in
+    with_reporting (with_directory i entries (begun_reporting seen)) x in
+    let G : ℕ → Type 0 = λ i.
+    Goes a b (begin_writes seen ++ directory_writes i entries (begun_reporting seen)) s' (expected i) result in
+    content_taken plan before s (records.Gsd entries) is stands a b s' known result h
+    (subst G (l ∙ index_of before seen.known (here plan before s is stands).known) k)
+
+-- where the next text stands
 abbrev Place : Type 0
 Place = ℕ × (ℕ × ℕ)
 
@@ -481,93 +538,24 @@ location_of : (before : List Part) (known : Known) → known ≡ known_of before
 unfolding known_of
 location_of before known e = ap (λ k. (k.modules, k.section)) e
 
-module _ {seen : Emitting} (plan : Planned) (before : List Part) (s : Emitting) (bytes : List ℕ) (is : seen ≡ s)
-    (there : IsRecord bytes) (stands : EmitStands plan before s) where
-  abbrev index : ℕ
-  index = modules_in before
-
-  abbrev section : ℕ × ℕ
-  section = current_section (this_module before)
-
-  makes : Makes plan before (record_parts bytes) (bytes_writes index bytes) (with_bytes index section bytes)
-  makes = let c = content_there (content_of bytes) there in block_makes plan before bytes c.0 c.1
-
-  pub record_refused : (a : Outputs) (s' : Emitting) (new : Known) (broken : ModuleFault) (result : Result (Unit {0}) LinkFault)
-      → (seen.known ≡ known_of before → TakesAfter before new (record_parts bytes) (Err broken))
-      → IsErrAnd result (λ f. f ≡ of_module broken) → TakesParts plan before (call_of a a s s') (record_parts bytes) result
-  record_refused a s' new broken result h f =
-      let P : Emitting → Type 0 = λ x. TakesParts plan before (call_of a a x s') (record_parts bytes) result in
-      let now = here plan before s is stands in
-      subst P is (parts_refused plan before (record_parts bytes) (bytes_writes index bytes)
-      (with_bytes index section bytes) makes seen now a s' new broken result (h now.known) f)
-
-  pub record_taken : (a b : Outputs) (s' : Emitting) (known : Known) (location : Place) (result : Result (Unit {0}) LinkFault)
-      → ◌≡◌ {A = Place} location (s.known.modules, s.known.section)
-      → (seen.known ≡ known_of before → TakesAfter before known (record_parts bytes) (Ok tt))
-      → Goes a b (begin_writes seen ++ bytes_writes location.0 bytes (begun_reporting seen)) s'
-      (let now : Emitting = record seen { known = known } in
-      with_reporting (with_bytes location.0 location.1 bytes (begun_reporting seen)) now) result
-      → TakesParts plan before (call_of a b s s') (record_parts bytes) result
-  record_taken a b s' known location result l h k =
-      let now = here plan before s is stands in
-      let t = h now.known in
-      let expected : Place → Emitting = λ at. let x : Emitting = record seen { known = known } in
-      with_reporting (with_bytes at.0 at.1 bytes (begun_reporting seen)) x in
-      let G : Place → Type 0 = λ at.
-      Goes a b (begin_writes seen ++ bytes_writes at.0 bytes (begun_reporting seen)) s' (expected at) result in
-      let k' = subst G (l ∙ location_of before s.known stands.known) k in
-      let P : Emitting → Type 0 = λ x. TakesParts plan before (call_of a b x s') (record_parts bytes) result in
-      subst P is (parts_taken plan before (record_parts bytes) (bytes_writes index bytes)
-      (with_bytes index section bytes) makes seen now a b s' known result t.0 t.1 k')
-
--- ---- a text, by calls
-
-module _ {seen : Emitting} (plan : Planned) (before : List Part) (s : Emitting) (address : ℕ) (text : List ℕ) (is : seen ≡ s)
-    (stands : EmitStands plan before s) where
-  abbrev text_parts : List Part
-  text_parts = Text address text ∷ []
-
-  abbrev text_after : Reporting → Reporting
-  text_after = with_text (modules_in before) (current_section (this_module before)) address text
-
-  text_makes : Makes plan before text_parts (λ t. held_writes t.held) text_after
-  text_makes = content_makes plan before (records.Text address text)
-
-  pub text_refused : (a : Outputs) (s' : Emitting) (new : Known) (broken : ModuleFault) (result : Result (Unit {0}) LinkFault)
-      → TakesOne seen.known new (Text address text) (Err broken) → IsErrAnd result (λ f. f ≡ of_module broken)
-      → TakesParts plan before (call_of a a s s') text_parts result
-  text_refused a s' new broken result h f =
-      let P : Emitting → Type 0 = λ x. TakesParts plan before (call_of a a x s') text_parts result in
-      let now = here plan before s is stands in
-      subst P is (parts_refused plan before text_parts (λ t. held_writes t.held) text_after text_makes seen now a s' new broken
-      result (taken_after before seen.known new text_parts (Err broken) now.known
-      (taken_one seen.known new (Text address text) (Err broken) h)) f)
-
-  pub text_taken : (a b : Outputs) (s' : Emitting) (known : Known) (location : Place) (done : Unit {0})
-      (result : Result (Unit {0}) LinkFault)
-      → ◌≡◌ {A = Place} location (s.known.modules, s.known.section)
-      → TakesOne seen.known known (Text address text) (Ok done)
-      → Goes a b (begin_writes seen ++ held_writes (begun_reporting seen).held) s'
-      (let now : Emitting = record seen { known = known } in
-      with_reporting (with_text location.0 location.1 address text (begun_reporting seen)) now) result
-      → TakesParts plan before (call_of a b s s') text_parts result
-  text_taken a b s' known location done result l h k =
-      let now = here plan before s is stands in
-      let t = taken_after before seen.known known text_parts (Ok done) now.known
-      (taken_one seen.known known (Text address text) (Ok done) h) in
-      let expected : Place → Emitting = λ at. let x : Emitting = record seen { known = known } in
-      with_reporting (with_text at.0 at.1 address text (begun_reporting seen)) x in
-      let G : Place → Type 0 = λ at.
-      Goes a b (begin_writes seen ++ held_writes (begun_reporting seen).held) s' (expected at) result in
-      let k' = subst G (l ∙ location_of before s.known stands.known) k in
-      let P : Emitting → Type 0 = λ x. TakesParts plan before (call_of a b x s') text_parts result in
-      subst P is (parts_taken plan before text_parts (λ t. held_writes t.held) text_after text_makes seen now a b s' known
-      result t.0 t.1 k')
+-- a text at this location
+pub text_taken : {seen : Emitting} (plan : Planned) (before : List Part) (s : Emitting) (address : ℕ) (text : List ℕ) → seen ≡ s
+    → EmitStands plan before s → (a b : Outputs) (s' : Emitting) (known : Known) (location : Place)
+    (result : Result (Unit {0}) LinkFault) → ◌≡◌ {A = Place} location (s.known.modules, s.known.section)
+    → RulesTake seen.known known (Text address text ∷ []) (Ok tt)
+    → Goes a b (begin_writes seen ++ held_writes (begun_reporting seen).held) s'
+    (let now : Emitting = record seen { known = known } in
+    with_reporting (with_text location.0 location.1 address text (begun_reporting seen)) now) result
+    → TakesParts plan before (call_of a b s s') (Text address text ∷ []) result
+text_taken {seen} plan before s address text is stands a b s' known location result l h k =
+    let expected : Place → Emitting = λ at. let x : Emitting = record seen { known = known } in
+    with_reporting (with_text at.0 at.1 address text (begun_reporting seen)) x in
+    let G : Place → Type 0 = λ at.
+    Goes a b (begin_writes seen ++ held_writes (begun_reporting seen).held) s' (expected at) result in
+    content_taken plan before s (records.Text address text) is stands a b s' known result h
+    (subst G (l ∙ location_of before s.known stands.known) k)
 
 -- ---- relocations, by calls
-
-abbrev pub relocating : List Relocation → Reporting → Reporting
-relocating relocations t = with_held (held_with_all (planned t.plan) t.held relocations) t
 
 -- what is written first changes no text that is held
 begun_after : (b : Bool) (t : Reporting) (ws : List Write) (relocations : List Relocation)
@@ -657,14 +645,6 @@ content_block plan before a b s s' items content result e h =
     let P : Result records.Content RecordFault → Type 0 = λ r. TakesParts plan before (call_of a b s s') (parts_in r) result in
     of_record plan before a b s s' items result (ap (λ (r : Result records.Content RecordFault). is_ok r) e)
     (subst P (sym e) h)
-
--- and by a record of the same bytes
-pub record_block : (plan : Planned) (before : List Part) (a b : Outputs) (s s' : Emitting) (items bytes : List ℕ)
-    (result : Result (Unit {0}) LinkFault) → bytes ≡ items → IsRecord items
-    → TakesParts plan before (call_of a b s s') (record_parts bytes) result → TakesBlock plan before (call_of a b s s') items result
-record_block plan before a b s s' items bytes result same is h =
-    let Q : List ℕ → Type 0 = λ these. TakesParts plan before (call_of a b s s') (record_parts these) result in
-    of_record plan before a b s s' items result is (subst Q same h)
 
 -- ---- the transfer block, by calls
 

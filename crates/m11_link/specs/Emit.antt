@@ -4,10 +4,7 @@ use Rattle.std.specs.Prelude.{◌≡◌, ◌⊎◌, ℕ, Bool, true, false, List
 use Rattle.indexmap.specs.IndexSet.{insert_key}
 use Rattle.m11_base.specs.Devices.{Bytes}
 use Rattle.m11_base.specs.Rad50.{Name, is_same_name}
-use Rattle.m11_obj.specs.Reading.{IsRecord, content_of, record_entries, record_kind, record_relocations, record_text}
-use Rattle.m11_obj.specs.declared.records.RecordKind.{RecordKind}
-use Rattle.m11_obj.specs.declared.records.RecordKind.TheVariants as kind
-use Rattle.m11_obj.specs.declared.fault.RecordFault.{RecordFault}
+use Rattle.m11_obj.specs.Reading.{IsRecord, content_of}
 use Rattle.m11_obj.specs.declared.gsd.GsdEntry.{GsdEntry}
 use Rattle.m11_obj.specs.declared.gsd.GsdKind.{GsdKind}
 use Rattle.m11_obj.specs.declared.gsd.GsdKind.TheVariants.{GlobalSymbol}
@@ -120,45 +117,19 @@ with_entries module_index entries t = record t {
 abbrev pub relocated_parts : List Relocation → List Part
 relocated_parts relocations = map (λ relocation. Relocated relocation) relocations
 
--- a text record's text counts from its section
-abbrev pub text_held : Findings → ℕ → Name → Option (ℕ × Bytes) → Option PlacedText
-text_held found module_index section None = None
-text_held found module_index section (Some text) = Some (placed_text found module_index section text.0 text.1)
-
 -- a text is held that counts from this section in the module of this index
 abbrev pub with_text : ℕ → Name → ℕ → Bytes → Reporting → Reporting
 with_text module_index section address bytes t =
     with_held (Some (placed_text (planned t.plan) module_index section address bytes)) t
 
--- what a record of this type and these entries writes that stands in the module of this index
-abbrev pub record_writes : ℕ → Result RecordKind RecordFault → List GsdEntry → Reporting → List Write
-record_writes module_index (Ok kind.Gsd) entries t =
+-- a directory record in the module of this index ends a text that is held, and its entries may give messages
+abbrev pub directory_writes : ℕ → List GsdEntry → Reporting → List Write
+directory_writes module_index entries t =
     held_writes t.held ++ entries_writes (planned t.plan) module_index t.defined entries
-record_writes module_index (Ok kind.Relocations) entries t = []
-record_writes module_index (Ok kind.InternalSymbols) entries t = []
-record_writes module_index (Ok other) entries t = held_writes t.held
-record_writes module_index (Err refused) entries t = []
 
--- and what stands after it, texts going to this section
-abbrev pub with_record : ℕ → Name → Result RecordKind RecordFault → List GsdEntry → Option (ℕ × Bytes)
-    → List Relocation → Reporting → Reporting
-with_record module_index section (Ok kind.Gsd) entries text relocations t =
-    with_entries module_index entries (with_held None t)
-with_record module_index section (Ok kind.Text) entries text relocations t =
-    with_held (text_held (planned t.plan) module_index section text) t
-with_record module_index section (Ok kind.Relocations) entries text relocations t =
-    with_held (held_with_all (planned t.plan) t.held relocations) t
-with_record module_index section (Ok kind.InternalSymbols) entries text relocations t = t
-with_record module_index section (Ok other) entries text relocations t = with_held None t
-with_record module_index section (Err refused) entries text relocations t = t
-
--- the same by the bytes of a record
-abbrev pub bytes_writes : ℕ → Bytes → Reporting → List Write
-bytes_writes module_index bytes t = record_writes module_index (record_kind bytes) (record_entries bytes) t
-
-abbrev pub with_bytes : ℕ → Name → Bytes → Reporting → Reporting
-with_bytes module_index section bytes t = with_record module_index section (record_kind bytes) (record_entries bytes)
-    (record_text bytes) (record_relocations bytes) t
+-- and what stands after it
+abbrev pub with_directory : ℕ → List GsdEntry → Reporting → Reporting
+with_directory module_index entries t = with_entries module_index entries (with_held None t)
 
 -- the writes were made and this stands after them; or they stopped
 abbrev pub Goes : {A S : Type 0} → Outputs → Outputs → List Write → S → S → Result A LinkFault → Type 0

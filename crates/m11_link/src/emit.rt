@@ -3,15 +3,15 @@
 ghost use Rattle.std.specs.Prelude.{◌≡◌, ◌≢◌, ◌≤◌, ℕ, length, ◌∷◌, ◌++◌, [], List, Some, None, Ok, Err, IfOk, false, is_some, IfErr};
 ghost use Rattle.std.specs.Result.{result_err};
 ghost use Rattle.m11_blocks.specs.Frames.{content_limit};
-ghost use Rattle.m11_obj.specs.Contents.{unread_content};
-ghost use Rattle.m11_obj.specs.Reading.{AreRelocations, IsRecord, checked, content_of, record_kind, relocations_left, relocations_of};
-ghost use Rattle.m11_obj.specs.declared.records.RecordKind.TheVariants as kind;
+ghost use Rattle.m11_obj.specs.Contents.{unread_content, unread_directory};
+ghost use Rattle.m11_obj.specs.Reading.{AreEntries, AreRelocations, IsRecord, checked, content_of, relocations_left, relocations_of};
 ghost use Rattle.m11_blocks.specs.Tapes.{tape_block};
-ghost use Rattle.m11_modules.specs.Parts.{Part, EndOfFile, Relocated, Relocations, Text, record_parts};
+ghost use Rattle.m11_modules.specs.Grammar.{directory_parts};
+ghost use Rattle.m11_modules.specs.Parts.{Part, EndOfDirectory, EndOfFile, EndOfModule, Relocated, Relocations, Text};
 ghost use Rattle.m11_modules.specs.Steps.{RulesTake, TakesOne};
 ghost use Rattle.m11_layout.specs.Plan.{Planned};
 ghost use Rattle.m11_layout.specs.declared.fault.LinkFault.{LinkFault};
-ghost use Rattle.m11_link.specs.Emit.{EmitEnds, EmitStands, FailsAgain, Goes, TakesBlock, TakesParts, begin_writes, begun_reporting, bytes_writes, call_of, held_with, held_with_all, held_writes, relocated_parts, with_bytes, with_held, with_reporting, with_text};
+ghost use Rattle.m11_link.specs.Emit.{EmitEnds, EmitStands, FailsAgain, Goes, TakesBlock, TakesParts, begin_writes, begun_reporting, call_of, directory_writes, held_with, held_with_all, held_writes, relocated_parts, with_directory, with_held, with_reporting, with_text};
 ghost use Rattle.m11_link_text.specs.Findings.{planned};
 ghost use Rattle.m11_writes.specs.Outputs.{Output, optional_output, output_of};
 ghost use Rattle.m11_link.specs.Outputs.{Finishes, Writes, outputs, outputs_of, to_tape};
@@ -22,7 +22,10 @@ use crate::reporting::Reporter;
 use m11_base::{Latch, Sink};
 use m11_layout::{LinkFault, Plan};
 use m11_modules::{ModuleFault, Rules, refuse};
-use m11_obj::{Block, Contents, Record, RecordFault, Relocation, UnreadRelocations, read_contents};
+use m11_obj::{
+    Block, Contents, GsdEntry, RecordFault, Relocation, UnreadEntries, UnreadRelocations,
+    read_contents,
+};
 use std::alloc::Global;
 use std::marker::Model;
 
@@ -184,10 +187,76 @@ impl Emit {
         ensures stays { is_some map.new ≡ is_some map.old }
     {
         match read_contents(block)? {
+            Contents::Directory(unread) => self.take_directory(&unread, tape, map, messages),
+            Contents::EndOfDirectory => self.take_end_of_directory(tape, map, messages),
             Contents::Text(address, bytes) => self.take_text(address, bytes, tape, map, messages),
             Contents::Relocations(mut unread) => self.take_relocations(&mut unread, map, messages),
-            Contents::Other(record) => self.take_other(&record, tape, map, messages),
+            Contents::InternalSymbols => self.begin(map, messages),
+            Contents::EndOfModule => self.take_end_of_module(tape, map, messages),
         }
+    }
+
+    // Takes the entries of a directory record, which stand in a block of these bytes. All of them are read before one is
+    // judged, since a fault of the record itself comes first.
+    fn take_directory<S: Sink, T: Sink, U: Sink>(
+        &mut self,
+        unread: &UnreadEntries<'_>,
+        tape: &mut S,
+        map: &mut Option<T>,
+        messages: &mut U,
+    ) -> Result<(), LinkFault>
+        ensures takes { (plan : Planned) (before : List Part) (bytes : List ℕ)
+            → EmitStands plan before self.old → content_of bytes ≡ unread_directory unread.now
+            → TakesBlock plan before (call_of
+            (outputs_of S.Sink T.Sink U.Sink tape.old map.old messages.old)
+            (outputs_of S.Sink T.Sink U.Sink tape.new map.new messages.new)
+            self.old self.new) bytes result }
+        ensures are { IfOk result (λ _. AreEntries unread.now) }
+        ensures kept { self.new.fault ≡ self.old.fault }
+        ensures stays { is_some map.new ≡ is_some map.old }
+    {
+        let entries = unread.read()?;
+        self.take_entries(entries.as_slice(), tape, map, messages)
+    }
+
+    // Takes a directory record of these entries. All of them are judged before anything is written.
+    fn take_entries<S: Sink, T: Sink, U: Sink>(
+        &mut self,
+        entries: &[GsdEntry],
+        tape: &mut S,
+        map: &mut Option<T>,
+        messages: &mut U,
+    ) -> Result<(), LinkFault>
+        ensures takes { (plan : Planned) (before : List Part) → EmitStands plan before self.old
+            → TakesParts plan before (call_of
+            (outputs_of S.Sink T.Sink U.Sink tape.old map.old messages.old)
+            (outputs_of S.Sink T.Sink U.Sink tape.new map.new messages.new)
+            self.old self.new) (directory_parts entries.now) result }
+        ensures kept { self.new.fault ≡ self.old.fault }
+        ensures stays { is_some map.new ≡ is_some map.old }
+    {
+        let module_index = self.rules.modules();
+        self.rules.directory(entries)?;
+        self.write_directory(module_index, entries, tape, map, messages)
+    }
+
+    // Takes the end of a directory.
+    fn take_end_of_directory<S: Sink, T: Sink, U: Sink>(
+        &mut self,
+        tape: &mut S,
+        map: &mut Option<T>,
+        messages: &mut U,
+    ) -> Result<(), LinkFault>
+        ensures takes { (plan : Planned) (before : List Part) → EmitStands plan before self.old
+            → TakesParts plan before (call_of
+            (outputs_of S.Sink T.Sink U.Sink tape.old map.old messages.old)
+            (outputs_of S.Sink T.Sink U.Sink tape.new map.new messages.new)
+            self.old self.new) (EndOfDirectory ∷ []) result }
+        ensures kept { self.new.fault ≡ self.old.fault }
+        ensures stays { is_some map.new ≡ is_some map.old }
+    {
+        self.rules.end_of_directory()?;
+        self.write_held(tape, map, messages)
     }
 
     // Takes a text. It is judged before anything is written.
@@ -213,27 +282,23 @@ impl Emit {
         self.write_text(location, address, bytes, tape, map, messages)
     }
 
-    // Takes a record that holds no text and no relocations. It is judged whole before anything is written.
-    fn take_other<S: Sink, T: Sink, U: Sink>(
+    // Takes the end of a module.
+    fn take_end_of_module<S: Sink, T: Sink, U: Sink>(
         &mut self,
-        record: &Record<'_>,
         tape: &mut S,
         map: &mut Option<T>,
         messages: &mut U,
     ) -> Result<(), LinkFault>
-        requires is { IsRecord «record».now }
-        requires other { (record_kind «record».now ≢ Ok kind.Relocations) × (record_kind «record».now ≢ Ok kind.Text) }
         ensures takes { (plan : Planned) (before : List Part) → EmitStands plan before self.old
             → TakesParts plan before (call_of
             (outputs_of S.Sink T.Sink U.Sink tape.old map.old messages.old)
             (outputs_of S.Sink T.Sink U.Sink tape.new map.new messages.new)
-            self.old self.new) (record_parts «record».now) result }
+            self.old self.new) (EndOfModule ∷ []) result }
         ensures kept { self.new.fault ≡ self.old.fault }
         ensures stays { is_some map.new ≡ is_some map.old }
     {
-        let location = self.location();
-        self.rules.record(record)?;
-        self.write(location, record, tape, map, messages)
+        self.rules.end_of_module()?;
+        self.write_held(tape, map, messages)
     }
 
     // Takes the relocations of a record, which stand in a block of these bytes. They are stored while they are judged,
@@ -320,7 +385,7 @@ impl Emit {
         Ok(())
     }
 
-    // Where the next record stands. It is asked for before the rules take the record, which may end the module.
+    // Where the next record stands.
     fn location(&self) -> ModuleSection
         ensures { result ≡ record { module_index = self.now.known.modules; section = self.now.known.section } }
     {
@@ -330,28 +395,46 @@ impl Emit {
         }
     }
 
-    // Writes what a record makes that stands at this location, and before it what is written first.
-    fn write<S: Sink, T: Sink, U: Sink>(
+    // Writes the messages on the entries of a directory record in the module of this index, and before them what is written
+    // first and the text that was held.
+    fn write_directory<S: Sink, T: Sink, U: Sink>(
         &mut self,
-        location: ModuleSection,
-        record: &Record<'_>,
+        module_index: usize,
+        entries: &[GsdEntry],
         tape: &mut S,
         map: &mut Option<T>,
         messages: &mut U,
     ) -> Result<(), LinkFault>
-        requires { (record_kind «record».now ≢ Ok kind.Relocations) × (record_kind «record».now ≢ Ok kind.Text) }
         ensures writes { Goes
             (outputs_of S.Sink T.Sink U.Sink tape.old map.old messages.old)
             (outputs_of S.Sink T.Sink U.Sink tape.new map.new messages.new)
-            (begin_writes self.old ++ bytes_writes location.module_index «record».now (begun_reporting self.old)) self.new
-            (with_reporting
-            (with_bytes location.module_index location.section «record».now (begun_reporting self.old)) self.old)
-            result }
+            (begin_writes self.old ++ directory_writes module_index entries.now (begun_reporting self.old)) self.new
+            (with_reporting (with_directory module_index entries.now (begun_reporting self.old)) self.old) result }
         ensures kept { self.new.fault ≡ self.old.fault }
         ensures stays { is_some map.new ≡ is_some map.old }
     {
         self.begin(map, messages)?;
-        self.reporter.note(location, record, tape, messages)
+        self.reporter
+            .note_directory(module_index, entries, tape, messages)
+    }
+
+    // Writes the text that was held, and before it what is written first.
+    fn write_held<S: Sink, T: Sink, U: Sink>(
+        &mut self,
+        tape: &mut S,
+        map: &mut Option<T>,
+        messages: &mut U,
+    ) -> Result<(), LinkFault>
+        ensures writes { Goes
+            (outputs_of S.Sink T.Sink U.Sink tape.old map.old messages.old)
+            (outputs_of S.Sink T.Sink U.Sink tape.new map.new messages.new)
+            (begin_writes self.old ++ held_writes (begun_reporting self.old).held) self.new
+            (with_reporting (with_held None (begun_reporting self.old)) self.old) result }
+        ensures kept { self.new.fault ≡ self.old.fault }
+        ensures stays { is_some map.new ≡ is_some map.old }
+    {
+        self.begin(map, messages)?;
+        self.reporter.end_text(tape)
     }
 
     // Holds a text that stands at this location, and writes the one that was held, and before it what is written first.

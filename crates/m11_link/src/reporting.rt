@@ -1,14 +1,12 @@
 //! What is made of records after the front: messages on entries, and texts as blocks of the tape.
 
-ghost use Rattle.std.specs.Prelude.{◌≡◌, ◌≢◌, ◌≤◌, ◌==◌, [], ◌∷◌, ◌++◌, length, Ok, Some, None, is_some, IfErr};
+ghost use Rattle.std.specs.Prelude.{◌≡◌, ◌≢◌, ◌≤◌, [], ◌∷◌, length, Some, None, is_some, IfErr};
 ghost use Rattle.m11_blocks.specs.Frames.{content_limit};
-ghost use Rattle.m11_obj.specs.Reading.{record_entries, record_kind};
-ghost use Rattle.m11_obj.specs.declared.records.RecordKind.TheVariants as kind;
 ghost use Rattle.m11_blocks.specs.Tapes.{tape_block};
 ghost use Rattle.m11_modules.specs.Names.{is_among};
 ghost use Rattle.m11_modules.specs.Rules.{defines};
 ghost use Rattle.m11_layout.specs.Sections.{attributes_by};
-ghost use Rattle.m11_link.specs.Emit.{Goes, EmitKeeps, bytes_writes, entries_writes, held_with, held_writes, with_bytes, with_count, with_entries, with_entry, with_held, with_name, with_symbol, with_text};
+ghost use Rattle.m11_link.specs.Emit.{Goes, EmitKeeps, directory_writes, entries_writes, held_with, held_writes, with_count, with_directory, with_entries, with_entry, with_held, with_name, with_symbol, with_text};
 ghost use Rattle.m11_link_text.specs.Findings.{planned};
 ghost use Rattle.m11_link.specs.Front.{front_writes};
 ghost use Rattle.m11_writes.specs.Outputs.{Output, optional_output, output_of};
@@ -23,9 +21,7 @@ use indexmap::IndexSet;
 use m11_base::{Name, Sink};
 use m11_layout::{LinkFault, Plan, section_attributes};
 use m11_link_text::{Line, different_line, multiple_line};
-use m11_obj::{
-    GsdEntry, GsdKind, Record, RecordKind, Relocation, SectionFlags, SymbolFlags, tape_transfer,
-};
+use m11_obj::{GsdEntry, GsdKind, Relocation, SectionFlags, SymbolFlags, tape_transfer};
 use std::alloc::Global;
 use std::marker::Model;
 
@@ -94,31 +90,25 @@ impl Reporter {
         Ok(())
     }
 
-    /// Writes what a record makes that stands at this location. Any record but relocations ends a text that is held. A
-    /// text is held by `note_text`, and relocations are stored one by one, by `relocate`.
+    /// Notes a directory record of these entries in the module of this index: it ends a text that is held, and its entries
+    /// may give messages.
     ///
     /// `Write` where an output failed; `NoMemory` where there is none for a block of the tape or a name.
-    pub(crate) fn note<S: Sink, U: Sink>(
+    pub(crate) fn note_directory<S: Sink, U: Sink>(
         &mut self,
-        location: ModuleSection,
-        record: &Record<'_>,
+        module_index: usize,
+        entries: &[GsdEntry],
         tape: &mut S,
         messages: &mut U,
     ) -> Result<(), LinkFault>
-        requires { (record_kind «record».now ≢ Ok kind.Relocations) × (record_kind «record».now ≢ Ok kind.Text) }
         ensures { (map : Output) → Goes
             (outputs (output_of S.Sink tape.old) map (output_of U.Sink messages.old))
             (outputs (output_of S.Sink tape.new) map (output_of U.Sink messages.new))
-            (bytes_writes location.module_index «record».now self.old) self.new
-            (with_bytes location.module_index location.section «record».now self.old) result }
+            (directory_writes module_index entries.now self.old) self.new
+            (with_directory module_index entries.now self.old) result }
     {
-        match record.kind() {
-            RecordKind::Gsd => self.note_directory(location.module_index, record, tape, messages),
-            RecordKind::EndOfGsd => self.end_text(tape),
-            RecordKind::Text | RecordKind::Relocations => unreachable!(),
-            RecordKind::InternalSymbols => Ok(()),
-            RecordKind::EndOfModule => self.end_text(tape),
-        }
+        self.end_text(tape)?;
+        self.note_entries(module_index, entries, messages)
     }
 
     /// Holds a text that stands at this location, since relocations may follow it. One that is held ends before it.
@@ -202,40 +192,21 @@ impl Reporter {
         }
     }
 
-    // A directory record: its entries may give messages.
-    fn note_directory<S: Sink, U: Sink>(
-        &mut self,
-        module_index: usize,
-        record: &Record<'_>,
-        tape: &mut S,
-        messages: &mut U,
-    ) -> Result<(), LinkFault>
-        ensures { (map : Output) → Goes
-            (outputs (output_of S.Sink tape.old) map (output_of U.Sink messages.old))
-            (outputs (output_of S.Sink tape.new) map (output_of U.Sink messages.new))
-            (held_writes self.old.held
-            ++ entries_writes (planned self.old.plan) module_index self.old.defined (record_entries «record».now))
-            self.new (with_entries module_index (record_entries «record».now) (with_held None self.old)) result }
-    {
-        self.end_text(tape)?;
-        self.note_entries(module_index, record, messages)
-    }
-
     // Notes the entries of a directory record in their order, in which their messages come.
     fn note_entries<U: Sink>(
         &mut self,
         module_index: usize,
-        record: &Record<'_>,
+        entries: &[GsdEntry],
         messages: &mut U,
     ) -> Result<(), LinkFault>
         ensures { (tape map : Output) → Goes
             (outputs tape map (output_of U.Sink messages.old))
             (outputs tape map (output_of U.Sink messages.new))
-            (entries_writes (planned self.old.plan) module_index self.old.defined (record_entries «record».now))
-            self.new (with_entries module_index (record_entries «record».now) self.old) result }
+            (entries_writes (planned self.old.plan) module_index self.old.defined entries.now)
+            self.new (with_entries module_index entries.now self.old) result }
     {
-        'entries: for index in 0..record.entry_count() {
-            match self.note_entry(module_index, &record.entry(index), messages) {
+        'entries: for entry in entries {
+            match self.note_entry(module_index, entry, messages) {
                 Ok(()) => {}
                 Err(fault) => return Err(fault),
             }

@@ -1,5 +1,5 @@
 -- Relocations that are taken while they are read.
-use Rattle.std.proofs.Common.{◌≡◌, ℕ, true, List, [], ◌∷◌, map, IfOk, Result, Ok, Err, refl, sym, subst, ap, ◌∙◌}
+use Rattle.std.proofs.Common.{◌≡◌, ℕ, List, [], ◌∷◌, map, IfOk, Result, Ok, Err, sym, subst, ap, ◌∙◌}
 use Rattle.m11_obj.specs.declared.fault.RecordFault.{RecordFault}
 use Rattle.m11_obj.specs.declared.relocations.Relocation.{Relocation}
 use Rattle.m11_obj.specs.Contents.{unread_content}

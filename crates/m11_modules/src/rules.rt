@@ -107,7 +107,7 @@ impl Rules {
         ensures { RulesTake self.old self.new (record_parts «record».now) result }
     {
         match record.kind() {
-            RecordKind::Gsd => self.directory(record),
+            RecordKind::Gsd => self.directory_record(record),
             RecordKind::EndOfGsd => self.end_of_directory(),
             RecordKind::Text => self.text(record.text_address(), record.text_bytes()),
             RecordKind::Relocations => self.relocations(record),
@@ -138,9 +138,11 @@ impl Rules {
         Ok(())
     }
 
-    // The end of the directory.
+    /// Takes the end of a directory: this call is one of `record` for such a record.
+    ///
+    /// Faults: `BadOrder` in the body of a module, then `TooManyModules` where it begins one.
     #[tactic(auto, unfolding(crate::specs::Steps::TakesOne, crate::specs::Steps::known_after, crate::specs::Rules::fault_known))]
-    fn end_of_directory(&mut self) -> Result<(), ModuleFault>
+    pub fn end_of_directory(&mut self) -> Result<(), ModuleFault>
         ensures { TakesOne self.old self.new EndOfDirectory result }
     {
         check_begin(self.stage, self.modules)?;
@@ -164,9 +166,9 @@ impl Rules {
         Ok(())
     }
 
-    // The end of a module.
+    /// Takes the end of a module: this call is one of `record` for such a record. `BadOrder` outside the body of a module.
     #[tactic(auto, unfolding(crate::specs::Steps::TakesOne, crate::specs::Steps::known_after, crate::specs::Rules::fault_known))]
-    fn end_of_module(&mut self) -> Result<(), ModuleFault>
+    pub fn end_of_module(&mut self) -> Result<(), ModuleFault>
         ensures { TakesOne self.old self.new EndOfModule result }
     {
         if self.stage != Stage::InBody {
@@ -180,20 +182,48 @@ impl Rules {
         Ok(())
     }
 
-    // A directory record and its entries.
+    /// Takes a directory record: this call is one of `record` for a record of these entries, for a caller that has read
+    /// them.
+    ///
+    /// Faults: `BadOrder` in the body of a module, then `TooManyModules` where it begins one; then those of the entries,
+    /// the first in their order; in one entry `BadOrder`, `UnknownSection`, then a limit. `NoMemory` as `record`.
     #[tactic(auto, using(crate::proofs::Taking::taken_then, crate::proofs::Taking::refused_first))]
-    fn directory(&mut self, record: &Record<'_>) -> Result<(), ModuleFault>
-        ensures { RulesTake self.old self.new
-            (Directory ∷ map (λ entry. Entry entry) (record_entries «record».now)) result }
+    pub fn directory(&mut self, entries: &[GsdEntry]) -> Result<(), ModuleFault>
+        ensures { RulesTake self.old self.new (Directory ∷ map (λ entry. Entry entry) entries.now) result }
     {
         match self.begin_directory() {
-            Ok(()) => self.entries(record),
+            Ok(()) => self.entries(entries),
             Err(fault) => Err(fault),
         }
     }
 
-    // The entries of a directory record.
-    fn entries(&mut self, record: &Record<'_>) -> Result<(), ModuleFault>
+    // The entries of a directory record, which were read.
+    fn entries(&mut self, entries: &[GsdEntry]) -> Result<(), ModuleFault>
+        ensures { RulesTake self.old self.new (map (λ entry. Entry entry) entries.now) result }
+    {
+        'entries: for entry in entries {
+            match self.entry(entry) {
+                Ok(()) => {}
+                Err(fault) => return Err(fault),
+            }
+        }
+        Ok(())
+    }
+
+    // A directory record and its entries.
+    #[tactic(auto, using(crate::proofs::Taking::taken_then, crate::proofs::Taking::refused_first))]
+    fn directory_record(&mut self, record: &Record<'_>) -> Result<(), ModuleFault>
+        ensures { RulesTake self.old self.new
+            (Directory ∷ map (λ entry. Entry entry) (record_entries «record».now)) result }
+    {
+        match self.begin_directory() {
+            Ok(()) => self.each_entry(record),
+            Err(fault) => Err(fault),
+        }
+    }
+
+    // The entries of a directory record, each of which is read when it comes.
+    fn each_entry(&mut self, record: &Record<'_>) -> Result<(), ModuleFault>
         ensures { RulesTake self.old self.new (map (λ entry. Entry entry) (record_entries «record».now)) result }
     {
         'entries: for index in 0..record.entry_count() {

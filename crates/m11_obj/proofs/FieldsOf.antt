@@ -165,7 +165,7 @@ pub ok_value : {A : Type 0} (r : Result A RecordFault) → is_ok r ≡ true → 
 ok_value (Ok x) e = (x, refl)
 ok_value (Err fault) e = absurd cc
 
-type_takes : (bytes : List ℕ) (x : RecordKind × List ℕ) → first_type bytes ≡ Ok x → Takes 2 bytes x.1
+pub type_takes : (bytes : List ℕ) (x : RecordKind × List ℕ) → first_type bytes ≡ Ok x → Takes 2 bytes x.1
 unfolding first_type
 type_takes bytes x e =
     let a = bind_ok (first_word bytes) (λ code. record_kind_of code.0 >>= λ type. Ok (type, code.1)) x e in

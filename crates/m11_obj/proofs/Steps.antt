@@ -3,10 +3,11 @@ use Rattle.std.proofs.Common.{◌≡◌, ℕ, ◌+◌, ◌%◌, ◌<◌, ◌≤�
 use Rattle.std.specs.Prelude.{nat_le}
 use Rattle.m11_obj.specs.declared.fault.RecordFault.{RecordFault}
 use Rattle.m11_obj.specs.declared.gsd.GsdEntry.{GsdEntry}
+use Rattle.m11_obj.specs.declared.records.RecordKind.{RecordKind}
 use Rattle.m11_obj.specs.declared.relocations.Target.{Target}
 use Rattle.m11_obj.specs.declared.relocations.Relocation.{Relocation}
-use Rattle.m11_obj.specs.Reading.{◌>>=◌, first_byte, first_word, first_name, first_entry, entries_of, Form, Nothing, Constant, Name, NameAndConstant, form_of, first_target, first_relocation, relocations_of, checked}
-use Rattle.m11_obj.proofs.FieldsOf.{Takes, done, ok_is, bind_ok, byte_takes, word_takes, name_takes, entry_takes}
+use Rattle.m11_obj.specs.Reading.{◌>>=◌, first_byte, first_word, first_name, first_entry, first_type, entries_of, Form, Nothing, Constant, Name, NameAndConstant, form_of, first_target, first_relocation, relocations_of, checked}
+use Rattle.m11_obj.proofs.FieldsOf.{Takes, done, ok_is, bind_ok, byte_takes, word_takes, name_takes, entry_takes, type_takes}
 use Rattle.m11_obj.proofs.Items.{Shrinks, checked_step, items_stop, items_none}
 
 takes_length : (count : ℕ) (bytes rest : List ℕ) → Takes count bytes rest → length rest + count ≡ length bytes
@@ -16,12 +17,18 @@ takes_length count bytes rest takes =
 ok_length : {A : Type 0} (x y : A × List ℕ) → done x ≡ done y → length x.1 ≡ length y.1
 ok_length {A} x y e = ap (λ (p : A × List ℕ). length p.1) (ok_is x y e)
 
+-- ---- the type
+
+pub type_length : (bytes : List ℕ) (x : RecordKind × List ℕ) → first_type bytes ≡ Ok x → length x.1 + 2 ≡ length bytes
+type_length bytes x is = takes_length 2 bytes x.1 (type_takes bytes x is)
+
 -- ---- entries
 
+pub entry_length : (bytes : List ℕ) (x : GsdEntry × List ℕ) → first_entry bytes ≡ Ok x → length x.1 + 8 ≡ length bytes
+entry_length bytes x is = takes_length 8 bytes x.1 (entry_takes bytes x is)
+
 pub entry_shrinks : Shrinks first_entry
-entry_shrinks = record {
-  shorter = λ bytes x is. omega (arith, takes_length 8 bytes x.1 (entry_takes bytes x is));
-}
+entry_shrinks = record { shorter = λ bytes x is. omega (arith, entry_length bytes x is) }
 
 -- ---- relocations
 

@@ -1,5 +1,5 @@
 -- Relocations that are still to be read: the next of them, and what they are where all were read.
-use Rattle.std.proofs.Common.{◌≡◌, ℕ, ◌<◌, ◌≤◌, true, List, [], ◌∷◌, length, Result, Ok, Err, refl, sym, ap, subst, ◌∙◌, arith}
+use Rattle.std.proofs.Common.{◌≡◌, ℕ, ◌<◌, ◌≤◌, true, List, [], ◌∷◌, length, Result, Ok, Err, refl, sym, ap, subst, ◌∙◌}
 use Rattle.std.specs.Prelude.{is_ok}
 use Rattle.std.specs.Result.{result_unwrap_or}
 use Rattle.m11_obj.specs.declared.fault.RecordFault.{RecordFault}
@@ -9,7 +9,7 @@ use Rattle.m11_obj.specs.Records.{Content, Relocations}
 use Rattle.m11_obj.specs.Reading.{◌>>=◌, AreRelocations, checked, first_relocation, relocations_left, relocations_of}
 use Rattle.m11_obj.proofs.Items.{items_none, items_step, items_stop}
 use Rattle.m11_obj.proofs.Steps.{relocation_shrinks}
-use Rattle.m11_obj.proofs.Walks.{Walks, walks_by}
+use Rattle.m11_obj.proofs.Walks.{walks_by}
 
 abbrev Found : Type 0
 Found = Result (List Relocation) RecordFault

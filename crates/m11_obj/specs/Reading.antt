@@ -245,6 +245,10 @@ relocations_in content = []
 abbrev pub record_relocations : Bytes → List Relocation
 record_relocations bytes = relocations_in (content_of bytes)
 
+-- the bytes are those of directory entries, up to their end
+abbrev pub AreEntries : Bytes → Type 0
+AreEntries bytes = is_ok (entries_of bytes) ≡ true
+
 -- the bytes are those of relocations, up to their end
 abbrev pub AreRelocations : Bytes → Type 0
 AreRelocations bytes = is_ok (relocations_of bytes) ≡ true

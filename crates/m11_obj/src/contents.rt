@@ -1,17 +1,35 @@
-//! What stands in a block, read no more than once: a caller that uses each relocation when it comes reads it then, and
-//! not before. (RT-11 Volume and File Formats Manual, "Object file format".)
+//! What stands in a block, read once: entries and relocations are read when the caller asks for them, and not before.
+//! (RT-11 Volume and File Formats Manual, "Object file format".)
 
-ghost use Rattle.std.specs.Prelude.{◌≡◌, ◌≤◌, length};
-ghost use Rattle.m11_blocks.specs.Frames.{content_limit};
+ghost use Rattle.std.specs.Prelude.{◌≡◌};
 ghost use Rattle.m11_obj.specs.Contents.{ReadsContents, ReadsRelocation};
-ghost use Rattle.m11_obj.specs.Reading.{checked, relocations_of};
+ghost use Rattle.m11_obj.specs.Reading.{Gives, checked, entries_of, relocations_of};
 
 use crate::fault::RecordFault;
-use crate::reading::{check_after, check_relocations, first_relocation, first_type, first_word};
-use crate::records::{Record, RecordKind};
+use crate::gsd::Entries;
+use crate::reading::{check_relocations, first_relocation, first_type, first_word, read_entries};
+use crate::records::RecordKind;
 use crate::relocations::Relocation;
 use m11_blocks::Block;
 use std::marker::Model;
+
+/// The entries of a directory record that are still to be read. It takes no memory.
+#[derive(Drop)]
+pub struct UnreadEntries<'a> {
+    rest: &'a [u8],
+}
+
+impl<'a> Model for UnreadEntries<'a> {
+    ghost use Rattle.std.specs.Prelude.{ℕ, ◌+◌, ◌≤◌, List, length};
+    ghost use Rattle.m11_blocks.specs.Frames.{content_limit};
+
+    ghost Value = { List ℕ };
+
+    ghost view = { λ u. u.rest.now };
+
+    // They stand after the type word of a block's content.
+    ghost invariant = { λ u. length u.rest.now + 2 ≤ content_limit };
+}
 
 /// The relocations of a record that are still to be read. It takes no memory.
 #[derive(Drop)]
@@ -27,20 +45,26 @@ impl<'a> Model for UnreadRelocations<'a> {
     ghost view = { λ u. u.rest.now };
 }
 
-/// What stands in a block.
+/// What stands in a block, by the type of its record.
 #[derive(Drop)]
 pub enum Contents<'a> {
+    /// Entries of the directory, which are still to be read.
+    Directory(UnreadEntries<'a>),
+    /// The end of the directory.
+    EndOfDirectory,
     /// A text: its load address, which counts from the base of the current section, and its bytes.
     Text(u16, &'a [u8]),
     /// Relocations of the text before, which are still to be read.
     Relocations(UnreadRelocations<'a>),
-    /// A record of another type, which was read whole.
-    Other(Record<'a>),
+    /// The directory of internal symbols, of which nothing is read.
+    InternalSymbols,
+    /// The end of the module.
+    EndOfModule,
 }
 
 /// What stands in a block's content, to which it refers. It takes no memory.
 ///
-/// Faults: those of `read_record`, but that one of relocations comes when they are read.
+/// Faults: those of `read_record`, but that one of entries or relocations comes when they are read.
 #[inline]
 #[tactic(auto, unfolding(crate::specs::Reading::content_of, crate::specs::Reading::content_after))]
 pub fn read_contents(block: &Block) -> Result<Contents<'_>, RecordFault>
@@ -49,15 +73,24 @@ pub fn read_contents(block: &Block) -> Result<Contents<'_>, RecordFault>
     let content = block.as_slice();
     let (kind, rest) = first_type(content)?;
     match kind {
+        RecordKind::Gsd => Ok(Contents::Directory(UnreadEntries { rest })),
+        RecordKind::EndOfGsd => Ok(Contents::EndOfDirectory),
         RecordKind::Text => {
             let (address, bytes) = first_word(rest)?;
             Ok(Contents::Text(address, bytes))
         }
         RecordKind::Relocations => Ok(Contents::Relocations(UnreadRelocations { rest })),
-        _ => {
-            check_after(kind, rest)?;
-            Ok(Contents::Other(Record { content }))
-        }
+        RecordKind::InternalSymbols => Ok(Contents::InternalSymbols),
+        RecordKind::EndOfModule => Ok(Contents::EndOfModule),
+    }
+}
+
+impl UnreadEntries<'_> {
+    /// Reads all of them, each once. A fault is the first in the order of their bytes.
+    pub fn read(&self) -> Result<Entries, RecordFault>
+        ensures { Gives (λ entries. entries.items) result (entries_of self.now) }
+    {
+        read_entries(self.rest)
     }
 }
 

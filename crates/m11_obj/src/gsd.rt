@@ -7,8 +7,9 @@ ghost use Rattle.m11_base.specs.Rad50.{IsName};
 ghost use Rattle.m11_blocks.specs.Frames.{word_bytes, content_limit};
 ghost use Rattle.m11_obj.specs.Gsd.{kind_code, name_bytes, entry_bytes, EntryFits};
 
+use arrayvec::ArrayVec;
 use byteorder::{ByteOrder, LittleEndian};
-use m11_base::Name;
+use m11_base::{Name, blank_name};
 use m11_blocks::Block;
 
 /// What an entry says.
@@ -59,6 +60,22 @@ pub struct GsdEntry {
     /// A section's size in bytes, a symbol's value, or the offset of the transfer address in its section.
     pub value: u16,
 }
+
+impl Default for GsdEntry {
+    /// A blank name of a module, which stands in the room for entries until they are read.
+    #[inline]
+    fn default() -> GsdEntry {
+        GsdEntry {
+            name: blank_name(),
+            flags: 0,
+            kind: GsdKind::ModuleName,
+            value: 0,
+        }
+    }
+}
+
+/// The entries of a directory record, of which a block holds at most 63. They take no memory of the heap.
+pub type Entries = ArrayVec<GsdEntry, 63>;
 
 // Adds a word to a block's content.
 pub(crate) fn put_word(content: &mut Block, word: u16)

@@ -13,10 +13,10 @@ mod records;
 mod relocation_walk;
 mod relocations;
 
-pub use contents::{Contents, UnreadRelocations, read_contents};
+pub use contents::{Contents, UnreadEntries, UnreadRelocations, read_contents};
 pub use fault::RecordFault;
 pub use flags::{SectionFlags, SymbolFlags};
-pub use gsd::{GsdEntry, GsdKind};
+pub use gsd::{Entries, GsdEntry, GsdKind};
 pub use m11_blocks::{
     Block, BlockFault, BlockReader, TapeFault, TapePart, TapeReader, block_bytes, blocks_are_read,
     tape_block, tape_transfer, tapes_are_read,

@@ -1,14 +1,14 @@
 //! Reading fields from the front of bytes: each call returns the field and the bytes after it, or the
 //! first fault. (RT-11 Volume and File Formats Manual, "Object file format".)
 
-ghost use Rattle.std.specs.Prelude.{◌≡◌, ◌≤◌, length, Ok, OnOk};
+ghost use Rattle.std.specs.Prelude.{◌≡◌, ◌+◌, ◌≤◌, length, Ok, OnOk};
 ghost use Rattle.m11_obj.specs.Commands.{form_in};
 ghost use Rattle.m11_blocks.specs.Frames.{content_limit};
 ghost use Rattle.m11_obj.specs.Reading.{Gives, checked, first_byte, first_word, first_name, entry_kind, first_entry, entries_of, first_target, first_relocation, relocations_of, record_kind_of, first_type, content_after, content_of, SaysWhatStands};
 
 use crate::commands::{Command, command_of};
 use crate::fault::RecordFault;
-use crate::gsd::{GsdEntry, GsdKind};
+use crate::gsd::{Entries, GsdEntry, GsdKind};
 use crate::records::RecordKind;
 use crate::relocations::{Relocation, Target};
 use byteorder::{ByteOrder, LittleEndian};
@@ -170,6 +170,25 @@ pub(crate) fn first_type(bytes: &[u8]) -> Result<(RecordKind, &[u8]), RecordFaul
     Ok((kind, rest))
 }
 
+// The directory entries that stand in the bytes of a record after its type word, up to their end.
+pub(crate) fn read_entries(bytes: &[u8]) -> Result<Entries, RecordFault>
+    requires { length bytes.now + 2 ≤ content_limit }
+    ensures { Gives (λ entries. entries.items) result (entries_of bytes.now) }
+{
+    let mut entries = Entries::new();
+    let mut rest = bytes;
+    'entries: while !rest.is_empty() {
+        match first_entry(rest) {
+            Ok((entry, following)) => {
+                entries.push(entry);
+                rest = following;
+            }
+            Err(fault) => return Err(fault),
+        }
+    }
+    Ok(entries)
+}
+
 // Whether the bytes are directory entries, up to their end.
 fn check_entries(bytes: &[u8]) -> Result<(), RecordFault>
     ensures { result ≡ checked (entries_of bytes.now) }
@@ -200,7 +219,7 @@ pub(crate) fn check_relocations(bytes: &[u8]) -> Result<(), RecordFault>
 
 // Whether the bytes are what stands after a type word.
 #[tactic(auto, unfolding(crate::specs::Reading::content_after))]
-pub(crate) fn check_after(kind: RecordKind, bytes: &[u8]) -> Result<(), RecordFault>
+fn check_after(kind: RecordKind, bytes: &[u8]) -> Result<(), RecordFault>
     ensures { result ≡ checked (content_after kind bytes.now) }
 {
     match kind {

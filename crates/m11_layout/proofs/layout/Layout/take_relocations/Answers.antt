@@ -1,4 +1,4 @@
-use Rattle.std.proofs.Common.{◌∷◌, ◌∙◌, ◌++◌, List, sym, subst, refl, Ok, Err}
+use Rattle.std.proofs.Common.{◌∷◌, ◌++◌, List, sym, subst, refl, Ok}
 use Rattle.m11_obj.proofs.Unread.{are_where_checked}
 use Rattle.m11_modules.specs.Parts.{Part, Relocations}
 use Rattle.m11_modules.specs.Steps.{RulesTake}

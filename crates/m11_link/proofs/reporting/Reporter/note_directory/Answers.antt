@@ -1,4 +1,3 @@
-use Rattle.m11_obj.specs.Reading.{record_entries}
 use Rattle.m11_link.proofs.Entering.{directory_then, goes_stopped}
 use Rattle.m11_link.proofs.reporting.Reporter.note_directory.Goals as goal
 
@@ -7,4 +6,4 @@ returns-in_err-end_text g c = λ map. goes_stopped _ _ _ _ _ _ _ _ (c.in_err-end
 
 pub returns : goal.returns
 returns g c = λ map. directory_then _ _ _ c.args.self.now c.end_text.new.self c.note_entries.new.self c.args.module_index
-    (record_entries c.args.record.now) c.note_entries.result (c.in_ok-end_text.ensures map _) (c.note_entries.ensures _ map)
+    c.args.entries.now c.note_entries.result (c.in_ok-end_text.ensures map _) (c.note_entries.ensures _ map)

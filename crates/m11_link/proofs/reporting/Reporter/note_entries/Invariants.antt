@@ -1,5 +1,4 @@
 use Rattle.std.proofs.Common.{drop}
-use Rattle.m11_obj.specs.Reading.{record_entries}
 use Rattle.m11_writes.specs.Outputs.{Output, output_of}
 use Rattle.m11_link.specs.Outputs.{outputs}
 use Rattle.m11_link.proofs.Entering.{LeadsEntries}
@@ -8,5 +7,4 @@ use Rattle.m11_link.proofs.reporting.Reporter.note_entries.Given as goal
 abbrev pub invariant-entries : goal.invariant-entries
 invariant-entries g l = (tape map : Output) → LeadsEntries l.module_index
     (outputs tape map (output_of g.U.Sink l.initial.messages)) l.initial.self
-    (outputs tape map (output_of g.U.Sink l.messages)) l.self
-    (drop l.index (record_entries l.record)) (record_entries l.record)
+    (outputs tape map (output_of g.U.Sink l.messages)) l.self (drop l.entry-index l.entries) l.entries

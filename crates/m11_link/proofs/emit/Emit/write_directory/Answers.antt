@@ -1,13 +1,12 @@
-use Rattle.m11_link.specs.Emit.{bytes_writes, with_bytes}
+use Rattle.m11_link.specs.Emit.{directory_writes, with_directory}
 use Rattle.m11_link.proofs.Emitted.{written_then}
 use Rattle.m11_link.proofs.Entering.{goes_stopped}
-use Rattle.m11_link.proofs.emit.Emit.write.Goals as goal
+use Rattle.m11_link.proofs.emit.Emit.write_directory.Goals as goal
 
 pub returns-in_err-begin-clause-writes : goal.returns-in_err-begin-clause-writes
 returns-in_err-begin-clause-writes g c = goes_stopped _ _ _ _ _ _ _ _ (c.in_err-begin.ensures.writes _) c.from_residual.ensures.1
 
 pub returns-clause-writes : goal.returns-clause-writes
 returns-clause-writes g c = written_then c.args.self.now c.begin.new.self _ _ _
-    (bytes_writes c.args.location.module_index c.args.record.now)
-    (with_bytes c.args.location.module_index c.args.location.section c.args.record.now)
-    c.note.new.self c.note.result c.self.view_is (c.in_ok-begin.ensures.writes _) (c.note.ensures _)
+    (directory_writes c.args.module_index c.args.entries.now) (with_directory c.args.module_index c.args.entries.now)
+    c.note_directory.new.self c.note_directory.result c.self.view_is (c.in_ok-begin.ensures.writes _) (c.note_directory.ensures _)
