@@ -1,6 +1,7 @@
 pub mod EachOctet
 pub mod Fields
 pub mod Items
+pub mod Offsets
 pub mod LinesShown
 pub mod Reading
 pub mod Taping

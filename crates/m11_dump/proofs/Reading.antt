@@ -1,5 +1,5 @@
 -- The blocks of an object, read and shown one after another.
-use Rattle.std.proofs.Common.{◌≡◌, ◌∙◌, ℕ, ◌+◌, ◌*◌, ◌^◌, ◌<◌, ◌≤◌, ◌↔◌, Bool, true, false, IsTrue, IsErr, List, [], ◌∷◌, ◌++◌, append-nil, append_assoc, length, Option, Some, None, Ok, Err, refl, sym, ap, subst, arith}
+use Rattle.std.proofs.Common.{◌≡◌, ◌∙◌, ℕ, ◌+◌, ◌^◌, ◌<◌, ◌≤◌, ◌↔◌, Bool, true, false, IsTrue, IsErr, List, [], ◌∷◌, ◌++◌, append-nil, append_assoc, length, Option, Some, None, Ok, Err, refl, sym, ap, subst, arith}
 use Rattle.std.specs.List.{AllByRecursion}
 use Rattle.std.specs.Io.KnownBytes.{Appends}
 use Rattle.m11_blocks.specs.declared.block_fault.BlockFault.{BlockFault}
@@ -9,7 +9,9 @@ use Rattle.m11_blocks.proofs.Limits.{took_nothing, took_then}
 use Rattle.m11_obj.specs.Reading.{IsRecord, content_of}
 use Rattle.m11_writes.specs.Outputs.{Output}
 use Rattle.m11_dump.specs.Records.{shown}
-use Rattle.m11_dump.specs.Objects.{AreInFront, DumpsObject, FailsAt, Shows, ShowsBlock, StopsAfter, after, after_all, object_text, placed_at, start, text_from}
+use Rattle.m11_dump.specs.Objects.{AreInFront, DumpsObject, FailsAt, HidesBlock, Shows, ShowsBlock, ShowsRecord, StopsAfter, after, after_all, object_text, start, text_from}
+use Rattle.m11_dump.specs.Places.{RecordShowsAt, count_read, placed_at, stop_byte}
+use Rattle.m11_dump.proofs.Offsets.{read_is, stops_at}
 use Rattle.m11_dump.specs.declared.fault.DumpFault.{DumpFault}
 use Rattle.m11_dump.specs.declared.fault.DumpFault.TheVariants as fault
 use Rattle.m11_dump.specs.declared.fault.Placed.{Placed}
@@ -51,14 +53,30 @@ appends_then (Some x) None t2 xs ys a b = absurd a
 appends_then (Some x) (Some y) None xs ys a b = absurd b
 appends_then (Some x) (Some y) (Some z) xs ys a b = b ∙ ap (λ (text : List ℕ). text ++ ys) a ∙ append_assoc x xs ys
 
+-- a record that wasn't shown
+record_hides : (view : View) (s : Stand) (content : List ℕ) (count : ℕ) (output output' : Output) (f : DumpFault) → IsRecord content
+    → ShowsRecord view s content output output' (Err f) → HidesBlock view s content count output output' f count
+record_hides view s content count output output' (fault.Block inner) is h = absurd h
+record_hides view s content count output output' (fault.Record inner) is h = absurd h
+record_hides view s content count output output' (fault.Tape inner) is h = absurd h
+record_hides view s content count output output' fault.Write is h = (is, h, refl)
+record_hides view s content count output output' fault.NoMemory is h = (is, h, refl)
+
+pub record_hidden : (view : View) (s : Stand) (content : List ℕ) (count : ℕ) (output output' : Output) (f : DumpFault) (said : Placed)
+    → said ≡ placed_at f s.blocks count → IsRecord content → ShowsRecord view s content output output' (Err f)
+    → ShowsBlock view s content count output output' (Err said)
+record_hidden view s content count output output' f said e is h =
+    let P : Placed → Type 0 = λ x. ShowsBlock view s content count output output' (Err x) in
+    subst P (sym e) (record_hides view s content count output output' f is h, refl)
+
 -- ---- how far a dump has come
 
 -- these blocks were shown, and the dump stands after them; the room bounds how many there are, and how large
 pub record Dumping (view : View) (old here : Place) (output output' : Output) (s : Stand) (contents : List (List ℕ)) : Type 0 where
   pub shows : Shows view old here output output' contents
   pub stands : s ≡ after_all start contents
+  pub whole : old.room ≡ 4194304
   pub few : s.blocks + here.room ≤ 4194304
-  pub small : s.bytes ≤ 600 * s.blocks
 
 pub dump_begins : (view : View) (old : Place) (output : Output) → old.room ≡ 4194304 → Dumping view old old output output start []
 dump_begins view old output room = record {
@@ -71,8 +89,8 @@ dump_begins view old output room = record {
     faults = refl;
   };
   stands = refl;
+  whole = room;
   few = omega (arith, room);
-  small = omega arith;
 }
 
 -- a block is some bytes
@@ -98,51 +116,49 @@ module _ (view : View) (old here : Place) (output output' : Output) (s : Stand) 
   pub blocks_fit : s.blocks < 2 ^ 32
   blocks_fit = omega (arith, d.few)
 
-  pub bytes_fit : s.bytes < 2 ^ 48
-  bytes_fit = omega (arith, d.few, d.small)
-
   pub dump_ends : (new : Place) (done : Unit {0}) → Stops first_block here new EndsBetween
       → DumpsObject view old new output output' (Ok done)
   dump_ends new done stops = (contents, here, d.shows, stops)
 
-  place_is : (f : DumpFault) (said : Placed) → said ≡ placed_at f s → said ≡ placed_at f (after_all start contents)
-  place_is f said e = e ∙ ap (placed_at f) d.stands
+  number_is : s.blocks + 1 ≡ (after_all start contents).blocks + 1
+  number_is = ap (λ (x : Stand). x.blocks + 1) d.stands
 
-  stopped : (f : DumpFault) (new : Place) (final : Output) (said : Placed) → said ≡ placed_at f s
-      → StopsAfter view f here new output' final contents → DumpsObject view old new output final (Err said)
-  stopped f new final said e h =
-      let is = place_is f said e in
-      let same : said.fault ≡ f = ap (λ (p : Placed). p.fault) e in
-      let P : DumpFault → Type 0 = λ x. StopsAfter view x here new output' final contents in
-      let Q : DumpFault → Type 0 = λ x. said ≡ placed_at x (after_all start contents) in
-      (contents, here, output', d.shows, subst P (sym same) h, subst Q (sym same) is)
-
-  pub block_refused : (new : Place) (inner : BlockFault) (said : Placed) → said ≡ placed_at (fault.Block inner) s
-      → Stops first_block here new (why_of inner) → DumpsObject view old new output output' (Err said)
-  block_refused new inner said e h = stopped (fault.Block inner) new output' said e (h, refl)
+  pub block_refused : (new : Place) (inner : BlockFault) (said : Placed) (byte count : ℕ)
+      → said ≡ placed_at (fault.Block inner) s.blocks byte → byte ≡ stop_byte (why_of inner) count → count ≡ count_read new → Stops first_block here new (why_of inner)
+      → DumpsObject view old new output output' (Err said)
+  block_refused new inner said byte count e is read h =
+      let P : Placed → Type 0 = λ x. DumpsObject view old new output output' (Err x) in
+      let stops = stops_at first_block (why_of inner) old here new d.shows.given byte d.whole d.shows.took h
+      (is ∙ ap (stop_byte (why_of inner)) read) in
+      subst P (sym e) (contents, here, output', d.shows, (stops, refl), number_is)
 
   module _ (new : Place) (content : List ℕ) (r : Reads first_block here new content) (final : Output) where
-    record_refused : (f : DumpFault) (said : Placed) → said ≡ placed_at f s
-        → ShowsBlock view s content output' final (Err f) → DumpsObject view old new output final (Err said)
-    record_refused (fault.Block inner) said e h = absurd h.1
-    record_refused (fault.Record inner) said e h = stopped (fault.Record inner) new final said e (content, r, h.0, h.1)
-    record_refused (fault.Tape inner) said e h = absurd h.1
-    record_refused fault.Write said e h =
+    count_is : count_read new ≡ length (d.shows.given ++ r.given)
+    count_is = read_is old here new d.shows.given r.given d.whole d.shows.took r.took.room
+
+    hidden : (f : DumpFault) (byte : ℕ) → HidesBlock view s content (count_read new) output' final f byte
+        → StopsAfter view f here new output' final contents d.shows.given byte
+    hidden (fault.Block inner) byte h = absurd h.1
+    hidden (fault.Record inner) byte h =
+        let P : ℕ → Type 0 = λ n. RecordShowsAt inner content n byte in (content, r, h.0, h.1, subst P count_is h.2)
+    hidden (fault.Tape inner) byte h = absurd h.1
+    hidden fault.Write byte h =
         let P : Stand → Type 0 = λ x. FailsAt (shown view x.address (content_of content)) output' final in
-        stopped fault.Write new final said e (content, r, h.0, subst P d.stands h.1)
-    record_refused fault.NoMemory said e h = stopped fault.NoMemory new final said e (content, r, h.0, h.1)
+        (content, r, h.0, subst P d.stands h.1, h.2 ∙ count_is)
+    hidden fault.NoMemory byte h = (content, r, h.0, h.1, h.2 ∙ count_is)
 
-    pub block_stops : (f : DumpFault) (said : Placed) → said ≡ placed_at f s
-        → ShowsBlock view s content output' final (Err f) → DumpsObject view old new output final (Err said)
-    block_stops f said e h = record_refused f said e h
+    pub block_stops : (count : ℕ) (said : Placed) → count ≡ count_read new
+        → ShowsBlock view s content count output' final (Err said) → DumpsObject view old new output final (Err said)
+    block_stops count said e h =
+        let P : ℕ → Type 0 = λ n. HidesBlock view s content n output' final said.fault said.byte in
+        (contents, here, output', d.shows, hidden said.fault said.byte (subst P e h.0), h.1 ∙ number_is)
 
-    pub block_shown : (s' : Stand) → length content ≤ 512 → ShowsBlock view s content output' final (Ok s')
+    pub block_shown : (count : ℕ) (s' : Stand) → ShowsBlock view s content count output' final (Ok s')
         → Dumping view old new output final s' (contents ++ content ∷ [])
-    block_shown s' long h =
+    block_shown count s' h =
         let P : Stand → Type 0 = λ x. Appends output'.text final.text (shown view x.address (content_of content)) in
         let Q : List ℕ → Type 0 = λ text. Appends output.text final.text text in
         let blocks : s'.blocks ≡ s.blocks + 1 = ap (λ (x : Stand). x.blocks) h.1.0 in
-        let bytes : s'.bytes ≡ s.bytes + length content + 5 = ap (λ (x : Stand). x.bytes) h.1.0 in
         let less = room_falls here new content r in
         record {
           shows = record {
@@ -160,6 +176,6 @@ module _ (view : View) (old here : Place) (output output' : Output) (s : Stand) 
             faults = h.1.2 ∙ d.shows.faults;
           };
           stands = h.1.0 ∙ ap (λ (x : Stand). after x content) d.stands ∙ sym (after_more start contents content);
+          whole = d.whole;
           few = omega (arith, d.few, less, blocks);
-          small = omega (arith, d.small, long, blocks, bytes);
         }

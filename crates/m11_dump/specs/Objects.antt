@@ -9,6 +9,7 @@ use Rattle.m11_blocks.specs.Blocks.{first_block, why_of}
 use Rattle.m11_blocks.specs.Limited.{EndsBetween, Place, Reads, Stops, Took}
 use Rattle.m11_obj.specs.Reading.{IsRecord, content_of}
 use Rattle.m11_writes.specs.Outputs.{Output}
+use Rattle.m11_dump.specs.Places.{RecordShowsAt, StopsAt}
 use Rattle.m11_dump.specs.Records.{address_then, shown}
 use Rattle.m11_dump.specs.declared.fault.DumpFault.{DumpFault}
 use Rattle.m11_dump.specs.declared.fault.DumpFault.TheVariants as fault
@@ -18,16 +19,16 @@ use Rattle.m11_dump.specs.declared.view.View.{View}
 
 -- ---- the text of an object
 
--- where a dump stands: the address of the last text, how many blocks it has passed, and how many bytes these had
-abbrev pub stand : ℕ → ℕ → ℕ → Stand
-stand address blocks bytes = record { address = address; blocks = blocks; bytes = bytes }
+-- where a dump stands: the address of the last text, and how many blocks it has passed
+abbrev pub stand : ℕ → ℕ → Stand
+stand address blocks = record { address = address; blocks = blocks }
 
 abbrev pub start : Stand
-start = stand 0 0 0
+start = stand 0 0
 
--- after one more block: 5 bytes stand round its content
+-- after one more block
 abbrev pub after : Stand → Bytes → Stand
-after s content = stand (address_then s.address (content_of content)) (s.blocks + 1) (s.bytes + length content + 5)
+after s content = stand (address_then s.address (content_of content)) (s.blocks + 1)
 
 abbrev pub after_all : Stand → List Bytes → Stand
 after_all s [] = s
@@ -62,23 +63,22 @@ pub record Shows (view : View) (old here : Place) (output output' : Output) (con
 abbrev pub FailsAt : Bytes → Output → Output → Type 0
 FailsAt text output output' = AppendsBeginning output.text output'.text text × Rises output.faults output'.faults
 
--- why a dump stopped after blocks of these contents: no further block could be read; or one is no record; or its text couldn't
--- be written; or memory was refused for it
-abbrev pub StopsAfter : View → DumpFault → Place → Place → Output → Output → List Bytes → Type 0
-StopsAfter view (fault.Block inner) here new output output' contents =
-    Stops first_block here new (why_of inner) × (output' ≡ output)
-StopsAfter view (fault.Record inner) here new output output' contents =
-    (bad : Bytes) × Reads first_block here new bad × (content_of bad ≡ Err inner) × (output' ≡ output)
-StopsAfter view (fault.Tape inner) here new output output' contents = ⊥
-StopsAfter view fault.Write here new output output' contents =
-    (last : Bytes) × Reads first_block here new last × IsRecord last
+-- why a dump stopped after blocks of these contents, and after all these bytes, and at which byte that shows: no further block could
+-- be read; or one is no record; or its text couldn't be written; or memory was refused for it
+abbrev pub StopsAfter : View → DumpFault → Place → Place → Output → Output → List Bytes → Bytes → ℕ → Type 0
+StopsAfter view (fault.Block inner) here new output output' contents before byte =
+    StopsAt first_block (why_of inner) here new before byte × (output' ≡ output)
+StopsAfter view (fault.Record inner) here new output output' contents before byte =
+    (bad : Bytes) × (block : Reads first_block here new bad) × (content_of bad ≡ Err inner) × (output' ≡ output)
+    × RecordShowsAt inner bad (length (before ++ block.given)) byte
+StopsAfter view (fault.Tape inner) here new output output' contents before byte = ⊥
+StopsAfter view fault.Write here new output output' contents before byte =
+    (last : Bytes) × (block : Reads first_block here new last) × IsRecord last
     × FailsAt (shown view (after_all start contents).address (content_of last)) output output'
-StopsAfter view fault.NoMemory here new output output' contents =
-    (last : Bytes) × Reads first_block here new last × IsRecord last × (output' ≡ output)
-
--- a fault of the block after those that were passed: its number, and how many bytes the blocks before it have
-abbrev pub placed_at : DumpFault → Stand → Placed
-placed_at inner s = record { fault = inner; block = s.blocks + 1; byte = s.bytes }
+    × (byte ≡ length (before ++ block.given))
+StopsAfter view fault.NoMemory here new output output' contents before byte =
+    (last : Bytes) × (block : Reads first_block here new last) × IsRecord last × (output' ≡ output)
+    × (byte ≡ length (before ++ block.given))
 
 -- what a dump of an object does: the output gains the text of all blocks, after which the bytes end; or of all blocks before
 -- the first fault
@@ -86,8 +86,9 @@ abbrev pub DumpsObject : View → Place → Place → Output → Output → Resu
 DumpsObject view old new output output' (Ok done) = (contents : List Bytes) × (here : Place)
     × Shows view old here output output' contents × Stops first_block here new EndsBetween
 DumpsObject view old new output output' (Err said) = (contents : List Bytes) × (here : Place) × (middle : Output)
-    × Shows view old here output middle contents × StopsAfter view said.fault here new middle output' contents
-    × (said ≡ placed_at said.fault (after_all start contents))
+    × (shows : Shows view old here output middle contents)
+    × StopsAfter view said.fault here new middle output' contents shows.given said.byte
+    × (said.block ≡ (after_all start contents).blocks + 1)
 
 -- ---- one block
 
@@ -101,7 +102,16 @@ ShowsRecord view s content output output' (Err (fault.Tape inner)) = ⊥
 ShowsRecord view s content output output' (Err fault.Write) = FailsAt (shown view s.address (content_of content)) output output'
 ShowsRecord view s content output output' (Err fault.NoMemory) = output' ≡ output
 
--- the same of a block, which may be no record
-abbrev pub ShowsBlock : View → Stand → Bytes → Output → Output → Result Stand DumpFault → Type 0
-ShowsBlock view s content output output' (Err (fault.Record inner)) = (content_of content ≡ Err inner) × (output' ≡ output)
-ShowsBlock view s content output output' result = IsRecord content × ShowsRecord view s content output output' result
+-- why a block wasn't shown with which so many bytes of the file end, and at which byte that shows: it is no record; or its text was
+-- refused; or memory for it was
+abbrev pub HidesBlock : View → Stand → Bytes → ℕ → Output → Output → DumpFault → ℕ → Type 0
+HidesBlock view s content count output output' (fault.Record inner) byte =
+    (content_of content ≡ Err inner) × (output' ≡ output) × RecordShowsAt inner content count byte
+HidesBlock view s content count output output' other byte =
+    IsRecord content × ShowsRecord view s content output output' (Err other) × (byte ≡ count)
+
+-- a block was shown, and the dump stands after it; or why it wasn't
+abbrev pub ShowsBlock : View → Stand → Bytes → ℕ → Output → Output → Result Stand Placed → Type 0
+ShowsBlock view s content count output output' (Ok s') = IsRecord content × ShowsRecord view s content output output' (Ok s')
+ShowsBlock view s content count output output' (Err said) =
+    HidesBlock view s content count output output' said.fault said.byte × (said.block ≡ s.blocks + 1)

@@ -21,14 +21,15 @@ pub enum DumpFault {
     NoMemory,
 }
 
-/// A fault, and the block of the file where it was found.
+/// A fault, and where in the file it was found.
 #[derive(Clone, Copy, Debug, PartialEq, Eq)]
 pub struct Placed {
     /// What is wrong.
     pub fault: DumpFault,
     /// The number of the block, from 1 on.
     pub block: u64,
-    /// How many bytes the blocks before it have together. Zeros between blocks are none of them.
+    /// The offset in the file, from 0 on, of the byte that shows it. Where a byte is missing it is the size of the file; of `Write`
+    /// and `NoMemory` it is how many bytes had been read.
     pub byte: u64,
 }
 

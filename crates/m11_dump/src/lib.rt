@@ -10,6 +10,7 @@ mod kind;
 mod laws;
 mod objects;
 mod octets;
+mod places;
 mod records;
 mod relocations;
 mod stand;

@@ -44,7 +44,7 @@ fault_text (fault.Record inner) = numbered (codes "4 Record ") (record_fault_num
 fault_text fault.Write = codes "2 Write"
 fault_text fault.NoMemory = codes "90 NoMemory"
 
--- where a fault is: its block, and how many bytes the blocks before it have
+-- where a fault is: its block, and the offset of the byte that shows it
 abbrev pub place_text : Placed → Bytes
 place_text placed = ((codes " IN BLOCK " ++ decimal placed.block) ++ codes " AT BYTE ") ++ decimal placed.byte
 

@@ -29,8 +29,8 @@ reading-preserved g c =
           (output_of g.S.Sink c.args.sink.now) (output_of g.S.Sink c.reading.sink) c.reading.stand c.reading.invariant.contents
           c.reading.invariant.dumping
           (place (g.F.Feed.text c.next_into.new.feed) (g.F.Feed.faults c.next_into.new.feed) c.next_into.new.self.room)
-          c.next_into.new.block.items reads (output_of g.S.Sink c.show_block.new.sink) c.in-Ok.after c.in-Ok.ensures.fits
-          c.in-Ok.ensures.shows;
+          c.next_into.new.block.items reads (output_of g.S.Sink c.show_block.new.sink) c.bytes_read.result c.in-Ok.after
+          c.in-Ok.ensures;
     }
 
 pub returns-in-Err-show_block : goal.returns-in-Err-show_block
@@ -42,8 +42,8 @@ returns-in-Err-show_block g c =
           (output_of g.S.Sink c.args.sink.now) (output_of g.S.Sink c.reading.sink) c.reading.stand c.reading.invariant.contents
           c.reading.invariant.dumping
           (place (g.F.Feed.text c.next_into.new.feed) (g.F.Feed.faults c.next_into.new.feed) c.next_into.new.self.room)
-          c.next_into.new.block.items reads (output_of g.S.Sink c.show_block.new.sink) c.in-Err-show_block.fault
-          c.placed.result c.placed.ensures c.in-Err-show_block.ensures.shows,
+          c.next_into.new.block.items reads (output_of g.S.Sink c.show_block.new.sink) c.bytes_read.result
+          c.in-Err-show_block.placed c.bytes_read.ensures c.in-Err-show_block.ensures,
     )
 
 pub returns-in-Ok-false : goal.returns-in-Ok-false
@@ -67,5 +67,6 @@ returns-in-Err g c =
           (output_of g.S.Sink c.args.sink.now) (output_of g.S.Sink c.reading.sink) c.reading.stand c.reading.invariant.contents
           c.reading.invariant.dumping
           (place (g.F.Feed.text c.next_into.new.feed) (g.F.Feed.faults c.next_into.new.feed) c.next_into.new.self.room)
-          c.in-Err.fault c.placed-in-Err.result c.placed-in-Err.ensures stops,
+          c.in-Err.fault c.placed.result c.fault_byte-byte.result c.bytes_read-in-Err.result c.placed.ensures
+          c.fault_byte-byte.ensures c.bytes_read-in-Err.ensures stops,
     )
