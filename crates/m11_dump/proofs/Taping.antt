@@ -105,6 +105,7 @@ data_taken view start end stage address count bytes output output' (Err fault.Wr
 data_taken view start end stage address count bytes output output' (Err fault.NoMemory) r p = p
 data_taken view start end stage address count bytes output output' (Err (fault.Block inner)) r p = absurd p
 data_taken view start end stage address count bytes output output' (Err (fault.Record inner)) r p = absurd p
+data_taken view start end stage address count bytes output output' (Err (fault.Rule inner)) r p = absurd p
 data_taken view start end stage address count bytes output output' (Err (fault.Tape inner)) r p = absurd p
 
 pub data_not_taken : (view : View) (start end : Place) (stage : TapeStage) (address count : ℕ) (output : Output) (f : DumpFault)
@@ -113,6 +114,7 @@ data_not_taken view start end stage address count output fault.Write s = absurd 
 data_not_taken view start end stage address count output fault.NoMemory s = refl
 data_not_taken view start end stage address count output (fault.Block inner) s = absurd s
 data_not_taken view start end stage address count output (fault.Record inner) s = absurd s
+data_not_taken view start end stage address count output (fault.Rule inner) s = absurd s
 data_not_taken view start end stage address count output (fault.Tape inner) s = (s, refl)
 
 -- ---- one block more
@@ -286,6 +288,7 @@ module _ (view : View) (old here : Place) (output output' : Output) (stage : Tap
       start_refused fault.NoMemory said e p = stopped fault.NoMemory new final said e (p, refl)
       start_refused (fault.Block inner) said e p = absurd p
       start_refused (fault.Record inner) said e p = absurd p
+      start_refused (fault.Rule inner) said e p = absurd p
       start_refused (fault.Tape inner) said e p = absurd p
 
       pub start_stops : (f : DumpFault) (said : Placed) → SaidAt f new said → Puts (start_text start) output' final (Err f)
@@ -312,6 +315,7 @@ module _ (view : View) (old here : Place) (output output' : Output) (stage : Tap
       data_refused fault.NoMemory said e t = stopped fault.NoMemory end final said e (t, refl)
       data_refused (fault.Block inner) said e t = absurd t.2
       data_refused (fault.Record inner) said e t = absurd t.2
+      data_refused (fault.Rule inner) said e t = absurd t.2
       data_refused (fault.Tape inner) said e t =
           let before = took_then old here t.0.1 d.shows.given (header.given ++ t.0.0) d.shows.took
           (took_then here new t.0.1 header.given t.0.0 header.took t.0.2) in

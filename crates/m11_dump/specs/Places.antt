@@ -1,9 +1,11 @@
 -- Where in a file a fault shows: the offset of a byte, counted from 0. (This project's own.)
-use Rattle.std.specs.Prelude.{◌≡◌, ℕ, ◌+◌, ◌-◌, ◌<◌, ◌≤◌, ◌++◌, length, take, Err}
+use Rattle.std.specs.Prelude.{◌≡◌, ℕ, ◌+◌, ◌-◌, ◌<◌, ◌≤◌, [], ◌∷◌, ◌++◌, length, take, Err}
 use Rattle.m11_base.specs.Devices.{Bytes}
 use Rattle.m11_blocks.specs.Blocks as blocks
 use Rattle.m11_blocks.specs.Tapes as tapes
 use Rattle.m11_blocks.specs.Limited.{EndsBetween, EndsInside, Fails, Never, Passes, Place, Read, Refuses, Stops, Why, most_bytes}
+use Rattle.m11_modules.specs.declared.fault.ModuleFault.{ModuleFault}
+use Rattle.m11_modules.specs.declared.fault.ModuleFault.TheVariants as rule
 use Rattle.m11_obj.specs.Reading.{content_of}
 use Rattle.m11_obj.specs.declared.fault.RecordFault.{RecordFault}
 use Rattle.m11_obj.specs.declared.fault.RecordFault.TheVariants.{BadLength}
@@ -42,7 +44,8 @@ pub record FirstHas (fault : RecordFault) (content : Bytes) (index : ℕ) : Type
   pub has : content_of (take (index + 1) content) ≡ Err fault
   pub shortest : (count : ℕ) → count ≤ index → content_of (take count content) ≡ Err fault → ⊥
 
--- the first byte of a content after which no bytes could mend it; where it ends too early, its end
+-- the byte that shows the fault of a content: it ends the shortest beginning that has the fault; where a field is missing, it is the
+-- end of the content
 abbrev pub FaultShowsAt : RecordFault → Bytes → ℕ → Type 0
 FaultShowsAt BadLength content index = index ≡ length content
 FaultShowsAt fault content index = FirstHas fault content index
@@ -51,10 +54,27 @@ FaultShowsAt fault content index = FirstHas fault content index
 abbrev pub content_start : Bytes → ℕ → ℕ
 content_start content count = count - (length content + 1)
 
+-- a content stands among bytes at this index, and only its sum byte follows it
+abbrev pub StandsAt : Bytes → Bytes → ℕ → Type 0
+StandsAt content bytes index = (front : Bytes) × (last : ℕ) × (bytes ≡ front ++ (content ++ last ∷ [])) × (length front ≡ index)
+
 -- the byte of the file that shows the fault of a content, where so many bytes end with its block
 abbrev pub RecordShowsAt : RecordFault → Bytes → ℕ → ℕ → Type 0
 RecordShowsAt fault content count byte =
     (index : ℕ) × FaultShowsAt fault content index × (byte ≡ content_start content count + index)
+
+-- ---- a rule of modules
+
+-- a fault of the rules, among those of a dump
+abbrev pub of_rule : ModuleFault → DumpFault
+of_rule rule.NoMemory = fault.NoMemory
+of_rule inner = fault.Rule inner
+
+-- the byte of the file that shows that a record of this content breaks a rule, where so many bytes end with its block: its first one.
+-- Want of memory no byte shows
+abbrev pub rule_byte : ModuleFault → Bytes → ℕ → ℕ
+rule_byte rule.NoMemory content count = count
+rule_byte inner content count = content_start content count
 
 -- ---- any fault
 
@@ -62,7 +82,7 @@ RecordShowsAt fault content count byte =
 abbrev pub count_read : Place → ℕ
 count_read place = most_bytes - place.room
 
--- the byte of a fault that isn't one of a record, after so many bytes: one that no byte shows comes after them
+-- the byte of a fault of blocks or of a tape, after so many bytes; what no byte shows comes after them
 abbrev pub fault_byte : DumpFault → ℕ → ℕ
 fault_byte (fault.Block inner) count = stop_byte (blocks.why_of inner) count
 fault_byte (fault.Tape inner) count = stop_byte (tapes.why_of inner) count

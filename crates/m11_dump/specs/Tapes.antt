@@ -92,6 +92,7 @@ StopsTape view fault.Write here new output output' blocks before byte =
 StopsTape view fault.NoMemory here new output output' blocks before byte = (output' ≡ output) × (byte ≡ count_read new)
 StopsTape view (fault.Block inner) here new output output' blocks before byte = ⊥
 StopsTape view (fault.Record inner) here new output output' blocks before byte = ⊥
+StopsTape view (fault.Rule inner) here new output output' blocks before byte = ⊥
 
 -- a whole tape: its blocks and its transfer block, after which nothing is read, and the output gained the text of all
 pub record DumpsWhole (view : View) (old new : Place) (output output' : Output) : Type 0 where
@@ -121,6 +122,7 @@ Puts text output output' (Err fault.Write) = FailsAt text output output'
 Puts text output output' (Err fault.NoMemory) = output' ≡ output
 Puts text output output' (Err (fault.Block inner)) = ⊥
 Puts text output output' (Err (fault.Record inner)) = ⊥
+Puts text output output' (Err (fault.Rule inner)) = ⊥
 Puts text output output' (Err (fault.Tape inner)) = ⊥
 
 -- all data of a block was read, and the reader then stands at the end of that
@@ -136,6 +138,7 @@ StopsData fault.NoMemory opened new count = ⊤
 StopsData fault.Write opened new count = ⊥
 StopsData (fault.Block inner) opened new count = ⊥
 StopsData (fault.Record inner) opened new count = ⊥
+StopsData (fault.Rule inner) opened new count = ⊥
 
 -- the data of a block was read and shown, or why it wasn't
 abbrev pub TakesData : View → Place → Place → TapeStage → ℕ → ℕ → Output → Output → Result (Unit {0}) DumpFault → Type 0

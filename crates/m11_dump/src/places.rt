@@ -1,14 +1,16 @@
 //! Where in a file a fault shows.
 
 ghost use Rattle.std.specs.Prelude.{◌≡◌, ◌≤◌, ◌<◌, ◌^◌, ◌↔◌, length, Err, IsTrue};
+ghost use Rattle.m11_blocks.specs.Frames.{content_limit};
 ghost use Rattle.m11_obj.specs.Reading.{content_of};
 ghost use Rattle.m11_dump.specs.Places as spec;
 
 use crate::fault::{DumpFault, Placed};
+use m11_modules::ModuleFault;
 use m11_obj::{Block, BlockFault, RecordFault, TapeFault, read_record};
 
-/// The offset of the byte that shows a fault which isn't one of a record, after so many bytes were read: the last of them where
-/// the readers refuse it. Else it is how many were read.
+/// The offset of the byte that shows a fault of blocks or of a tape, after so many bytes were read: the last of them where the readers
+/// refuse it. Else it is how many were read.
 pub(crate) fn fault_byte(fault: DumpFault, read: u32) -> u64
     ensures { result ≡ spec.fault_byte fault read }
 {
@@ -74,12 +76,30 @@ fn index_of(content: &Block, fault: RecordFault) -> usize
     }
 }
 
+// The offset of the first byte of a content, where so many bytes end with its block.
+fn content_start(content: &[u8], read: u32) -> u64
+    requires { length content.now ≤ content_limit }
+    ensures { result ≡ spec.content_start content.now read }
+{
+    let after = content.len() as u64 + 1;
+    u64::from(read).saturating_sub(after)
+}
+
 /// The offset of the byte that shows the fault of a content, where so many bytes end with its block.
 pub(crate) fn record_byte(content: &Block, fault: RecordFault, read: u32) -> u64
     requires { content_of content.now.items ≡ Err fault }
     ensures { spec.RecordShowsAt fault content.now.items read result }
 {
-    let after = content.len() as u64 + 1;
-    let start = u64::from(read).saturating_sub(after);
-    start + index_of(content, fault) as u64
+    content_start(content, read) + index_of(content, fault) as u64
+}
+
+/// The offset of the byte that shows that a record breaks a rule of modules, where so many bytes end with its block.
+pub(crate) fn rule_byte(content: &[u8], fault: ModuleFault, read: u32) -> u64
+    requires { length content.now ≤ content_limit }
+    ensures { result ≡ spec.rule_byte fault content.now read }
+{
+    match fault {
+        ModuleFault::NoMemory => u64::from(read),
+        _ => content_start(content, read),
+    }
 }
