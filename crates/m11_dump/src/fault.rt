@@ -32,8 +32,8 @@ pub struct Placed {
     pub fault: DumpFault,
     /// The number of the block, from 1 on.
     pub block: u64,
-    /// The offset in the file, from 0 on, of the byte that shows it. Where a byte is missing it is the size of the file; of `Write`
-    /// and `NoMemory` it is how many bytes had been read.
+    /// The offset in the file, from 0 on, of the byte that shows it: of a record that breaks a rule the first one of its content. Where
+    /// a byte is missing it is the size of the file; of `Write` and `NoMemory` it is how many bytes had been read.
     pub byte: u64,
 }
 
