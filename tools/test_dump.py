@@ -33,18 +33,19 @@ def entry(text, flags, kind, value):
     return name(text) + bytes([flags, kind]) + word(value)
 
 
-DIRECTORY = block(word(1) + entry("MOD", 0, 0, 0) + entry("V01.00", 0, 6, 0) + entry("CODE", 0o40, 5, 0o20) + entry("START", 0o50, 4, 2)
+DIRECTORY = block(word(1) + entry("MOD", 0, 0, 0) + entry("V01.00", 0, 6, 0) + entry("CODE", 0o40, 5, 0o21) + entry("START", 0o50, 4, 2)
                   + entry("SIZE", 0o11, 4, 0o177777) + entry("OTHER", 0o40, 4, 0) + entry("MAYBE", 1, 4, 0) + entry("OLD", 0, 1, 6)
                   + entry("INNER", 0, 2, 4) + entry("CODE", 0, 3, 2))
+FRONT = DIRECTORY + block(word(2)) + block(word(4) + b"\7\0" + name("CODE") + word(0o10))
 TEXT = block(word(3) + word(0o10) + bytes(range(9)))
 PLACES = block(word(4) + b"\7\0" + name("CODE") + word(0o10) + b"\10\0" + word(4) + b"\1\4" + word(2) + b"\206\6" + name("OTHER") + word(1) + b"\11\10"
                + b"\14\12" + name("OLD"))
-END = block(word(2)) + block(word(5)) + block(word(6))
+END = block(word(5)) + block(word(6))
 
 SHOWN = """\
 MODULE    MOD
 IDENT     V01.00
-SECTION   CODE   000020 RW,I,LCL,REL,CON
+SECTION   CODE   000021 RW,I,LCL,REL,CON
 GLOBAL    START  000002 REL
 GLOBAL    SIZE   177777 ABS WEAK
 REFERENCE OTHER
@@ -66,9 +67,10 @@ SHOWN_PLACES = """\
   000014 PROGRAM LIMITS
   000016 SECTION DISPLACED OLD
 """
-SHOWN_END = "END OF DIRECTORY\nINTERNAL SYMBOLS\nEND OF MODULE\n"
+SHOWN_FRONT = SHOWN + "END OF DIRECTORY\n         LOCATION COUNTER DEFINITION CODE   000010\n"
+SHOWN_END = "INTERNAL SYMBOLS\nEND OF MODULE\n"
 
-GOOD = DIRECTORY + TEXT + b"\0\0" + PLACES + END + b"\0" * 300
+GOOD = FRONT + TEXT + b"\0\0" + PLACES + END + b"\0" * 300
 BAD = TEXT[:-1] + bytes([TEXT[-1] ^ 1])
 
 # A tape's block is one of an object but for its count, which has the address in it, too.
@@ -111,24 +113,69 @@ TEXT 000010
 
 # What it shows; the words; the files; the status, and what standard output and standard error get.
 CASES = (
-    ("an object", "A.OBJ", {"A.OBJ": GOOD}, 0, "OBJECT A.OBJ\n" + SHOWN + SHOWN_TEXT + SHOWN_PLACES + SHOWN_END, ""),
+    ("an object", "A.OBJ", {"A.OBJ": GOOD}, 0, "OBJECT A.OBJ\n" + SHOWN_FRONT + SHOWN_TEXT + SHOWN_PLACES + SHOWN_END, ""),
     ("an empty file", "A.OBJ", {"A.OBJ": b""}, 0, "OBJECT A.OBJ\n", ""),
-    ("two files", "B.OBJ ./A.OBJ", {"A.OBJ": b"\0", "B.OBJ": DIRECTORY + END}, 0, "OBJECT B.OBJ\n" + SHOWN + SHOWN_END + "OBJECT ./A.OBJ\n", ""),
+    ("two files", "B.OBJ ./A.OBJ", {"A.OBJ": b"\0", "B.OBJ": FRONT + END}, 0, "OBJECT B.OBJ\n" + SHOWN_FRONT + SHOWN_END + "OBJECT ./A.OBJ\n", ""),
     ("a bad sum", "A.OBJ B.OBJ", {"A.OBJ": DIRECTORY + BAD, "B.OBJ": GOOD}, 4, "OBJECT A.OBJ\n" + SHOWN,
-     f"?M11 DUMP 3 Block 3 BadSum IN BLOCK 2 AT BYTE {len(DIRECTORY)} OF A.OBJ\n"),
-    ("a file that is cut off", "A.OBJ", {"A.OBJ": DIRECTORY[:-1]}, 4, "OBJECT A.OBJ\n", "?M11 DUMP 3 Block 2 Truncated IN BLOCK 1 AT BYTE 0 OF A.OBJ\n"),
+     f"?M11 DUMP 3 Block 3 BadSum IN BLOCK 2 AT BYTE {len(DIRECTORY) + len(TEXT) - 1} OF A.OBJ\n"),
+    ("a file that is cut off", "A.OBJ", {"A.OBJ": DIRECTORY[:-1]}, 4, "OBJECT A.OBJ\n",
+     f"?M11 DUMP 3 Block 2 Truncated IN BLOCK 1 AT BYTE {len(DIRECTORY) - 1} OF A.OBJ\n"),
+    ("a block that is cut off after zeros", "A.OBJ", {"A.OBJ": DIRECTORY + b"\0\0" + TEXT[:7]}, 4, "OBJECT A.OBJ\n" + SHOWN,
+     f"?M11 DUMP 3 Block 2 Truncated IN BLOCK 2 AT BYTE {len(DIRECTORY) + 9} OF A.OBJ\n"),
+    ("zeros and then no block", "A.OBJ", {"A.OBJ": DIRECTORY + b"\0\0\0\0\0\3\1"}, 4, "OBJECT A.OBJ\n" + SHOWN,
+     f"?M11 DUMP 3 Block 5 BadStart IN BLOCK 2 AT BYTE {len(DIRECTORY) + 5} OF A.OBJ\n"),
+    ("no zero after the 001", "A.OBJ", {"A.OBJ": DIRECTORY + b"\0\1\7\0"}, 4, "OBJECT A.OBJ\n" + SHOWN,
+     f"?M11 DUMP 3 Block 5 BadStart IN BLOCK 2 AT BYTE {len(DIRECTORY) + 2} OF A.OBJ\n"),
+    ("a length that is too short", "A.OBJ", {"A.OBJ": b"\0\1\0\3\0\0"}, 4, "OBJECT A.OBJ\n",
+     "?M11 DUMP 3 Block 6 TooShort IN BLOCK 1 AT BYTE 4 OF A.OBJ\n"),
+    ("a length that is too long", "A.OBJ", {"A.OBJ": DIRECTORY + b"\1\0" + word(517)}, 4, "OBJECT A.OBJ\n" + SHOWN,
+     f"?M11 DUMP 3 Block 4 TooLong IN BLOCK 2 AT BYTE {len(DIRECTORY) + 3} OF A.OBJ\n"),
     ("no block", "A.OBJ", {"A.OBJ": b"text\n"}, 4, "OBJECT A.OBJ\n", "?M11 DUMP 3 Block 5 BadStart IN BLOCK 1 AT BYTE 0 OF A.OBJ\n"),
-    ("no record", "A.OBJ", {"A.OBJ": DIRECTORY + TEXT + block(word(9))}, 4, "OBJECT A.OBJ\n" + SHOWN + SHOWN_TEXT,
-     f"?M11 DUMP 4 Record 1 UnknownType IN BLOCK 3 AT BYTE {len(DIRECTORY) + len(TEXT)} OF A.OBJ\n"),
-    ("too many bytes", "A.OBJ", {"A.OBJ": b"\0" * 4_194_305}, 6, "OBJECT A.OBJ\n", "?M11 DUMP 13 TooMuch IN BLOCK 1 AT BYTE 0 OF A.OBJ\n"),
+    ("no record", "A.OBJ", {"A.OBJ": FRONT + TEXT + block(word(9))}, 4, "OBJECT A.OBJ\n" + SHOWN_FRONT + SHOWN_TEXT,
+     f"?M11 DUMP 4 Record 1 UnknownType IN BLOCK 5 AT BYTE {len(FRONT) + len(TEXT) + 5} OF A.OBJ\n"),
+    ("an entry of no type", "A.OBJ", {"A.OBJ": DIRECTORY + b"\0\0\0" + block(word(1) + entry("A", 0, 4, 0) + entry("B", 0, 9, 0) + entry("C", 0, 9, 0))}, 4,
+     "OBJECT A.OBJ\n" + SHOWN, f"?M11 DUMP 4 Record 1 UnknownType IN BLOCK 2 AT BYTE {len(DIRECTORY) + 3 + 4 + 2 + 8 + 5} OF A.OBJ\n"),
+    ("a name that is none", "A.OBJ", {"A.OBJ": block(word(1) + entry("A", 0, 4, 0) + b"\1\1" + word(0o175000) + b"\0\0\0\0")}, 4, "OBJECT A.OBJ\n",
+     f"?M11 DUMP 4 Record 7 BadName IN BLOCK 1 AT BYTE {4 + 2 + 8 + 3} OF A.OBJ\n"),
+    ("a relocation of no byte", "A.OBJ", {"A.OBJ": DIRECTORY + block(word(4) + b"\1\4" + word(2) + b"\210\4" + word(2))}, 4, "OBJECT A.OBJ\n" + SHOWN,
+     f"?M11 DUMP 4 Record 6 UnknownRelocation IN BLOCK 2 AT BYTE {len(DIRECTORY) + 4 + 2 + 4} OF A.OBJ\n"),
+    ("an entry that ends too early", "A.OBJ", {"A.OBJ": block(word(1) + entry("A", 0, 4, 0)[:-1]) + DIRECTORY}, 4, "OBJECT A.OBJ\n",
+     "?M11 DUMP 4 Record 2 BadLength IN BLOCK 1 AT BYTE 13 OF A.OBJ\n"),
+    ("a text in the directory", "A.OBJ", {"A.OBJ": DIRECTORY + b"\0\0" + TEXT + END}, 4, "OBJECT A.OBJ\n" + SHOWN + SHOWN_TEXT,
+     f"?M11 DUMP 5 BadOrder IN BLOCK 2 AT BYTE {len(DIRECTORY) + 6} OF A.OBJ\n"),
+    ("an end inside a module", "A.OBJ", {"A.OBJ": FRONT + b"\0\0\0"}, 4, "OBJECT A.OBJ\n" + SHOWN_FRONT,
+     f"?M11 DUMP 5 BadOrder IN BLOCK 4 AT BYTE {len(FRONT) + 3} OF A.OBJ\n"),
+    ("a relocation without a text", "A.OBJ", {"A.OBJ": FRONT + PLACES}, 4, "OBJECT A.OBJ\n" + SHOWN_FRONT + SHOWN_PLACES.replace("\n  00001", "\n  00000"),
+     f"?M11 DUMP 6 NoText IN BLOCK 4 AT BYTE {len(FRONT) + 4} OF A.OBJ\n"),
+    ("a relocation behind its text", "A.OBJ", {"A.OBJ": FRONT + TEXT + block(word(4) + b"\1\14" + word(2))}, 4,
+     "OBJECT A.OBJ\n" + SHOWN_FRONT + SHOWN_TEXT + "  000020 INTERNAL 000002\n",
+     f"?M11 DUMP 7 BadDisplacement IN BLOCK 5 AT BYTE {len(FRONT) + len(TEXT) + 4} OF A.OBJ\n"),
+    ("an unknown section", "A.OBJ", {"A.OBJ": FRONT + TEXT + block(word(4) + b"\12\4" + name("NONE")) + END}, 4,
+     "OBJECT A.OBJ\n" + SHOWN_FRONT + SHOWN_TEXT + "  000010 SECTION NONE\n",
+     f"?M11 DUMP 8 UnknownSection IN BLOCK 5 AT BYTE {len(FRONT) + len(TEXT) + 4} OF A.OBJ\n"),
+    ("a text outside its section", "A.OBJ B.OBJ", {"A.OBJ": FRONT + block(word(3) + word(0o20) + b"\1\2") + END, "B.OBJ": GOOD}, 4,
+     "OBJECT A.OBJ\n" + SHOWN_FRONT + "TEXT 000020\n  000020 001 002\n", f"?M11 DUMP 14 TextOutside IN BLOCK 4 AT BYTE {len(FRONT) + 4} OF A.OBJ\n"),
+    ("too many modules", "A.OBJ B.OBJ", {"A.OBJ": block(word(1)) + (block(word(2)) + block(word(6))) * 32, "B.OBJ": block(word(1)) + (block(word(2)) + block(word(6))) * 33}, 6,
+     "OBJECT A.OBJ\n" + "END OF DIRECTORY\nEND OF MODULE\n" * 32 + "OBJECT B.OBJ\n" + "END OF DIRECTORY\nEND OF MODULE\n" * 32 + "END OF DIRECTORY\n",
+     f"?M11 DUMP 12 TooManyModules IN BLOCK 66 AT BYTE {65 * 7 + 4} OF B.OBJ\n"),
+    ("too many bytes", "A.OBJ", {"A.OBJ": b"\0" * 4_194_305}, 6, "OBJECT A.OBJ\n", "?M11 DUMP 13 TooMuch IN BLOCK 1 AT BYTE 4194304 OF A.OBJ\n"),
     ("a folder", "B", {"B/A.OBJ": b""}, 3, "OBJECT B\n", "?M11 DUMP 1 Read IN BLOCK 1 AT BYTE 0 OF B\n"),
     ("a tape", "A.TAP", {"A.TAP": TAPE + b"more"}, 0, "TAPE A.TAP\n" + SHOWN_TAPE + "START 001000\n", ""),
     ("a tape with a long block", "A.TAP", {"A.TAP": LONG}, 4, "TAPE A.TAP\nBLOCK 002000"
      + "".join(f"\n  {0o2000 + 16 * at:06o}" + " 000000" * min(8, 300 - 8 * at) for at in range(38)) + "\n",
      f"?M11 DUMP 20 Tape 8 NoTransfer IN BLOCK 2 AT BYTE {len(LONG)} OF A.TAP\n"),
     ("a tape that is cut off", "A.TAP B.OBJ", {"A.TAP": TAPE[:17], "B.OBJ": GOOD}, 4, "TAPE A.TAP\nBLOCK 001000\n  001000 012700 000005 002\n",
-     "?M11 DUMP 20 Tape 2 Truncated IN BLOCK 2 AT BYTE 12 OF A.TAP\n"),
-    ("instructions of an object", "-d A.OBJ", {"A.OBJ": GOOD}, 0, "OBJECT A.OBJ\n" + SHOWN + SHOWN_TEXT_AS_SOURCE + SHOWN_PLACES + SHOWN_END, ""),
+     "?M11 DUMP 20 Tape 2 Truncated IN BLOCK 2 AT BYTE 17 OF A.TAP\n"),
+    ("a tape that is cut off in its data", "A.TAP", {"A.TAP": TAPE[:21]}, 4, "TAPE A.TAP\nBLOCK 001000\n  001000 012700 000005 002\n",
+     "?M11 DUMP 20 Tape 2 Truncated IN BLOCK 2 AT BYTE 21 OF A.TAP\n"),
+    ("a bad sum in the first block of a tape", "A.TAP", {"A.TAP": TAPE[:11] + bytes([TAPE[11] ^ 1]) + TAPE[12:]}, 4, "OBJECT A.TAP\n",
+     "?M11 DUMP 3 Block 3 BadSum IN BLOCK 1 AT BYTE 11 OF A.TAP\n"),
+    ("a tape with a bad sum in the second block", "A.TAP", {"A.TAP": TAPE[:22] + bytes([TAPE[22] ^ 1]) + TAPE[23:]}, 4,
+     "TAPE A.TAP\nBLOCK 001000\n  001000 012700 000005 002\nBLOCK 001001\n  001001 001 002\n",
+     "?M11 DUMP 20 Tape 3 BadSum IN BLOCK 3 AT BYTE 22 OF A.TAP\n"),
+    ("a tape with a bad start", "A.TAP", {"A.TAP": TAPE[:13] + b"\1\7"}, 4, "TAPE A.TAP\nBLOCK 001000\n  001000 012700 000005 002\n",
+     "?M11 DUMP 20 Tape 5 BadStart IN BLOCK 2 AT BYTE 14 OF A.TAP\n"),
+    ("instructions of an object", "-d A.OBJ", {"A.OBJ": GOOD}, 0, "OBJECT A.OBJ\n" + SHOWN_FRONT + SHOWN_TEXT_AS_SOURCE + SHOWN_PLACES + SHOWN_END, ""),
     ("instructions of a tape", "A.TAP --disassemble", {"A.TAP": block(word(0o1000) + SOURCE) + block(word(0o1000))}, 0,
      "TAPE A.TAP\nBLOCK 001000\n" + SHOWN_SOURCE + "START 001000\n", ""),
     ("instructions at an odd address", "-d A.TAP", {"A.TAP": block(word(0o1001) + b"\1\5\12\1") + block(word(1))}, 0,
@@ -137,7 +184,7 @@ CASES = (
     ("places after the last one", "-d A.TAP", {"A.TAP": block(word(0o177776) + word(0o776) + word(0o5767) + word(0o177772)) + block(word(1))}, 0,
      "TAPE A.TAP\nBLOCK 177776\n  177776 000776               BR     177774\n  000000 005767 177772        TST    177776\nSTART 000001\n", ""),
     ("a bad sum among instructions", "-d A.OBJ", {"A.OBJ": DIRECTORY + BAD}, 4, "OBJECT A.OBJ\n" + SHOWN,
-     f"?M11 DUMP 3 Block 3 BadSum IN BLOCK 2 AT BYTE {len(DIRECTORY)} OF A.OBJ\n"),
+     f"?M11 DUMP 3 Block 3 BadSum IN BLOCK 2 AT BYTE {len(DIRECTORY) + len(TEXT) - 1} OF A.OBJ\n"),
     ("no file", "A.OBJ B.OBJ", {"A.OBJ": b""}, 3, "OBJECT A.OBJ\n", "?M11 OPEN B.OBJ\n"),
 )
 

@@ -1,6 +1,6 @@
 //! Reads the blocks of an object. (RT-11 Volume and File Formats Manual, "Object file format".)
 
-ghost use Rattle.std.specs.Prelude.{◌≡◌, ◌<◌, ◌≤◌, ◌↔◌, ℕ, List, length, take, true, false, Ok, Err, IfOk, IfSome, IsErr, IsTrue, MatchOption};
+ghost use Rattle.std.specs.Prelude.{◌≡◌, ◌-◌, ◌<◌, ◌≤◌, ◌↔◌, ℕ, List, length, take, true, false, Ok, Err, IfOk, IfSome, IsErr, IsTrue, MatchOption};
 ghost use Rattle.std.specs.Bool.{OnTrue, OnFalse};
 ghost use Rattle.std.specs.List.{AllByRecursion};
 ghost use Rattle.m11_blocks.specs.Frames.{content_limit, header, AreBlocks};
@@ -216,6 +216,13 @@ impl BlockReader {
             room: MOST_BYTES,
             has_failed: false,
         }
+    }
+
+    /// How many bytes of its feed the reader has read: 0 to 4,194,304. A byte past the limit is not counted.
+    pub fn bytes_read(&self) -> u32
+        ensures { result ≡ most_bytes - self.now.room }
+    {
+        MOST_BYTES.saturating_sub(self.room)
     }
 
     /// The content of the next block, or `None` where the bytes end before one. Zeros before a block

@@ -242,6 +242,13 @@ impl TapeReader {
         }
     }
 
+    /// How many bytes of its feed the reader has read: 0 to 4,194,304. A byte past the limit is not counted.
+    pub fn bytes_read(&self) -> u32
+        ensures { result ≡ most_bytes - self.now.room }
+    {
+        MOST_BYTES.saturating_sub(self.room)
+    }
+
     /// The next part: the header of a block of data, or the transfer block. It first checks the sum of
     /// the block before, of which no byte may be left. Other bytes than 001 before a block are skipped.
     /// After the sum byte of the transfer block nothing is read: each call returns `Start` again. A

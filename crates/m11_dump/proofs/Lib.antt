@@ -1,6 +1,9 @@
 pub mod EachOctet
+pub mod ContentPlaces
 pub mod Fields
 pub mod Items
+pub mod Judging
+pub mod Offsets
 pub mod LinesShown
 pub mod Reading
 pub mod Taping

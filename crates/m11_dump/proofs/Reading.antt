@@ -1,5 +1,5 @@
 -- The blocks of an object, read and shown one after another.
-use Rattle.std.proofs.Common.{◌≡◌, ◌∙◌, ℕ, ◌+◌, ◌*◌, ◌^◌, ◌<◌, ◌≤◌, ◌↔◌, Bool, true, false, IsTrue, IsErr, List, [], ◌∷◌, ◌++◌, append-nil, append_assoc, length, Option, Some, None, Ok, Err, refl, sym, ap, subst, arith}
+use Rattle.std.proofs.Common.{◌≡◌, ◌∙◌, ℕ, ◌+◌, ◌^◌, ◌<◌, ◌≤◌, ◌↔◌, Bool, true, false, IsTrue, IsErr, List, [], ◌∷◌, ◌++◌, append-nil, append_assoc, length, inl, inr, Option, Some, None, Result, Ok, Err, refl, sym, ap, subst, arith}
 use Rattle.std.specs.List.{AllByRecursion}
 use Rattle.std.specs.Io.KnownBytes.{Appends}
 use Rattle.m11_blocks.specs.declared.block_fault.BlockFault.{BlockFault}
@@ -9,7 +9,13 @@ use Rattle.m11_blocks.proofs.Limits.{took_nothing, took_then}
 use Rattle.m11_obj.specs.Reading.{IsRecord, content_of}
 use Rattle.m11_writes.specs.Outputs.{Output}
 use Rattle.m11_dump.specs.Records.{shown}
-use Rattle.m11_dump.specs.Objects.{AreInFront, DumpsObject, FailsAt, Shows, ShowsBlock, StopsAfter, after, after_all, object_text, placed_at, start, text_from}
+use Rattle.m11_dump.specs.Objects.{AreInFront, DumpsObject, FailsAt, Gained, JudgesEnd, LacksMemory, RefusesBlock, Shows, StopsAfter, TakesBlock, after, after_all, object_text, parts_all, start, text_from}
+use Rattle.m11_dump.specs.Places.{RecordShowsAt, content_start, count_read, placed_at, stop_byte}
+use Rattle.m11_modules.specs.Parts.{Part, record_parts}
+use Rattle.m11_modules.specs.Places.{Known, known_of}
+use Rattle.m11_modules.specs.Rules.{first_fault}
+use Rattle.m11_dump.proofs.Judging.{none_unsound, parts_more, sound_more}
+use Rattle.m11_dump.proofs.Offsets.{read_is, stops_at}
 use Rattle.m11_dump.specs.declared.fault.DumpFault.{DumpFault}
 use Rattle.m11_dump.specs.declared.fault.DumpFault.TheVariants as fault
 use Rattle.m11_dump.specs.declared.fault.Placed.{Placed}
@@ -54,25 +60,30 @@ appends_then (Some x) (Some y) (Some z) xs ys a b = b ∙ ap (λ (text : List �
 -- ---- how far a dump has come
 
 -- these blocks were shown, and the dump stands after them; the room bounds how many there are, and how large
-pub record Dumping (view : View) (old here : Place) (output output' : Output) (s : Stand) (contents : List (List ℕ)) : Type 0 where
+pub record Dumping (view : View) (old here : Place) (output output' : Output) (s : Stand) (known : Known) (contents : List (List ℕ))
+    : Type 0 where
   pub shows : Shows view old here output output' contents
   pub stands : s ≡ after_all start contents
+  pub judged : known ≡ known_of (parts_all contents)
+  pub whole : old.room ≡ 4194304
   pub few : s.blocks + here.room ≤ 4194304
-  pub small : s.bytes ≤ 600 * s.blocks
 
-pub dump_begins : (view : View) (old : Place) (output : Output) → old.room ≡ 4194304 → Dumping view old old output output start []
-dump_begins view old output room = record {
+pub dump_begins : (view : View) (old : Place) (output : Output) (known : Known) → old.room ≡ 4194304 → known ≡ known_of []
+    → Dumping view old old output output start known []
+dump_begins view old output known room none = record {
   shows = record {
     given = [];
     took = took_nothing old;
     blocks = λ rest. refl;
     records = tt;
+    modules = none_unsound;
     text = appends_nothing output.text;
     faults = refl;
   };
   stands = refl;
+  judged = none;
+  whole = room;
   few = omega (arith, room);
-  small = omega arith;
 }
 
 -- a block is some bytes
@@ -93,56 +104,66 @@ pub reads_on : {X : Type 0} (has_failed : Bool) (returned : X) → (IsTrue has_f
 reads_on false returned h = refl
 reads_on {X} true returned h = absurd (let bad = h.0 refl in cc)
 
-module _ (view : View) (old here : Place) (output output' : Output) (s : Stand) (contents : List (List ℕ))
-    (d : Dumping view old here output output' s contents) where
+module _ (view : View) (old here : Place) (output output' : Output) (s : Stand) (known : Known) (contents : List (List ℕ))
+    (d : Dumping view old here output output' s known contents) where
   pub blocks_fit : s.blocks < 2 ^ 32
   blocks_fit = omega (arith, d.few)
 
-  pub bytes_fit : s.bytes < 2 ^ 48
-  bytes_fit = omega (arith, d.few, d.small)
+  number_is : s.blocks + 1 ≡ (after_all start contents).blocks + 1
+  number_is = ap (λ (x : Stand). x.blocks + 1) d.stands
 
-  pub dump_ends : (new : Place) (done : Unit {0}) → Stops first_block here new EndsBetween
-      → DumpsObject view old new output output' (Ok done)
-  dump_ends new done stops = (contents, here, d.shows, stops)
+  pub dump_ends : (new : Place) (count : ℕ) (result : Result (Unit {0}) Placed) → count ≡ count_read new
+      → Stops first_block here new EndsBetween → JudgesEnd (parts_all contents) s.blocks count result
+      → DumpsObject view old new output output' result
+  dump_ends new count (Ok done) is stops j = (contents, here, d.shows, stops, j)
+  dump_ends new count (Err said) is stops j =
+      let P : Placed → Type 0 = λ x. DumpsObject view old new output output' (Err x) in
+      let at = stops_at first_block EndsBetween old here new d.shows.given count d.whole d.shows.took stops is in
+      subst P (sym j.2) (contents, here, output', d.shows, inr (at, j.1, refl), number_is)
 
-  place_is : (f : DumpFault) (said : Placed) → said ≡ placed_at f s → said ≡ placed_at f (after_all start contents)
-  place_is f said e = e ∙ ap (placed_at f) d.stands
-
-  stopped : (f : DumpFault) (new : Place) (final : Output) (said : Placed) → said ≡ placed_at f s
-      → StopsAfter view f here new output' final contents → DumpsObject view old new output final (Err said)
-  stopped f new final said e h =
-      let is = place_is f said e in
-      let same : said.fault ≡ f = ap (λ (p : Placed). p.fault) e in
-      let P : DumpFault → Type 0 = λ x. StopsAfter view x here new output' final contents in
-      let Q : DumpFault → Type 0 = λ x. said ≡ placed_at x (after_all start contents) in
-      (contents, here, output', d.shows, subst P (sym same) h, subst Q (sym same) is)
-
-  pub block_refused : (new : Place) (inner : BlockFault) (said : Placed) → said ≡ placed_at (fault.Block inner) s
-      → Stops first_block here new (why_of inner) → DumpsObject view old new output output' (Err said)
-  block_refused new inner said e h = stopped (fault.Block inner) new output' said e (h, refl)
+  pub block_refused : (new : Place) (inner : BlockFault) (said : Placed) (byte count : ℕ)
+      → said ≡ placed_at (fault.Block inner) s.blocks byte → byte ≡ stop_byte (why_of inner) count → count ≡ count_read new → Stops first_block here new (why_of inner)
+      → DumpsObject view old new output output' (Err said)
+  block_refused new inner said byte count e is read h =
+      let P : Placed → Type 0 = λ x. DumpsObject view old new output output' (Err x) in
+      let stops = stops_at first_block (why_of inner) old here new d.shows.given byte d.whole d.shows.took h
+      (is ∙ ap (stop_byte (why_of inner)) read) in
+      subst P (sym e) (contents, here, output', d.shows, (stops, refl), number_is)
 
   module _ (new : Place) (content : List ℕ) (r : Reads first_block here new content) (final : Output) where
-    record_refused : (f : DumpFault) (said : Placed) → said ≡ placed_at f s
-        → ShowsBlock view s content output' final (Err f) → DumpsObject view old new output final (Err said)
-    record_refused (fault.Block inner) said e h = absurd h.1
-    record_refused (fault.Record inner) said e h = stopped (fault.Record inner) new final said e (content, r, h.0, h.1)
-    record_refused (fault.Tape inner) said e h = absurd h.1
-    record_refused fault.Write said e h =
+    count_is : count_read new ≡ length (d.shows.given ++ r.given)
+    count_is = read_is old here new d.shows.given r.given d.whole d.shows.took r.took.room
+
+    refused : (f : DumpFault) (byte : ℕ) → RefusesBlock view s (parts_all contents) content (count_read new) output' final f byte
+        → StopsAfter view f here new output' final contents d.shows.given byte
+    refused (fault.Block inner) byte h = absurd h
+    refused (fault.Record inner) byte h =
+        let P : ℕ → Type 0 = λ n. RecordShowsAt inner content n byte in (content, r, h.0, h.1, subst P count_is h.2)
+    refused (fault.Rule inner) byte h =
+        let P : Stand → Type 0 = λ x. Gained (shown view x.address (content_of content)) output' final in
+        inl (content, r, h.0, h.1, subst P d.stands h.2, h.3 ∙ ap (content_start content) count_is)
+    refused (fault.Tape inner) byte h = absurd h
+    refused fault.Write byte h =
         let P : Stand → Type 0 = λ x. FailsAt (shown view x.address (content_of content)) output' final in
-        stopped fault.Write new final said e (content, r, h.0, subst P d.stands h.1)
-    record_refused fault.NoMemory said e h = stopped fault.NoMemory new final said e (content, r, h.0, h.1)
+        (content, r, h.0, subst P d.stands h.1, h.2 ∙ count_is)
+    refused fault.NoMemory byte h =
+        let P : Stand → Type 0 = λ x. LacksMemory view x.address (parts_all contents) content output' final in
+        (content, r, h.0, subst P d.stands h.1, h.2 ∙ count_is)
 
-    pub block_stops : (f : DumpFault) (said : Placed) → said ≡ placed_at f s
-        → ShowsBlock view s content output' final (Err f) → DumpsObject view old new output final (Err said)
-    block_stops f said e h = record_refused f said e h
+    pub block_stops : (count : ℕ) (known' : Known) (said : Placed) → count ≡ count_read new
+        → TakesBlock view s (parts_all contents) known' content count output' final (Err said)
+        → DumpsObject view old new output final (Err said)
+    block_stops count known' said e h =
+        let P : ℕ → Type 0 = λ n. RefusesBlock view s (parts_all contents) content n output' final said.fault said.byte in
+        (contents, here, output', d.shows, refused said.fault said.byte (subst P e h.0), h.1 ∙ number_is)
 
-    pub block_shown : (s' : Stand) → length content ≤ 512 → ShowsBlock view s content output' final (Ok s')
-        → Dumping view old new output final s' (contents ++ content ∷ [])
-    block_shown s' long h =
+    pub block_taken : (count : ℕ) (known' : Known) (s' : Stand)
+        → TakesBlock view s (parts_all contents) known' content count output' final (Ok s')
+        → Dumping view old new output final s' known' (contents ++ content ∷ [])
+    block_taken count known' s' h =
         let P : Stand → Type 0 = λ x. Appends output'.text final.text (shown view x.address (content_of content)) in
         let Q : List ℕ → Type 0 = λ text. Appends output.text final.text text in
         let blocks : s'.blocks ≡ s.blocks + 1 = ap (λ (x : Stand). x.blocks) h.1.0 in
-        let bytes : s'.bytes ≡ s.bytes + length content + 5 = ap (λ (x : Stand). x.bytes) h.1.0 in
         let less = room_falls here new content r in
         record {
           shows = record {
@@ -154,12 +175,15 @@ module _ (view : View) (old here : Place) (output output' : Output) (s : Stand) 
                 (front_more contents content (d.shows.given ++ (r.given ++ rest)) (r.given ++ rest) rest
                 (d.shows.blocks (r.given ++ rest)) (r.is rest));
             records = all_more contents content d.shows.records h.0;
+            modules = subst (λ (parts : List Part). first_fault [] parts ≡ None) (sym (parts_more contents content))
+                (sound_more [] (parts_all contents) (record_parts content) d.shows.modules h.2.0);
             text = subst Q (sym (text_more view start contents content))
                 (appends_then output.text output'.text final.text (object_text view contents)
-                (shown view (after_all start contents).address (content_of content)) d.shows.text (subst P d.stands h.1.1));
-            faults = h.1.2 ∙ d.shows.faults;
+                (shown view (after_all start contents).address (content_of content)) d.shows.text (subst P d.stands h.1.1.0));
+            faults = h.1.1.1 ∙ d.shows.faults;
           };
           stands = h.1.0 ∙ ap (λ (x : Stand). after x content) d.stands ∙ sym (after_more start contents content);
+          judged = h.2.1 ∙ ap known_of (sym (parts_more contents content));
+          whole = d.whole;
           few = omega (arith, d.few, less, blocks);
-          small = omega (arith, d.small, long, blocks, bytes);
         }

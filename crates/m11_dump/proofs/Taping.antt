@@ -1,5 +1,5 @@
 -- The blocks of a tape, read and shown one after another.
-use Rattle.std.proofs.Common.{◌≡◌, ◌∙◌, ℕ, ◌+◌, ◌-◌, ◌*◌, ◌%◌, ◌^◌, ◌<◌, ◌≤◌, List, [], ◌∷◌, ◌++◌, append-nil, append_assoc, length, sum, Result, Ok, Err, inl, inr, refl, sym, ap, subst, arith}
+use Rattle.std.proofs.Common.{◌≡◌, ◌∙◌, ℕ, ◌+◌, ◌-◌, ◌%◌, ◌^◌, ◌<◌, ◌≤◌, List, [], ◌∷◌, ◌++◌, append-nil, append_assoc, length, sum, Result, Ok, Err, inl, inr, refl, sym, ap, subst, arith}
 use Rattle.std.proofs.lemmas.List.{length-append}
 use Rattle.std.specs.Io.KnownBytes.{Appends}
 use Rattle.m11_blocks.specs.declared.tape_fault.TapeFault.{TapeFault}
@@ -8,19 +8,19 @@ use Rattle.m11_blocks.specs.declared.tape_part.TapePart.TheVariants.{Data, Start
 use Rattle.m11_blocks.specs.declared.tape_part.TapeStage.{TapeStage}
 use Rattle.m11_blocks.specs.declared.tape_part.TapeStage.TheVariants.{BeforeBlock, InBlock, AtEnd, AfterFault}
 use Rattle.m11_blocks.specs.Limited.{Place, Read, Reads, Took}
-use Rattle.m11_blocks.specs.Tapes.{AreRead, IsTape, ReadsByte, ReadsNext, ReadsPart, data_byte, first_part, left_of, next_part, opened, stage_after, stage_within, tape_header, total_of}
+use Rattle.m11_blocks.specs.Tapes.{AreRead, IsTape, ReadsByte, ReadsNext, ReadsPart, data_byte, first_part, left_of, next_part, opened, stage_after, stage_within, tape_header, total_of, why_of}
 use Rattle.m11_blocks.proofs.Limits.{took_nothing, took_then}
 use Rattle.m11_blocks.proofs.ReadSteps.{bytes_then, rest_is, value_is}
 use Rattle.m11_blocks.proofs.TapeFrames.{opened_all, opened_more, tape_framed}
 use Rattle.m11_writes.specs.Outputs.{Output}
 use Rattle.m11_writes.specs.Outputs as writes
 use Rattle.m11_dump.proofs.Reading.{appends_nothing, appends_then}
-use Rattle.m11_dump.specs.Objects.{placed_at, stand}
-use Rattle.m11_dump.specs.Tapes.{DumpsTape, Hold, Puts, ReadsData, ShowsTape, StopsData, StopsTape, TakesData, after_blocks, after_data, block_text, part_after, start_text, tape_text}
+use Rattle.m11_dump.specs.Places.{count_read, fault_byte, placed_at, stop_byte}
+use Rattle.m11_dump.proofs.Offsets.{stops_at}
+use Rattle.m11_dump.specs.Tapes.{DumpsTape, Hold, Puts, ReadsData, ShowsTape, StopsData, StopsTape, TakesData, block_text, part_after, start_text, tape_text}
 use Rattle.m11_dump.specs.declared.fault.DumpFault.{DumpFault}
 use Rattle.m11_dump.specs.declared.fault.DumpFault.TheVariants as fault
 use Rattle.m11_dump.specs.declared.fault.Placed.{Placed}
-use Rattle.m11_dump.specs.declared.stand.Stand.{Stand}
 use Rattle.m11_dump.specs.declared.view.View.{View}
 
 abbrev Reader : Type 0
@@ -105,6 +105,7 @@ data_taken view start end stage address count bytes output output' (Err fault.Wr
 data_taken view start end stage address count bytes output output' (Err fault.NoMemory) r p = p
 data_taken view start end stage address count bytes output output' (Err (fault.Block inner)) r p = absurd p
 data_taken view start end stage address count bytes output output' (Err (fault.Record inner)) r p = absurd p
+data_taken view start end stage address count bytes output output' (Err (fault.Rule inner)) r p = absurd p
 data_taken view start end stage address count bytes output output' (Err (fault.Tape inner)) r p = absurd p
 
 pub data_not_taken : (view : View) (start end : Place) (stage : TapeStage) (address count : ℕ) (output : Output) (f : DumpFault)
@@ -113,6 +114,7 @@ data_not_taken view start end stage address count output fault.Write s = absurd 
 data_not_taken view start end stage address count output fault.NoMemory s = refl
 data_not_taken view start end stage address count output (fault.Block inner) s = absurd s
 data_not_taken view start end stage address count output (fault.Record inner) s = absurd s
+data_not_taken view start end stage address count output (fault.Rule inner) s = absurd s
 data_not_taken view start end stage address count output (fault.Tape inner) s = (s, refl)
 
 -- ---- one block more
@@ -150,11 +152,6 @@ text_more view [] address content = append-nil (block_text view address content)
 text_more view (block ∷ blocks) address content =
     ap (λ (text : List ℕ). block_text view block.0 block.1 ++ text) (text_more view blocks address content)
     ∙ sym (append_assoc (block_text view block.0 block.1) (tape_text view blocks) (block_text view address content))
-
-stand_more : (s : Stand) (blocks : List (ℕ × List ℕ)) (address : ℕ) (content : List ℕ)
-    → after_blocks s (blocks ++ (address, content) ∷ []) ≡ after_data (after_blocks s blocks) (length content)
-stand_more s [] address content = refl
-stand_more s (block ∷ blocks) address content = stand_more (after_data s (length block.1)) blocks address content
 
 -- ---- the whole tape
 
@@ -197,16 +194,16 @@ next_is (AtEnd address) read old new after result stands r = absurd stands
 next_is AfterFault read old new after result stands r = absurd stands
 
 -- these blocks were given and shown, and the reader stands before the part after them
-pub record Taping (view : View) (old here : Place) (output output' : Output) (stage : TapeStage) (s : Stand) (blocks : List (ℕ × List ℕ))
-    : Type 0 where
+pub record Taping (view : View) (old here : Place) (output output' : Output) (stage : TapeStage) (passed : ℕ)
+    (blocks : List (ℕ × List ℕ)) : Type 0 where
   pub shows : ShowsTape view old here output output' blocks
   pub before : StandsBefore stage (part_after first_part blocks)
-  pub stands : s ≡ after_blocks (stand 0 0 0) blocks
-  pub few : s.blocks + here.room ≤ 4194304
-  pub small : s.bytes ≤ 70000 * s.blocks
+  pub counts : passed ≡ length blocks
+  pub whole : old.room ≡ 4194304
+  pub few : passed + here.room ≤ 4194304
 
 pub tape_begins : (view : View) (old : Place) (output : Output) → old.room ≡ 4194304
-    → Taping view old old output output BeforeBlock (stand 0 0 0) []
+    → Taping view old old output output BeforeBlock 0 []
 tape_begins view old output room = record {
   shows = record {
     given = [];
@@ -216,9 +213,9 @@ tape_begins view old output room = record {
     faults = refl;
   };
   before = refl;
-  stands = refl;
+  counts = refl;
+  whole = room;
   few = omega (arith, room);
-  small = omega arith;
 }
 
 none_left : (stage : TapeStage) (read : Reader) → StandsBefore stage read → left_of stage ≡ 0
@@ -227,25 +224,24 @@ none_left (InBlock left total) read stands = stands.0
 none_left (AtEnd address) read stands = refl
 none_left AfterFault read stands = refl
 
-module _ (view : View) (old here : Place) (output output' : Output) (stage : TapeStage) (s : Stand) (blocks : List (ℕ × List ℕ))
-    (d : Taping view old here output output' stage s blocks) where
+module _ (view : View) (old here : Place) (output output' : Output) (stage : TapeStage) (passed : ℕ) (blocks : List (ℕ × List ℕ))
+    (d : Taping view old here output output' stage passed blocks) where
   pub block_ended : left_of stage ≡ 0
   block_ended = none_left stage (part_after first_part blocks) d.before
 
-  pub blocks_few : s.blocks < 2 ^ 32
+  pub blocks_few : passed < 2 ^ 32
   blocks_few = omega (arith, d.few)
 
-  pub bytes_few : s.bytes < 2 ^ 48
-  bytes_few = omega (arith, d.few, d.small)
+  -- a fault, at the byte that comes of all that was read
+  abbrev pub SaidAt : DumpFault → Place → Placed → Type 0
+  SaidAt f new said = said ≡ placed_at f passed (fault_byte f (count_read new))
 
-  stopped : (f : DumpFault) (new : Place) (final : Output) (said : Placed) → said ≡ placed_at f s
-      → StopsTape view f here new output' final blocks → DumpsTape view old new output final (Err said)
+  stopped : (f : DumpFault) (new : Place) (final : Output) (said : Placed) → SaidAt f new said
+      → StopsTape view f here new output' final blocks d.shows.given (fault_byte f (count_read new))
+      → DumpsTape view old new output final (Err said)
   stopped f new final said e h =
-      let is : said ≡ placed_at f (after_blocks (stand 0 0 0) blocks) = e ∙ ap (placed_at f) d.stands in
-      let same : said.fault ≡ f = ap (λ (p : Placed). p.fault) e in
-      let P : DumpFault → Type 0 = λ x. StopsTape view x here new output' final blocks in
-      let Q : DumpFault → Type 0 = λ x. said ≡ placed_at x (after_blocks (stand 0 0 0) blocks) in
-      (blocks, here, output', d.shows, subst P (sym same) h, subst Q (sym same) is)
+      let P : Placed → Type 0 = λ x. DumpsTape view old new output final (Err x) in
+      subst P (sym e) (blocks, here, output', d.shows, h, ap (λ (n : ℕ). n + 1) d.counts)
 
   module _ (new : Place) (after : TapeStage) (result : Result TapePart TapeFault) (r : ReadsNext stage here new after result) where
     part_read : ReadsPart (λ part. part) (part_after first_part blocks) here new result × (after ≡ stage_after result)
@@ -260,9 +256,13 @@ module _ (view : View) (old here : Place) (output output' : Output) (stage : Tap
     pub stage_is : (same : Result TapePart TapeFault) → result ≡ same → after ≡ stage_after same
     stage_is same is = part_read.1 ∙ ap stage_after is
 
-    pub part_stops : (inner : TapeFault) (said : Placed) → result ≡ Err inner → said ≡ placed_at (fault.Tape inner) s
+    pub part_stops : (inner : TapeFault) (said : Placed) → result ≡ Err inner → SaidAt (fault.Tape inner) new said
         → DumpsTape view old new output output' (Err said)
-    part_stops inner said is e = stopped (fault.Tape inner) new output' said e (refl, inl (part_as (Err inner) is))
+    part_stops inner said is e = stopped (fault.Tape inner) new output' said e (
+      refl,
+      inl (stops_at (part_after first_part blocks) (why_of inner) old here new d.shows.given
+          (stop_byte (why_of inner) (count_read new)) d.whole d.shows.took (part_as (Err inner) is) refl),
+    )
 
     module _ (start : ℕ) (is : result ≡ Ok (Start start)) (final : Output) where
       last : Reads (part_after first_part blocks) here new (Start start)
@@ -281,16 +281,17 @@ module _ (view : View) (old here : Place) (output output' : Output) (stage : Tap
         faults = p.1;
       }
 
-      start_refused : (f : DumpFault) (said : Placed) → said ≡ placed_at f s → Puts (start_text start) output' final (Err f)
+      start_refused : (f : DumpFault) (said : Placed) → SaidAt f new said → Puts (start_text start) output' final (Err f)
           → DumpsTape view old new output final (Err said)
       start_refused fault.Write said e p =
-          stopped fault.Write new final said e (start_text start, inr (start, new, last, refl), p)
-      start_refused fault.NoMemory said e p = stopped fault.NoMemory new final said e p
+          stopped fault.Write new final said e (start_text start, inr (start, new, last, refl), p, refl)
+      start_refused fault.NoMemory said e p = stopped fault.NoMemory new final said e (p, refl)
       start_refused (fault.Block inner) said e p = absurd p
       start_refused (fault.Record inner) said e p = absurd p
+      start_refused (fault.Rule inner) said e p = absurd p
       start_refused (fault.Tape inner) said e p = absurd p
 
-      pub start_stops : (f : DumpFault) (said : Placed) → said ≡ placed_at f s → Puts (start_text start) output' final (Err f)
+      pub start_stops : (f : DumpFault) (said : Placed) → SaidAt f new said → Puts (start_text start) output' final (Err f)
           → DumpsTape view old new output final (Err said)
       start_stops f said e p = start_refused f said e p
 
@@ -303,50 +304,52 @@ module _ (view : View) (old here : Place) (output output' : Output) (stage : Tap
           let P : ℕ → Type 0 = λ n. Reads (part_after first_part blocks) here new (Data address n) in
           subst P (sym long) header
 
-      data_refused : (f : DumpFault) (said : Placed) → said ≡ placed_at f s
+      data_refused : (f : DumpFault) (said : Placed) → SaidAt f end said
           → TakesData view new end stage' address count output' final (Err f) → DumpsTape view old end output final (Err said)
       data_refused fault.Write said e t = stopped fault.Write end final said e (
         block_text view address t.0,
         inl (address, t.0, new, end, header_of t.0 t.1.0, t.1.1, refl),
         t.2,
+        refl,
       )
-      data_refused fault.NoMemory said e t = stopped fault.NoMemory end final said e t
+      data_refused fault.NoMemory said e t = stopped fault.NoMemory end final said e (t, refl)
       data_refused (fault.Block inner) said e t = absurd t.2
       data_refused (fault.Record inner) said e t = absurd t.2
-      data_refused (fault.Tape inner) said e t = stopped (fault.Tape inner) end final said e (
-        t.1,
-        inr (
-          t.0.1,
-          record {
-            address = address;
-            count = count;
-            opened = new;
-            header = header;
-            taken = t.0.0;
-            took = t.0.2;
-            some = t.0.3;
-          },
-          t.0.4,
-        ),
-      )
+      data_refused (fault.Rule inner) said e t = absurd t.2
+      data_refused (fault.Tape inner) said e t =
+          let before = took_then old here t.0.1 d.shows.given (header.given ++ t.0.0) d.shows.took
+          (took_then here new t.0.1 header.given t.0.0 header.took t.0.2) in
+          stopped (fault.Tape inner) end final said e (
+            t.1,
+            inr (
+              t.0.1,
+              record {
+                address = address;
+                count = count;
+                opened = new;
+                header = header;
+                taken = t.0.0;
+                took = t.0.2;
+                some = t.0.3;
+              },
+              stops_at data_byte (why_of inner) old t.0.1 end (d.shows.given ++ (header.given ++ t.0.0))
+                  (stop_byte (why_of inner) (count_read end)) d.whole before t.0.4 refl,
+            ),
+          )
 
-      pub data_fails : (f : DumpFault) (said : Placed) → said ≡ placed_at f s
+      pub data_fails : (f : DumpFault) (said : Placed) → SaidAt f end said
           → TakesData view new end stage' address count output' final (Err f) → DumpsTape view old end output final (Err said)
       data_fails f said e t = data_refused f said e t
 
-      module _ (done : Unit {0}) (some : 0 < count) (fits : count ≤ 65529)
+      module _ (done : Unit {0}) (some : 0 < count)
           (t : TakesData view new end stage' address count output' final (Ok done)) where
         pub tape_room_falls : end.room < here.room
         tape_room_falls = omega (arith, header.took.room, t.1.1.room, t.1.0, some)
 
-        pub data_shown : (s' : Stand) → s' ≡ after_data s count
-            → Taping view old end output final stage' s' (blocks ++ (address, t.0) ∷ [])
-        data_shown s' e =
+        pub data_shown : Taping view old end output final stage' (passed + 1) (blocks ++ (address, t.0) ∷ [])
+        data_shown =
             let bytes : List ℕ = t.0 in
             let own = header_of bytes t.1.0 in
-            let P : ℕ → Type 0 = λ n. s' ≡ after_data s n in
-            let blocks_are : s'.blocks ≡ s.blocks + 1 = ap (λ (x : Stand). x.blocks) e in
-            let bytes_are : s'.bytes ≡ s.bytes + count + 7 = ap (λ (x : Stand). x.bytes) e in
             let less = tape_room_falls in
             let Q : List ℕ → Type 0 = λ text. Appends output.text final.text text in
             let R : Reader → Type 0 = λ read. read ≡ next_part (total_of address bytes) in
@@ -363,8 +366,7 @@ module _ (view : View) (old here : Place) (output output' : Output) (stage : Tap
                 faults = t.2.1 ∙ d.shows.faults;
               };
               before = subst S (sym t.1.2) (refl, after_more first_part blocks address bytes);
-              stands = subst P (sym t.1.0) e ∙ ap (λ (x : Stand). after_data x (length bytes)) d.stands
-                  ∙ sym (stand_more (stand 0 0 0) blocks address bytes);
-              few = omega (arith, d.few, less, blocks_are);
-              small = omega (arith, d.small, blocks_are, bytes_are, fits);
+              counts = omega (arith, d.counts, length-append blocks ((address, bytes) ∷ []));
+              whole = d.whole;
+              few = omega (arith, d.few, less);
             }

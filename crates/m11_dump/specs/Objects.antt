@@ -1,14 +1,20 @@
 -- A dump of an object: its blocks one after another, up to the end of its bytes or to their first fault. (RT-11 Volume and File
 -- Formats Manual, "Object file format". Which faults there are, and how they are placed, is this project's own.)
-use Rattle.std.specs.Prelude.{◌≡◌, ℕ, ◌+◌, List, [], ◌∷◌, ◌++◌, length, Result, Ok, Err}
-use Rattle.std.specs.List.{AllByRecursion}
+use Rattle.std.specs.Prelude.{◌≡◌, ◌⊎◌, ℕ, ◌+◌, List, [], ◌∷◌, ◌++◌, length, Some, None, Result, Ok, Err}
+use Rattle.std.specs.List.{AllByRecursion, flat_map}
 use Rattle.std.specs.Io.KnownBytes.{Appends}
 use Rattle.m11_base.specs.Devices.{Bytes, Rises}
 use Rattle.m11_base.specs.Sink.{AppendsBeginning}
 use Rattle.m11_blocks.specs.Blocks.{first_block, why_of}
 use Rattle.m11_blocks.specs.Limited.{EndsBetween, Place, Reads, Stops, Took}
+use Rattle.m11_modules.specs.Laws.{TakesAfter}
+use Rattle.m11_modules.specs.Parts.{EndOfFile, Part, record_parts}
+use Rattle.m11_modules.specs.Places.{Known}
+use Rattle.m11_modules.specs.Rules.{StopsAtName, first_fault}
+use Rattle.m11_modules.specs.declared.fault.ModuleFault.{ModuleFault}
 use Rattle.m11_obj.specs.Reading.{IsRecord, content_of}
 use Rattle.m11_writes.specs.Outputs.{Output}
+use Rattle.m11_dump.specs.Places.{RecordShowsAt, StopsAt, content_start, of_rule, placed_at, rule_byte}
 use Rattle.m11_dump.specs.Records.{address_then, shown}
 use Rattle.m11_dump.specs.declared.fault.DumpFault.{DumpFault}
 use Rattle.m11_dump.specs.declared.fault.DumpFault.TheVariants as fault
@@ -18,16 +24,16 @@ use Rattle.m11_dump.specs.declared.view.View.{View}
 
 -- ---- the text of an object
 
--- where a dump stands: the address of the last text, how many blocks it has passed, and how many bytes these had
-abbrev pub stand : ℕ → ℕ → ℕ → Stand
-stand address blocks bytes = record { address = address; blocks = blocks; bytes = bytes }
+-- where a dump stands: the address of the last text, and how many blocks it has passed
+abbrev pub stand : ℕ → ℕ → Stand
+stand address blocks = record { address = address; blocks = blocks }
 
 abbrev pub start : Stand
-start = stand 0 0 0
+start = stand 0 0
 
--- after one more block: 5 bytes stand round its content
+-- after one more block
 abbrev pub after : Stand → Bytes → Stand
-after s content = stand (address_then s.address (content_of content)) (s.blocks + 1) (s.bytes + length content + 5)
+after s content = stand (address_then s.address (content_of content)) (s.blocks + 1)
 
 abbrev pub after_all : Stand → List Bytes → Stand
 after_all s [] = s
@@ -49,12 +55,17 @@ AreInFront [] bytes rest = bytes ≡ rest
 AreInFront (content ∷ contents) bytes rest =
     (following : Bytes) × (first_block bytes ≡ Ok (content, following)) × AreInFront contents following rest
 
--- a feed gave blocks of these contents, all of them records, and an output gained their text
+-- the parts of the records of these blocks, in order
+abbrev pub parts_all : List Bytes → List Part
+parts_all contents = flat_map record_parts contents
+
+-- a feed gave blocks of these contents, all of them records, which break no rule of modules, and an output gained their text
 pub record Shows (view : View) (old here : Place) (output output' : Output) (contents : List Bytes) : Type 0 where
   pub given : Bytes
   pub took : Took old here given
   pub blocks : (rest : Bytes) → AreInFront contents (given ++ rest) rest
   pub records : AllByRecursion IsRecord contents
+  pub modules : first_fault [] (parts_all contents) ≡ None
   pub text : Appends output.text output'.text (object_text view contents)
   pub faults : output'.faults ≡ output.faults
 
@@ -62,46 +73,105 @@ pub record Shows (view : View) (old here : Place) (output output' : Output) (con
 abbrev pub FailsAt : Bytes → Output → Output → Type 0
 FailsAt text output output' = AppendsBeginning output.text output'.text text × Rises output.faults output'.faults
 
--- why a dump stopped after blocks of these contents: no further block could be read; or one is no record; or its text couldn't
--- be written; or memory was refused for it
-abbrev pub StopsAfter : View → DumpFault → Place → Place → Output → Output → List Bytes → Type 0
-StopsAfter view (fault.Block inner) here new output output' contents =
-    Stops first_block here new (why_of inner) × (output' ≡ output)
-StopsAfter view (fault.Record inner) here new output output' contents =
-    (bad : Bytes) × Reads first_block here new bad × (content_of bad ≡ Err inner) × (output' ≡ output)
-StopsAfter view (fault.Tape inner) here new output output' contents = ⊥
-StopsAfter view fault.Write here new output output' contents =
-    (last : Bytes) × Reads first_block here new last × IsRecord last
+-- a block's text was put
+abbrev pub Gained : Bytes → Output → Output → Type 0
+Gained text output output' = Appends output.text output'.text text × (output'.faults ≡ output.faults)
+
+-- memory was refused for the text of a record at this address; or, when that was there, for a name that it adds
+abbrev pub LacksMemory : View → ℕ → List Part → Bytes → Output → Output → Type 0
+LacksMemory view address parts content output output' = (output' ≡ output)
+    ⊎ (Gained (shown view address (content_of content)) output output' × StopsAtName (first_fault parts) (record_parts content))
+
+-- after blocks of these contents a further one is a record that breaks a rule of modules, and its text is there. The first byte of its
+-- content shows that
+abbrev pub RecordBreaks : View → ModuleFault → Place → Place → Output → Output → List Bytes → Bytes → ℕ → Type 0
+RecordBreaks view inner here new output output' contents before byte =
+    (bad : Bytes) × (block : Reads first_block here new bad) × IsRecord bad
+    × (first_fault (parts_all contents) (record_parts bad) ≡ Some inner)
+    × Gained (shown view (after_all start contents).address (content_of bad)) output output'
+    × (byte ≡ content_start bad (length (before ++ block.given)))
+
+-- the bytes end after them, inside a module
+abbrev pub EndBreaks : ModuleFault → Place → Place → Output → Output → List Bytes → Bytes → ℕ → Type 0
+EndBreaks inner here new output output' contents before byte = StopsAt first_block EndsBetween here new before byte
+    × (first_fault (parts_all contents) (EndOfFile ∷ []) ≡ Some inner) × (output' ≡ output)
+
+-- why a dump stopped after blocks of these contents, and after all these bytes, and at which byte that shows: no further block could
+-- be read; or one is no record; or it breaks a rule of modules, as the end of the file may; or its text couldn't be written; or memory was
+-- refused
+abbrev pub StopsAfter : View → DumpFault → Place → Place → Output → Output → List Bytes → Bytes → ℕ → Type 0
+StopsAfter view (fault.Block inner) here new output output' contents before byte =
+    StopsAt first_block (why_of inner) here new before byte × (output' ≡ output)
+StopsAfter view (fault.Record inner) here new output output' contents before byte =
+    (bad : Bytes) × (block : Reads first_block here new bad) × (content_of bad ≡ Err inner) × (output' ≡ output)
+    × RecordShowsAt inner bad (length (before ++ block.given)) byte
+StopsAfter view (fault.Rule inner) here new output output' contents before byte =
+    RecordBreaks view inner here new output output' contents before byte ⊎ EndBreaks inner here new output output' contents before byte
+StopsAfter view (fault.Tape inner) here new output output' contents before byte = ⊥
+StopsAfter view fault.Write here new output output' contents before byte =
+    (last : Bytes) × (block : Reads first_block here new last) × IsRecord last
     × FailsAt (shown view (after_all start contents).address (content_of last)) output output'
-StopsAfter view fault.NoMemory here new output output' contents =
-    (last : Bytes) × Reads first_block here new last × IsRecord last × (output' ≡ output)
+    × (byte ≡ length (before ++ block.given))
+StopsAfter view fault.NoMemory here new output output' contents before byte =
+    (last : Bytes) × (block : Reads first_block here new last) × IsRecord last
+    × LacksMemory view (after_all start contents).address (parts_all contents) last output output'
+    × (byte ≡ length (before ++ block.given))
 
--- a fault of the block after those that were passed: its number, and how many bytes the blocks before it have
-abbrev pub placed_at : DumpFault → Stand → Placed
-placed_at inner s = record { fault = inner; block = s.blocks + 1; byte = s.bytes }
-
--- what a dump of an object does: the output gains the text of all blocks, after which the bytes end; or of all blocks before
--- the first fault
+-- what a dump of an object does: the output gains the text of all blocks, after which the bytes end, between modules; or of all blocks
+-- before the first fault
 abbrev pub DumpsObject : View → Place → Place → Output → Output → Result (Unit {0}) Placed → Type 0
 DumpsObject view old new output output' (Ok done) = (contents : List Bytes) × (here : Place)
     × Shows view old here output output' contents × Stops first_block here new EndsBetween
+    × (first_fault (parts_all contents) (EndOfFile ∷ []) ≡ None)
 DumpsObject view old new output output' (Err said) = (contents : List Bytes) × (here : Place) × (middle : Output)
-    × Shows view old here output middle contents × StopsAfter view said.fault here new middle output' contents
-    × (said ≡ placed_at said.fault (after_all start contents))
+    × (shows : Shows view old here output middle contents)
+    × StopsAfter view said.fault here new middle output' contents shows.given said.byte
+    × (said.block ≡ (after_all start contents).blocks + 1)
 
 -- ---- one block
 
 -- a record was shown, and the dump stands after it; or its text was refused; or memory for it was
 abbrev pub ShowsRecord : View → Stand → Bytes → Output → Output → Result Stand DumpFault → Type 0
 ShowsRecord view s content output output' (Ok s') = (s' ≡ after s content)
-    × Appends output.text output'.text (shown view s.address (content_of content)) × (output'.faults ≡ output.faults)
+    × Gained (shown view s.address (content_of content)) output output'
 ShowsRecord view s content output output' (Err (fault.Block inner)) = ⊥
 ShowsRecord view s content output output' (Err (fault.Record inner)) = ⊥
+ShowsRecord view s content output output' (Err (fault.Rule inner)) = ⊥
 ShowsRecord view s content output output' (Err (fault.Tape inner)) = ⊥
 ShowsRecord view s content output output' (Err fault.Write) = FailsAt (shown view s.address (content_of content)) output output'
 ShowsRecord view s content output output' (Err fault.NoMemory) = output' ≡ output
 
--- the same of a block, which may be no record
-abbrev pub ShowsBlock : View → Stand → Bytes → Output → Output → Result Stand DumpFault → Type 0
-ShowsBlock view s content output output' (Err (fault.Record inner)) = (content_of content ≡ Err inner) × (output' ≡ output)
-ShowsBlock view s content output output' result = IsRecord content × ShowsRecord view s content output output' result
+-- a record was judged with which so many bytes of the file end, after these parts: the rules then stand after it; or it breaks one, or
+-- memory was refused, as this is said after so many blocks
+abbrev pub Judges : List Part → Known → Bytes → ℕ → ℕ → Result (Unit {0}) Placed → Type 0
+Judges parts known content blocks count (Ok done) = TakesAfter parts known (record_parts content) (Ok done)
+Judges parts known content blocks count (Err said) = (inner : ModuleFault) × TakesAfter parts known (record_parts content) (Err inner)
+    × (said ≡ placed_at (of_rule inner) blocks (rule_byte inner content count))
+
+-- the end of the bytes was judged likewise
+abbrev pub JudgesEnd : List Part → ℕ → ℕ → Result (Unit {0}) Placed → Type 0
+JudgesEnd parts blocks count (Ok done) = first_fault parts (EndOfFile ∷ []) ≡ None
+JudgesEnd parts blocks count (Err said) = (inner : ModuleFault) × (first_fault parts (EndOfFile ∷ []) ≡ Some inner)
+    × (said ≡ placed_at (fault.Rule inner) blocks count)
+
+-- why a block wasn't taken with which so many bytes of the file end, after these parts, and at which byte that shows: it is no record;
+-- or it breaks a rule of modules, and its text is there; or that was refused; or memory was
+abbrev pub RefusesBlock : View → Stand → List Part → Bytes → ℕ → Output → Output → DumpFault → ℕ → Type 0
+RefusesBlock view s parts content count output output' (fault.Block inner) byte = ⊥
+RefusesBlock view s parts content count output output' (fault.Record inner) byte =
+    (content_of content ≡ Err inner) × (output' ≡ output) × RecordShowsAt inner content count byte
+RefusesBlock view s parts content count output output' (fault.Rule inner) byte = IsRecord content
+    × (first_fault parts (record_parts content) ≡ Some inner) × Gained (shown view s.address (content_of content)) output output'
+    × (byte ≡ content_start content count)
+RefusesBlock view s parts content count output output' (fault.Tape inner) byte = ⊥
+RefusesBlock view s parts content count output output' fault.Write byte =
+    IsRecord content × FailsAt (shown view s.address (content_of content)) output output' × (byte ≡ count)
+RefusesBlock view s parts content count output output' fault.NoMemory byte =
+    IsRecord content × LacksMemory view s.address parts content output output' × (byte ≡ count)
+
+-- a block was shown and judged, and the dump and the rules stand after it; or why it wasn't taken
+abbrev pub TakesBlock : View → Stand → List Part → Known → Bytes → ℕ → Output → Output → Result Stand Placed → Type 0
+TakesBlock view s parts known content count output output' (Ok s') = IsRecord content
+    × ShowsRecord view s content output output' (Ok s') × TakesAfter parts known (record_parts content) (Ok tt)
+TakesBlock view s parts known content count output output' (Err said) =
+    RefusesBlock view s parts content count output output' said.fault said.byte × (said.block ≡ s.blocks + 1)

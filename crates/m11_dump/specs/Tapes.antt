@@ -13,12 +13,12 @@ use Rattle.m11_blocks.specs.declared.tape_part.TapePart.TheVariants.{Data, Start
 use Rattle.m11_blocks.specs.declared.tape_part.TapeStage.{TapeStage}
 use Rattle.m11_blocks.specs.declared.tape_part.TapeStage.TheVariants.{InBlock}
 use Rattle.m11_writes.specs.Outputs.{Output}
-use Rattle.m11_dump.specs.Objects.{FailsAt, placed_at, stand}
+use Rattle.m11_dump.specs.Objects.{FailsAt}
+use Rattle.m11_dump.specs.Places.{StopsAt, count_read}
 use Rattle.m11_dump.specs.Words.{data_cells}
 use Rattle.m11_dump.specs.declared.fault.DumpFault.{DumpFault}
 use Rattle.m11_dump.specs.declared.fault.DumpFault.TheVariants as fault
 use Rattle.m11_dump.specs.declared.fault.Placed.{Placed}
-use Rattle.m11_dump.specs.declared.stand.Stand.{Stand}
 use Rattle.m11_dump.specs.Instructions.{head_line, lines}
 use Rattle.m11_dump.specs.declared.view.View.{View}
 use Rattle.m11_dump.specs.declared.view.View.TheVariants.{Octal, Instructions}
@@ -76,25 +76,23 @@ ReadsText view read here text =
     × Reads read here opened (Data address (length bytes)) × Took opened end bytes × (text ≡ block_text view address bytes))
     ⊎ ((address : ℕ) × (end : Place) × Reads read here end (Start address) × (text ≡ start_text address))
 
--- why a dump stopped after blocks: no further part could be read, or not all data of one; or what is shown of it couldn't be
--- written; or memory was refused
-abbrev pub StopsTape : View → DumpFault → Place → Place → Output → Output → List (ℕ × Bytes) → Type 0
-StopsTape view (fault.Tape inner) here new output output' blocks = (output' ≡ output)
-    × (Stops (part_after first_part blocks) here new (why_of inner)
-    ⊎ ((inside : Place) × InsideData (part_after first_part blocks) here inside × Stops data_byte inside new (why_of inner)))
-StopsTape view fault.Write here new output output' blocks =
-    (text : Bytes) × ReadsText view (part_after first_part blocks) here text × FailsAt text output output'
-StopsTape view fault.NoMemory here new output output' blocks = output' ≡ output
-StopsTape view (fault.Block inner) here new output output' blocks = ⊥
-StopsTape view (fault.Record inner) here new output output' blocks = ⊥
+-- not all data of the next part could be read, after all these bytes before it, as this byte shows
+abbrev pub StopsInside : (Bytes → Read TapeFault TapePart) → TapeFault → Place → Place → Bytes → ℕ → Type 0
+StopsInside read inner here new before byte = (inside : Place) × (opened : InsideData read here inside)
+    × StopsAt data_byte (why_of inner) inside new (before ++ (opened.header.given ++ opened.taken)) byte
 
--- after one more block: 7 bytes stand round its data
-abbrev pub after_data : Stand → ℕ → Stand
-after_data s count = stand s.address (s.blocks + 1) (s.bytes + count + 7)
-
-abbrev pub after_blocks : Stand → List (ℕ × Bytes) → Stand
-after_blocks s [] = s
-after_blocks s (block ∷ blocks) = after_blocks (after_data s (length block.1)) blocks
+-- why a dump stopped after blocks, and after all these bytes, and at which byte that shows: no further part could be read, or not all
+-- data of one; or what is shown of it couldn't be written; or memory was refused
+abbrev pub StopsTape : View → DumpFault → Place → Place → Output → Output → List (ℕ × Bytes) → Bytes → ℕ → Type 0
+StopsTape view (fault.Tape inner) here new output output' blocks before byte = (output' ≡ output)
+    × (StopsAt (part_after first_part blocks) (why_of inner) here new before byte
+    ⊎ StopsInside (part_after first_part blocks) inner here new before byte)
+StopsTape view fault.Write here new output output' blocks before byte =
+    (text : Bytes) × ReadsText view (part_after first_part blocks) here text × FailsAt text output output' × (byte ≡ count_read new)
+StopsTape view fault.NoMemory here new output output' blocks before byte = (output' ≡ output) × (byte ≡ count_read new)
+StopsTape view (fault.Block inner) here new output output' blocks before byte = ⊥
+StopsTape view (fault.Record inner) here new output output' blocks before byte = ⊥
+StopsTape view (fault.Rule inner) here new output output' blocks before byte = ⊥
 
 -- a whole tape: its blocks and its transfer block, after which nothing is read, and the output gained the text of all
 pub record DumpsWhole (view : View) (old new : Place) (output output' : Output) : Type 0 where
@@ -112,8 +110,8 @@ pub record DumpsWhole (view : View) (old new : Place) (output output' : Output) 
 abbrev pub DumpsTape : View → Place → Place → Output → Output → Result (Unit {0}) Placed → Type 0
 DumpsTape view old new output output' (Ok done) = DumpsWhole view old new output output'
 DumpsTape view old new output output' (Err said) = (blocks : List (ℕ × Bytes)) × (here : Place) × (middle : Output)
-    × ShowsTape view old here output middle blocks × StopsTape view said.fault here new middle output' blocks
-    × (said ≡ placed_at said.fault (after_blocks (stand 0 0 0) blocks))
+    × (shows : ShowsTape view old here output middle blocks)
+    × StopsTape view said.fault here new middle output' blocks shows.given said.byte × (said.block ≡ length blocks + 1)
 
 -- ---- parts of it
 
@@ -124,6 +122,7 @@ Puts text output output' (Err fault.Write) = FailsAt text output output'
 Puts text output output' (Err fault.NoMemory) = output' ≡ output
 Puts text output output' (Err (fault.Block inner)) = ⊥
 Puts text output output' (Err (fault.Record inner)) = ⊥
+Puts text output output' (Err (fault.Rule inner)) = ⊥
 Puts text output output' (Err (fault.Tape inner)) = ⊥
 
 -- all data of a block was read, and the reader then stands at the end of that
@@ -139,6 +138,7 @@ StopsData fault.NoMemory opened new count = ⊤
 StopsData fault.Write opened new count = ⊥
 StopsData (fault.Block inner) opened new count = ⊥
 StopsData (fault.Record inner) opened new count = ⊥
+StopsData (fault.Rule inner) opened new count = ⊥
 
 -- the data of a block was read and shown, or why it wasn't
 abbrev pub TakesData : View → Place → Place → TapeStage → ℕ → ℕ → Output → Output → Result (Unit {0}) DumpFault → Type 0

@@ -1,16 +1,20 @@
 //! Dumps objects, a block at a time.
 
-ghost use Rattle.std.specs.Prelude.{◌≡◌, ◌<◌, ◌≤◌, ◌^◌, ℕ, length, OnOk};
-ghost use Rattle.m11_blocks.specs.Frames.{content_limit};
+ghost use Rattle.std.specs.Prelude.{◌≡◌, ◌<◌, ◌^◌, ℕ, List, []};
 ghost use Rattle.m11_blocks.specs.Limited.{most_bytes, place};
+ghost use Rattle.m11_modules.specs.Parts.{Part};
+ghost use Rattle.m11_modules.specs.Places.{known_of};
+ghost use Rattle.m11_obj.specs.Reading.{IsRecord};
 ghost use Rattle.m11_writes.specs.Outputs.{output_of};
 ghost use Rattle.m11_dump.specs.Objects as spec;
 
 use crate::fault::{DumpFault, Placed};
+use crate::places::{fault_byte, placed, record_byte, rule_byte};
 use crate::records::record_text;
 use crate::stand::{Stand, address_after};
 use crate::view::View;
 use m11_base::{Feed, Sink};
+use m11_modules::Rules;
 use m11_obj::{Block, BlockReader, Record, read_record};
 use m11_writes::put_or_fail;
 use std::alloc::Global;
@@ -23,33 +27,17 @@ impl Stand {
         Stand {
             address: 0,
             blocks: 0,
-            bytes: 0,
         }
     }
 
     // After one more block, which is this record.
     fn after(self, record: &Record<'_>) -> Stand
-        requires blocks { self.blocks < 2 ^ 32 }
-        requires bytes { self.bytes < 2 ^ 48 }
-        ensures after { result ≡ spec.after self «record».now }
-        ensures fits { length «record».now ≤ content_limit }
+        requires { self.blocks < 2 ^ 32 }
+        ensures { result ≡ spec.after self «record».now }
     {
         Stand {
             address: address_after(self.address, record),
             blocks: self.blocks + 1,
-            bytes: self.bytes + record.data().len() as u64 + 5,
-        }
-    }
-
-    // A fault of the block that comes next.
-    pub(crate) fn placed(self, fault: DumpFault) -> Placed
-        requires { self.blocks < 2 ^ 32 }
-        ensures { result ≡ spec.placed_at fault self }
-    {
-        Placed {
-            fault,
-            block: self.blocks + 1,
-            byte: self.bytes,
         }
     }
 }
@@ -62,41 +50,132 @@ fn show_record<S: Sink>(
     stand: Stand,
     sink: &mut S,
 ) -> Result<Stand, DumpFault>
-    requires blocks { stand.blocks < 2 ^ 32 }
-    requires bytes { stand.bytes < 2 ^ 48 }
-    ensures shows { spec.ShowsRecord view stand «record».now (output_of S.Sink sink.old) (output_of S.Sink sink.new) result }
-    ensures fits { OnOk result (length «record».now ≤ content_limit) }
+    requires { stand.blocks < 2 ^ 32 }
+    ensures { spec.ShowsRecord view stand «record».now (output_of S.Sink sink.old) (output_of S.Sink sink.new) result }
 {
     let text = record_text(alloc, view, stand.address, record)?;
     put_or_fail(sink, &text, DumpFault::Write)?;
     Ok(stand.after(record))
 }
 
-// Shows a block, where it is a record, and returns where the dump then stands.
-fn show_block<S: Sink>(
-    alloc: Global,
-    view: View,
-    block: &Block,
-    stand: Stand,
-    sink: &mut S,
-) -> Result<Stand, DumpFault>
-    requires blocks { stand.blocks < 2 ^ 32 }
-    requires bytes { stand.bytes < 2 ^ 48 }
-    ensures shows { spec.ShowsBlock view stand block.now.items (output_of S.Sink sink.old) (output_of S.Sink sink.new) result }
-    ensures fits { OnOk result (length block.now.items ≤ content_limit) }
+// Judges a record with which so many bytes of the file end, after so many blocks.
+fn judge_record(
+    rules: &mut Rules,
+    record: &Record<'_>,
+    blocks: u64,
+    read: u32,
+) -> Result<(), Placed>
+    requires { blocks < 2 ^ 32 }
+    ensures { (parts : List Part) → rules.old ≡ known_of parts
+        → spec.Judges parts rules.new «record».now blocks read result }
 {
-    match read_record(block) {
-        Ok(record) => show_record(alloc, view, &record, stand, sink),
-        Err(fault) => Err(DumpFault::Record(fault)),
+    match rules.record(record) {
+        Ok(()) => Ok(()),
+        Err(fault) => {
+            let byte = rule_byte(record.data(), fault, read);
+            Err(placed(DumpFault::from(fault), blocks, byte))
+        }
     }
 }
 
-/// Puts the lines of an object's records, one block after another, each block's before the next one is read.
+// Judges the end of a file of so many bytes, after so many blocks.
+fn judge_end(rules: &mut Rules, blocks: u64, read: u32) -> Result<(), Placed>
+    requires { blocks < 2 ^ 32 }
+    ensures { (parts : List Part) → rules.old ≡ known_of parts → spec.JudgesEnd parts blocks read result }
+{
+    match rules.end_of_file() {
+        Ok(()) => Ok(()),
+        Err(fault) => Err(placed(DumpFault::Rule(fault), blocks, u64::from(read))),
+    }
+}
+
+// Shows a record with which so many bytes of the file end, judges it, and returns where the dump then stands.
+fn take_record<S: Sink>(
+    alloc: Global,
+    view: View,
+    rules: &mut Rules,
+    record: &Record<'_>,
+    stand: Stand,
+    read: u32,
+    sink: &mut S,
+) -> Result<Stand, Placed>
+    requires { stand.blocks < 2 ^ 32 }
+    ensures { (parts : List Part) → IsRecord «record».now → rules.old ≡ known_of parts
+        → spec.TakesBlock view stand parts rules.new «record».now read (output_of S.Sink sink.old) (output_of S.Sink sink.new) result }
+{
+    match show_record(alloc, view, record, stand, sink) {
+        Ok(after) => match judge_record(rules, record, stand.blocks, read) {
+            Ok(()) => Ok(after),
+            Err(broken) => Err(broken),
+        },
+        Err(fault) => Err(placed(fault, stand.blocks, u64::from(read))),
+    }
+}
+
+// The same of a block, where it is a record.
+fn take_block<S: Sink>(
+    alloc: Global,
+    view: View,
+    rules: &mut Rules,
+    block: &Block,
+    stand: Stand,
+    read: u32,
+    sink: &mut S,
+) -> Result<Stand, Placed>
+    requires { stand.blocks < 2 ^ 32 }
+    ensures { (parts : List Part) → rules.old ≡ known_of parts
+        → spec.TakesBlock view stand parts rules.new block.now.items read (output_of S.Sink sink.old) (output_of S.Sink sink.new) result }
+{
+    match read_record(block) {
+        Ok(record) => take_record(alloc, view, rules, &record, stand, read, sink),
+        Err(fault) => {
+            let byte = record_byte(block, fault, read);
+            Err(placed(DumpFault::Record(fault), stand.blocks, byte))
+        }
+    }
+}
+
+// Shows and judges blocks up to the end of a file, where no record was judged before.
+fn dump_blocks<F: Feed, S: Sink>(
+    alloc: Global,
+    view: View,
+    rules: &mut Rules,
+    feed: &mut F,
+    sink: &mut S,
+) -> Result<(), Placed>
+    requires { rules.old ≡ known_of [] }
+    ensures { (room : ℕ) × spec.DumpsObject view (place (F.text feed.old) (F.faults feed.old) most_bytes)
+        (place (F.text feed.new) (F.faults feed.new) room)
+        (output_of S.Sink sink.old) (output_of S.Sink sink.new) result }
+{
+    let mut reader = BlockReader::new();
+    let mut block = Block::new();
+    let mut stand = Stand::new();
+    'reading: loop {
+        match reader.next_into(feed, &mut block) {
+            Ok(true) => {
+                match take_block(alloc, view, rules, &block, stand, reader.bytes_read(), sink) {
+                    Ok(after) => stand = after,
+                    Err(placed) => return Err(placed),
+                }
+            }
+            Ok(false) => return judge_end(rules, stand.blocks, reader.bytes_read()),
+            Err(fault) => {
+                let fault = DumpFault::Block(fault);
+                let byte = fault_byte(fault, reader.bytes_read());
+                return Err(placed(fault, stand.blocks, byte));
+            }
+        }
+    }
+}
+
+/// Puts the lines of an object's records, one block after another, each block's before the next one is read, and judges each record by the
+/// rules of modules when its lines are put, as in a link of this object alone.
 ///
-/// Faults, each with the number of its block and the bytes of the blocks before it: `Block`, where the bytes are no block, or
-/// the feed failed or has more bytes than an object may have; `Record`, where a block is no record; `Write`, where the sink
-/// failed, after a beginning of the block's lines; `NoMemory`, where memory was refused for them. What the blocks before show is
-/// written then.
+/// Faults, each with the number of its block and the byte that shows it: `Block`, where the bytes are no block, or the feed failed or has
+/// more bytes than an object may have; `Record`, where a block is no record; `Rule`, where a record breaks a rule, its lines being there, or
+/// the bytes end inside a module; `Write`, where the sink failed, after a beginning of the block's lines; `NoMemory`, where memory was
+/// refused for them or for a name. What the blocks before show is written then.
 pub fn dump_object<F: Feed, S: Sink>(
     alloc: Global,
     view: View,
@@ -107,17 +186,8 @@ pub fn dump_object<F: Feed, S: Sink>(
         (place (F.text feed.new) (F.faults feed.new) room)
         (output_of S.Sink sink.old) (output_of S.Sink sink.new) result }
 {
-    let mut reader = BlockReader::new();
-    let mut block = Block::new();
-    let mut stand = Stand::new();
-    'reading: loop {
-        match reader.next_into(feed, &mut block) {
-            Ok(true) => match show_block(alloc, view, &block, stand, sink) {
-                Ok(after) => stand = after,
-                Err(fault) => return Err(stand.placed(fault)),
-            },
-            Ok(false) => return Ok(()),
-            Err(fault) => return Err(stand.placed(DumpFault::Block(fault))),
-        }
-    }
+    let mut rules = Rules::new(alloc);
+    let dumped = dump_blocks(alloc, view, &mut rules, feed, sink);
+    drop(rules);
+    dumped
 }

@@ -13,8 +13,6 @@ pub(crate) struct Stand {
     pub(crate) address: u16,
     /// How many blocks it has passed.
     pub(crate) blocks: u64,
-    /// How many bytes these have.
-    pub(crate) bytes: u64,
 }
 
 /// The address of the last text after a record.

@@ -1,15 +1,16 @@
 //! Dumps tapes, a block at a time.
 
-ghost use Rattle.std.specs.Prelude.{◌≡◌, ◌%◌, ◌≤◌, ◌<◌, ◌^◌, ◌++◌, ℕ, length, sum, MatchResult, OnOk, IfOk};
+ghost use Rattle.std.specs.Prelude.{◌≡◌, ◌%◌, ◌-◌, ◌≤◌, ◌<◌, ◌^◌, ◌++◌, ℕ, length, sum, MatchResult, OnOk, IfOk};
 ghost use Rattle.m11_blocks.specs.Limited.{most_bytes, place};
 ghost use Rattle.m11_blocks.specs.Tapes.{data_limit, tape_header, total_of};
 ghost use Rattle.m11_blocks.specs.declared.tape_part.TapeStage.TheVariants.{InBlock};
 ghost use Rattle.m11_writes.specs.Outputs.{output_of};
+ghost use Rattle.m11_dump.specs.Places.{fault_byte, placed_at};
 ghost use Rattle.m11_dump.specs.Tapes as spec;
 
 use crate::fault::{DumpFault, Placed};
 use crate::instructions::{put_head, put_instructions};
-use crate::stand::Stand;
+use crate::places::{fault_byte, placed};
 use crate::view::View;
 use crate::words::put_data;
 use m11_base::{Feed, Sink, octal6};
@@ -111,21 +112,6 @@ fn read_data<F: Feed>(
     Ok(bytes)
 }
 
-impl Stand {
-    // After one more block of this many bytes of data.
-    fn after_data(self, count: u16) -> Stand
-        requires blocks { self.blocks < 2 ^ 32 }
-        requires bytes { self.bytes < 2 ^ 48 }
-        ensures { result ≡ spec.after_data self count }
-    {
-        Stand {
-            address: self.address,
-            blocks: self.blocks + 1,
-            bytes: self.bytes + u64::from(count) + 7,
-        }
-    }
-}
-
 // Reads and shows the data of the open block.
 fn take_data<F: Feed, S: Sink>(
     alloc: Global,
@@ -148,13 +134,21 @@ fn take_data<F: Feed, S: Sink>(
     }
 }
 
+// A fault of the block after so many, after all that the reader has read.
+fn placed_after(fault: DumpFault, blocks: u64, reader: &TapeReader) -> Placed
+    requires { blocks < 2 ^ 32 }
+    ensures { result ≡ placed_at fault blocks (fault_byte fault (most_bytes - reader.now.room)) }
+{
+    placed(fault, blocks, fault_byte(fault, reader.bytes_read()))
+}
+
 /// Puts the lines of a tape's blocks, one after another, each block's before the next one is read, and at last its start. After
 /// the transfer block nothing is read.
 ///
-/// Faults, each with the number of its block and the bytes of the blocks before it: `Tape`, where the bytes are no block, or the
-/// feed failed, ended without a transfer block or has more bytes than a tape may have; that the bytes of a block don't add up is found
-/// when the next one is read, and said of that one. `Write`, where the sink failed, after a beginning of the block's lines;
-/// `NoMemory`, where memory was refused for its data or lines. What the blocks before show is written then.
+/// Faults, each with the number of its block and the byte that shows it: `Tape`, where the bytes are no block, or the feed failed, ended
+/// without a transfer block or has more bytes than a tape may have; that the bytes of a block don't add up is found when the next one is
+/// read, and said of that one, at the sum byte. `Write`, where the sink failed, after a beginning of the block's lines; `NoMemory`, where
+/// memory was refused for its data or lines. What the blocks before show is written then.
 pub fn dump_tape<F: Feed, S: Sink>(
     alloc: Global,
     view: View,
@@ -166,22 +160,22 @@ pub fn dump_tape<F: Feed, S: Sink>(
         (output_of S.Sink sink.old) (output_of S.Sink sink.new) result }
 {
     let mut reader = TapeReader::new();
-    let mut stand = Stand::new();
+    let mut passed: u64 = 0;
     'parts: loop {
         match reader.next(feed) {
             Ok(TapePart::Data { address, count }) => {
                 match take_data(alloc, view, &mut reader, feed, address, count, sink) {
-                    Ok(()) => stand = stand.after_data(count),
-                    Err(fault) => return Err(stand.placed(fault)),
+                    Ok(()) => passed += 1,
+                    Err(fault) => return Err(placed_after(fault, passed, &reader)),
                 }
             }
             Ok(TapePart::Start(address)) => {
                 return match show_start(alloc, address, sink) {
                     Ok(()) => Ok(()),
-                    Err(fault) => Err(stand.placed(fault)),
+                    Err(fault) => Err(placed_after(fault, passed, &reader)),
                 };
             }
-            Err(fault) => return Err(stand.placed(DumpFault::Tape(fault))),
+            Err(fault) => return Err(placed_after(DumpFault::Tape(fault), passed, &reader)),
         }
     }
 }

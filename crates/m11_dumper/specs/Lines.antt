@@ -6,6 +6,7 @@ use Rattle.m11_blocks.specs.Blocks.{block_fault_name, block_fault_number}
 use Rattle.m11_blocks.specs.declared.block_fault.BlockFault.TheVariants as block
 use Rattle.m11_blocks.specs.Tapes.{tape_fault_name, tape_fault_number}
 use Rattle.m11_blocks.specs.declared.tape_fault.TapeFault.TheVariants as tape
+use Rattle.m11_layout.specs.Fault.{link_fault_name, link_fault_number, of_module}
 use Rattle.m11_obj.specs.Fault.{record_fault_name, record_fault_number}
 use Rattle.m11_dump.specs.declared.fault.DumpFault.{DumpFault}
 use Rattle.m11_dump.specs.declared.fault.DumpFault.TheVariants as fault
@@ -41,10 +42,11 @@ fault_text (fault.Tape tape.TooMuch) = codes "13 TooMuch"
 fault_text (fault.Tape inner) = numbered (codes "20 Tape ") (tape_fault_number inner) (tape_fault_name inner)
 fault_text (fault.Block inner) = numbered (codes "3 Block ") (block_fault_number inner) (block_fault_name inner)
 fault_text (fault.Record inner) = numbered (codes "4 Record ") (record_fault_number inner) (record_fault_name inner)
+fault_text (fault.Rule inner) = numbered [] (link_fault_number (of_module inner)) (link_fault_name (of_module inner))
 fault_text fault.Write = codes "2 Write"
 fault_text fault.NoMemory = codes "90 NoMemory"
 
--- where a fault is: its block, and how many bytes the blocks before it have
+-- where a fault is: its block, and the offset of the byte that shows it
 abbrev pub place_text : Placed → Bytes
 place_text placed = ((codes " IN BLOCK " ++ decimal placed.block) ++ codes " AT BYTE ") ++ decimal placed.byte
 

@@ -1,6 +1,6 @@
 -- What a command line yields, and the status that it leaves: 0 where all files were shown, 2 where the words are refused, 3 for a
--- device, 4 for a malformed object or tape, 5 for want of memory, 6 for one with too many bytes. (This project's own; a fault has
--- the status that a link gives it.)
+-- device, 4 for a malformed object or tape, 5 for want of memory, 6 for one with too many bytes, names or modules. (This project's own; a
+-- fault has the status that a link gives it.)
 use Rattle.std.specs.Prelude.{◌≡◌, ◌⊎◌, ℕ, List, Option, Result, Ok, Err}
 use Rattle.std.specs.Borrow.{Bor}
 use Rattle.clap.specs.Words.{Text}
@@ -9,6 +9,7 @@ use Rattle.m11_blocks.specs.declared.block_fault.BlockFault.TheVariants as block
 use Rattle.m11_blocks.specs.declared.tape_fault.TapeFault.TheVariants as tape
 use Rattle.m11_dump.specs.declared.fault.DumpFault.{DumpFault}
 use Rattle.m11_dump.specs.declared.fault.DumpFault.TheVariants as fault
+use Rattle.m11_modules.specs.declared.fault.ModuleFault.TheVariants as rule
 use Rattle.m11_dumper.specs.Lines.{stop_line}
 use Rattle.m11_dumper.specs.Paths.{Plans}
 use Rattle.m11_dumper.specs.Showing.{Fails, Gains, ShowsAll}
@@ -31,6 +32,11 @@ fault_status (fault.Block block.Device) = 3
 fault_status (fault.Block block.TooMuch) = 6
 fault_status (fault.Block inner) = 4
 fault_status (fault.Record inner) = 4
+fault_status (fault.Rule rule.TooManyGlobals) = 6
+fault_status (fault.Rule rule.TooManySections) = 6
+fault_status (fault.Rule rule.TooManyModules) = 6
+fault_status (fault.Rule rule.NoMemory) = 5
+fault_status (fault.Rule inner) = 4
 fault_status (fault.Tape tape.Device) = 3
 fault_status (fault.Tape tape.TooMuch) = 6
 fault_status (fault.Tape inner) = 4

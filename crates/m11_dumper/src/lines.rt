@@ -6,6 +6,7 @@ ghost use Rattle.m11_dumper.specs.Lines as spec;
 
 use crate::stop::Stop;
 use m11_dump::{DumpFault, Kind, Placed};
+use m11_layout::LinkFault;
 use m11_obj::{BlockFault, TapeFault};
 use std::alloc::{AllocError, Global};
 
@@ -51,6 +52,10 @@ fn put_fault(line: &mut Vec<u8>, alloc: Global, fault: DumpFault) -> Result<(), 
         }
         DumpFault::Record(inner) => {
             put_numbered(line, alloc, "4 Record ", inner.number(), inner.name())
+        }
+        DumpFault::Rule(inner) => {
+            let inner = LinkFault::from(inner);
+            put_numbered(line, alloc, "", inner.number(), inner.name())
         }
         DumpFault::Write => line.extend_from_slice(b"2 Write"),
         DumpFault::NoMemory => line.extend_from_slice(b"90 NoMemory"),

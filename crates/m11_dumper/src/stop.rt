@@ -1,10 +1,12 @@
 //! What a command line yields: files that were shown, or why not all of them were.
 
 ghost use Rattle.std.specs.Prelude.{◌≡◌};
+ghost use Rattle.m11_dump.specs.declared.fault.DumpFault.TheVariants.{Rule};
 ghost use Rattle.m11_dumper.specs.Outcome.{fault_status, status_of, stop_status, usage_status};
 ghost use Rattle.m11_dumper.specs.declared.stop.Stop.TheVariants.{NoMemory};
 
 use m11_dump::{DumpFault, Placed};
+use m11_modules::ModuleFault;
 use m11_obj::{BlockFault, TapeFault};
 use m11_tasks::UsageFault;
 use std::alloc::AllocError;
@@ -39,6 +41,18 @@ pub(crate) enum Outcome<'a> {
     Shown(Result<(), Stop<'a>>),
 }
 
+// The status of a fault of the rules of modules, as a link has it.
+fn rule_status(fault: ModuleFault) -> u8
+    ensures { result ≡ fault_status (Rule fault) }
+{
+    match fault {
+        ModuleFault::TooManyGlobals | ModuleFault::TooManySections | ModuleFault::TooManyModules =>
+            6,
+        ModuleFault::NoMemory => 5,
+        _ => 4,
+    }
+}
+
 fn fault_status(fault: DumpFault) -> u8
     ensures { result ≡ fault_status fault }
 {
@@ -48,6 +62,7 @@ fn fault_status(fault: DumpFault) -> u8
         | DumpFault::Write => 3,
         DumpFault::Block(BlockFault::TooMuch) | DumpFault::Tape(TapeFault::TooMuch) => 6,
         DumpFault::Block(_) | DumpFault::Record(_) | DumpFault::Tape(_) => 4,
+        DumpFault::Rule(inner) => rule_status(inner),
         DumpFault::NoMemory => 5,
     }
 }

@@ -6,7 +6,7 @@ use Rattle.m11_dump.proofs.Taping.{data_fails, data_shown, part_stops, start_sto
 use Rattle.m11_dump.proofs.tapes.dump_tape.Goals as goal
 
 pub parts-init : goal.parts-init
-parts-init g c = rw (c.new-reader.ensures, c.new-stand.ensures) (
+parts-init g c = rw c.new-reader.ensures (
   [],
   tape_begins c.args.view (place (g.F.Feed.text c.args.feed.now) (g.F.Feed.faults c.args.feed.now) most_bytes)
       (output_of g.S.Sink c.args.sink.now) refl,
@@ -21,13 +21,13 @@ parts-preserved g c =
       c.parts.invariant.0 ++ (address, c.in-Ok.ensures.0) ∷ [],
       data_shown c.args.view (place (g.F.Feed.text c.args.feed.now) (g.F.Feed.faults c.args.feed.now) most_bytes)
           (place (g.F.Feed.text c.parts.feed) (g.F.Feed.faults c.parts.feed) c.parts.reader.room)
-          (output_of g.S.Sink c.args.sink.now) (output_of g.S.Sink c.parts.sink) c.parts.reader.stage c.parts.stand
+          (output_of g.S.Sink c.args.sink.now) (output_of g.S.Sink c.parts.sink) c.parts.reader.stage c.parts.passed
           c.parts.invariant.0 c.parts.invariant.1
           (place (g.F.Feed.text c.next.new.feed) (g.F.Feed.faults c.next.new.feed) c.next.new.self.room) c.next.new.self.stage
           c.next.result c.next.ensures.reads
           address count is (place (g.F.Feed.text c.take_data.new.feed) (g.F.Feed.faults c.take_data.new.feed) c.take_data.new.reader.room)
           c.take_data.new.reader.stage (output_of g.S.Sink c.take_data.new.sink)
-          c.in-Ok.field-0 fits.0 fits.1 c.in-Ok.ensures c.after_data-stand.result c.after_data-stand.ensures,
+          c.in-Ok.field-0 fits.0 c.in-Ok.ensures,
     )
 
 pub returns-in-Err-take_data : goal.returns-in-Err-take_data
@@ -38,13 +38,13 @@ returns-in-Err-take_data g c =
       c.take_data.new.reader.room,
       data_fails c.args.view (place (g.F.Feed.text c.args.feed.now) (g.F.Feed.faults c.args.feed.now) most_bytes)
           (place (g.F.Feed.text c.parts.feed) (g.F.Feed.faults c.parts.feed) c.parts.reader.room)
-          (output_of g.S.Sink c.args.sink.now) (output_of g.S.Sink c.parts.sink) c.parts.reader.stage c.parts.stand
+          (output_of g.S.Sink c.args.sink.now) (output_of g.S.Sink c.parts.sink) c.parts.reader.stage c.parts.passed
           c.parts.invariant.0 c.parts.invariant.1
           (place (g.F.Feed.text c.next.new.feed) (g.F.Feed.faults c.next.new.feed) c.next.new.self.room) c.next.new.self.stage
           c.next.result c.next.ensures.reads
           address count is (place (g.F.Feed.text c.take_data.new.feed) (g.F.Feed.faults c.take_data.new.feed) c.take_data.new.reader.room)
           c.take_data.new.reader.stage (output_of g.S.Sink c.take_data.new.sink)
-          c.in-Err-take_data.fault c.placed.result c.placed.ensures c.in-Err-take_data.ensures,
+          c.in-Err-take_data.fault c.placed_after.result c.placed_after.ensures c.in-Err-take_data.ensures,
     )
 
 pub returns-in-Ok-show_start : goal.returns-in-Ok-show_start
@@ -53,7 +53,7 @@ returns-in-Ok-show_start g c =
       c.next.new.self.room,
       tape_ends c.args.view (place (g.F.Feed.text c.args.feed.now) (g.F.Feed.faults c.args.feed.now) most_bytes)
           (place (g.F.Feed.text c.parts.feed) (g.F.Feed.faults c.parts.feed) c.parts.reader.room)
-          (output_of g.S.Sink c.args.sink.now) (output_of g.S.Sink c.parts.sink) c.parts.reader.stage c.parts.stand
+          (output_of g.S.Sink c.args.sink.now) (output_of g.S.Sink c.parts.sink) c.parts.reader.stage c.parts.passed
           c.parts.invariant.0 c.parts.invariant.1
           (place (g.F.Feed.text c.next.new.feed) (g.F.Feed.faults c.next.new.feed) c.next.new.self.room) c.next.new.self.stage
           c.next.result c.next.ensures.reads
@@ -67,12 +67,12 @@ returns-in-Err-show_start g c =
       c.next.new.self.room,
       start_stops c.args.view (place (g.F.Feed.text c.args.feed.now) (g.F.Feed.faults c.args.feed.now) most_bytes)
           (place (g.F.Feed.text c.parts.feed) (g.F.Feed.faults c.parts.feed) c.parts.reader.room)
-          (output_of g.S.Sink c.args.sink.now) (output_of g.S.Sink c.parts.sink) c.parts.reader.stage c.parts.stand
+          (output_of g.S.Sink c.args.sink.now) (output_of g.S.Sink c.parts.sink) c.parts.reader.stage c.parts.passed
           c.parts.invariant.0 c.parts.invariant.1
           (place (g.F.Feed.text c.next.new.feed) (g.F.Feed.faults c.next.new.feed) c.next.new.self.room) c.next.new.self.stage
           c.next.result c.next.ensures.reads
           c.in-Ok-Start.address is (output_of g.S.Sink c.show_start.new.sink) c.in-Err-show_start.fault
-          c.placed-in-Err-show_start.result c.placed-in-Err-show_start.ensures c.in-Err-show_start.ensures,
+          c.placed_after-in-Err-show_start.result c.placed_after-in-Err-show_start.ensures c.in-Err-show_start.ensures,
     )
 
 pub returns-in-Err : goal.returns-in-Err
@@ -81,9 +81,9 @@ returns-in-Err g c =
       c.next.new.self.room,
       part_stops c.args.view (place (g.F.Feed.text c.args.feed.now) (g.F.Feed.faults c.args.feed.now) most_bytes)
           (place (g.F.Feed.text c.parts.feed) (g.F.Feed.faults c.parts.feed) c.parts.reader.room)
-          (output_of g.S.Sink c.args.sink.now) (output_of g.S.Sink c.parts.sink) c.parts.reader.stage c.parts.stand
+          (output_of g.S.Sink c.args.sink.now) (output_of g.S.Sink c.parts.sink) c.parts.reader.stage c.parts.passed
           c.parts.invariant.0 c.parts.invariant.1
           (place (g.F.Feed.text c.next.new.feed) (g.F.Feed.faults c.next.new.feed) c.next.new.self.room) c.next.new.self.stage
           c.next.result c.next.ensures.reads
-          c.in-Err.fault c.placed-in-Err.result is c.placed-in-Err.ensures,
+          c.in-Err.fault c.placed_after-in-Err.result is c.placed_after-in-Err.ensures,
     )

@@ -1,15 +1,16 @@
 use Rattle.std.proofs.Common.{[], ◌∷◌, ◌++◌, refl}
 use Rattle.m11_blocks.specs.Limited.{most_bytes, place}
 use Rattle.m11_writes.specs.Outputs.{output_of}
-use Rattle.m11_dump.proofs.Reading.{block_refused, block_shown, block_stops, dump_begins, dump_ends, reads_on, room_falls}
-use Rattle.m11_dump.proofs.objects.dump_object.Goals as goal
+use Rattle.m11_dump.proofs.Reading.{block_refused, block_taken, block_stops, dump_begins, dump_ends, reads_on, room_falls}
+use Rattle.m11_dump.specs.Objects.{parts_all}
+use Rattle.m11_dump.proofs.objects.dump_blocks.Goals as goal
 
 pub reading-init : goal.reading-init
 reading-init g c = rw (c.new-reader.ensures, c.new-stand.ensures) (record {
   reads = refl;
   contents = [];
   dumping = dump_begins c.args.view (place (g.F.Feed.text c.args.feed.now) (g.F.Feed.faults c.args.feed.now) most_bytes)
-      (output_of g.S.Sink c.args.sink.now) refl;
+      (output_of g.S.Sink c.args.sink.now) c.args.rules.now refl c.requires;
 })
 
 pub reading-smaller : goal.reading-smaller
@@ -24,26 +25,27 @@ reading-preserved g c =
     let reads = rw (c.reading.invariant.reads, c.in-Ok-true.field-0-test) at c.in-Ok-true.ensures.reads in record {
       reads = reads_on c.next_into.new.self.has_failed c.in-Ok-true.field-0 c.in-Ok-true.ensures.fails;
       contents = c.reading.invariant.contents ++ c.next_into.new.block.items ∷ [];
-      dumping = block_shown c.args.view (place (g.F.Feed.text c.args.feed.now) (g.F.Feed.faults c.args.feed.now) most_bytes)
+      dumping = block_taken c.args.view (place (g.F.Feed.text c.args.feed.now) (g.F.Feed.faults c.args.feed.now) most_bytes)
           (place (g.F.Feed.text c.reading.feed) (g.F.Feed.faults c.reading.feed) c.reading.reader.room)
-          (output_of g.S.Sink c.args.sink.now) (output_of g.S.Sink c.reading.sink) c.reading.stand c.reading.invariant.contents
+          (output_of g.S.Sink c.args.sink.now) (output_of g.S.Sink c.reading.sink) c.reading.stand c.reading.rules c.reading.invariant.contents
           c.reading.invariant.dumping
           (place (g.F.Feed.text c.next_into.new.feed) (g.F.Feed.faults c.next_into.new.feed) c.next_into.new.self.room)
-          c.next_into.new.block.items reads (output_of g.S.Sink c.show_block.new.sink) c.in-Ok.after c.in-Ok.ensures.fits
-          c.in-Ok.ensures.shows;
+          c.next_into.new.block.items reads (output_of g.S.Sink c.take_block.new.sink) c.bytes_read.result c.take_block.new.rules
+          c.in-Ok.after (c.in-Ok.ensures (parts_all c.reading.invariant.contents) c.reading.invariant.dumping.judged);
     }
 
-pub returns-in-Err-show_block : goal.returns-in-Err-show_block
-returns-in-Err-show_block g c =
+pub returns-in-Err-take_block : goal.returns-in-Err-take_block
+returns-in-Err-take_block g c =
     let reads = rw (c.reading.invariant.reads, c.in-Ok-true.field-0-test) at c.in-Ok-true.ensures.reads in (
       c.next_into.new.self.room,
       block_stops c.args.view (place (g.F.Feed.text c.args.feed.now) (g.F.Feed.faults c.args.feed.now) most_bytes)
           (place (g.F.Feed.text c.reading.feed) (g.F.Feed.faults c.reading.feed) c.reading.reader.room)
-          (output_of g.S.Sink c.args.sink.now) (output_of g.S.Sink c.reading.sink) c.reading.stand c.reading.invariant.contents
+          (output_of g.S.Sink c.args.sink.now) (output_of g.S.Sink c.reading.sink) c.reading.stand c.reading.rules c.reading.invariant.contents
           c.reading.invariant.dumping
           (place (g.F.Feed.text c.next_into.new.feed) (g.F.Feed.faults c.next_into.new.feed) c.next_into.new.self.room)
-          c.next_into.new.block.items reads (output_of g.S.Sink c.show_block.new.sink) c.in-Err-show_block.fault
-          c.placed.result c.placed.ensures c.in-Err-show_block.ensures.shows,
+          c.next_into.new.block.items reads (output_of g.S.Sink c.take_block.new.sink) c.bytes_read.result
+          c.take_block.new.rules c.in-Err-take_block.placed c.bytes_read.ensures
+          (c.in-Err-take_block.ensures (parts_all c.reading.invariant.contents) c.reading.invariant.dumping.judged),
     )
 
 pub returns-in-Ok-false : goal.returns-in-Ok-false
@@ -52,10 +54,11 @@ returns-in-Ok-false g c =
       c.next_into.new.self.room,
       dump_ends c.args.view (place (g.F.Feed.text c.args.feed.now) (g.F.Feed.faults c.args.feed.now) most_bytes)
           (place (g.F.Feed.text c.reading.feed) (g.F.Feed.faults c.reading.feed) c.reading.reader.room)
-          (output_of g.S.Sink c.args.sink.now) (output_of g.S.Sink c.reading.sink) c.reading.stand c.reading.invariant.contents
+          (output_of g.S.Sink c.args.sink.now) (output_of g.S.Sink c.reading.sink) c.reading.stand c.reading.rules c.reading.invariant.contents
           c.reading.invariant.dumping
           (place (g.F.Feed.text c.next_into.new.feed) (g.F.Feed.faults c.next_into.new.feed) c.next_into.new.self.room)
-          tt stops,
+          c.bytes_read-in-Ok-false.result c.judge_end.result c.bytes_read-in-Ok-false.ensures stops
+          (c.judge_end.ensures (parts_all c.reading.invariant.contents) c.reading.invariant.dumping.judged),
     )
 
 pub returns-in-Err : goal.returns-in-Err
@@ -64,8 +67,9 @@ returns-in-Err g c =
       c.next_into.new.self.room,
       block_refused c.args.view (place (g.F.Feed.text c.args.feed.now) (g.F.Feed.faults c.args.feed.now) most_bytes)
           (place (g.F.Feed.text c.reading.feed) (g.F.Feed.faults c.reading.feed) c.reading.reader.room)
-          (output_of g.S.Sink c.args.sink.now) (output_of g.S.Sink c.reading.sink) c.reading.stand c.reading.invariant.contents
+          (output_of g.S.Sink c.args.sink.now) (output_of g.S.Sink c.reading.sink) c.reading.stand c.reading.rules c.reading.invariant.contents
           c.reading.invariant.dumping
           (place (g.F.Feed.text c.next_into.new.feed) (g.F.Feed.faults c.next_into.new.feed) c.next_into.new.self.room)
-          c.in-Err.fault c.placed-in-Err.result c.placed-in-Err.ensures stops,
+          c.in-Err.fault c.placed.result c.fault_byte-byte.result c.bytes_read-in-Err.result c.placed.ensures
+          c.fault_byte-byte.ensures c.bytes_read-in-Err.ensures stops,
     )

@@ -2,7 +2,7 @@ use Rattle.std.proofs.Common.{◌≡◌, ℕ, List, false}
 use Rattle.m11_blocks.specs.Limited.{most_bytes, place}
 use Rattle.m11_writes.specs.Outputs.{output_of}
 use Rattle.m11_dump.proofs.Reading.{Dumping}
-use Rattle.m11_dump.proofs.objects.dump_object.Given as goal
+use Rattle.m11_dump.proofs.objects.dump_blocks.Given as goal
 
 abbrev pub invariant-reading : goal.invariant-reading
 invariant-reading g l = record {
@@ -10,7 +10,7 @@ invariant-reading g l = record {
   contents : List (List ℕ);
   dumping : Dumping l.view (place (g.F.Feed.text l.initial.feed) (g.F.Feed.faults l.initial.feed) most_bytes)
       (place (g.F.Feed.text l.feed) (g.F.Feed.faults l.feed) l.reader.room)
-      (output_of g.S.Sink l.initial.sink) (output_of g.S.Sink l.sink) l.stand contents;
+      (output_of g.S.Sink l.initial.sink) (output_of g.S.Sink l.sink) l.stand l.rules contents;
 }
 
 abbrev pub decreases-reading : goal.decreases-reading

@@ -1,0 +1,93 @@
+-- Where in a file a fault shows: the offset of a byte, counted from 0. (This project's own.)
+use Rattle.std.specs.Prelude.{◌≡◌, ℕ, ◌+◌, ◌-◌, ◌<◌, ◌≤◌, [], ◌∷◌, ◌++◌, length, take, Err}
+use Rattle.m11_base.specs.Devices.{Bytes}
+use Rattle.m11_blocks.specs.Blocks as blocks
+use Rattle.m11_blocks.specs.Tapes as tapes
+use Rattle.m11_blocks.specs.Limited.{EndsBetween, EndsInside, Fails, Never, Passes, Place, Read, Refuses, Stops, Why, most_bytes}
+use Rattle.m11_modules.specs.declared.fault.ModuleFault.{ModuleFault}
+use Rattle.m11_modules.specs.declared.fault.ModuleFault.TheVariants as rule
+use Rattle.m11_obj.specs.Reading.{content_of}
+use Rattle.m11_obj.specs.declared.fault.RecordFault.{RecordFault}
+use Rattle.m11_obj.specs.declared.fault.RecordFault.TheVariants.{BadLength}
+use Rattle.m11_dump.specs.declared.fault.DumpFault.{DumpFault}
+use Rattle.m11_dump.specs.declared.fault.DumpFault.TheVariants as fault
+use Rattle.m11_dump.specs.declared.fault.Placed.{Placed}
+
+-- ---- a fault of blocks or of a tape
+
+-- the bytes that were given before a call stopped
+abbrev pub given_of : {Fault A : Type 0} (read : Bytes → Read Fault A) (old new : Place) (why : Why Fault) → Stops read old new why
+    → Bytes
+given_of read old new Fails stops = stops.0
+given_of read old new EndsBetween stops = stops.0
+given_of read old new EndsInside stops = stops.0
+given_of read old new Passes stops = stops.0
+given_of read old new (Refuses fault) stops = stops.0
+given_of read old new Never stops = absurd stops
+
+-- the byte that shows why a call stopped, after so many bytes of the file: the last of them, where it is refused; else the one
+-- that isn't there or isn't taken, so that it is the size of the file where that ends
+abbrev pub stop_byte : {Fault : Type 0} → Why Fault → ℕ → ℕ
+stop_byte (Refuses fault) count = count - 1
+stop_byte why count = count
+
+-- a call stopped after all these bytes of the file and its own, as this byte shows
+abbrev pub StopsAt : {Fault A : Type 0} → (Bytes → Read Fault A) → Why Fault → Place → Place → Bytes → ℕ → Type 0
+StopsAt read why here new before byte = (stops : Stops read here new why)
+    × (byte ≡ stop_byte why (length (before ++ given_of read here new why stops)))
+
+-- ---- a fault of a record
+
+-- the beginning of a content that ends with this byte has a fault, and no shorter one has it
+pub record FirstHas (fault : RecordFault) (content : Bytes) (index : ℕ) : Type 0 where
+  pub within : index < length content
+  pub has : content_of (take (index + 1) content) ≡ Err fault
+  pub shortest : (count : ℕ) → count ≤ index → content_of (take count content) ≡ Err fault → ⊥
+
+-- the byte that shows the fault of a content: it ends the shortest beginning that has the fault; where a field is missing, it is the
+-- end of the content
+abbrev pub FaultShowsAt : RecordFault → Bytes → ℕ → Type 0
+FaultShowsAt BadLength content index = index ≡ length content
+FaultShowsAt fault content index = FirstHas fault content index
+
+-- the first byte of a content, where so many bytes of the file end with its block: only the sum byte follows it
+abbrev pub content_start : Bytes → ℕ → ℕ
+content_start content count = count - (length content + 1)
+
+-- a content stands among bytes at this index, and only its sum byte follows it
+abbrev pub StandsAt : Bytes → Bytes → ℕ → Type 0
+StandsAt content bytes index = (front : Bytes) × (last : ℕ) × (bytes ≡ front ++ (content ++ last ∷ [])) × (length front ≡ index)
+
+-- the byte of the file that shows the fault of a content, where so many bytes end with its block
+abbrev pub RecordShowsAt : RecordFault → Bytes → ℕ → ℕ → Type 0
+RecordShowsAt fault content count byte =
+    (index : ℕ) × FaultShowsAt fault content index × (byte ≡ content_start content count + index)
+
+-- ---- a rule of modules
+
+-- a fault of the rules, among those of a dump
+abbrev pub of_rule : ModuleFault → DumpFault
+of_rule rule.NoMemory = fault.NoMemory
+of_rule inner = fault.Rule inner
+
+-- the byte of the file that shows that a record of this content breaks a rule, where so many bytes end with its block: its first one.
+-- Want of memory no byte shows
+abbrev pub rule_byte : ModuleFault → Bytes → ℕ → ℕ
+rule_byte rule.NoMemory content count = count
+rule_byte inner content count = content_start content count
+
+-- ---- any fault
+
+-- how many bytes were read, by how many more are within the limit
+abbrev pub count_read : Place → ℕ
+count_read place = most_bytes - place.room
+
+-- the byte of a fault of blocks or of a tape, after so many bytes; what no byte shows comes after them
+abbrev pub fault_byte : DumpFault → ℕ → ℕ
+fault_byte (fault.Block inner) count = stop_byte (blocks.why_of inner) count
+fault_byte (fault.Tape inner) count = stop_byte (tapes.why_of inner) count
+fault_byte other count = count
+
+-- a fault of the block after so many, at this byte of the file
+abbrev pub placed_at : DumpFault → ℕ → ℕ → Placed
+placed_at inner blocks byte = record { fault = inner; block = blocks + 1; byte = byte }

@@ -1,0 +1,105 @@
+//! Where in a file a fault shows.
+
+ghost use Rattle.std.specs.Prelude.{◌≡◌, ◌≤◌, ◌<◌, ◌^◌, ◌↔◌, length, Err, IsTrue};
+ghost use Rattle.m11_blocks.specs.Frames.{content_limit};
+ghost use Rattle.m11_obj.specs.Reading.{content_of};
+ghost use Rattle.m11_dump.specs.Places as spec;
+
+use crate::fault::{DumpFault, Placed};
+use m11_modules::ModuleFault;
+use m11_obj::{Block, BlockFault, RecordFault, TapeFault, read_record};
+
+/// The offset of the byte that shows a fault of blocks or of a tape, after so many bytes were read: the last of them where the readers
+/// refuse it. Else it is how many were read.
+pub(crate) fn fault_byte(fault: DumpFault, read: u32) -> u64
+    ensures { result ≡ spec.fault_byte fault read }
+{
+    let read = u64::from(read);
+    match fault {
+        DumpFault::Block(
+            BlockFault::BadSum | BlockFault::TooLong | BlockFault::BadStart | BlockFault::TooShort,
+        ) => read.saturating_sub(1),
+        DumpFault::Tape(TapeFault::BadSum | TapeFault::BadStart | TapeFault::TooShort) => {
+            read.saturating_sub(1)
+        }
+        _ => read,
+    }
+}
+
+/// A fault of the block after so many, at a byte of the file.
+pub(crate) fn placed(fault: DumpFault, blocks: u64, byte: u64) -> Placed
+    requires { blocks < 2 ^ 32 }
+    ensures { result ≡ spec.placed_at fault blocks byte }
+{
+    Placed {
+        fault,
+        block: blocks + 1,
+        byte,
+    }
+}
+
+// Whether a content has this fault.
+fn has_fault(content: &Block, fault: RecordFault) -> bool
+    ensures { IsTrue result ↔ (content_of content.now.items ≡ Err fault) }
+{
+    match read_record(content) {
+        Ok(_) => false,
+        Err(found) => found == fault,
+    }
+}
+
+// The index of the byte that shows the fault of a content: that byte ends the shortest beginning that has the fault.
+fn index_with(content: &Block, fault: RecordFault) -> usize
+    requires has { content_of content.now.items ≡ Err fault }
+    requires other { fault ≡ RecordFault.BadLength → ⊥ }
+    ensures { spec.FirstHas fault content.now.items result }
+{
+    let mut beginning = Block::new();
+    'beginnings: for index in 0..content.len() {
+        beginning.push(content[index]);
+        if has_fault(&beginning, fault) {
+            return index;
+        }
+    }
+    unreachable!()
+}
+
+// The same of any fault: it shows at the end of a content that ends too early.
+fn index_of(content: &Block, fault: RecordFault) -> usize
+    requires { content_of content.now.items ≡ Err fault }
+    ensures shows { spec.FaultShowsAt fault content.now.items result }
+    ensures within { result ≤ length content.now.items }
+{
+    match fault {
+        RecordFault::BadLength => content.len(),
+        _ => index_with(content, fault),
+    }
+}
+
+// The offset of the first byte of a content, where so many bytes end with its block.
+fn content_start(content: &[u8], read: u32) -> u64
+    requires { length content.now ≤ content_limit }
+    ensures { result ≡ spec.content_start content.now read }
+{
+    let after = content.len() as u64 + 1;
+    u64::from(read).saturating_sub(after)
+}
+
+/// The offset of the byte that shows the fault of a content, where so many bytes end with its block.
+pub(crate) fn record_byte(content: &Block, fault: RecordFault, read: u32) -> u64
+    requires { content_of content.now.items ≡ Err fault }
+    ensures { spec.RecordShowsAt fault content.now.items read result }
+{
+    content_start(content, read) + index_of(content, fault) as u64
+}
+
+/// The offset of the byte that shows that a record breaks a rule of modules, where so many bytes end with its block.
+pub(crate) fn rule_byte(content: &[u8], fault: ModuleFault, read: u32) -> u64
+    requires { length content.now ≤ content_limit }
+    ensures { result ≡ spec.rule_byte fault content.now read }
+{
+    match fault {
+        ModuleFault::NoMemory => u64::from(read),
+        _ => content_start(content, read),
+    }
+}
