@@ -1,5 +1,5 @@
 -- The copy of the words of a memory, and the words that have changed since.
-use Rattle.std.proofs.Common.{◌≡◌, ◌∙◌, ℕ, zero, suc, ◌+◌, ◌-◌, ◌*◌, ◌/◌, ◌<◌, ◌≤◌, ◌==◌, Bool, true, false, cond, not, List, [], ◌∷◌, ◌++◌, length, get_or, set, append-nil, append_assoc, Option, Err, refl, sym, subst, ap, ap₂, arith}
+use Rattle.std.proofs.Common.{◌≡◌, ◌∙◌, ℕ, zero, suc, ◌+◌, ◌-◌, ◌*◌, ◌/◌, ◌<◌, ◌≤◌, ◌==◌, Bool, true, false, cond, not, List, [], ◌∷◌, ◌++◌, length, get_or, set, append-nil, append_assoc, Option, Ok, Err, refl, sym, subst, ap, ap₂, arith}
 use borrow.Author.Count.{below_more}
 use Rattle.std.specs.Prelude.{filter, flat_map, nat_le}
 use Rattle.std.specs.Io.KnownBytes.{Appends}
@@ -16,7 +16,7 @@ use Rattle.m11_cpu.specs.declared.fault.SimFault.TheVariants.{Load, Write, NoMem
 use Rattle.m11_machine.specs.Memory.{bytes_of, most_words, word_at}
 use Rattle.m11_machine.specs.declared.machine.Machine.{Machine}
 use Rattle.m11_machine.proofs.WordsAsBytes.{whole_word}
-use Rattle.m11_trace.specs.Changes.{HaveSameWords, changed_among, changes_among, even_addresses, has_changed, memory_changes, word_text}
+use Rattle.m11_trace.specs.Changes.{AreAlike, HaveSameWords, changed_among, changes_among, even_addresses, has_changed, memory_changes, word_text}
 use Rattle.m11_trace.specs.Lines.{line_with, step_line}
 use Rattle.m11_trace.specs.Shots.{shot_of}
 use Rattle.m11_trace.specs.Taken.{line_from}
@@ -186,6 +186,27 @@ module _ (copy words memory : List ℕ) (index : ℕ) (a b : Option (List ℕ)) 
         (subst (λ (t : List ℕ). AppendsBeginning a c t) whole begins, subst (λ (n : ℕ). Rises n h) w.sound put.1)
     change_failed c h NoMemory put = absurd put
     change_failed c h (Load fault) put = absurd put
+
+-- words that are alike were looked at
+pub alike_walked : (copy words memory : List ℕ) (n index to : ℕ) (a b : Option (List ℕ)) (f g : ℕ)
+    → Walked copy words memory index a b f g → to ≡ index + n → to ≤ most_words → AreAlike words memory index to
+    → Walked copy words memory to a b f g
+alike_walked copy words memory zero index to a b f g w here inside alike =
+    let same : index ≡ to = omega (arith, here) in
+    let P : ℕ → Type 0 = λ k. Walked copy words memory k a b f g in subst P same w
+alike_walked copy words memory (suc n) index to a b f g w here inside alike =
+    let lt : index < to = omega (arith, here) in
+    let next = one_kept copy words memory index a b f g w (omega (arith, lt, inside)) (word_at memory (2 * index)) refl
+    (alike index (omega arith) lt) in
+    alike_walked copy words memory n (index + 1) to a b f g next (omega (arith, here)) inside
+    (λ k le below. alike k (omega (arith, le)) below)
+
+pub all_walked : (copy words memory : List ℕ) (index : ℕ) (a b : Option (List ℕ)) (f g : ℕ)
+    → Walked copy words memory index a b f g → index ≤ most_words → most_words ≤ index
+    → PutsMessages {A = Unit {0}} a b f g (memory_changes (bytes_of copy) memory) (Ok tt)
+all_walked copy words memory index a b f g w le ge =
+    let all : index ≡ most_words = omega (arith, le, ge) in
+    (subst (λ (n : ℕ). Appends a b (changes_among n (bytes_of copy) memory)) all w.put, w.sound)
 
 -- ---- lines
 

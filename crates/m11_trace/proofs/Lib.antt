@@ -6,3 +6,4 @@ pub mod Reports
 pub mod Whole
 pub mod Copies
 pub mod Changed
+pub mod Alike

@@ -1,6 +1,6 @@
 -- The words of memory that a step changed: those that the memory after it has otherwise than the memory before it, each with its address
 -- as MACRO-11 writes an absolute one. (This project's own; the notation: MACRO-11 Language Reference Manual, "Absolute mode".)
-use Rattle.std.specs.Prelude.{◌≡◌, ◌≢◌, ℕ, zero, suc, ◌*◌, ◌%◌, ◌<◌, ◌≤◌, ◌==◌, Bool, not, List, [], ◌∷◌, ◌++◌, codes, filter, flat_map}
+use Rattle.std.specs.Prelude.{◌≡◌, ◌≢◌, ℕ, zero, suc, ◌*◌, ◌%◌, ◌<◌, ◌≤◌, ◌==◌, Bool, not, List, [], ◌∷◌, ◌++◌, codes, slice_index, filter, flat_map}
 use Rattle.m11_base.specs.Devices.{Bytes}
 use Rattle.m11_base.specs.Octal.{octal_text}
 use Rattle.m11_machine.specs.Memory.{bytes_of, most_words, word_at}
@@ -43,6 +43,11 @@ HasAnotherWord before later address =
 -- two memories have the same words
 abbrev pub HaveSameWords : Bytes → Bytes → Type 0
 HaveSameWords memory other = (index : ℕ) → index < most_words → word_at memory (2 * index) ≡ word_at other (2 * index)
+
+-- from one index up to another one the words of a copy are those of a memory
+abbrev pub AreAlike : List ℕ → Bytes → ℕ → ℕ → Type 0
+AreAlike words memory from to =
+    (index : ℕ) → from ≤ index → index < to → slice_index words index ≡ word_at memory (2 * index)
 
 -- a copy of the words of a memory, which is up to date from the line of the step of a number on, after so many steps
 abbrev pub KeepsUp : ℕ → ℕ → List ℕ → Bytes → Type 0
