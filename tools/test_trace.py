@@ -4,6 +4,7 @@
 Each check writes a tape into a fresh folder, runs PROGRAM there, and compares its status, what the tape's program prints and each byte of
 the lines. What has to be said is written out by hand. The last line is `N passed, M failed`, and the status is 1 where one failed."""
 import os
+import re
 import subprocess
 import sys
 import tempfile
@@ -56,6 +57,24 @@ AT_HALT = registers("000000", "001031", "001024", "000004")
 AWAY = block(word(0o1000) + b"".join(map(word, (0o012706, 0o1000, 0o137, 0o160000)))) + block(word(0o1000))
 EDGE = block(word(0o1000) + b"".join(map(word, (0o012706, 0o1000, 0o137, 0o17776)))) + block(word(0o17776) + word(0o012700)) + block(word(0o1000))
 TRAPPED = "HALT AFTER 4 STEPS\n" + registers("000000", "000000", "000002", "000000").replace("SP 000000", "SP 000774")
+# Stores a word at the end of memory and one elsewhere, a byte, and the word again; a subroutine that clears the word; and a trap through 20 to a
+# HALT at 0.
+STORES = block(word(0o1000) + b"".join(map(word, (
+    0o012706, 0o1000, 0o012737, 1, 0o157776, 0o012737, 7, 0o1100, 0o112737, 0o101, 0o1103, 0o012737, 7, 0o1100, 0o004737, 0o1050, 0o000004, 0, 0, 0,
+    0o005037, 0o1100, 0o000207)))) + block(word(0o1000))
+STORED = """\
+1	001000	MOV    #1000,SP	SP 001000
+2	001004	MOV    #1,@#157776	@#157776 000001
+3	001012	MOV    #7,@#1100	@#001100 000007
+4	001020	MOVB   #101,@#1103	@#001102 040400
+5	001026	MOV    #7,@#1100
+6	001034	JSR    PC,@#1050	SP 000776	@#000776 001040
+7	001050	CLR    @#1100	@#001100 000000	PSW 000004 -Z--
+8	001054	RTS    PC	SP 001000
+9	001040	IOT	SP 000774	@#000774 001042	@#000776 000004	PSW 000000 ----
+10	000000	HALT
+""".splitlines(keepends=True)
+AT_STORED = "HALT AFTER 10 STEPS\n" + NONE.replace("SP 000000 PC 001000", "SP 000774 PC 000002")
 LOOP = block(word(0o1000) + word(0o005200) + word(0o000776)) + block(word(0o1000))
 LAST = "".join(f"{number}\t001002\tBR     1000\n{number + 1}\t001000\tINC    R0\tR0 {number // 2 + 1:06o}\n" for number in range(84, 100, 2))
 
@@ -74,9 +93,12 @@ CHECKS = (
     ("another start", "-s 1024 HI.TAP", TAPE, 0, "", "1\t001024\tHALT\nHALT AFTER 1 STEPS\n" + registers("000000", "000000", "001026", "000000")),
     ("no start", "HI.TAP", block(word(1)), 1, "", "NO START AFTER 0 STEPS\n" + registers("000000", "000000", "000000", "000000")),
     ("a place without memory", "HI.TAP", AWAY, 0, "",
-     "1\t001000\tMOV    #1000,SP\tSP 001000\n2\t001004\tJMP    @#160000\n3\t160000\t\tSP 000774\n4\t000000\tHALT\n" + TRAPPED),
+     "1\t001000\tMOV    #1000,SP\tSP 001000\n2\t001004\tJMP    @#160000\n3\t160000\t\tSP 000774\t@#000774 160000\n4\t000000\tHALT\n" + TRAPPED),
     ("an instruction across the end of memory", "-k 4096 HI.TAP", EDGE, 0, "",
-     "1\t001000\tMOV    #1000,SP\tSP 001000\n2\t001004\tJMP    @#17776\n3\t017776\t.WORD  12700\tSP 000774\n4\t000000\tHALT\n" + TRAPPED),
+     "1\t001000\tMOV    #1000,SP\tSP 001000\n2\t001004\tJMP    @#17776\n3\t017776\t.WORD  12700\tSP 000774\t@#000774 020002\n4\t000000\tHALT\n" + TRAPPED),
+    ("words of memory", "HI.TAP", STORES, 0, "", "".join(STORED) + AT_STORED),
+    ("words of memory from a step on", "-f 7 HI.TAP", STORES, 0, "", "".join(STORED[6:]) + AT_STORED),
+    ("no words of memory in the last steps", "-f 11 HI.TAP", STORES, 0, "", re.sub("\t@#[0-7]{6} [0-7]{6}", "", "".join(STORED)) + AT_STORED),
     ("parts of memory", "-k 4096 -n 3 -f 4 -r 1000:1020 -r 17774:20004 -r 2:0 HI.TAP", LOOP, 1, "",
      "1\t001000\tINC    R0\tR0 000001\n2\t001002\tBR     1000\n3\t001000\tINC    R0\tR0 000002\nLIMIT AFTER 3 STEPS\n"
      + registers("000002", "000000", "001002", "000000")

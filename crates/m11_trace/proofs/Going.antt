@@ -1,5 +1,5 @@
 -- How far steps with lines have come, and how they end.
-use Rattle.std.proofs.Common.{◌≡◌, ◌∙◌, ℕ, zero, suc, ◌+◌, ◌<◌, ◌≤◌, true, false, List, [], ◌∷◌, ◌++◌, length, map, take, append-nil, append_assoc, Option, Some, None, Err, refl, sym, subst, ap, ap₂, arith}
+use Rattle.std.proofs.Common.{◌≡◌, ◌∙◌, ℕ, zero, suc, ◌+◌, ◌<◌, ◌≤◌, true, false, List, [], ◌∷◌, ◌++◌, length, map, take, append-nil, append_assoc, Option, Some, None, Err, refl, sym, subst, ap, arith}
 use Rattle.std.specs.List.{AllByRecursion}
 use Rattle.std.specs.Io.KnownBytes.{Appends}
 use Rattle.m11_base.specs.Devices.{Rises}
@@ -17,6 +17,7 @@ use Rattle.m11_machine.specs.declared.stop.Stop.{Stop}
 use Rattle.m11_machine.specs.declared.stop.Stop.TheVariants.{Limit}
 use Rattle.m11_machine.specs.declared.stop.Turn.{Turn}
 use Rattle.m11_machine.specs.declared.stop.Turn.TheVariants.{Next, Stopped}
+use Rattle.m11_trace.specs.Lines.{step_line}
 use Rattle.m11_trace.specs.Shots.{is_at, shot_of}
 use Rattle.m11_trace.specs.Stepping.{StepsWithLines}
 use Rattle.m11_trace.specs.Taken.{Follow, Taken, Yielded, kept, line_from, lines_from}
@@ -149,54 +150,57 @@ at_any limit count places m m' old new (Stopped stop) taken g =
 -- ---- with their lines
 
 module _ (first : ℕ) (taken : List Taken) (recent : List Shot) (output middle : Output) (s : Shown first taken recent output middle) where
-  line_of : (m m'' : Machine) (turn : Turn) (count : ℕ) (shot : Shot) → count ≡ length taken → shot ≡ shot_of m m''
-      → lines_from first taken ++ line_from first (count + 1) shot ≡ lines_from first (made m turn m'' ∷ taken)
-  line_of m m'' turn count shot long is =
+  line_of : (m m'' : Machine) (turn : Turn) (count : ℕ) (line : List ℕ) → count ≡ length taken
+      → line ≡ line_from first (count + 1) (step_line (count + 1) m m'')
+      → lines_from first taken ++ line ≡ lines_from first (made m turn m'' ∷ taken)
+  line_of m m'' turn count line long is =
       let one : count + 1 ≡ suc (length taken) = omega (arith, long) in
-      let to : ℕ → Shot → List ℕ = λ n x. lines_from first taken ++ line_from first n x in
-      ap₂ to one is
+      let to : ℕ → List ℕ = λ n. line_from first n (step_line n m m'') in
+      ap (λ (t : List ℕ). lines_from first taken ++ t) (is ∙ ap to one)
 
-  pub one_shown : (m m'' : Machine) (turn : Turn) (count : ℕ) (shot : Shot) (recent' : List Shot) (output' : Output)
-      → count ≡ length taken → shot ≡ shot_of m m'' → recent' ≡ take 16 (shot ∷ recent)
-      → Appends middle.text output'.text (line_from first (count + 1) shot) → output'.faults ≡ middle.faults
+  pub one_shown : (m m'' : Machine) (turn : Turn) (count : ℕ) (shot : Shot) (line : List ℕ) (recent' : List Shot)
+      (output' : Output) → count ≡ length taken → shot ≡ shot_of m m'' → recent' ≡ take 16 (shot ∷ recent)
+      → line ≡ line_from first (count + 1) (step_line (count + 1) m m'') → Appends middle.text output'.text line
+      → output'.faults ≡ middle.faults
       → Shown first (made m turn m'' ∷ taken) recent' output output'
-  one_shown m m'' turn count shot recent' output' long is kept_is text faults =
+  one_shown m m'' turn count shot line recent' output' long is kept_is line_is text faults =
       let P : List ℕ → Type 0 = λ t. Appends output.text output'.text t in
       let Q : List Shot → Type 0 = λ r. recent' ≡ take 16 (shot ∷ r) in
       let R : Shot → Type 0 = λ x. recent' ≡ take 16 (x ∷ map kept taken) in
       record {
         kept = subst R is (subst Q s.kept kept_is ∙ take_again 15 shot (map kept taken));
-        text = subst P (line_of m m'' turn count shot long is)
+        text = subst P (line_of m m'' turn count line long line_is)
             (Appends-Appends output.text middle.text output'.text (lines_from first taken) _ s.text text);
         faults = faults ∙ s.faults;
       }
 
-  pub part_shown : (m m'' : Machine) (turn : Turn) (count : ℕ) (shot : Shot) (output' : Output)
-      → count ≡ length taken → shot ≡ shot_of m m''
-      → AppendsBeginning middle.text output'.text (line_from first (count + 1) shot) → Rises middle.faults output'.faults
+  pub part_shown : (m m'' : Machine) (turn : Turn) (count : ℕ) (line : List ℕ) (output' : Output)
+      → count ≡ length taken → line ≡ line_from first (count + 1) (step_line (count + 1) m m'')
+      → AppendsBeginning middle.text output'.text line → Rises middle.faults output'.faults
       → AppendsBeginning output.text output'.text (lines_from first (made m turn m'' ∷ taken))
       × Rises output.faults output'.faults
-  part_shown m m'' turn count shot output' long is text faults =
+  part_shown m m'' turn count line output' long line_is text faults =
       let P : List ℕ → Type 0 = λ t. AppendsBeginning output.text output'.text t in
       let Q : ℕ → Type 0 = λ n. Rises n output'.faults in (
-        subst P (line_of m m'' turn count shot long is)
+        subst P (line_of m m'' turn count line long line_is)
             (begins_after output.text middle.text output'.text (lines_from first taken) _ s.text text),
         subst Q s.faults faults,
       )
 
 -- the line of a step was not put
 pub not_put : (limit count first : ℕ) (places : List ℕ) (m m' m'' : Machine) (old middle new : Devices) (taken : List Taken)
-    (recent : List Shot) (output held output' : Output) (turn : Turn) (shot : Shot) (fault : SimFault)
+    (recent : List Shot) (output held output' : Output) (turn : Turn) (line : List ℕ) (fault : SimFault)
     → Going limit count places m m' old middle Next taken → Shown first taken recent output held → count < limit
-    → is_at places m' ≡ false → Does (step m') middle new (turn, m'') → shot ≡ shot_of m' m''
-    → PutsMessages {A = Unit {0}} held.text output'.text held.faults output'.faults (line_from first (count + 1) shot) (Err fault)
+    → is_at places m' ≡ false → Does (step m') middle new (turn, m'')
+    → line ≡ line_from first (count + 1) (step_line (count + 1) m' m'')
+    → PutsMessages {A = Unit {0}} held.text output'.text held.faults output'.faults line (Err fault)
     → StepsWithLines (λ n. run_counted n m) limit first places m m'' old new output output' (Err fault)
-not_put limit count first places m m' m'' old middle new taken recent output held output' turn shot Write g s lt away does is p =
+not_put limit count first places m m' m'' old middle new taken recent output held output' turn line Write g s lt away does is p =
     let more = one_made limit count places m m' old middle taken g m'' new turn lt away does in
     let any = at_any limit (count + 1) places m m'' old new turn (made m' turn m'' ∷ taken) more in
-    let part = part_shown first taken recent output held s m' m'' turn count shot output' g.long is p.0 p.1 in
+    let part = part_shown first taken recent output held s m' m'' turn count line output' g.long is p.0 p.1 in
     (any.0, any.1, any.2, made m' turn m'' ∷ taken, any.3, part.0, part.1)
-not_put limit count first places m m' m'' old middle new taken recent output held output' turn shot NoMemory g s lt away does is p =
+not_put limit count first places m m' m'' old middle new taken recent output held output' turn line NoMemory g s lt away does is p =
     absurd p
-not_put limit count first places m m' m'' old middle new taken recent output held output' turn shot (Load f) g s lt away does is p =
+not_put limit count first places m m' m'' old middle new taken recent output held output' turn line (Load f) g s lt away does is p =
     absurd p

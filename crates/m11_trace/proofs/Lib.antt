@@ -4,3 +4,6 @@ pub mod Going
 pub mod Parts
 pub mod Reports
 pub mod Whole
+pub mod Copies
+pub mod Changed
+pub mod Alike

@@ -1,15 +1,14 @@
 -- Texts that are put one after another, and the lines of the last steps.
-use Rattle.std.proofs.Common.{◌≡◌, ◌∙◌, ℕ, zero, suc, ◌-◌, ◌<◌, ◌≤◌, Bool, true, false, cond, List, [], ◌∷◌, ◌++◌, length, map, take, drop, get_or, Option, Result, Ok, Err, refl, sym, subst, ap, ap₂, arith}
-use Rattle.std.specs.Prelude.{nat_le, nat_lt}
-use Rattle.std.proofs.lemmas.Bool.{le-leb, lt-leb}
+use Rattle.std.proofs.Common.{◌≡◌, ◌∙◌, ℕ, suc, ◌-◌, ◌≤◌, cond, List, [], ◌∷◌, ◌++◌, length, map, take, drop, get_or, Option, Result, Ok, Err, subst, ap, ap₂, arith}
+use Rattle.std.specs.Prelude.{nat_lt}
 use Rattle.std.proofs.lemmas.List.{take_all}
 use Rattle.m11_base.proofs.Known.{Appends-Appends}
 use Rattle.m11_base.specs.Devices.{Rises}
 use Rattle.m11_cpu.specs.Messages.{PutsMessages}
 use Rattle.m11_cpu.specs.declared.fault.SimFault.{SimFault}
 use Rattle.m11_cpu.specs.declared.fault.SimFault.TheVariants.{Load, Write, NoMemory}
-use Rattle.m11_trace.specs.Lines.{step_line}
-use Rattle.m11_trace.specs.Taken.{Taken, kept, line_from, lines_from, recent_lines, shots_text}
+use Rattle.m11_trace.specs.Lines.{short_line}
+use Rattle.m11_trace.specs.Taken.{Taken, kept, recent_lines, shots_text}
 use Rattle.m11_trace.specs.declared.shots.Shot.{Shot}
 use Rattle.m11_trace.proofs.Going.{begins_after, begins_whole}
 
@@ -31,50 +30,16 @@ puts_part a b f g first second (Load fault) p = absurd p
 
 -- ---- the last steps
 
-line_not_before : (first number : ℕ) (shot : Shot) → number < first → line_from first number shot ≡ []
-line_not_before first number shot lt =
-    let e : nat_le first number ≡ false = lt-leb first number lt in
-    ap (λ (b : Bool). cond b (step_line number shot) []) e
-
-line_there : (first number : ℕ) (shot : Shot) → first ≤ number → line_from first number shot ≡ step_line number shot
-line_there first number shot le =
-    let e : nat_le first number ≡ true = le-leb first number le in
-    ap (λ (b : Bool). cond b (step_line number shot) []) e
-
-none_before : (first : ℕ) (taken : List Taken) → length taken < first → lines_from first taken ≡ []
-none_before first [] lt = refl
-none_before first (last ∷ earlier) lt =
-    ap₂ (λ (x y : List ℕ). x ++ y) (none_before first earlier (omega (arith, lt)))
-    (line_not_before first (suc (length earlier)) (kept last) lt)
-
-last_lines : (n : ℕ) (taken : List Taken)
-    → shots_text (length taken) (take n (map kept taken)) ≡ lines_from (suc (length taken) - n) taken
-last_lines zero taken = sym (none_before (suc (length taken) - 0) taken (omega arith))
-last_lines (suc n) [] = refl
-last_lines (suc n) (last ∷ earlier) =
-    let one : suc (length earlier) - 1 ≡ length earlier = omega arith in
-    let same : suc (suc (length earlier)) - suc n ≡ suc (length earlier) - n = omega arith in
-    let line : line_from (suc (length earlier) - n) (suc (length earlier)) (kept last) ≡ step_line (suc (length earlier)) (kept last) =
-    line_there (suc (length earlier) - n) (suc (length earlier)) (kept last) (omega arith) in
-    let to : ℕ → List ℕ = λ k. shots_text k (take n (map kept earlier)) in
-    let from : ℕ → List ℕ = λ k. lines_from k earlier ++ line_from k (suc (length earlier)) (kept last) in
-    let text : List ℕ = step_line (suc (length earlier)) (kept last) in
-    ap (λ (x : List ℕ). x ++ text) (ap to one ∙ last_lines n earlier)
-    ∙ ap (λ (x : List ℕ). lines_from (suc (length earlier) - n) earlier ++ x) (sym line) ∙ ap from (sym same)
-
 -- what is kept of the last 16 steps has their lines
 pub recent_are : (first count : ℕ) (taken : List Taken) (recent : List Shot) → count ≡ length taken
     → recent ≡ take 16 (map kept taken)
     → cond (nat_lt count first) (shots_text count recent) [] ≡ recent_lines first taken
 recent_are first count taken recent long is =
-    let same : suc (length taken) - 16 ≡ length taken - 15 = omega arith in
-    let lines = last_lines 16 taken ∙ ap (λ (n : ℕ). lines_from n taken) same in
-    let to : ℕ → List Shot → List ℕ = λ n r. cond (nat_lt n first) (shots_text n r) [] in
-    ap₂ to long is ∙ ap (λ (t : List ℕ). cond (nat_lt (length taken) first) t []) lines
+    let to : ℕ → List Shot → List ℕ = λ n r. cond (nat_lt n first) (shots_text n r) [] in ap₂ to long is
 
 -- the lines of some steps are those of the earlier ones and that of the latest
 pub latest_last : (number before : ℕ) (shots : List Shot) (d : Shot) (line : List ℕ) → 1 ≤ length shots → before ≡ number - 1
-    → line ≡ step_line number (get_or shots 0 d)
+    → line ≡ short_line number (get_or shots 0 d)
     → shots_text before (take (length shots - 1) (drop 1 shots)) ++ line ≡ shots_text number shots
 latest_last number before [] d line some e is = absurd (omega (arith, some))
 latest_last number before (shot ∷ earlier) d line some e is =

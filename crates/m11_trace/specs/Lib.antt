@@ -1,4 +1,5 @@
 pub mod Shots
+pub mod Changes
 pub mod Lines
 pub mod Taken
 pub mod Messages

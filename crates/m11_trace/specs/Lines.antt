@@ -1,14 +1,16 @@
--- The line of a step: its number, the program counter, the instruction there as a line of source, and what the step changed, with
--- tabs between them. (This project's own; the line of source: MACRO-11 Language Reference Manual, "Assembler statements".)
+-- The line of a step: its number, the program counter, the instruction there as a line of source, and what the step changed: registers,
+-- words of memory and the processor status, with tabs between them. (This project's own; the line of source: MACRO-11 Language Reference
+-- Manual, "Assembler statements".)
 use Rattle.std.specs.Prelude.{ℕ, ◌/◌, ◌%◌, ◌==◌, if◌then◌else◌, List, [], ◌∷◌, ◌++◌, codes}
 use Rattle.std.specs.Fmt.{decimal}
 use Rattle.m11_base.specs.Devices.{Bytes}
 use Rattle.m11_base.specs.Octal.{octal_text}
 use Rattle.m11_disassembly.specs.Instructions.{statement_of}
 use Rattle.m11_disassembly.specs.Texts.{statement_text}
-use Rattle.m11_trace.specs.Shots.{numbered, words_in}
+use Rattle.m11_machine.specs.declared.machine.Machine.{Machine}
+use Rattle.m11_trace.specs.Changes.{memory_changes}
+use Rattle.m11_trace.specs.Shots.{numbered, shot_of, words_in}
 use Rattle.m11_trace.specs.declared.shots.Shot.{Shot}
-use Rattle.m11_trace.specs.declared.shots.View.{View}
 
 -- the instruction whose words lie at a place; nothing, where no word lies there
 abbrev pub source_text : ℕ → List ℕ → Bytes
@@ -43,14 +45,27 @@ abbrev pub status_change : ℕ → ℕ → Bytes
 status_change before later =
     if before == later then [] else codes "\tPSW " ++ (octal_text later ++ 32 ∷ code_letters later)
 
-abbrev pub changes : View → View → Bytes
-changes before later = register_changes before.registers later.registers ++ status_change before.psw later.psw
-
 -- where a step found its instruction
 abbrev pub place_of : Shot → ℕ
 place_of shot = numbered shot.before.registers 7
 
-unfoldable pub step_line : ℕ → Shot → Bytes
-step_line number shot =
+-- a line before the words of memory, and after them
+unfoldable pub line_front : ℕ → Shot → Bytes
+line_front number shot =
     decimal number ++ (9 ∷ (octal_text (place_of shot)
-    ++ (9 ∷ (source_text (place_of shot) (words_in shot.fetched) ++ (changes shot.before shot.later ++ 10 ∷ [])))))
+    ++ (9 ∷ (source_text (place_of shot) (words_in shot.fetched) ++ register_changes shot.before.registers shot.later.registers))))
+
+abbrev pub line_end : Shot → Bytes
+line_end shot = status_change shot.before.psw shot.later.psw ++ 10 ∷ []
+
+-- a line with a text for the words of memory
+abbrev pub line_with : ℕ → Shot → Bytes → Bytes
+line_with number shot memory = line_front number shot ++ (memory ++ line_end shot)
+
+-- a line that says nothing of memory
+abbrev pub short_line : ℕ → Shot → Bytes
+short_line number shot = line_with number shot []
+
+-- the line of a step from one machine to another
+abbrev pub step_line : ℕ → Machine → Machine → Bytes
+step_line number before later = line_with number (shot_of before later) (memory_changes before.memory later.memory)

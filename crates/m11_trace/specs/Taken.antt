@@ -1,5 +1,5 @@
 -- Steps that were made one after another. (This project's own.)
-use Rattle.std.specs.Prelude.{◌≡◌, ℕ, suc, ◌-◌, ◌%◌, ◌==◌, nat_le, nat_lt, if◌then◌else◌, List, [], ◌∷◌, ◌++◌, length}
+use Rattle.std.specs.Prelude.{◌≡◌, ℕ, suc, ◌-◌, ◌%◌, ◌==◌, nat_le, nat_lt, if◌then◌else◌, List, [], ◌∷◌, ◌++◌, length, map, take}
 use Rattle.m11_base.specs.Devices.{Bytes}
 use Rattle.m11_base.specs.declared.operand.Register.TheVariants.{Pc}
 use Rattle.m11_machine.specs.Dialogue.{Devices, Does}
@@ -8,7 +8,7 @@ use Rattle.m11_machine.specs.Steps.{step}
 use Rattle.m11_machine.specs.declared.machine.Machine.{Machine}
 use Rattle.m11_machine.specs.declared.stop.Turn.{Turn}
 use Rattle.m11_machine.specs.declared.stop.Turn.TheVariants.{Next}
-use Rattle.m11_trace.specs.Lines.{step_line}
+use Rattle.m11_trace.specs.Lines.{short_line, step_line}
 use Rattle.m11_trace.specs.Shots.{shot_of}
 use Rattle.m11_trace.specs.declared.shots.Shot.{Shot}
 
@@ -37,20 +37,22 @@ begun address m = if address % 2 == 1 then m else with_register Pc address m
 abbrev pub kept : Taken → Shot
 kept taken = shot_of taken.before taken.later
 
--- the line of a step, from the one of a number on
-abbrev pub line_from : ℕ → ℕ → Shot → Bytes
-line_from first number shot = if nat_le first number then step_line number shot else []
+-- a line, from the one of a number on
+abbrev pub line_from : ℕ → ℕ → Bytes → Bytes
+line_from first number line = if nat_le first number then line else []
 
 -- the lines of steps, the latest first, from the one of a number on. The first step has number 1
 abbrev pub lines_from : ℕ → List Taken → Bytes
 lines_from first [] = []
-lines_from first (taken ∷ earlier) = lines_from first earlier ++ line_from first (suc (length earlier)) (kept taken)
+lines_from first (taken ∷ earlier) =
+    lines_from first earlier ++ line_from first (suc (length earlier)) (step_line (suc (length earlier)) taken.before taken.later)
 
--- the lines of what was kept of steps, the latest first, which has this number
+-- the lines of what was kept of steps, the latest first, which has this number. They say nothing of memory
 abbrev pub shots_text : ℕ → List Shot → Bytes
 shots_text number [] = []
-shots_text number (shot ∷ earlier) = shots_text (number - 1) earlier ++ step_line number shot
+shots_text number (shot ∷ earlier) = shots_text (number - 1) earlier ++ short_line number shot
 
 -- the lines of the last 16 steps, where no line of a step was shown
 abbrev pub recent_lines : ℕ → List Taken → Bytes
-recent_lines first taken = if nat_lt (length taken) first then lines_from (length taken - 15) taken else []
+recent_lines first taken =
+    if nat_lt (length taken) first then shots_text (length taken) (take 16 (map kept taken)) else []

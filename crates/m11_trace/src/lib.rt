@@ -2,7 +2,9 @@
 //! the stop are those of the run without the lines.
 #![tactic(auto)]
 
+mod changes;
 mod ending;
+mod laws;
 mod line;
 mod lines;
 mod messages;
@@ -13,6 +15,7 @@ mod steps;
 mod tracing;
 
 pub use ending::Ending;
+pub use laws::each_changed_word_is_shown;
 pub use ranges::Range;
 pub use shots::{Fetched, Shot, View};
 pub use tracing::trace_run;

@@ -9,8 +9,8 @@ use arrayvec::ArrayVec;
 use m11_base::{Sink, octal6, put_all};
 use m11_cpu::SimFault;
 
-/// A line, or the two lines of a stop. The line of a step has at most 175 characters, of which 40 are for a number that has ten at
-/// most, since `itoa` has room for so many.
+/// A line or a part of one, or the two lines of a stop. The line of a step has at most 175 characters beside its words of memory, of which
+/// 40 are for a number that has ten at most, since `itoa` has room for so many.
 pub(crate) type Line = ArrayVec<u8, 180>;
 
 /// Adds bytes. There is room for them, so nothing of them is left out.

@@ -6,7 +6,7 @@ ghost use Rattle.m11_trace.specs.Shots.{words_in};
 ghost use Rattle.m11_trace.specs.Lines as spec;
 
 use crate::line::{Line, add, add_word};
-use crate::shots::{Fetched, Shot, View};
+use crate::shots::{Fetched, Shot};
 use itoa::Buffer;
 use m11_disassembly::disassembled;
 
@@ -47,7 +47,6 @@ fn add_change(line: &mut Line, name: &[u8; 3], before: u16, later: u16)
 }
 
 // The registers that have other values than before.
-
 fn add_registers(line: &mut Line, before: &[u16; 8], later: &[u16; 8])
     requires { array_vec_len line.old ≤ 100 }
     ensures items { line.new.items ≡ line.old.items ++ spec.register_changes before.now later.now }
@@ -106,20 +105,11 @@ fn add_status(line: &mut Line, before: u16, later: u16)
     }
 }
 
-// What a step changed.
-fn add_changes(line: &mut Line, before: &View, later: &View)
-    requires { array_vec_len line.old ≤ 90 }
-    ensures items { line.new.items ≡ line.old.items ++ spec.changes before.now later.now }
-    ensures size { array_vec_len line.new ≤ array_vec_len line.old + 86 }
-{
-    add_registers(line, &before.registers, &later.registers);
-    add_status(line, before.psw, later.psw);
-}
-
-/// The line of a step with its number.
-#[tactic(auto, unfolding(crate::specs::Lines::step_line))]
-pub(crate) fn step_line(number: u32, shot: &Shot) -> Line
-    ensures { result.items ≡ spec.step_line number shot.now }
+/// A line before the words of memory.
+#[tactic(auto, unfolding(crate::specs::Lines::line_front))]
+pub(crate) fn line_front(number: u32, shot: &Shot) -> Line
+    ensures items { result.items ≡ spec.line_front number shot.now }
+    ensures size { array_vec_len result ≤ 158 }
 {
     let place = shot.before.registers[7];
     let mut line = Line::new();
@@ -127,7 +117,33 @@ pub(crate) fn step_line(number: u32, shot: &Shot) -> Line
     add_word(&mut line, b"\t", place);
     add(&mut line, b"\t");
     add_source(&mut line, place, shot.fetched);
-    add_changes(&mut line, &shot.before, &shot.later);
-    add(&mut line, b"\n");
+    add_registers(&mut line, &shot.before.registers, &shot.later.registers);
+    line
+}
+
+// Adds what a line has after the words of memory.
+fn add_end(line: &mut Line, shot: &Shot)
+    requires { array_vec_len line.old ≤ 158 }
+    ensures { line.new.items ≡ line.old.items ++ spec.line_end shot.now }
+{
+    add_status(line, shot.before.psw, shot.later.psw);
+    add(line, b"\n");
+}
+
+/// A line after the words of memory.
+pub(crate) fn line_end(shot: &Shot) -> Line
+    ensures { result.items ≡ spec.line_end shot.now }
+{
+    let mut line = Line::new();
+    add_end(&mut line, shot);
+    line
+}
+
+/// The line of a step with its number, without words of memory.
+pub(crate) fn short_line(number: u32, shot: &Shot) -> Line
+    ensures { result.items ≡ spec.short_line number shot.now }
+{
+    let mut line = line_front(number, shot);
+    add_end(&mut line, shot);
     line
 }

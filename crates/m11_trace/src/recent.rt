@@ -5,7 +5,7 @@ ghost use Rattle.m11_cpu.specs.Messages.{PutsMessages};
 ghost use Rattle.m11_trace.specs.Taken.{shots_text};
 
 use crate::line::put_text;
-use crate::lines::step_line;
+use crate::lines::short_line;
 use crate::shots::Shot;
 use arrayvec::ArrayVec;
 use m11_base::Sink;
@@ -24,7 +24,7 @@ pub(crate) fn keep(recent: &mut Recent, shot: Shot)
     recent.insert(0, shot);
 }
 
-// Puts the lines of steps, the latest first, which has this number.
+// Puts the lines of steps, the latest first, which has this number, without words of memory.
 #[tactic(auto, using(crate::proofs::Reports::puts_then, crate::proofs::Reports::puts_part, crate::proofs::Going::appends_nothing))]
 fn put_shots<M: Sink>(messages: &mut M, number: u32, shots: &[Shot]) -> Result<(), SimFault>
     ensures { PutsMessages (M.text messages.old) (M.text messages.new) (M.faults messages.old) (M.faults messages.new)
@@ -33,7 +33,7 @@ fn put_shots<M: Sink>(messages: &mut M, number: u32, shots: &[Shot]) -> Result<(
     match shots {
         [] => Ok(()),
         [shot, earlier @ ..] => match put_shots(messages, number.saturating_sub(1), earlier) {
-            Ok(()) => put_text(messages, step_line(number, shot).as_slice()),
+            Ok(()) => put_text(messages, short_line(number, shot).as_slice()),
             Err(fault) => Err(fault),
         },
     }

@@ -1,22 +1,26 @@
 //! Steps with lines.
 
-ghost use Rattle.std.specs.Prelude.{◌≡◌};
+ghost use Rattle.std.specs.Prelude.{◌≡◌, ◌≤◌, ◌+◌, ◌++◌, OnOk, length};
 ghost use Rattle.m11_cpu.specs.Messages.{PutsMessages};
 ghost use Rattle.m11_cpu.specs.Runs.{run_counted};
 ghost use Rattle.m11_machine.specs.Dialogue.{Does, both, output_of};
+ghost use Rattle.m11_machine.specs.Memory.{bytes_of, most_words};
 ghost use Rattle.m11_machine.specs.Steps.{step};
+ghost use Rattle.m11_trace.specs.Changes.{HaveSameWords, KeepsUp, memory_changes};
+ghost use Rattle.m11_trace.specs.Lines.{line_end, line_with};
 ghost use Rattle.m11_trace.specs.Shots.{is_at, shot_of};
 ghost use Rattle.m11_trace.specs.Stepping.{StepsWithLines};
 ghost use Rattle.m11_trace.specs.Taken.{line_from};
 
+use crate::changes::{copy_words, put_changes};
 use crate::ending::Ending;
 use crate::line::put_text;
-use crate::lines::step_line;
+use crate::lines::{line_end, line_front};
 use crate::recent::{Recent, keep};
 use crate::shots::{Shot, counter_of, fetched_at, view_of};
 use m11_base::{Feed, Sink};
 use m11_cpu::SimFault;
-use m11_machine::{Machine, Stop, Turn};
+use m11_machine::{Machine, Memory, Stop, Turn};
 
 /// How steps with lines ended.
 #[derive(Drop)]
@@ -55,19 +59,79 @@ fn is_at(places: &[u16], machine: &Machine) -> bool
     places.contains(&counter_of(machine))
 }
 
+// Readies the copy of the memory for the first line: what was changed before it isn't shown.
+fn ready(first: u32, count: u32, before: &mut [u16], memory: &Memory)
+    requires { length before.old ≡ most_words }
+    ensures size { length before.new ≡ most_words }
+    ensures same { first ≤ count + 1 → KeepsUp first count before.old memory.now → HaveSameWords (bytes_of before.new) memory.now }
+{
+    if count == first.saturating_sub(1) {
+        copy_words(before, memory);
+    }
+}
+
+// Puts the words of memory that a step changed, and the end of its line.
+fn put_rest<M: Sink>(
+    messages: &mut M,
+    shot: &Shot,
+    before: &mut [u16],
+    memory: &Memory,
+) -> Result<(), SimFault>
+    requires { length before.old ≡ most_words }
+    ensures puts { PutsMessages (M.text messages.old) (M.text messages.new) (M.faults messages.old) (M.faults messages.new)
+        (memory_changes (bytes_of before.old) memory.now ++ line_end shot.now) result }
+    ensures size { length before.new ≡ most_words }
+    ensures same { OnOk result (HaveSameWords (bytes_of before.new) memory.now) }
+{
+    match put_changes(messages, before, memory) {
+        Ok(()) => put_text(messages, line_end(shot).as_slice()),
+        Err(fault) => Err(fault),
+    }
+}
+
+// Puts the line of a step.
+fn put_line<M: Sink>(
+    messages: &mut M,
+    number: u32,
+    shot: &Shot,
+    before: &mut [u16],
+    memory: &Memory,
+) -> Result<(), SimFault>
+    requires { length before.old ≡ most_words }
+    ensures puts { PutsMessages (M.text messages.old) (M.text messages.new) (M.faults messages.old) (M.faults messages.new)
+        (line_with number shot.now (memory_changes (bytes_of before.old) memory.now)) result }
+    ensures size { length before.new ≡ most_words }
+    ensures same { OnOk result (HaveSameWords (bytes_of before.new) memory.now) }
+{
+    match put_text(messages, line_front(number, shot).as_slice()) {
+        Ok(()) => put_rest(messages, shot, before, memory),
+        Err(fault) => Err(fault),
+    }
+}
+
 // Puts the line of a step, from the one of a number on.
-fn put_line<M: Sink>(messages: &mut M, first: u32, number: u32, shot: &Shot) -> Result<(), SimFault>
-    ensures { PutsMessages (M.text messages.old) (M.text messages.new) (M.faults messages.old) (M.faults messages.new)
-        (line_from first number shot.now) result }
+fn put_line_from<M: Sink>(
+    messages: &mut M,
+    first: u32,
+    number: u32,
+    shot: &Shot,
+    before: &mut [u16],
+    memory: &Memory,
+) -> Result<(), SimFault>
+    requires { length before.old ≡ most_words }
+    ensures puts { PutsMessages (M.text messages.old) (M.text messages.new) (M.faults messages.old) (M.faults messages.new)
+        (line_from first number (line_with number shot.now (memory_changes (bytes_of before.old) memory.now))) result }
+    ensures size { length before.new ≡ most_words }
+    ensures same { OnOk result (KeepsUp first number before.new memory.now) }
 {
     if first > number {
         return Ok(());
     }
-    put_text(messages, step_line(number, shot).as_slice())
+    put_line(messages, number, shot, before, memory)
 }
 
 /// Makes steps, `limit` of them at most, up to one that stops or up to one of these places, and puts a line for each, from the one of
-/// the number `first` on. It takes no memory.
+/// the number `first` on. In `before` it keeps the words of memory as they were before a step with a line. It takes no memory.
 ///
 /// `Write`: a line could not be written, and a beginning of it was. No step is made after that.
 pub(crate) fn steps_with_lines<I: Feed, O: Sink, M: Sink>(
@@ -75,10 +139,12 @@ pub(crate) fn steps_with_lines<I: Feed, O: Sink, M: Sink>(
     limit: u32,
     first: u32,
     places: &[u16],
+    before: &mut [u16],
     input: &mut I,
     output: &mut O,
     messages: &mut M,
 ) -> Result<Steps, SimFault>
+    requires { length before.old ≡ most_words }
     ensures { StepsWithLines (λ most. run_counted most machine.old) limit first places.now machine.old machine.new
         (both (I.text input.old) (I.faults input.old) (O.text output.old) (O.faults output.old))
         (both (I.text input.new) (I.faults input.new) (O.text output.new) (O.faults output.new))
@@ -95,9 +161,10 @@ pub(crate) fn steps_with_lines<I: Feed, O: Sink, M: Sink>(
                 recent,
             });
         }
+        ready(first, count, before, &machine.memory);
         let (turn, shot) = take_step(machine, input, output);
         count += 1;
-        put_line(messages, first, count, &shot)?;
+        put_line_from(messages, first, count, &shot, before, &machine.memory)?;
         keep(&mut recent, shot);
         match turn {
             Turn::Next => {}

@@ -1,6 +1,6 @@
 //! A whole run with lines: a tape is loaded and started, and its steps and its end are reported.
 
-ghost use Rattle.std.specs.Prelude.{◌≤◌};
+ghost use Rattle.std.specs.Prelude.{◌≡◌, ◌≤◌, length};
 ghost use Rattle.m11_cpu.specs.Messages.{PutsMessages};
 ghost use Rattle.m11_cpu.specs.Simulation.{request_of, run_devices, started};
 ghost use Rattle.m11_machine.specs.Dialogue.{both, input_of, output_of};
@@ -9,6 +9,7 @@ ghost use Rattle.m11_trace.specs.Stepping.{StepsWithLines, end_text, stop_text};
 ghost use Rattle.m11_trace.specs.Taken.{begun};
 ghost use Rattle.m11_trace.specs.Tracing.{Traces};
 
+use crate::changes::MOST_WORDS;
 use crate::ending::Ending;
 use crate::messages::put_ending;
 use crate::ranges::{Range, put_ranges};
@@ -25,11 +26,11 @@ use std::alloc::Global;
 /// many steps.
 ///
 /// The line of each step goes to `messages` as soon as the step was made, from the one of the number `first` on. At the end come the
-/// lines of the last 16 steps, where no step had that number, the two lines of the end, and the words of `ranges`.
+/// lines of the last 16 steps, without words of memory, where no step had that number, the two lines of the end, and the words of `ranges`.
 ///
 /// Faults: `NoMemory`, where memory was refused, before anything was read; `Load`, where the tape was not loaded, and nothing was run;
 /// `Write`, where `messages` failed, and a beginning of what was to be written was: no step is made after that. No other memory is taken
-/// than the machine's.
+/// than the machine's and as much as a machine may have, for the words before a step.
 pub fn trace_run<T: Feed, I: Feed, O: Sink, M: Sink>(
     alloc: Global,
     tape: &mut T,
@@ -55,6 +56,7 @@ pub fn trace_run<T: Feed, I: Feed, O: Sink, M: Sink>(
         result }
 {
     let mut machine = Machine::new(alloc, words)?;
+    let mut before = vec![in alloc; 0; MOST_WORDS]?;
     let transfer = load(&mut machine, tape)?;
     let steps = started(
         &mut machine,
@@ -62,6 +64,7 @@ pub fn trace_run<T: Feed, I: Feed, O: Sink, M: Sink>(
         limit,
         first,
         places,
+        &mut before,
         input,
         output,
         messages,
@@ -77,10 +80,12 @@ fn started<I: Feed, O: Sink, M: Sink>(
     limit: u32,
     first: u32,
     places: &[u16],
+    before: &mut [u16],
     input: &mut I,
     output: &mut O,
     messages: &mut M,
 ) -> Result<Steps, SimFault>
+    requires { length before.old ≡ most_words }
     ensures { StepsWithLines (λ most. started address most machine.old) limit first places.now (begun address machine.old) machine.new
         (both (I.text input.old) (I.faults input.old) (O.text output.old) (O.faults output.old))
         (both (I.text input.new) (I.faults input.new) (O.text output.new) (O.faults output.new))
@@ -95,7 +100,9 @@ fn started<I: Feed, O: Sink, M: Sink>(
         });
     }
     machine.start_at(address);
-    steps_with_lines(machine, limit, first, places, input, output, messages)
+    steps_with_lines(
+        machine, limit, first, places, before, input, output, messages,
+    )
 }
 
 // Puts what comes after the lines: those of the last steps, and the rest.

@@ -8,7 +8,7 @@ returns-in-Ok g t c =
     let P : List ℕ → Type 0 = λ text. PutsMessages (g.M.Sink.text c.args.messages.now) (g.M.Sink.text c.put_text.new.messages)
     (g.M.Sink.faults c.args.messages.now) (g.M.Sink.faults c.put_text.new.messages) text c.put_text.result in
     subst P (latest_last c.args.number c.saturating_sub.result c.args.shots.now _ c.as_slice.result.now c.in-len1-up.len_at_least
-    c.saturating_sub.ensures (c.as_slice.ensures.value ∙ c.step_line.ensures))
+    c.saturating_sub.ensures (c.as_slice.ensures.value ∙ c.short_line.ensures))
     (puts_then _ _ _ _ _ _ _ _ tt c.put_text.result c.in-Ok.ensures c.put_text.ensures)
 
 pub returns-in-Err : goal.returns-in-Err

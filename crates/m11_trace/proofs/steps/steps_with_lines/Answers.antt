@@ -1,12 +1,13 @@
-use Rattle.std.proofs.Common.{◌∙◌, [], sym}
+use Rattle.std.proofs.Common.{◌∙◌, [], sym, arith}
 use Rattle.std.proofs.lemmas.Result.{err_from_is_err_and}
 use Rattle.m11_machine.specs.Dialogue.{output_of}
 use Rattle.m11_machine.specs.declared.stop.Turn.TheVariants.{Stopped}
+use Rattle.m11_trace.proofs.Copies.{line_is}
 use Rattle.m11_trace.proofs.Going.{at_limit, at_place, at_stop, none_made, none_shown, not_put, one_made, one_shown}
 use Rattle.m11_trace.proofs.steps.steps_with_lines.Goals as goal
 
 pub steps-init : goal.steps-init
-steps-init g c = ([], none_made _ _ _ _, none_shown _ _ _ c.new-recent.ensures)
+steps-init g c = ([], none_made _ _ _ _, none_shown _ _ _ c.new-recent.ensures, λ some le. absurd (omega (arith, some)))
 
 pub returns-then-is_at : goal.returns-then-is_at
 returns-then-is_at g c =
@@ -21,27 +22,30 @@ returns-then-is_at g c =
       shown.faults,
     )
 
-pub returns-in_err-put_line : goal.returns-in_err-put_line
-returns-in_err-put_line g c =
+pub returns-in_err-put_line_from : goal.returns-in_err-put_line_from
+returns-in_err-put_line_from g c =
     let r = c.from_residual in
     let p = err_from_is_err_and r.result r.ensures.1 in
+    let line = line_is _ _ _ _ c.steps.machine c.take_step-turn.new.machine c.take_step-turn.ensures.shot (λ le. c.ready.ensures.same le c.steps.invariant.3) in
     rw (p.1, p.2)
     (not_put _ _ _ _ _ _ _ _ _ _ c.steps.invariant.0 _ _
     (output_of (g.M.Sink.text c.steps.messages) (g.M.Sink.faults c.steps.messages)) _ _ _ _
     c.steps.invariant.1 c.steps.invariant.2 c.steps-test.true (sym c.is_at.ensures ∙ c.if-is_at.false) c.take_step-turn.ensures.does
-    c.take_step-turn.ensures.shot c.in_err-put_line.ensures)
+    line c.in_err-put_line_from.ensures.puts)
 
 pub returns-in-Stopped : goal.returns-in-Stopped
 returns-in-Stopped g c =
     let taken = c.steps.invariant.0 in
+    let line = line_is _ _ _ _ c.steps.machine c.take_step-turn.new.machine c.take_step-turn.ensures.shot (λ le. c.ready.ensures.same le c.steps.invariant.3) in
+    let put = c.in_ok-put_line_from.ensures.puts in
     let going =
     one_made _ _ _ _ _ _ _ taken c.steps.invariant.1 _ _ _ c.steps-test.true (sym c.is_at.ensures ∙ c.if-is_at.false)
     (rw c.in-Stopped.is at c.take_step-turn.ensures.does) in
     let shown =
     one_shown _ _ _ _ (output_of (g.M.Sink.text c.steps.messages) (g.M.Sink.faults c.steps.messages)) c.steps.invariant.2 c.steps.machine
-    c.take_step-turn.new.machine (Stopped c.in-Stopped.stop) _ _ _
-    (output_of (g.M.Sink.text c.put_line.new.messages) (g.M.Sink.faults c.put_line.new.messages))
-    c.steps.invariant.1.long c.take_step-turn.ensures.shot c.keep.ensures c.in_ok-put_line.ensures.0 c.in_ok-put_line.ensures.1 in (
+    c.take_step-turn.new.machine (Stopped c.in-Stopped.stop) _ _ _ _
+    (output_of (g.M.Sink.text c.put_line_from.new.messages) (g.M.Sink.faults c.put_line_from.new.messages))
+    c.steps.invariant.1.long c.take_step-turn.ensures.shot c.keep.ensures line put.0 put.1 in (
       _,
       at_stop _ _ _ _ _ _ _ _ _ going,
       going.long,
@@ -52,13 +56,16 @@ returns-in-Stopped g c =
 
 pub steps-preserved : goal.steps-preserved
 steps-preserved g c =
-    let taken = c.steps.invariant.0 in (
+    let taken = c.steps.invariant.0 in
+    let line = line_is _ _ _ _ c.steps.machine c.take_step-turn.new.machine c.take_step-turn.ensures.shot (λ le. c.ready.ensures.same le c.steps.invariant.3) in
+    let put = c.in_ok-put_line_from.ensures.puts in (
       _,
       one_made _ _ _ _ _ _ _ taken c.steps.invariant.1 _ _ _ c.steps-test.true (sym c.is_at.ensures ∙ c.if-is_at.false)
           (rw c.in-Next.is at c.take_step-turn.ensures.does),
-      one_shown _ _ _ _ (output_of (g.M.Sink.text c.steps.messages) (g.M.Sink.faults c.steps.messages)) c.steps.invariant.2 _ _ _ _ _ _
-          (output_of (g.M.Sink.text c.put_line.new.messages) (g.M.Sink.faults c.put_line.new.messages))
-          c.steps.invariant.1.long c.take_step-turn.ensures.shot c.keep.ensures c.in_ok-put_line.ensures.0 c.in_ok-put_line.ensures.1,
+      one_shown _ _ _ _ (output_of (g.M.Sink.text c.steps.messages) (g.M.Sink.faults c.steps.messages)) c.steps.invariant.2 _ _ _ _ _ _ _
+          (output_of (g.M.Sink.text c.put_line_from.new.messages) (g.M.Sink.faults c.put_line_from.new.messages))
+          c.steps.invariant.1.long c.take_step-turn.ensures.shot c.keep.ensures line put.0 put.1,
+      c.in_ok-put_line_from.ensures.same,
     )
 
 pub returns : goal.returns

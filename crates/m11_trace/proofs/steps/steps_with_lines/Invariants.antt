@@ -1,6 +1,7 @@
 use Rattle.std.proofs.Common.{List, ◌-◌}
 use Rattle.m11_machine.specs.Dialogue.{both, output_of}
 use Rattle.m11_machine.specs.declared.stop.Turn.TheVariants.{Next}
+use Rattle.m11_trace.specs.Changes.{KeepsUp}
 use Rattle.m11_trace.specs.Taken.{Taken}
 use Rattle.m11_trace.proofs.Going.{Going, Shown}
 use Rattle.m11_trace.proofs.steps.steps_with_lines.Given as goal
@@ -13,6 +14,7 @@ invariant-steps g l = (taken : List Taken)
     Next taken
     × Shown l.fn.first taken l.recent.items (output_of (g.M.Sink.text l.fn.messages) (g.M.Sink.faults l.fn.messages))
     (output_of (g.M.Sink.text l.messages) (g.M.Sink.faults l.messages))
+    × KeepsUp l.fn.first l.count l.before l.machine.memory
 
 abbrev pub decreases-steps : goal.decreases-steps
 decreases-steps g l = l.fn.limit - l.count
