@@ -1,0 +1,4 @@
+pub mod NotedParts
+pub mod ReadOn
+pub mod Shown
+pub mod Texts

@@ -1,0 +1,15 @@
+//! Laws of load maps, above the definitions.
+
+ghost use Rattle.std.specs.Prelude.{◌≡◌, ℕ, List, map};
+ghost use Rattle.std.specs.List.{filter_map};
+ghost use Rattle.m11_layout.specs.Modules.{module_at};
+ghost use Rattle.m11_load_map.specs.LoadMap.{contribution_in, contributions_of};
+ghost use Rattle.m11_modules.specs.Parts.{Part};
+ghost use Rattle.m11_modules.specs.Places.{sections_in};
+
+/// Of each module the map shows each section that it enters once, in the order of the entries, with its size in the module.
+#[tactic(auto, using(crate::proofs::Shown::each_shown))]
+pub fn each_section_entry_is_shown_once()
+    ensures { (parts : List Part) (index : ℕ)
+        → filter_map (contribution_in index) (contributions_of parts) ≡ sections_in (module_at parts index) }
+{}
