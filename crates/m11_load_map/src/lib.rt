@@ -12,5 +12,5 @@ mod run;
 mod text;
 
 pub use fault::LoadMapFault;
-pub use laws::each_section_entry_is_shown_once;
+pub use laws::{each_section_entry_is_shown_once, objects_have_one_map};
 pub use run::load_map_run;
