@@ -41,7 +41,10 @@ _m11() {
 
 _m11_dump() {
     COMPREPLY=()
-    _m11_words "${COMP_WORDS[COMP_CWORD]}" OBJ '-d --disassemble -h --help'
+    case ${COMP_WORDS[COMP_CWORD - 1]} in
+        -b | --bottom) ;;
+        *) _m11_words "${COMP_WORDS[COMP_CWORD]}" OBJ '-d --disassemble -m --map -b --bottom -h --help' ;;
+    esac
 }
 
 _m11_trace() {

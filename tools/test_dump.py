@@ -111,6 +111,65 @@ TEXT 000010
   000020 010                  .BYTE  10
 """
 
+# Two modules that share a concatenated section and an overlaid one; one has an absolute section, the other a section of the old form. Two
+# globals have one value, and one is defined twice.
+FIRST = block(word(1) + entry("MAIN", 0, 0, 0) + entry("CODE", 0o40, 5, 0o20) + entry("START", 0o50, 4, 2) + entry("DATA", 0o44, 5, 7)
+              + entry("TABLE", 0o50, 4, 0) + entry(". ABS.", 0o104, 5, 0o10) + entry("SIZE", 0o10, 4, 0o1022) + entry("PRINT", 0, 4, 0))
+SECOND = block(word(1) + entry("SUB", 0, 0, 0) + entry("CODE", 0o40, 5, 0o11) + entry("PRINT", 0o50, 4, 2) + entry("ENTRY", 0o50, 4, 0)
+               + entry("DATA", 0o44, 5, 0o40) + entry("TABLE", 0o50, 4, 4) + entry("OLD", 0, 1, 6))
+PAIR = {"A.OBJ": FIRST + END, "B.OBJ": SECOND + END}
+
+MAP = """\
+LIMIT 001000 001100
+SECTIONS
+  001000 000020 CODE   MAIN
+  001032 000007 DATA   MAIN
+  000000 000010 . ABS. MAIN
+  001020 000011 CODE   SUB
+  001032 000040 DATA   SUB
+  001072 000006 OLD    SUB
+GLOBALS
+  001002 START  MAIN
+  001020 ENTRY  SUB
+  001022 SIZE   MAIN
+  001022 PRINT  SUB
+  001032 TABLE  MAIN
+"""
+MAP_AT_2000 = """\
+LIMIT 002000 002100
+SECTIONS
+  002000 000020 CODE   MAIN
+  002032 000007 DATA   MAIN
+  000000 000010 . ABS. MAIN
+  002020 000011 CODE   SUB
+  002032 000040 DATA   SUB
+  002072 000006 OLD    SUB
+GLOBALS
+  001022 SIZE   MAIN
+  002002 START  MAIN
+  002020 ENTRY  SUB
+  002022 PRINT  SUB
+  002032 TABLE  MAIN
+"""
+MAP_TURNED = """\
+LIMIT 001000 001100
+SECTIONS
+  001000 000011 CODE   SUB
+  001032 000040 DATA   SUB
+  001072 000006 OLD    SUB
+  001012 000020 CODE   MAIN
+  001032 000007 DATA   MAIN
+  000000 000010 . ABS. MAIN
+GLOBALS
+  001000 ENTRY  SUB
+  001002 PRINT  SUB
+  001014 START  MAIN
+  001022 SIZE   MAIN
+  001036 TABLE  SUB
+"""
+NO_MAP = "LIMIT 001000 001000\nSECTIONS\nGLOBALS\n"
+LARGE = block(word(1) + entry("CODE", 0o40, 5, 0o160000)) + END
+
 # What it shows; the words; the files; the status, and what standard output and standard error get.
 CASES = (
     ("an object", "A.OBJ", {"A.OBJ": GOOD}, 0, "OBJECT A.OBJ\n" + SHOWN_FRONT + SHOWN_TEXT + SHOWN_PLACES + SHOWN_END, ""),
@@ -186,6 +245,22 @@ CASES = (
     ("a bad sum among instructions", "-d A.OBJ", {"A.OBJ": DIRECTORY + BAD}, 4, "OBJECT A.OBJ\n" + SHOWN,
      f"?M11 DUMP 3 Block 3 BadSum IN BLOCK 2 AT BYTE {len(DIRECTORY) + len(TEXT) - 1} OF A.OBJ\n"),
     ("no file", "A.OBJ B.OBJ", {"A.OBJ": b""}, 3, "OBJECT A.OBJ\n", "?M11 OPEN B.OBJ\n"),
+    ("a load map", "-m A.OBJ B.OBJ", PAIR, 0, MAP, ""),
+    ("a load map of objects in another order", "-m B.OBJ A.OBJ", PAIR, 0, MAP_TURNED, ""),
+    ("a load map from another bottom", "-d A.OBJ --bottom 2000 --map B.OBJ", PAIR, 0, MAP_AT_2000, ""),
+    ("a load map of two modules in an object", "-m A.OBJ", {"A.OBJ": FIRST + END + SECOND + END}, 0, MAP, ""),
+    ("a load map of nothing", "-m A.OBJ", {"A.OBJ": b"\0"}, 0, NO_MAP, ""),
+    ("a load map of a bad sum", "-m A.OBJ B.OBJ", {"A.OBJ": FIRST + END, "B.OBJ": DIRECTORY + BAD}, 4, "", "?M11 DUMP 3 Block 3 BadSum\n"),
+    ("a load map of no record", "-m A.OBJ", {"A.OBJ": FIRST + block(word(9))}, 4, "", "?M11 DUMP 4 Record 1 UnknownType\n"),
+    ("a load map of records out of order", "-m A.OBJ", {"A.OBJ": TEXT}, 4, "", "?M11 DUMP 5 BadOrder\n"),
+    ("a load map of what is too large", "-m A.OBJ", {"A.OBJ": LARGE}, 6, "", "?M11 DUMP 9 TooLarge\n"),
+    ("a load map of too many bytes", "-m A.OBJ", {"A.OBJ": b"\0" * 4_194_305}, 6, "", "?M11 DUMP 13 TooMuch\n"),
+    ("a load map of a folder", "-m A.OBJ B", {"A.OBJ": FIRST + END, "B/A.OBJ": b""}, 3, "", "?M11 DUMP 1 Read\n"),
+    ("a load map without a file", "-m A.OBJ B.OBJ C.OBJ", {"A.OBJ": TEXT}, 3, "", "?M11 OPEN B.OBJ\n"),
+    ("a bottom that is no octal word", "-m -b 8 A.OBJ", PAIR, 2, "", "?M11 USAGE 3 BadOctal\n"),
+    ("an odd bottom", "-m -b 1001 A.OBJ", PAIR, 2, "", "?M11 USAGE 4 OddAddress\n"),
+    ("a bottom among devices, and no map", "-b 160000 A.OBJ", PAIR, 2, "", "?M11 USAGE 5 BadAddress\n"),
+    ("a bottom, and no map", "-b 2000 A.OBJ", {"A.OBJ": b""}, 0, "OBJECT A.OBJ\n", ""),
 )
 
 
@@ -212,6 +287,9 @@ def main():
     with open("/dev/full", "wb") as full:
         done = subprocess.run([program, program], stdout=full, stderr=subprocess.PIPE, check=False)
     cases.append(("a full device", (done.returncode, "", done.stderr.decode()), (3, "", "?M11 DUMP 2 Write\n")))
+    with open("/dev/full", "wb") as full:
+        done = subprocess.run([program, "-m", os.devnull], stdout=full, stderr=subprocess.PIPE, check=False)
+    cases.append(("a load map on a full device", (done.returncode, "", done.stderr.decode()), (3, "", "?M11 DUMP 2 Write\n")))
     helped = check(program, "--help", {})
     cases.append(("help", (helped[0], "<FILE>..." in helped[1], helped[2]), (0, True, "")))
     refused = check(program, "", {})

@@ -1,17 +1,18 @@
 -- Files that are shown one after another.
-use Rattle.std.proofs.Common.{◌≡◌, ℕ, List, ◌∷◌, Option, Result, Ok, Err, inl, inr, refl}
-use Rattle.std.specs.Prelude.{OnErr, OnOk}
+use Rattle.std.proofs.Common.{◌≡◌, ℕ, List, ◌∷◌, Option, Result, Ok, Err, inl, inr, refl, sym, subst, ◌∙◌}
+use Rattle.std.specs.Prelude.{IsErrAnd, OnErr, OnOk}
 use Rattle.std.specs.Io.KnownBytes.{Appends}
 use Rattle.m11_base.specs.Devices.{Rises}
 use Rattle.m11_base.specs.Feed.{Text}
 use Rattle.m11_base.specs.Sink.{AppendsBeginning}
 use Rattle.m11_files.specs.Opens.{Files, Holds}
 use Rattle.m11_writes.specs.Outputs.{Output}
-use Rattle.m11_dumper.specs.Showing.{IsOfKind, ShowsAll, ShowsFile, ShowsInput}
+use Rattle.m11_dumper.specs.Showing.{Fails, IsOfKind, ShowsAll, ShowsFile, ShowsInput}
+use Rattle.m11_dumper.specs.Lines.{head_line}
 use Rattle.m11_dump.specs.declared.kind.Kind.{Kind}
 use Rattle.m11_dumper.specs.Outcome.{Reports}
 use Rattle.m11_dumper.specs.declared.stop.Stop.{Stop}
-use Rattle.m11_dumper.specs.declared.stop.Stop.TheVariants.{NotOpened, InFile, Write, NoMemory}
+use Rattle.m11_dumper.specs.declared.stop.Stop.TheVariants.{NotOpened, InFile, InMap, Write, NoMemory}
 use Rattle.m11_dump.specs.declared.view.View.{View}
 
 -- a file that was opened, by its path
@@ -23,6 +24,7 @@ file_shown view files path kind text faults out out' (Err (InFile named placed))
 file_shown view files path kind text faults out out' (Err (NotOpened named)) k h s = absurd s
 file_shown view files path kind text faults out out' (Err Write) k h s = (kind, k, s)
 file_shown view files path kind text faults out out' (Err NoMemory) k h s = s
+file_shown view files path kind text faults out out' (Err (InMap fault)) k h s = absurd s
 
 -- a file was shown, and then others, or some of them
 pub more_shown : (view : View) (files : Option Files) (path : List ℕ) (paths : List (List ℕ)) (out middle out' : Output) (done : Unit {0})
@@ -48,3 +50,15 @@ reports (Err e) text old new whole sound beginning fault = inr (inl (beginning, 
 
 pub reports_none : (text : List ℕ) (output : Output) → Reports text output output
 reports_none text output = inr (inr refl)
+
+-- ---- the head of a file
+
+-- the head of a file couldn't be written
+pub head_fails : (view : View) (kind : Kind) (text : Option Text) (faults : ℕ) (path bytes : List ℕ) (out out' : Output)
+    (result : Result (Unit {0}) Stop) (stopped : Stop) → IsErrAnd result (λ stop. stop ≡ stopped) → stopped ≡ Write
+    → bytes ≡ head_line kind path → Fails bytes out out' → ShowsInput view kind text faults path out out' result
+head_fails view kind text faults path bytes out out' (Ok done) stopped h e is fails = absurd h
+head_fails view kind text faults path bytes out out' (Err stop) stopped h e is fails =
+    let P : Stop → Type 0 = λ these. ShowsInput view kind text faults path out out' (Err these) in
+    let Q : List ℕ → Type 0 = λ these. Fails these out out' in
+    subst P (sym (h ∙ e)) (subst Q is fails)

@@ -2,7 +2,7 @@
 use Rattle.std.specs.Prelude.{Some, codes}
 use Rattle.clap.specs.Words.{App, Rule, new_app, new_rule, with_rule}
 use Rattle.clap.specs.declared.builder.action.ArgAction.TheVariants.{Append, SetTrue}
-use Rattle.m11_tasks.specs.Commands.{operand_rule}
+use Rattle.m11_tasks.specs.Commands.{bottom_rule, operand_rule}
 
 -- `FILE...`: the files to show, in order
 abbrev pub files_rule : Rule
@@ -16,6 +16,15 @@ disassemble_rule = record (new_rule (codes "disassemble")) {
   action = Some SetTrue;
 }
 
--- `m11-dump [-d] FILE...`
+-- `-m`, `--map`: the load map of objects is to be shown
+abbrev pub load_map_rule : Rule
+load_map_rule = record (new_rule (codes "map")) {
+  short = Some 0o155;
+  long = Some (codes "map");
+  action = Some SetTrue;
+}
+
+-- `m11-dump [-d] [-m] [-b OCTAL] FILE...`
 abbrev pub application : App
-application = with_rule (with_rule (new_app (codes "m11-dump")) disassemble_rule) files_rule
+application =
+    with_rule (with_rule (with_rule (with_rule (new_app (codes "m11-dump")) disassemble_rule) load_map_rule) bottom_rule) files_rule

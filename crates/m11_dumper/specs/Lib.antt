@@ -1,5 +1,8 @@
 pub mod Application
-pub mod Paths
 pub mod Lines
-pub mod Showing
+pub mod MapLines
+pub mod Mapping
+pub mod Numbered
 pub mod Outcome
+pub mod Paths
+pub mod Showing

@@ -1,5 +1,5 @@
 -- The lines of the program itself: the head of a file, and why not all files were shown. (This project's own.)
-use Rattle.std.specs.Prelude.{ℕ, [], ◌∷◌, ◌++◌, codes}
+use Rattle.std.specs.Prelude.{[], ◌∷◌, ◌++◌, codes}
 use Rattle.std.specs.Fmt.{decimal}
 use Rattle.m11_base.specs.Devices.{Bytes}
 use Rattle.m11_blocks.specs.Blocks.{block_fault_name, block_fault_number}
@@ -13,6 +13,8 @@ use Rattle.m11_dump.specs.declared.fault.DumpFault.TheVariants as fault
 use Rattle.m11_dump.specs.declared.fault.Placed.{Placed}
 use Rattle.m11_dump.specs.declared.kind.Kind.{Kind}
 use Rattle.m11_dump.specs.declared.kind.Kind.TheVariants.{Object, Tape}
+use Rattle.m11_dumper.specs.MapLines.{map_line}
+use Rattle.m11_dumper.specs.Numbered.{numbered}
 use Rattle.m11_dumper.specs.declared.stop.Stop.{Stop}
 use Rattle.m11_dumper.specs.declared.stop.Stop.TheVariants as stop
 
@@ -28,10 +30,6 @@ kind_word Tape = codes "TAPE "
 -- what stands before the text of a file
 abbrev pub head_line : Kind → Bytes → Bytes
 head_line kind path = path_end (kind_word kind) path
-
--- a number and a name, after a word
-abbrev pub numbered : Bytes → ℕ → Bytes → Bytes
-numbered word number name = ((word ++ decimal number) ++ 32 ∷ []) ++ name
 
 -- the number and the name of a fault: of an object as the linker has them, and of a tape as the simulator has those of the tape
 abbrev pub fault_text : DumpFault → Bytes
@@ -59,5 +57,6 @@ in_file_line path placed =
 abbrev pub stop_line : Stop → Bytes
 stop_line (stop.NotOpened path) = path_end (codes "?M11 OPEN ") path.now
 stop_line (stop.InFile path placed) = in_file_line path.now placed
+stop_line (stop.InMap inner) = map_line inner
 stop_line stop.Write = codes "?M11 DUMP 2 Write\n"
 stop_line stop.NoMemory = codes "?M11 DUMP 90 NoMemory\n"

@@ -13,7 +13,7 @@ use Rattle.m11_dump.specs.declared.kind.Kind.TheVariants.{Object, Tape}
 use Rattle.m11_dump.specs.declared.fault.Placed.{Placed}
 use Rattle.m11_dumper.specs.Lines.{head_line}
 use Rattle.m11_dumper.specs.declared.stop.Stop.{Stop}
-use Rattle.m11_dumper.specs.declared.stop.Stop.TheVariants.{NotOpened, InFile, Write, NoMemory}
+use Rattle.m11_dumper.specs.declared.stop.Stop.TheVariants.{NotOpened, InFile, InMap, Write, NoMemory}
 use Rattle.m11_files.specs.Opens.{Files, Holds, Lacks}
 use Rattle.m11_writes.specs.Outputs.{Output}
 use Rattle.m11_dump.specs.declared.view.View.{View}
@@ -53,6 +53,7 @@ ShowsFile view files path out out' (Err (InFile named placed)) =
 ShowsFile view files path out out' (Err (NotOpened named)) = (named.now ≡ path) × Lacks files path × (out' ≡ out)
 ShowsFile view files path out out' (Err Write) = (kind : Kind) × IsOfKind files path kind × Fails (head_line kind path) out out'
 ShowsFile view files path out out' (Err NoMemory) = out' ≡ out
+ShowsFile view files path out out' (Err (InMap fault)) = ⊥
 
 -- all files were shown, in order; or those before one at which showing stopped
 abbrev pub ShowsAll : View → Option Files → List Bytes → Output → Output → Result (Unit {0}) Stop → Type 0
@@ -78,3 +79,4 @@ ShowsInput view kind text faults path out out' (Err (InFile named placed)) =
 ShowsInput view kind text faults path out out' (Err (NotOpened named)) = ⊥
 ShowsInput view kind text faults path out out' (Err Write) = Fails (head_line kind path) out out'
 ShowsInput view kind text faults path out out' (Err NoMemory) = out' ≡ out
+ShowsInput view kind text faults path out out' (Err (InMap fault)) = ⊥

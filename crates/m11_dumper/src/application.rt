@@ -1,13 +1,14 @@
 //! What the parser of command lines is given.
 
 ghost use Rattle.std.specs.Prelude.{IfOk};
-ghost use Rattle.m11_tasks.specs.Commands.{IsArgument, IsCommand};
-ghost use Rattle.m11_dumper.specs.Application.{application, disassemble_rule, files_rule};
+ghost use Rattle.m11_tasks.specs.Commands.{IsArgument, IsCommand, bottom_rule};
+ghost use Rattle.m11_dumper.specs.Application.{application, disassemble_rule, files_rule, load_map_rule};
 
 use clap::{Arg, ArgAction, Command};
+use m11_tasks::option_argument;
 use std::alloc::{AllocError, Global};
 
-/// The parser of `m11-dump [-d] FILE...`. `AllocError` where memory is refused.
+/// The parser of `m11-dump [-d] [-m] [-b OCTAL] FILE...`. `AllocError` where memory is refused.
 pub(crate) fn application_command<'a>(alloc: Global) -> Result<Command<'a>, AllocError>
     ensures { IfOk result (IsCommand application) }
 {
@@ -15,6 +16,8 @@ pub(crate) fn application_command<'a>(alloc: Global) -> Result<Command<'a>, Allo
     Command::new(alloc, "m11-dump")
         .about(about)
         .arg(disassemble_argument(alloc))?
+        .arg(load_map_argument(alloc))?
+        .arg(bottom_argument(alloc))?
         .arg(files_argument(alloc))
 }
 
@@ -27,6 +30,25 @@ fn disassemble_argument<'a>(alloc: Global) -> Arg<'a>
         .long("disassemble")
         .help("Show words as instructions, one in a line")
         .action(ArgAction::SetTrue)
+}
+
+// `-m`, for the load map of objects.
+fn load_map_argument<'a>(alloc: Global) -> Arg<'a>
+    ensures { IsArgument load_map_rule result }
+{
+    Arg::new(alloc, "map")
+        .short('m')
+        .long("map")
+        .help("Show where a link puts the objects: their load map")
+        .action(ArgAction::SetTrue)
+}
+
+// `-b OCTAL`, as `m11 link` has it.
+fn bottom_argument<'a>(alloc: Global) -> Arg<'a>
+    ensures { IsArgument bottom_rule result }
+{
+    let help = "Where the load map begins: even, at most 157776 [default: 1000]";
+    option_argument(alloc, "bottom", 'b', "OCTAL", help)
 }
 
 // `FILE...`, one or more.

@@ -1,12 +1,15 @@
 //! All of the program's work, over whatever opens files and takes bytes.
 
 ghost use Rattle.std.specs.Prelude.{◌≡◌, map};
-ghost use Rattle.m11_dumper.specs.Outcome.{Explains, ReportsOfWords, ReportsSome, Says, Yields, status_of, words_status};
+ghost use Rattle.m11_dumper.specs.Outcome.{Explains, ReportsOfWords, ReportsSome, Says, Shows, Yields, status_of, words_status};
 ghost use Rattle.m11_dumper.specs.declared.stop.Outcome.{Outcome};
+ghost use Rattle.m11_tasks.specs.Opened.{texts};
 ghost use Rattle.m11_writes.specs.Outputs.{output_of};
 
 use crate::lines::stop_line;
-use crate::paths::plan;
+use crate::map_lines::usage_text;
+use crate::mapping::show_map;
+use crate::paths::{Show, plan};
 use crate::showing::show_all;
 use crate::stop::{Outcome, Stop, status};
 use m11_base::{Sink, put_all};
@@ -18,7 +21,7 @@ use std::convert::AsStr;
 /// Does what the words ask for, and returns the status that the process is to leave. The first word is the program's name.
 ///
 /// The files are opened and shown on `out` one after another, up to the first that can't be shown: which it is, and why, goes to
-/// `err`. Help goes to `out` too, and refused words to `err`.
+/// `err`. Or the load map of all of them is shown. Help goes to `out` too, and refused words to `err`.
 pub(crate) fn command<'a, F, O, E, S>(
     alloc: Global,
     files: &mut F,
@@ -31,7 +34,7 @@ where
     O: Sink,
     E: Sink,
     S: AsStr,
-    ensures command { (outcome : Outcome) × Yields (map S.text words.entry.now) (F.files files.old) outcome
+    ensures command { (outcome : Outcome) × Yields F.Input.text F.Input.faults (map S.text words.entry.now) (F.files files.old) outcome
         (output_of O.Sink out.old) (output_of O.Sink out.new) (output_of E.Sink err.old) (output_of E.Sink err.new)
         × (result ≡ status_of outcome) }
     ensures files { F.files files.new ≡ F.files files.old }
@@ -71,13 +74,13 @@ where
     O: Sink,
     E: Sink,
     S: AsStr,
-    ensures yields { Yields (map S.text words.entry.now) (F.files files.old) result
+    ensures yields { Yields F.Input.text F.Input.faults (map S.text words.entry.now) (F.files files.old) result
         (output_of O.Sink out.old) (output_of O.Sink out.new) (output_of E.Sink err.old) (output_of E.Sink err.new) }
     ensures files { F.files files.new ≡ F.files files.old }
 {
     match plan(alloc, words) {
         Ok(request) => {
-            let shown = show_all(alloc, files, request.view, request.paths.as_slice(), out);
+            let shown = show(alloc, files, request.show, request.paths.as_slice(), out);
             say(alloc, &shown, err);
             Outcome::Shown(shown)
         }
@@ -85,6 +88,24 @@ where
             explain(alloc, &fault, out, err);
             Outcome::Usage(fault)
         }
+    }
+}
+
+// Shows of the files of paths what is asked for.
+fn show<'a, F: Opens, O: Sink>(
+    alloc: Global,
+    files: &mut F,
+    asked: Show,
+    paths: &[&'a str],
+    out: &mut O,
+) -> Result<(), Stop<'a>>
+    ensures shows { Shows F.Input.text F.Input.faults asked (F.files files.old) (texts paths.now) (output_of O.Sink out.old)
+        (output_of O.Sink out.new) result }
+    ensures files { F.files files.new ≡ F.files files.old }
+{
+    match asked {
+        Show::Contents(view) => show_all(alloc, files, view, paths, out),
+        Show::Map(bottom) => show_map(alloc, files, bottom, paths, out),
     }
 }
 
@@ -100,7 +121,8 @@ fn say<E: Sink>(alloc: Global, shown: &Result<(), Stop<'_>>, err: &mut E)
     }
 }
 
-// The parser's text: help goes to `out`, and a refusal to `err`.
+// The parser's text: help goes to `out`, and a refusal to `err`. What is wrong with a bottom goes to `err`.
+#[tactic(auto, using(crate::proofs::Shown::reports, crate::proofs::Shown::reports_none))]
 fn explain<O: Sink, E: Sink>(alloc: Global, fault: &UsageFault, out: &mut O, err: &mut E)
     ensures { Explains fault.now (output_of O.Sink out.old) (output_of O.Sink out.new)
         (output_of E.Sink err.old) (output_of E.Sink err.new) }
@@ -108,10 +130,10 @@ fn explain<O: Sink, E: Sink>(alloc: Global, fault: &UsageFault, out: &mut O, err
     match fault {
         UsageFault::Help(error) => report(alloc, error, out),
         UsageFault::Words(error) => report(alloc, error, err),
-        UsageFault::BadOctal
-        | UsageFault::OddAddress
-        | UsageFault::BadAddress
-        | UsageFault::NoMemory => {}
+        UsageFault::BadOctal | UsageFault::OddAddress | UsageFault::BadAddress => {
+            let _ = put_all(err, usage_text(fault).as_bytes());
+        }
+        UsageFault::NoMemory => {}
     }
 }
 

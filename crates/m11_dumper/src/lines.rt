@@ -3,7 +3,9 @@
 ghost use Rattle.std.specs.Prelude.{◌≡◌, ◌++◌, IfOk, OnOk};
 ghost use Rattle.std.specs.Fmt.{decimal};
 ghost use Rattle.m11_dumper.specs.Lines as spec;
+ghost use Rattle.m11_dumper.specs.Numbered.{numbered};
 
+use crate::map_lines::map_line;
 use crate::stop::Stop;
 use m11_dump::{DumpFault, Kind, Placed};
 use m11_layout::LinkFault;
@@ -18,16 +20,16 @@ fn put_decimal(line: &mut Vec<u8>, alloc: Global, number: u64) -> Result<(), All
     line.extend_from_slice(digits.as_bytes())
 }
 
-// Adds a number and a name, after a word.
+/// Adds a number and a name, after a word. Error: memory was refused.
 #[tactic(auto, using(m11_dump::proofs::Items::four_put))]
-fn put_numbered(
+pub(crate) fn put_numbered(
     line: &mut Vec<u8>,
     alloc: Global,
     word: &str,
     number: u8,
     name: &str,
 ) -> Result<(), AllocError>
-    ensures { OnOk result (line.new.items ≡ line.old.items ++ spec.numbered word.now number name.now) }
+    ensures { OnOk result (line.new.items ≡ line.old.items ++ numbered word.now number name.now) }
 {
     line.extend_from_slice(word.as_bytes())?;
     put_decimal(line, alloc, u64::from(number))?;
@@ -121,6 +123,7 @@ pub(crate) fn stop_line(alloc: Global, stop: &Stop<'_>) -> Result<Vec<u8>, Alloc
     match stop {
         Stop::NotOpened(path) => path_line(alloc, "?M11 OPEN ", path),
         Stop::InFile(path, placed) => in_file_line(alloc, path, *placed),
+        Stop::InMap(fault) => map_line(alloc, *fault),
         Stop::Write => Vec::from_slice(alloc, b"?M11 DUMP 2 Write\n"),
         Stop::NoMemory => Vec::from_slice(alloc, b"?M11 DUMP 90 NoMemory\n"),
     }

@@ -1,10 +1,12 @@
 //! `m11-dump`: shows what objects and tapes hold. The words are read here, and the files are opened and shown one after
-//! another; what is shown of a file is the work of `m11_dump`.
+//! another; what is shown of a file is the work of `m11_dump`, and the load map of objects that of `m11_load_map`.
 #![tactic(auto)]
 
 mod application;
 mod driver;
 mod lines;
+mod map_lines;
+mod mapping;
 mod paths;
 mod showing;
 mod stop;

@@ -1,59 +1,112 @@
-//! The paths that the words name, and how their bytes are to be shown.
+//! The paths that the words name, and what is to be shown of their files.
 
 ghost use Rattle.std.specs.Prelude.{◌≡◌, [], Ok, Err, IfOk, MatchResult, codes, map, unwrap_or};
 ghost use Rattle.clap.specs.Words.{all_of, first_of, found_of, rows_of};
-ghost use Rattle.m11_dumper.specs.Paths.{Plans, view_by};
+ghost use Rattle.m11_dumper.specs.Paths.{AsksFor, IsRefused, Plans, is_set, show_of, view_by};
 ghost use Rattle.m11_tasks.specs.Opened.{texts};
+ghost use Rattle.m11_tasks.specs.Tasks.{bottom_of};
 
 use crate::application::application_command;
 use clap::ArgMatches;
 use m11_dump::View;
-use m11_tasks::UsageFault;
+use m11_tasks::{UsageFault, address};
 use std::alloc::{AllocError, Global};
 use std::convert::AsStr;
+
+/// What is to be shown of files.
+#[derive(Clone, Copy, Debug)]
+pub(crate) enum Show {
+    /// What each of them holds, with its bytes shown so.
+    Contents(View),
+    /// The load map of objects, whose relocatable sections lie from this address on: an even one up to 0o157776.
+    Map(u16),
+}
 
 /// What a command line asks for.
 #[derive(Drop)]
 pub(crate) struct Request<'a> {
-    /// How bytes are shown.
-    pub(crate) view: View,
+    /// What is to be shown.
+    pub(crate) show: Show,
     /// The paths of the files to show, in order.
     pub(crate) paths: Vec<&'a str>,
 }
 
-/// Reads a command line, whose first word is the program's name: the files to show, and how.
+/// Where relocatable sections begin where the words do not say.
+const DEFAULT_BOTTOM: u16 = 0o1000;
+
+/// Reads a command line, whose first word is the program's name: the files to show, and what of them.
 ///
-/// `Help` where help is asked for, `Words` where the parser refuses the words, and `NoMemory`.
+/// `Help` where help is asked for and `Words` where the parser refuses the words; where it takes them, `BadOctal`, `OddAddress` and
+/// `BadAddress` for a bottom, in this order, whether or not there is to be a map; and `NoMemory`.
 pub(crate) fn plan<'a, S: AsStr>(alloc: Global, words: &'a [S]) -> Result<Request<'a>, UsageFault>
     ensures { MatchResult result (λ request. Plans (map S.text words.entry.now)
-        (Ok (request.view, request.paths.items)))
+        (Ok (request.show, request.paths.items)))
         (λ fault. Plans (map S.text words.entry.now) (Err fault)) }
 {
     let command = application_command(alloc)?;
     let matches = command.try_get_matches_from(words)?;
-    let view = view_given(&matches);
-    let paths = paths_given(alloc, &matches);
+    let request = request_given(alloc, &matches);
     drop(matches);
-    match paths {
-        Ok(paths) => Ok(Request { view, paths }),
-        Err(_) => Err(UsageFault::NoMemory),
+    request
+}
+
+// What the entries ask for, or the fault of the bottom, or want of memory.
+fn request_given<'a>(alloc: Global, matches: &ArgMatches<'a>) -> Result<Request<'a>, UsageFault>
+    ensures { MatchResult result
+        (λ request. AsksFor (rows_of (found_of matches.now)) request.show request.paths.items)
+        (λ fault. IsRefused (rows_of (found_of matches.now)) fault) }
+{
+    match show_given(matches) {
+        Ok(show) => match paths_given(alloc, matches) {
+            Ok(paths) => Ok(Request { show, paths }),
+            Err(_) => Err(UsageFault::NoMemory),
+        },
+        Err(fault) => Err(fault),
+    }
+}
+
+// What is to be shown: the load map where `-m` is given, whatever `-d` says; or the fault of the bottom.
+fn show_given(matches: &ArgMatches<'_>) -> Result<Show, UsageFault>
+    ensures { result ≡ show_of (rows_of (found_of matches.now)) }
+{
+    let bottom = bottom_given(matches)?;
+    if is_given(matches, "map") {
+        Ok(Show::Map(bottom))
+    } else {
+        Ok(Show::Contents(view_given(matches)))
+    }
+}
+
+// Where relocatable sections begin: where `-b` says, else at the default.
+#[tactic(auto, using(m11_tasks::proofs::Entries::first_given))]
+fn bottom_given(matches: &ArgMatches<'_>) -> Result<u16, UsageFault>
+    ensures { result ≡ bottom_of (first_of (codes "bottom") (rows_of (found_of matches.now))) }
+{
+    match matches.get_str("bottom") {
+        Some(text) => address(text),
+        None => Ok(DEFAULT_BOTTOM),
     }
 }
 
 // How bytes are shown: as instructions where `-d` is given.
-#[tactic(auto, using(m11_tasks::proofs::Entries::first_given))]
 fn view_given(matches: &ArgMatches<'_>) -> View
     ensures { result ≡ view_by (first_of (codes "disassemble") (rows_of (found_of matches.now))) }
 {
-    match matches.get_str("disassemble") {
-        Some(text) => {
-            if text == "true" {
-                View::Instructions
-            } else {
-                View::Octal
-            }
-        }
-        None => View::Octal,
+    if is_given(matches, "disassemble") {
+        View::Instructions
+    } else {
+        View::Octal
+    }
+}
+
+// Whether an option without a value is given.
+#[tactic(auto, using(m11_tasks::proofs::Entries::first_given))]
+fn is_given(matches: &ArgMatches<'_>, id: &str) -> bool
+    ensures { result ≡ is_set (first_of id.now (rows_of (found_of matches.now))) }
+{
+    match matches.get_str(id) {
+        Some(text) => text == "true",
+        None => false,
     }
 }
 

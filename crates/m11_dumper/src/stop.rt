@@ -2,10 +2,11 @@
 
 ghost use Rattle.std.specs.Prelude.{◌≡◌};
 ghost use Rattle.m11_dump.specs.declared.fault.DumpFault.TheVariants.{Rule};
-ghost use Rattle.m11_dumper.specs.Outcome.{fault_status, status_of, stop_status, usage_status};
+ghost use Rattle.m11_dumper.specs.Outcome.{fault_status, map_status, status_of, stop_status, usage_status};
 ghost use Rattle.m11_dumper.specs.declared.stop.Stop.TheVariants.{NoMemory};
 
 use m11_dump::{DumpFault, Placed};
+use m11_layout::LinkFault;
 use m11_modules::ModuleFault;
 use m11_obj::{BlockFault, TapeFault};
 use m11_tasks::UsageFault;
@@ -18,7 +19,9 @@ pub(crate) enum Stop<'a> {
     NotOpened(&'a str),
     /// The dump of the file of this path stopped.
     InFile(&'a str, Placed),
-    /// The head of a file could not be written.
+    /// The objects have no load map: a link of them is refused so.
+    InMap(LinkFault),
+    /// The head of a file could not be written, or a load map.
     Write,
     /// Memory was refused before a file was read.
     NoMemory,
@@ -67,12 +70,34 @@ fn fault_status(fault: DumpFault) -> u8
     }
 }
 
+fn map_status(fault: LinkFault) -> u8
+    ensures { result ≡ map_status fault }
+{
+    match fault {
+        LinkFault::Read | LinkFault::Write(_) => 3,
+        LinkFault::Block(_)
+        | LinkFault::Record(_)
+        | LinkFault::BadOrder
+        | LinkFault::NoText
+        | LinkFault::BadDisplacement
+        | LinkFault::UnknownSection
+        | LinkFault::TextOutside => 4,
+        LinkFault::NoMemory => 5,
+        LinkFault::TooLarge
+        | LinkFault::TooManyGlobals
+        | LinkFault::TooManySections
+        | LinkFault::TooManyModules
+        | LinkFault::TooMuch => 6,
+    }
+}
+
 fn stop_status(stop: &Stop<'_>) -> u8
     ensures { result ≡ stop_status stop.now }
 {
     match stop {
         Stop::NotOpened(_) | Stop::Write => 3,
         Stop::InFile(_, placed) => fault_status(placed.fault),
+        Stop::InMap(fault) => map_status(*fault),
         Stop::NoMemory => 5,
     }
 }

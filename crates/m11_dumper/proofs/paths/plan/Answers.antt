@@ -1,15 +1,24 @@
-use Rattle.std.proofs.Common.{◌≡◌, ◌∙◌, [], ap, codes, map, subst, unwrap_or}
-use Rattle.clap.specs.Words.{all_of, fault_of, first_of, is_simple, is_simple_and_free, matches_of}
-use Rattle.m11_dumper.specs.Paths.{view_by}
+use Rattle.std.proofs.Common.{◌≡◌, ◌∙◌, [], ap, map, subst}
+use Rattle.clap.specs.Kinds.{HasKind}
+use Rattle.clap.specs.Words.{fault_of, is_simple, is_simple_and_free, matches_of}
+use Rattle.m11_dumper.proofs.Planned.{planned, refused}
 use Rattle.m11_dumper.proofs.paths.plan.Goals as goal
 
-pub returns-in-Ok : goal.returns-in-Ok
-returns-in-Ok g c =
+pub returns-in_err-matches : goal.returns-in_err-matches
+returns-in_err-matches g c =
+    let words = map g.S.AsStr.text c.args.words.now in
+    let app = c.in_ok-command.ensures.is in
+    let e = c.in_err-matches.field-0.0 in
+    refused words e c.from_residual-in_err-matches.result
+    (subst (λ a. HasKind (fault_of a words) e) app (c.in_err-matches.ensures.kinds (ap is_simple_and_free app)))
+    c.from_residual-in_err-matches.ensures.1
+
+pub returns : goal.returns
+returns g c =
     let words = map g.S.AsStr.text c.args.words.now in
     let parsed = c.in_ok-matches.ensures in
     let app = c.in_ok-command.ensures.is in
-    let rows = (parsed.matches (ap is_simple app)).0 ∙ ap (λ a. matches_of a words) app in (
-      subst (λ a. fault_of a words ≡ []) app (parsed.kinds (ap is_simple_and_free app)),
-      c.view_given-view.ensures ∙ ap (λ rows. view_by (first_of (codes "disassemble") rows)) rows,
-      c.in-Ok.ensures ∙ ap (λ rows. unwrap_or (all_of (codes "files") rows) []) rows,
-    )
+    planned words _ c.request_given-request.result
+    (subst (λ a. fault_of a words ≡ []) app (parsed.kinds (ap is_simple_and_free app)))
+    ((parsed.matches (ap is_simple app)).0 ∙ ap (λ a. matches_of a words) app)
+    c.request_given-request.ensures

@@ -2,6 +2,7 @@ use Rattle.std.proofs.Common.{◌∙◌, ℕ, List, subst}
 use Rattle.std.specs.Io.KnownBytes.{Appends}
 use Rattle.m11_blocks.specs.Limited.{place}
 use Rattle.m11_writes.specs.Outputs.{output_of}
+use Rattle.m11_dumper.proofs.Shown.{head_fails}
 use Rattle.m11_dumper.proofs.showing.show_input.Goals as goal
 
 pub returns-in-Ok : goal.returns-in-Ok
@@ -14,3 +15,11 @@ returns-in-Ok g c =
       (whole, c.in_ok-put_or_fail.ensures.1),
       c.in-Ok.ensures.1,
     )
+
+pub returns-in_err-put_or_fail : goal.returns-in_err-put_or_fail
+returns-in_err-put_or_fail g c =
+    head_fails c.args.view c.args.kind (g.I.Feed.text c.args.input.now) (g.I.Feed.faults c.args.input.now) c.args.path.now
+    c.deref.result.now (output_of g.O.Sink c.args.out.now) (output_of g.O.Sink c.put_or_fail.new.sink)
+    c.from_residual-in_err-put_or_fail.result c.in_err-put_or_fail.field-0.0 c.from_residual-in_err-put_or_fail.ensures.1
+    c.in_err-put_or_fail.ensures.0 (c.deref.ensures.value ∙ c.in_ok-head.ensures)
+    (c.in_err-put_or_fail.ensures.1, c.in_err-put_or_fail.ensures.2)

@@ -1,0 +1,72 @@
+//! Shows the load map of objects.
+
+ghost use Rattle.std.specs.Prelude.{◌≡◌, IfErr, IfOk};
+ghost use Rattle.m11_dumper.specs.Mapping.{ShowsMap};
+ghost use Rattle.m11_files.specs.Opens.{AreFiles, Holds};
+ghost use Rattle.m11_tasks.specs.Opened.{LacksFirst, LacksOne, texts};
+ghost use Rattle.m11_writes.specs.Outputs.{output_of};
+
+use crate::stop::Stop;
+use m11_base::Sink;
+use m11_files::{OpenRefusal, Opens};
+use m11_load_map::{LoadMapFault, load_map_run};
+use m11_tasks::OpenFault;
+use std::alloc::Global;
+
+/// Shows the load map of the objects of paths, in this order, whose relocatable sections lie from the bottom on. All of them are
+/// opened before the first is read, and read before anything is written.
+pub(crate) fn show_map<'a, F: Opens, O: Sink>(
+    alloc: Global,
+    files: &mut F,
+    bottom: u16,
+    paths: &[&'a str],
+    out: &mut O,
+) -> Result<(), Stop<'a>>
+    ensures shows { ShowsMap F.Input.text F.Input.faults bottom (F.files files.old) (texts paths.now)
+        (output_of O.Sink out.old) (output_of O.Sink out.new) result }
+    ensures files { F.files files.new ≡ F.files files.old }
+{
+    match open_objects(alloc, files, paths) {
+        Ok(opened) => {
+            let mut objects = opened;
+            match load_map_run(alloc, objects.as_mut_slice(), bottom, out) {
+                Ok(()) => Ok(()),
+                Err(LoadMapFault::Objects(fault)) => Err(Stop::InMap(fault)),
+                Err(LoadMapFault::Write) => Err(Stop::Write),
+            }
+        }
+        Err(OpenFault::NotOpened(path)) => Err(Stop::NotOpened(path)),
+        Err(OpenFault::NoMemory) => Err(Stop::NoMemory),
+    }
+}
+
+// The objects of paths, opened in order.
+fn open_objects<'a, F: Opens>(
+    alloc: Global,
+    files: &mut F,
+    paths: &[&'a str],
+) -> Result<Vec<F::Input>, OpenFault<'a>>
+    ensures are { IfOk result (λ objects. AreFiles F.Input.text (F.files files.old) (texts paths.now) objects.items) }
+    ensures files { F.files files.new ≡ F.files files.old }
+    ensures lacks { IfErr result (LacksFirst (F.files files.old) (texts paths.now)) }
+{
+    let mut objects = Vec::new(alloc);
+    'paths: for path in paths {
+        let object = open_object(files, *path)?;
+        objects.push(object)?;
+    }
+    Ok(objects)
+}
+
+// The object of a path, opened.
+fn open_object<'a, F: Opens>(files: &mut F, path: &'a str) -> Result<F::Input, OpenFault<'a>>
+    ensures opened { IfOk result (λ object. Holds (F.files files.old) path.entry.now (F.Input.text object)) }
+    ensures files { F.files files.new ≡ F.files files.old }
+    ensures lacks { IfErr result (LacksOne (F.files files.old) path.entry.now) }
+{
+    match files.open(path) {
+        Ok(object) => Ok(object),
+        Err(OpenRefusal::NotOpened) => Err(OpenFault::NotOpened(path)),
+        Err(OpenRefusal::NoMemory) => Err(OpenFault::NoMemory),
+    }
+}

@@ -1,0 +1,5 @@
+pub mod NotedParts
+pub mod OneOrder
+pub mod ReadOn
+pub mod Shown
+pub mod Texts

@@ -1,0 +1,4 @@
+pub mod LoadMap
+pub mod Noted
+pub mod Reading
+pub mod Run
