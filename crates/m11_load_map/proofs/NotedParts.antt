@@ -1,12 +1,13 @@
 -- What is noted of parts.
 use Rattle.std.proofs.Common.{◌≡◌, ◌∙◌, ℕ, ◌+◌, ◌≤◌, List, [], ◌∷◌, ◌++◌, append-nil, append_assoc, length, drop, map, slice_get, Some, Result, Ok, Err, refl, sym, ap}
 use Rattle.std.specs.List.{filter_map}
+use Rattle.std.specs.Prelude.{OnOk}
 use Rattle.std.proofs.lemmas.List.{drop_all}
 use Rattle.std.proofs.lemmas.List.Elements.{filter_map-append}
 use Rattle.m11_modules.proofs.Indexing.{drop_at}
 use Rattle.m11_modules.specs.Parts.{Part, EndOfFile, Entry, Relocated, parts_in, record_parts}
-use Rattle.m11_obj.specs.Contents.{unread_content}
-use Rattle.m11_obj.specs.Reading.{◌>>=◌, content_of, relocations_of}
+use Rattle.m11_obj.specs.Contents.{unread_content, unread_directory}
+use Rattle.m11_obj.specs.Reading.{◌>>=◌, content_of, entries_of, relocations_of}
 use Rattle.m11_obj.specs.Records.{Content}
 use Rattle.m11_obj.specs.Records as records
 use Rattle.m11_obj.specs.declared.fault.RecordFault.{RecordFault}
@@ -14,6 +15,7 @@ use Rattle.m11_obj.specs.declared.gsd.GsdEntry.{GsdEntry}
 use Rattle.m11_obj.specs.declared.relocations.Relocation.{Relocation}
 use Rattle.m11_load_map.specs.Noted.{noted_in, noted_of}
 use Rattle.m11_load_map.specs.declared.noted.Noted.{Noted}
+use Rattle.m11_load_map.specs.declared.noted.Noted.TheVariants.{ModuleEnd}
 
 pub noted-append : (xs ys : List Part) → noted_of (xs ++ ys) ≡ noted_of xs ++ noted_of ys
 unfolding noted_of
@@ -58,7 +60,51 @@ pub of_relocations : (old : List Noted) (bytes unread : List ℕ) → content_of
 of_relocations old bytes unread e =
     nothing old (noted_of (record_parts bytes)) (unread_none (relocations_of unread) (content_of bytes) e)
 
+pub of_directory_end : (old : List Noted) (bytes : List ℕ) → content_of bytes ≡ Ok records.EndOfGsd
+    → old ≡ old ++ noted_of (record_parts bytes)
+unfolding noted_of
+of_directory_end old bytes e = nothing old (noted_of (record_parts bytes)) (noted_content bytes (Ok records.EndOfGsd) e)
+
+pub of_symbols : (old : List Noted) (bytes : List ℕ) → content_of bytes ≡ Ok records.InternalSymbols
+    → old ≡ old ++ noted_of (record_parts bytes)
+unfolding noted_of
+of_symbols old bytes e = nothing old (noted_of (record_parts bytes)) (noted_content bytes (Ok records.InternalSymbols) e)
+
+pub of_module_end : (old new : List Noted) (bytes : List ℕ) → content_of bytes ≡ Ok records.EndOfModule
+    → new ≡ old ++ ModuleEnd ∷ [] → new ≡ old ++ noted_of (record_parts bytes)
+unfolding noted_of
+of_module_end old new bytes e is =
+    is ∙ ap (λ (these : List Noted). old ++ these) (sym (noted_content bytes (Ok records.EndOfModule) e))
+
 -- ---- the entries of a directory
+
+unread_entries : (bytes unread : List ℕ) (read : Result (List GsdEntry) RecordFault)
+    → content_of bytes ≡ unread_directory unread → entries_of unread ≡ read
+    → content_of bytes ≡ (read >>= λ entries. Ok (records.Gsd entries))
+unread_entries bytes unread read e is =
+    e ∙ ap (λ (r : Result (List GsdEntry) RecordFault). r >>= λ entries. Ok (records.Gsd entries)) is
+
+pub of_directory : (old new : List Noted) (bytes unread : List ℕ) (entries : List GsdEntry)
+    → content_of bytes ≡ unread_directory unread → entries_of unread ≡ Ok entries
+    → new ≡ old ++ noted_of (map (λ entry. Entry entry) entries) → new ≡ old ++ noted_of (record_parts bytes)
+unfolding noted_of
+of_directory old new bytes unread entries e is noted =
+    noted ∙ ap (λ (these : List Noted). old ++ these)
+    (sym (noted_content bytes (Ok (records.Gsd entries)) (unread_entries bytes unread (Ok entries) e is)))
+
+-- where the noting went well
+pub of_directory_noted : {A E : Type 0} (result : Result A E) (old new : List Noted) (bytes unread : List ℕ) (entries : List GsdEntry)
+    → content_of bytes ≡ unread_directory unread → entries_of unread ≡ Ok entries
+    → OnOk result (new ≡ old ++ noted_of (map (λ entry. Entry entry) entries))
+    → OnOk result (new ≡ old ++ noted_of (record_parts bytes))
+of_directory_noted (Ok done) old new bytes unread entries e is noted = of_directory old new bytes unread entries e is noted
+of_directory_noted (Err refused) old new bytes unread entries e is noted = tt
+
+pub of_bad_directory : (old : List Noted) (bytes unread : List ℕ) (fault : RecordFault)
+    → content_of bytes ≡ unread_directory unread → entries_of unread ≡ Err fault
+    → old ≡ old ++ noted_of (record_parts bytes)
+of_bad_directory old bytes unread fault e is =
+    of_none old bytes fault (unread_entries bytes unread (Err fault) e is)
 
 abbrev of_entries : List GsdEntry → List Noted
 of_entries entries = noted_of (map (λ entry. Entry entry) entries)

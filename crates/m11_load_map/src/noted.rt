@@ -1,13 +1,13 @@
 //! What the map needs of the records of objects, noted in their order.
 
-ghost use Rattle.std.specs.Prelude.{◌≡◌, ◌≢◌, ◌∷◌, [], ◌++◌, Ok, OnOk, map};
-ghost use Rattle.m11_obj.specs.Reading.{record_entries, record_kind};
-ghost use Rattle.m11_obj.specs.declared.records.RecordKind.{RecordKind};
+ghost use Rattle.std.specs.Prelude.{◌≡◌, ◌∷◌, [], ◌++◌, List, OnOk, map, ℕ};
+ghost use Rattle.m11_obj.specs.Contents.{unread_directory};
+ghost use Rattle.m11_obj.specs.Reading.{content_of};
 ghost use Rattle.m11_modules.specs.Parts.{Entry, record_parts};
 ghost use Rattle.m11_load_map.specs.Noted.{noted_of};
 
 use m11_base::Name;
-use m11_obj::{Block, Contents, GsdEntry, GsdKind, Record, RecordKind, read_contents};
+use m11_obj::{Block, Contents, GsdEntry, GsdKind, UnreadEntries, read_contents};
 use std::alloc::AllocError;
 
 /// What is noted of a record.
@@ -20,44 +20,42 @@ pub(crate) enum Noted {
 }
 
 /// Notes what the map needs of a block; of one that is no record that is nothing. Error: memory was refused.
-#[tactic(auto, using(crate::proofs::NotedParts::of_text, crate::proofs::NotedParts::of_relocations, crate::proofs::NotedParts::of_none))]
+#[tactic(auto, using(crate::proofs::NotedParts::of_text, crate::proofs::NotedParts::of_relocations, crate::proofs::NotedParts::of_none, crate::proofs::NotedParts::of_directory_end, crate::proofs::NotedParts::of_symbols, crate::proofs::NotedParts::of_module_end))]
 pub(crate) fn note(noted: &mut Vec<Noted>, block: &Block) -> Result<(), AllocError>
     ensures { OnOk result (noted.new.items ≡ noted.old.items ++ noted_of (record_parts block.now.items)) }
 {
     match read_contents(block) {
+        Ok(Contents::Directory(unread)) => note_directory(noted, &unread),
+        Ok(Contents::EndOfDirectory) => Ok(()),
         Ok(Contents::Text(_, _)) => Ok(()),
         Ok(Contents::Relocations(_)) => Ok(()),
-        Ok(Contents::Other(record)) => note_record(noted, &record),
+        Ok(Contents::InternalSymbols) => Ok(()),
+        Ok(Contents::EndOfModule) => {
+            noted.push(Noted::ModuleEnd)?;
+            Ok(())
+        }
         Err(_) => Ok(()),
     }
 }
 
-// Notes what the map needs of a record that holds no relocations.
-#[tactic(auto, using(crate::proofs::NotedParts::of_none), unfolding(crate::specs::Noted::noted_of))]
-fn note_record(noted: &mut Vec<Noted>, record: &Record<'_>) -> Result<(), AllocError>
-    requires { record_kind «record».now ≢ Ok RecordKind.Relocations }
-    ensures { OnOk result (noted.new.items ≡ noted.old.items ++ noted_of (record_parts «record».now)) }
+// Notes what the map needs of a directory record, which stands in a block of these bytes.
+#[tactic(auto, using(crate::proofs::NotedParts::of_directory, crate::proofs::NotedParts::of_bad_directory))]
+fn note_directory(noted: &mut Vec<Noted>, unread: &UnreadEntries<'_>) -> Result<(), AllocError>
+    ensures { (bytes : List ℕ) → content_of bytes ≡ unread_directory unread.now
+        → OnOk result (noted.new.items ≡ noted.old.items ++ noted_of (record_parts bytes)) }
 {
-    match record.kind() {
-        RecordKind::Gsd => note_entries(noted, record),
-        RecordKind::EndOfGsd => Ok(()),
-        RecordKind::Text => Ok(()),
-        RecordKind::Relocations => unreachable!(),
-        RecordKind::InternalSymbols => Ok(()),
-        RecordKind::EndOfModule => {
-            noted.push(Noted::ModuleEnd)?;
-            Ok(())
-        }
+    match unread.read() {
+        Ok(entries) => note_entries(noted, entries.as_slice()),
+        Err(_) => Ok(()),
     }
 }
 
 // Notes the sections that the entries of a directory enter.
-fn note_entries(noted: &mut Vec<Noted>, record: &Record<'_>) -> Result<(), AllocError>
-    ensures { OnOk result (noted.new.items ≡ noted.old.items
-        ++ noted_of (map (λ entry. Entry entry) (record_entries «record».now))) }
+fn note_entries(noted: &mut Vec<Noted>, entries: &[GsdEntry]) -> Result<(), AllocError>
+    ensures { OnOk result (noted.new.items ≡ noted.old.items ++ noted_of (map (λ entry. Entry entry) entries.now)) }
 {
-    'entries: for index in 0..record.entry_count() {
-        match note_entry(noted, &record.entry(index)) {
+    'entries: for entry in entries {
+        match note_entry(noted, entry) {
             Ok(()) => {}
             Err(refused) => return Err(refused),
         }
