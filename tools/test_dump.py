@@ -41,6 +41,7 @@ TEXT = block(word(3) + word(0o10) + bytes(range(9)))
 PLACES = block(word(4) + b"\7\0" + name("CODE") + word(0o10) + b"\10\0" + word(4) + b"\1\4" + word(2) + b"\206\6" + name("OTHER") + word(1) + b"\11\10"
                + b"\14\12" + name("OLD"))
 END = block(word(5)) + block(word(6))
+REST = block(word(2)) + END
 
 SHOWN = """\
 MODULE    MOD
@@ -117,7 +118,7 @@ FIRST = block(word(1) + entry("MAIN", 0, 0, 0) + entry("CODE", 0o40, 5, 0o20) + 
               + entry("TABLE", 0o50, 4, 0) + entry(". ABS.", 0o104, 5, 0o10) + entry("SIZE", 0o10, 4, 0o1022) + entry("PRINT", 0, 4, 0))
 SECOND = block(word(1) + entry("SUB", 0, 0, 0) + entry("CODE", 0o40, 5, 0o11) + entry("PRINT", 0o50, 4, 2) + entry("ENTRY", 0o50, 4, 0)
                + entry("DATA", 0o44, 5, 0o40) + entry("TABLE", 0o50, 4, 4) + entry("OLD", 0, 1, 6))
-PAIR = {"A.OBJ": FIRST + END, "B.OBJ": SECOND + END}
+PAIR = {"A.OBJ": FIRST + REST, "B.OBJ": SECOND + REST}
 
 MAP = """\
 LIMIT 001000 001100
@@ -168,7 +169,7 @@ GLOBALS
   001036 TABLE  SUB
 """
 NO_MAP = "LIMIT 001000 001000\nSECTIONS\nGLOBALS\n"
-LARGE = block(word(1) + entry("CODE", 0o40, 5, 0o160000)) + END
+LARGE = block(word(1) + entry("CODE", 0o40, 5, 0o160000)) + REST
 
 # What it shows; the words; the files; the status, and what standard output and standard error get.
 CASES = (
@@ -248,14 +249,14 @@ CASES = (
     ("a load map", "-m A.OBJ B.OBJ", PAIR, 0, MAP, ""),
     ("a load map of objects in another order", "-m B.OBJ A.OBJ", PAIR, 0, MAP_TURNED, ""),
     ("a load map from another bottom", "-d A.OBJ --bottom 2000 --map B.OBJ", PAIR, 0, MAP_AT_2000, ""),
-    ("a load map of two modules in an object", "-m A.OBJ", {"A.OBJ": FIRST + END + SECOND + END}, 0, MAP, ""),
+    ("a load map of two modules in an object", "-m A.OBJ", {"A.OBJ": FIRST + REST + SECOND + REST}, 0, MAP, ""),
     ("a load map of nothing", "-m A.OBJ", {"A.OBJ": b"\0"}, 0, NO_MAP, ""),
-    ("a load map of a bad sum", "-m A.OBJ B.OBJ", {"A.OBJ": FIRST + END, "B.OBJ": DIRECTORY + BAD}, 4, "", "?M11 DUMP 3 Block 3 BadSum\n"),
+    ("a load map of a bad sum", "-m A.OBJ B.OBJ", {"A.OBJ": FIRST + REST, "B.OBJ": DIRECTORY + BAD}, 4, "", "?M11 DUMP 3 Block 3 BadSum\n"),
     ("a load map of no record", "-m A.OBJ", {"A.OBJ": FIRST + block(word(9))}, 4, "", "?M11 DUMP 4 Record 1 UnknownType\n"),
     ("a load map of records out of order", "-m A.OBJ", {"A.OBJ": TEXT}, 4, "", "?M11 DUMP 5 BadOrder\n"),
     ("a load map of what is too large", "-m A.OBJ", {"A.OBJ": LARGE}, 6, "", "?M11 DUMP 9 TooLarge\n"),
     ("a load map of too many bytes", "-m A.OBJ", {"A.OBJ": b"\0" * 4_194_305}, 6, "", "?M11 DUMP 13 TooMuch\n"),
-    ("a load map of a folder", "-m A.OBJ B", {"A.OBJ": FIRST + END, "B/A.OBJ": b""}, 3, "", "?M11 DUMP 1 Read\n"),
+    ("a load map of a folder", "-m A.OBJ B", {"A.OBJ": FIRST + REST, "B/A.OBJ": b""}, 3, "", "?M11 DUMP 1 Read\n"),
     ("a load map without a file", "-m A.OBJ B.OBJ C.OBJ", {"A.OBJ": TEXT}, 3, "", "?M11 OPEN B.OBJ\n"),
     ("a bottom that is no octal word", "-m -b 8 A.OBJ", PAIR, 2, "", "?M11 USAGE 3 BadOctal\n"),
     ("an odd bottom", "-m -b 1001 A.OBJ", PAIR, 2, "", "?M11 USAGE 4 OddAddress\n"),
