@@ -19,14 +19,14 @@ use Rattle.m11_scan.specs.Cutting.{Lexeme, text_between, tokens_from}
 use Rattle.m11_scan.specs.Cuts.{AreOrdered}
 use Rattle.m11_scan.specs.Ends.{place_after, sort_in}
 use Rattle.m11_scan.specs.Expressions.{begin, taken}
-use Rattle.m11_scan.specs.Letters.{letter_I}
+use Rattle.m11_scan.specs.ErrorFlags.{flag_I}
 use Rattle.m11_scan.specs.Numbers.{base_of}
 use Rattle.m11_scan.specs.Skipped.{has_skipped}
 use Rattle.m11_scan.specs.Texts.{bracketed, is_bare, separator_length}
 use Rattle.m11_statements.specs.Actuals.{actual_in, after_blanks, bare_actual, bracketed_actual, digits_actual, next_actual, separator_at}
 use Rattle.m11_statements.specs.Formals.{follows_question, formal_in, named, next_formal}
 use Rattle.m11_statements.specs.Listed.{is_name}
-use Rattle.m11_statements.specs.Statements.{letter_if}
+use Rattle.m11_statements.specs.Statements.{flag_if}
 use Rattle.m11_statements.specs.declared.actuals.Actual.{Actual}
 use Rattle.m11_statements.specs.declared.actuals.ActualKind.{ActualKind}
 use Rattle.m11_statements.specs.declared.actuals.ActualKind.TheVariants.{Bare, Bracketed, Digits}
@@ -71,8 +71,8 @@ in_ends line place [] is = tt
 in_ends line place (token ∷ tokens) is = formal_ends line place token (is_name token) (first_ends line place token tokens is)
 
 abbrev ListedPast : ℕ → NextListed → Type 0
-ListedPast place (Ending letters) = Unit {0}
-ListedPast place (Formally formal letters end) = place < end
+ListedPast place (Ending flags) = Unit {0}
+ListedPast place (Formally formal flags end) = place < end
 
 named_past : (line : List ℕ) (place : ℕ) (formal : Formal) (name : Option Name) → place < formal.name.end
     → ListedPast place (listed_named line place formal name)
@@ -106,28 +106,28 @@ between_past line place past = by_order (nat_le place (length line)) where
 past_listed : (line : List ℕ) (place : ℕ) → length line ≤ place → listed_at line place ≡ Ending 0
 past_listed line place past =
     ap (λ (tokens : List Lexeme). listed_by line place (formal_in line tokens)) (past_tokens line place past)
-    ∙ ap (λ (text : List ℕ). Ending (letter_if (has_skipped text) letter_I)) (between_past line place past)
+    ∙ ap (λ (text : List ℕ). Ending (flag_if (has_skipped text) flag_I)) (between_past line place past)
 
 module _ (line : List ℕ) (bound place : ℕ)
-    (rest : (next : ℕ) → place < next → AreFormals line next (formals_within bound line next).list (formals_within bound line next).letters) where
+    (rest : (next : ℕ) → place < next → AreFormals line next (formals_within bound line next).list (formals_within bound line next).flags) where
   by_listed : (found : NextListed) → listed_at line (separator_at line place).end ≡ found
       → ListedPast (separator_at line place).end found
       → AreFormals line place (formals_by (λ next. formals_within bound line next) found).list
-      (formals_by (λ next. formals_within bound line next) found).letters
-  by_listed (Ending letters) is past = NoFormal place letters is
-  by_listed (Formally formal letters end) is past =
-      OneFormal place formal letters end (formals_within bound line end).list (formals_within bound line end).letters is
+      (formals_by (λ next. formals_within bound line next) found).flags
+  by_listed (Ending flags) is past = NoFormal place flags is
+  by_listed (Formally formal flags end) is past =
+      OneFormal place formal flags end (formals_within bound line end).list (formals_within bound line end).flags is
       (rest end (omega arith))
 
 are_formals : (line : List ℕ) (bound place : ℕ) → length line ≤ place + bound
-    → AreFormals line place (formals_within bound line place).list (formals_within bound line place).letters
+    → AreFormals line place (formals_within bound line place).list (formals_within bound line place).flags
 are_formals line zero place past = NoFormal place 0 (past_listed line (separator_at line place).end (omega arith))
 are_formals line (suc bound) place past =
     by_listed line bound place (λ next lt. are_formals line bound next (omega arith))
     (listed_at line (separator_at line place).end) refl (listed_past line (separator_at line place).end)
 
 pub written_formals : (line : Bytes) (place : ℕ) → length line ≤ line_limit
-    → AreFormals line place (formals_after line place).list (formals_after line place).letters
+    → AreFormals line place (formals_after line place).list (formals_after line place).flags
 written_formals line place short = are_formals line line_limit place (omega arith)
 
 -- ---- actuals

@@ -13,7 +13,7 @@ use Rattle.m11_statements.specs.Labels.{before_labels, is_counter, kind_of, labe
 use Rattle.m11_statements.specs.Listed.{names, span_of}
 use Rattle.m11_statements.specs.Statements.{body_of}
 use Rattle.m11_statements.specs.declared.bodies.Body.{Body}
-use Rattle.m11_statements.specs.declared.bodies.Body.TheVariants.{Nothing, Assigns, SetsCounter, Operates, Words}
+use Rattle.m11_statements.specs.declared.bodies.Body.TheVariants.{Nothing, Assign, SetCounter, Operate, Words}
 use Rattle.m11_statements.specs.declared.labels.Label.{Label}
 use Rattle.m11_statements.specs.declared.labels.LabelKind.{LabelKind}
 use Rattle.m11_argument_laws.specs.Written.{AreLabelled, IsBehind, IsLabel, IsNamed, IsPoint, IsUnassigned, IsUnset, Says, colon_of, equals_of, label_with, ordinary_kind}
@@ -121,15 +121,15 @@ labels-exists line =
 -- ---- what stands after them
 
 -- a name is an operator, and nothing else is
-named_operation : (name : Lexeme) → IsNamed name → operation name ≡ Operates (span_of name)
+named_operation : (name : Lexeme) → IsNamed name → operation name ≡ Operate (span_of name)
 named_operation name named =
-    ap (λ (s : Sort). if names s name.text then Operates (span_of name) else Words name.start) named.sort
-    ∙ ap (λ (b : Bool). if not b then Operates (span_of name) else Words name.start) named.text
+    ap (λ (s : Sort). if names s name.text then Operate (span_of name) else Words name.start) named.sort
+    ∙ ap (λ (b : Bool). if not b then Operate (span_of name) else Words name.start) named.text
 
 point_operation : (point : Lexeme) → IsPoint point → operation point ≡ Words point.start
 point_operation point is =
-    ap (λ (s : Sort). if names s point.text then Operates (span_of point) else Words point.start) is.sort
-    ∙ ap (λ (b : Bool). if not b then Operates (span_of point) else Words point.start) is.text
+    ap (λ (s : Sort). if names s point.text then Operate (span_of point) else Words point.start) is.sort
+    ∙ ap (λ (b : Bool). if not b then Operate (span_of point) else Words point.start) is.text
 
 no_name : (sort : Sort) (text : List ℕ) → (sort ≡ Name → ⊥) → names sort text ≡ false
 no_name Name text other = absurd (other refl)
@@ -137,7 +137,7 @@ no_name _ text other = refl
 
 other_operation : (first : Lexeme) → (first.sort ≡ Name → ⊥) → operation first ≡ Words first.start
 other_operation first other =
-    ap (λ (b : Bool). if b then Operates (span_of first) else Words first.start) (no_name first.sort first.text other)
+    ap (λ (b : Bool). if b then Operate (span_of first) else Words first.start) (no_name first.sort first.text other)
 
 -- a sign assigns, or nothing is assigned
 abbrev SignOr : Lexeme → Lexeme → Sort → Type 0
@@ -211,7 +211,7 @@ other_assigned line first (second ∷ tokens) other =
     none_assigned line first second tokens (λ is. other_set first.sort first second other)
 
 assigned_to : (name equals : Lexeme) (is_global : Bool) → name_set name.start name.end (equals_of is_global) equals.end
-    ≡ Some (Assigns (record { name = record { start = name.start; end = name.end }; is_global = is_global; value = equals.end }))
+    ≡ Some (Assign (record { name = record { start = name.start; end = name.end }; is_global = is_global; value = equals.end }))
 assigned_to name equals true = refl
 assigned_to name equals false = refl
 
@@ -231,11 +231,11 @@ read_body line _ _ (SaysAssignment name equals tokens is_global named is sign) =
     (behind line name equals tokens is ∙ named_assigned line name equals tokens named
     ∙ ap (λ (s : Sort). name_set name.start name.end s equals.end) sign ∙ assigned_to name equals is_global)
 read_body line _ _ (SaysCounter point equals tokens is_point is sign) =
-    assigning line point (equals ∷ tokens) (SetsCounter equals.end)
+    assigning line point (equals ∷ tokens) (SetCounter equals.end)
     (behind line point equals tokens is ∙ point_assigned line point equals tokens is_point
     ∙ ap (λ (s : Sort). counter_set s equals.end) sign)
 read_body line _ _ (SaysOperator name tokens named none) =
-    otherwise line name tokens (Operates (span_of name)) (unassigned line name tokens named none) (named_operation name named)
+    otherwise line name tokens (Operate (span_of name)) (unassigned line name tokens named none) (named_operation name named)
 read_body line _ _ (SaysPoint point tokens is none) =
     otherwise line point tokens (Words point.start) (unset line point tokens is none) (point_operation point is)
 read_body line _ _ (SaysWords first tokens other) =
@@ -271,11 +271,11 @@ module _ (line : List ℕ) (first : Lexeme) where
   named_by : (second : Lexeme) (tokens : List Lexeme) → IsNamed first → (is_apart : Bool)
       → skipped_between line first.end second.start ≡ is_apart → SomeBody line (first ∷ (second ∷ tokens))
   named_by second tokens named true apart =
-      (Operates (span_of first), SaysOperator first (second ∷ tokens) named (λ is_global is sign. absurd (cc)))
+      (Operate (span_of first), SaysOperator first (second ∷ tokens) named (λ is_global is sign. absurd (cc)))
   named_by second tokens named false is = elim (is_sign_or second.sort) [
     | inl (is_global, sign) ↦ (_, SaysAssignment first second tokens is_global named is sign)
     | inr none ↦
-        (Operates (span_of first), SaysOperator first (second ∷ tokens) named (λ is_global is sign. none is_global sign))
+        (Operate (span_of first), SaysOperator first (second ∷ tokens) named (λ is_global is sign. none is_global sign))
   ]
 
   point_by : (second : Lexeme) (tokens : List Lexeme) → IsPoint first → (is_apart : Bool)
@@ -283,12 +283,12 @@ module _ (line : List ℕ) (first : Lexeme) where
   point_by second tokens point true apart =
       (Words first.start, SaysPoint first (second ∷ tokens) point (λ is sign. absurd (cc)))
   point_by second tokens point false is = elim (is_equals_or second.sort) [
-    | inl sign ↦ (SetsCounter second.end, SaysCounter first second tokens point is sign)
+    | inl sign ↦ (SetCounter second.end, SaysCounter first second tokens point is sign)
     | inr none ↦ (Words first.start, SaysPoint first (second ∷ tokens) point (λ is sign. none sign))
   ]
 
   named_says : (tokens : List Lexeme) → IsNamed first → SomeBody line (first ∷ tokens)
-  named_says [] named = (Operates (span_of first), SaysOperator first [] named tt)
+  named_says [] named = (Operate (span_of first), SaysOperator first [] named tt)
   named_says (second ∷ tokens) named = named_by second tokens named (skipped_between line first.end second.start) refl
 
   point_says : (tokens : List Lexeme) → IsPoint first → SomeBody line (first ∷ tokens)

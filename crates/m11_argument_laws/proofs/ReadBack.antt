@@ -9,8 +9,8 @@ use Rattle.std.proofs.lemmas.Nat.{pow-add}
 use Rattle.m11_arguments.specs.Digits.{digits_of, last_digits}
 use Rattle.m11_scan.specs.Characters.{is_digit}
 use Rattle.m11_scan.specs.Cuts.{form_of, number_form}
-use Rattle.m11_scan.specs.Letters.{letter_N, letter_T}
-use Rattle.m11_scan.specs.Numbers.{base_of, has_digit_outside, number_letters, number_of, spelled}
+use Rattle.m11_scan.specs.ErrorFlags.{flag_N, flag_T}
+use Rattle.m11_scan.specs.Numbers.{base_of, has_digit_outside, number_flags, number_of, spelled}
 use Rattle.m11_scan.specs.declared.radix.Radix.{Radix}
 use Rattle.m11_scan.specs.declared.radix.Radix.TheVariants.{Binary, Octal, Decimal}
 use Rattle.m11_scan.specs.declared.sort.Form.TheVariants.{Cut}
@@ -178,13 +178,13 @@ module _ (radix : Radix) (number : ℕ) where
       ap (λ (b : Bool). spelled (if b then 10 else base_of radix) digits) (none-outside (base_of radix) digits are)
       ∙ are_spelt (base_of radix) (least_base radix) 16 number (fits word)
 
-  pub written-letters : number < 65536 → number_letters radix digits ≡ 0
-  written-letters word =
-      ap (λ (n : ℕ). bit_or (if ltb 65535 n then letter_T else 0)
-      (if has_digit_outside (base_of radix) digits then letter_N else 0)) (written-value word)
-      ∙ ap (λ (b : Bool). bit_or (if b then letter_T else 0) (if has_digit_outside (base_of radix) digits then letter_N else 0))
+  pub written-flags : number < 65536 → number_flags radix digits ≡ 0
+  written-flags word =
+      ap (λ (n : ℕ). bit_or (if ltb 65535 n then flag_T else 0)
+      (if has_digit_outside (base_of radix) digits then flag_N else 0)) (written-value word)
+      ∙ ap (λ (b : Bool). bit_or (if b then flag_T else 0) (if has_digit_outside (base_of radix) digits then flag_N else 0))
       (le-ltb 65535 number (omega arith))
-      ∙ ap (λ (b : Bool). bit_or 0 (if b then letter_N else 0)) (none-outside (base_of radix) digits are)
+      ∙ ap (λ (b : Bool). bit_or 0 (if b then flag_N else 0)) (none-outside (base_of radix) digits are)
 
   pub written-first : 0 < number → number < 65536 → slice_index digits 0 ≡ 48 → ⊥
   written-first some word =

@@ -3,38 +3,38 @@ use Rattle.std.proofs.Common.{◌≡◌, ℕ, Bool, true, false, List, [], ◌�
 use Rattle.std.specs.Prelude.{if◌then◌else◌}
 use Rattle.std.specs.Int.RustNames.{bit_or}
 use Rattle.std.proofs.lemmas.Bool.{false≢true}
-use Rattle.m11_arguments.specs.Conditions.{Asked, actual_letters, asked, asked_by, compared, condition, defined, first_by, matched, named, named_by, numeric, refused, same, second_by, text_of}
+use Rattle.m11_arguments.specs.Conditions.{Asked, actual_flags, asked, asked_by, compared, condition, defined, first_by, matched, named, named_by, numeric, refused, same, second_by, text_of}
 use Rattle.m11_arguments.specs.Definedness.{Tested, after_joint, after_symbol, joined_to, joining, names_at, names_in, tested}
-use Rattle.m11_arguments.specs.Expressions.{Known, has_expression, number_at, number_letters, symbols_at}
+use Rattle.m11_arguments.specs.Expressions.{Known, has_expression, number_at, number_flags, symbols_at}
 use Rattle.m11_arguments.specs.LeftOvers.{has_token, left_over, start_of}
 use Rattle.m11_arguments.specs.Notes.{noting}
-use Rattle.m11_arguments.specs.Repeats.{notes, repeat_count, rounds_of}
+use Rattle.m11_arguments.specs.Repeats.{notes, rept_count, rounds_of}
 use Rattle.m11_arguments.specs.declared.definedness.Joint.{Joint}
 use Rattle.m11_arguments.specs.declared.definedness.SoFar.{SoFar}
 use Rattle.m11_base.specs.Devices.{Bytes}
 use Rattle.m11_scan.specs.Cutting.{Lexeme, tokens_from}
 use Rattle.m11_scan.specs.Ends.{expression_end}
-use Rattle.m11_scan.specs.Letters.{letter_A, letter_I, letter_Q}
+use Rattle.m11_scan.specs.ErrorFlags.{flag_A, flag_I, flag_Q}
 use Rattle.m11_scan.specs.Skipped.{skipped_between}
 use Rattle.m11_scan.specs.declared.conditions.Condition.{Condition}
 use Rattle.m11_scan.specs.declared.conditions.Condition.TheVariants.{Zero, NotZero, Positive, Negative, NotNegative, NotPositive, Defined, NotDefined, Identical, Different}
 use Rattle.m11_statements.specs.Actuals.{next_actual, separator_at}
-use Rattle.m11_statements.specs.Statements.{letter_if}
+use Rattle.m11_statements.specs.Statements.{flag_if}
 use Rattle.m11_statements.specs.declared.actuals.Actual.{Actual}
 use Rattle.m11_values.specs.declared.names.Symbol.{Symbol}
-use Rattle.m11_argument_laws.specs.Refusals.{HasBadName, HasLetter, IsLoneText, IsRefused, LacksArgument, asks_names, asks_number, asks_texts}
+use Rattle.m11_argument_laws.specs.Refusals.{HasBadName, HasFlag, IsSingleText, IsRefused, LacksArgument, asks_names, asks_number, asks_texts}
 use Rattle.m11_argument_laws.specs.Refusals.HasBadName.{LaterName, MissingName, NoName}
 use Rattle.m11_argument_laws.specs.Refusals.IsRefused.{Lacking, Unknown, Unnamed}
 use Rattle.m11_argument_laws.specs.Refusals.LacksArgument.{WithBadName, WithOneText, WithoutNumber, WithoutText}
 
--- it doesn't hold, and its letters are A and perhaps I
+-- it doesn't hold, and its flags are A and perhaps I
 pub record IsOff (asked : Asked) : Type 0 where
   pub off : asked.holds ≡ false
   pub skips : Bool
-  pub letters : asked.letters ≡ bit_or letter_A (letter_if skips letter_I)
+  pub flags : asked.flags ≡ bit_or flag_A (flag_if skips flag_I)
 
 refused_off : (end : ℕ) → IsOff (refused end)
-refused_off end = record { off = refl; skips = false; letters = refl }
+refused_off end = record { off = refl; skips = false; flags = refl }
 
 -- ---- a bad name
 
@@ -54,7 +54,7 @@ bad_verdict test size before _ (LaterName name mark tokens symbol joint is joins
 
 bad_off : (line : Bytes) (place : ℕ) (names : Tested) (verdict : Option Bool) → verdict ≡ None → IsOff (named line place verdict names)
 bad_off line place names None is =
-    record { off = refl; skips = skipped_between line place names.end; letters = refl }
+    record { off = refl; skips = skipped_between line place names.end; flags = refl }
 bad_off line place names (Some verdict) is = absurd (cc)
 
 defined_off : (known : Known) (line : Bytes) (place : ℕ) (wants : Bool) → HasBadName (tokens_from line place)
@@ -77,14 +77,14 @@ without_off : (line : Bytes) (place : ℕ) (wants : Bool) → next_actual line p
 without_off line place wants none =
     subst (λ (a : Option Actual). IsOff (first_by line place wants a)) (sym none) (refused_off place)
 
-lone_off : (line : Bytes) (place : ℕ) (wants : Bool) (first : Actual) → next_actual line place false ≡ Some first
-    → IsLoneText line first → IsOff (same line place wants)
-lone_off line place wants first some lone =
+single_off : (line : Bytes) (place : ℕ) (wants : Bool) (first : Actual) → next_actual line place false ≡ Some first
+    → IsSingleText line first → IsOff (same line place wants)
+single_off line place wants first some single =
     let separator = separator_at line first.end in
     subst (λ (a : Option Actual). IsOff (first_by line place wants a)) (sym some)
-    (subst (λ (a : Option Actual). IsOff (second_by line wants first separator a)) (sym lone.second)
-    (subst (λ (b : Bool). IsOff (if b then matched wants (text_of line first) [] separator.end (actual_letters first)
-    else refused separator.end)) (sym lone.comma) (refused_off separator.end)))
+    (subst (λ (a : Option Actual). IsOff (second_by line wants first separator a)) (sym single.second)
+    (subst (λ (b : Bool). IsOff (if b then matched wants (text_of line first) [] separator.end (actual_flags first)
+    else refused separator.end)) (sym single.comma) (refused_off separator.end)))
 
 -- ---- conditions
 
@@ -116,8 +116,8 @@ asked_off known line place condition (WithoutNumber is none) = number_off known 
 asked_off known line place condition (WithBadName is bad) = names_off known line place condition is bad
 asked_off known line place condition (WithoutText is none) =
     texts_off known line place condition is (λ wants. without_off line place wants none)
-asked_off known line place condition (WithOneText is first some lone) =
-    texts_off known line place condition is (λ wants. lone_off line place wants first some lone)
+asked_off known line place condition (WithOneText is first some single) =
+    texts_off known line place condition is (λ wants. single_off line place wants first some single)
 
 refused_named : (known : Known) (line : Bytes) (place : ℕ) → IsRefused line place → IsOff (named_by known line (tokens_from line place))
 refused_named known line place (Unnamed none) =
@@ -131,7 +131,7 @@ refused_named known line place (Lacking name tokens condition stands some lacks)
     (subst (λ (c : Option Condition). IsOff (asked_by known line (separator_at line name.end).end c)) (sym some)
     (asked_off known line (separator_at line name.end).end condition lacks))
 
-has_A : (before skips : Bool) → HasLetter letter_A (bit_or (letter_if before letter_I) (bit_or letter_A (letter_if skips letter_I)))
+has_A : (before skips : Bool) → HasFlag flag_A (bit_or (flag_if before flag_I) (bit_or flag_A (flag_if skips flag_I)))
 has_A true true = refl
 has_A true false = refl
 has_A false true = refl
@@ -141,27 +141,27 @@ pub refused-false : (known : Known) (line : Bytes) (place : ℕ) → IsRefused l
 refused-false known line place is = (refused_named known line place is).off
 
 pub refused-flagged : (known : Known) (line : Bytes) (place : ℕ) → IsRefused line place
-    → HasLetter letter_A (condition known line place).letters
+    → HasFlag flag_A (condition known line place).flags
 refused-flagged known line place is =
     let off = refused_named known line place is in
     let before = skipped_between line place (start_of line (tokens_from line place)) in
-    subst (λ (n : ℕ). HasLetter letter_A (bit_or (letter_if before letter_I) n)) (sym off.letters) (has_A before off.skips)
+    subst (λ (n : ℕ). HasFlag flag_A (bit_or (flag_if before flag_I) n)) (sym off.flags) (has_A before off.skips)
 
 -- ---- repeats
 
-left_A : (is_left skips : Bool) → HasLetter letter_A (bit_or letter_A (bit_or (letter_if is_left letter_Q) (letter_if skips letter_I)))
+left_A : (is_left skips : Bool) → HasFlag flag_A (bit_or flag_A (bit_or (flag_if is_left flag_Q) (flag_if skips flag_I)))
 left_A true true = refl
 left_A true false = refl
 left_A false true = refl
 left_A false false = refl
 
 module _ (known : Known) (line : Bytes) (place : ℕ) (none : has_expression line place ≡ false) where
-  pub rounds-none : repeat_count known line place ≡ 0
+  pub rounds-none : rept_count known line place ≡ 0
   rounds-none = ap (λ (b : Bool). if b then rounds_of (number_at known line place) else 0) none
 
-  pub rounds-flagged : HasLetter letter_A (notes known line place).letters
+  pub rounds-flagged : HasFlag flag_A (notes known line place).flags
   rounds-flagged =
-      subst (λ (b : Bool). HasLetter letter_A (if b then
-      noting (bit_or (number_letters known line place) (left_over line (expression_end line place))) (symbols_at line place)
-      else noting (bit_or letter_A (left_over line place)) []).letters) (sym none)
+      subst (λ (b : Bool). HasFlag flag_A (if b then
+      noting (bit_or (number_flags known line place) (left_over line (expression_end line place))) (symbols_at line place)
+      else noting (bit_or flag_A (left_over line place)) []).flags) (sym none)
       (left_A (has_token (tokens_from line place)) (skipped_between line place (length line)))

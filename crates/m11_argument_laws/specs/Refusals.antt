@@ -15,9 +15,9 @@ use Rattle.m11_statements.specs.declared.actuals.Actual.{Actual}
 use Rattle.m11_values.specs.declared.names.Symbol.{Symbol}
 use Rattle.m11_values.specs.Terms.{symbol_in}
 
--- a set of letters has one of them
-abbrev pub HasLetter : ℕ → ℕ → Type 0
-HasLetter letter letters = bit_and letters letter ≡ letter
+-- a set of flags has one of them
+abbrev pub HasFlag : ℕ → ℕ → Type 0
+HasFlag flag flags = bit_and flags flag ≡ flag
 
 -- EQ NE GT LT GE LE ask for a number
 abbrev pub asks_number : Condition → Bool
@@ -50,7 +50,7 @@ pub data HasBadName : List Lexeme → Type 0 where
       → HasBadName (name ∷ (mark ∷ tokens))
 
 -- one text alone, after which neither a further one stands nor a comma
-pub record IsLoneText (line : Bytes) (first : Actual) : Type 0 where
+pub record IsSingleText (line : Bytes) (first : Actual) : Type 0 where
   pub second : next_actual line (separator_at line first.end).end false ≡ None
   pub comma : (separator_at line first.end).has_comma ≡ false
 
@@ -60,7 +60,7 @@ pub data LacksArgument (line : Bytes) (place : ℕ) (condition : Condition) : Ty
   WithBadName : asks_names condition ≡ true → HasBadName (tokens_from line place) → LacksArgument line place condition
   WithoutText : asks_texts condition ≡ true → next_actual line place false ≡ None → LacksArgument line place condition
   WithOneText : asks_texts condition ≡ true → (first : Actual) → next_actual line place false ≡ Some first
-      → IsLoneText line first → LacksArgument line place condition
+      → IsSingleText line first → LacksArgument line place condition
 
 -- a condition that begins at a place is refused
 pub data IsRefused (line : Bytes) (place : ℕ) : Type 0 where

@@ -8,7 +8,7 @@ use Rattle.m11_scan.specs.declared.sort.Sort.{Sort}
 use Rattle.m11_scan.specs.declared.sort.Sort.TheVariants.{Name, LocalSymbol, Colon, TwoColons, Equals, TwoEquals}
 use Rattle.m11_statements.specs.Labels.{is_counter, numbered}
 use Rattle.m11_statements.specs.declared.bodies.Body.{Body}
-use Rattle.m11_statements.specs.declared.bodies.Body.TheVariants.{Nothing, Assigns, SetsCounter, Operates, Words}
+use Rattle.m11_statements.specs.declared.bodies.Body.TheVariants.{Nothing, Assign, SetCounter, Operate, Words}
 use Rattle.m11_statements.specs.declared.labels.Label.{Label}
 use Rattle.m11_statements.specs.declared.labels.LabelKind.{LabelKind}
 use Rattle.m11_statements.specs.declared.labels.LabelKind.TheVariants.{Ordinary, Global}
@@ -86,13 +86,13 @@ pub data Says (line : Bytes) : List Lexeme → Body → Type 0 where
   SaysAssignment : (name equals : Lexeme) (tokens : List Lexeme) (is_global : Bool) → IsNamed name → IsBehind line name equals
       → equals.sort ≡ equals_of is_global
       → Says line (name ∷ (equals ∷ tokens))
-      (Assigns (record { name = record { start = name.start; end = name.end }; is_global = is_global; value = equals.end }))
+      (Assign (record { name = record { start = name.start; end = name.end }; is_global = is_global; value = equals.end }))
   -- `.` with `=` behind it sets the counter
   SaysCounter : (point equals : Lexeme) (tokens : List Lexeme) → IsPoint point → IsBehind line point equals → equals.sort ≡ Equals
-      → Says line (point ∷ (equals ∷ tokens)) (SetsCounter equals.end)
+      → Says line (point ∷ (equals ∷ tokens)) (SetCounter equals.end)
   -- any other name is an operator
   SaysOperator : (name : Lexeme) (tokens : List Lexeme) → IsNamed name → IsUnassigned line name tokens
-      → Says line (name ∷ tokens) (Operates (record { start = name.start; end = name.end }))
+      → Says line (name ∷ tokens) (Operate (record { start = name.start; end = name.end }))
   -- any other `.` begins words
   SaysPoint : (point : Lexeme) (tokens : List Lexeme) → IsPoint point → IsUnset line point tokens
       → Says line (point ∷ tokens) (Words point.start)

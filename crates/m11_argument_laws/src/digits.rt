@@ -4,20 +4,20 @@
 ghost use Rattle.std.specs.Prelude.{◌≡◌, ◌≢◌, ◌<◌, ◌∷◌, ℕ, [], Some, slice_index};
 ghost use Rattle.m11_arguments.specs.Digits.{digits_of};
 ghost use Rattle.m11_scan.specs.Cuts.{form_of};
-ghost use Rattle.m11_scan.specs.Numbers.{base_of, number_letters, number_of};
+ghost use Rattle.m11_scan.specs.Numbers.{base_of, number_flags, number_of};
 ghost use Rattle.m11_scan.specs.declared.radix.Radix.{Radix};
 ghost use Rattle.m11_scan.specs.declared.sort.Form.TheVariants.{Cut};
 ghost use Rattle.m11_scan.specs.declared.sort.Sort.TheVariants.{Number};
 
 /// What `\e` and a created symbol write of a word is read back: in the radix in which it is written it is one number, that word,
-/// without a letter.
+/// without a flag.
 pub fn written_numbers_are_read_back()
     ensures token { (radix : Radix) (number : ℕ) → number < 65536
         → form_of (digits_of (base_of radix) number) ≡ Some (Cut Number) }
     ensures value { (radix : Radix) (number : ℕ) → number < 65536
         → number_of radix (digits_of (base_of radix) number) ≡ number }
-    ensures letters { (radix : Radix) (number : ℕ) → number < 65536
-        → number_letters radix (digits_of (base_of radix) number) ≡ 0 }
+    ensures flags { (radix : Radix) (number : ℕ) → number < 65536
+        → number_flags radix (digits_of (base_of radix) number) ≡ 0 }
 {}
 
 /// No zero stands before the digits of a word: 0 is one digit, and any other word begins with a digit that isn't 0.

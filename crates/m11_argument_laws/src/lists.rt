@@ -13,7 +13,7 @@ ghost use Rattle.m11_placement.specs.Elements.{names_at};
 /// The formals of a macro are all that stand one after the other: no bound cuts them off.
 pub fn formals_stand_one_after_the_other()
     ensures { (line : Bytes) (place : ℕ) → length line ≤ line_limit
-        → AreFormals line place (formals_after line place).list (formals_after line place).letters }
+        → AreFormals line place (formals_after line place).list (formals_after line place).flags }
 {}
 
 /// A call takes its actuals in their order: where enough are wanted all that stand one after the other, and else the first of

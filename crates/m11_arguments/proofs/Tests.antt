@@ -89,7 +89,7 @@ module _ (notes begin : Notes) (all left : Tested) (leads : Leads notes begin le
     end = sym (ap (λ (t : Tested). t.end) is) ∙ leads.end;
     symbols =
         ap (λ (n : Notes). with_symbols n more.symbols) same
-        ∙ ap (λ (l : List Symbol). record { letters = notes.letters; symbols = l })
+        ∙ ap (λ (l : List Symbol). record { flags = notes.flags; symbols = l })
         (append_assoc notes.symbols (symbol ∷ []) more.symbols)
         ∙ sym (ap (λ (t : Tested). with_symbols notes t.symbols) is) ∙ leads.symbols;
   }

@@ -5,16 +5,16 @@ use Rattle.std.specs.Prelude.{ℕ, zero, suc, true, List, [], ◌∷◌, ◌++�
 use Rattle.std.specs.Option.{is_some}
 use Rattle.std.specs.declared.alloc.Global.{Global}
 use Rattle.m11_base.specs.Devices.{Bytes}
-use Rattle.m11_scan.specs.Letters.{letter_Q}
+use Rattle.m11_scan.specs.ErrorFlags.{flag_Q}
 use Rattle.m11_scan.specs.Numbers.{base_of}
 use Rattle.m11_statements.specs.Actuals.{next_actual, separator_at}
-use Rattle.m11_statements.specs.Statements.{letter_if}
+use Rattle.m11_statements.specs.Statements.{flag_if}
 use Rattle.m11_statements.specs.declared.actuals.Actual.{Actual}
 use Rattle.m11_statements.specs.declared.actuals.ActualKind.{ActualKind}
 use Rattle.m11_statements.specs.declared.actuals.ActualKind.TheVariants.{Bare, Bracketed, Digits}
-use Rattle.m11_arguments.specs.Conditions.{actual_letters, text_of}
+use Rattle.m11_arguments.specs.Conditions.{actual_flags, text_of}
 use Rattle.m11_arguments.specs.Digits.{digits_of}
-use Rattle.m11_arguments.specs.Expressions.{Known, number_at, number_letters, symbols_at}
+use Rattle.m11_arguments.specs.Expressions.{Known, number_at, number_flags, symbols_at}
 use Rattle.m11_arguments.specs.Notes.{Notes, joined, no_notes, noting}
 
 -- texts, and what reading them leaves
@@ -36,10 +36,10 @@ followed_by first more = record { texts = first.texts ++ more.texts; notes = joi
 abbrev pub numeral : Known → Bytes → ℕ → Given
 numeral known line place =
     given (digits_of (base_of known.radix) (number_at known line place))
-    (noting (number_letters known line place) (symbols_at line place))
+    (noting (number_flags known line place) (symbols_at line place))
 
 abbrev pub characters : Bytes → Actual → Given
-characters line actual = given (text_of line actual) (noting (actual_letters actual) [])
+characters line actual = given (text_of line actual) (noting (actual_flags actual) [])
 
 abbrev pub given_as : Known → Bytes → Actual → ActualKind → Given
 given_as known line actual Bare = characters line actual
@@ -58,7 +58,7 @@ wanted_by known line more (Some actual) =
 
 -- one more than are wanted is dropped, and what stands after it
 abbrev pub unwanted : Option Actual → Given
-unwanted actual = record { texts = []; notes = noting (letter_if (is_some actual) letter_Q) [] }
+unwanted actual = record { texts = []; notes = noting (flag_if (is_some actual) flag_Q) [] }
 
 -- the actuals from a place of a line on, of which n are wanted
 abbrev pub actuals_from : Known → Bytes → ℕ → ℕ → Given

@@ -10,45 +10,45 @@ use Rattle.m11_scan.specs.Characters.{is_blank}
 use Rattle.m11_scan.specs.Conditions.{condition_named}
 use Rattle.m11_scan.specs.Cutting.{Lexeme, text_between, tokens_from}
 use Rattle.m11_scan.specs.Ends.{expression_end}
-use Rattle.m11_scan.specs.Letters.{letter_A}
+use Rattle.m11_scan.specs.ErrorFlags.{flag_A}
 use Rattle.m11_scan.specs.Views.{bits_of}
 use Rattle.m11_scan.specs.declared.conditions.Condition.{Condition}
 use Rattle.m11_scan.specs.declared.conditions.Condition.TheVariants.{Zero, NotZero, Positive, Negative, NotNegative, NotPositive, Defined, NotDefined, Blank, NotBlank, Identical, Different}
 use Rattle.m11_scan.specs.declared.sort.Sort.{Sort}
 use Rattle.m11_scan.specs.declared.sort.Sort.TheVariants as sorts
 use Rattle.m11_statements.specs.Actuals.{next_actual, separator_at}
-use Rattle.m11_statements.specs.Statements.{letter_if}
+use Rattle.m11_statements.specs.Statements.{flag_if}
 use Rattle.m11_statements.specs.declared.actuals.Actual.{Actual}
 use Rattle.m11_statements.specs.declared.actuals.Separator.{Separator}
 use Rattle.m11_values.specs.declared.names.Symbol.{Symbol}
 use Rattle.m11_arguments.specs.declared.conditions.Verdict.{Verdict}
 use Rattle.m11_arguments.specs.declared.conditions.Finding.{Finding}
 use Rattle.m11_arguments.specs.Definedness.{Tested, is_as, names_at}
-use Rattle.m11_arguments.specs.Expressions.{Known, has_expression, number_at, number_letters, symbols_at}
-use Rattle.m11_arguments.specs.LeftOvers.{letters_before, skip_letters}
+use Rattle.m11_arguments.specs.Expressions.{Known, has_expression, number_at, number_flags, symbols_at}
+use Rattle.m11_arguments.specs.LeftOvers.{flags_before, skip_flags}
 use Rattle.m11_arguments.specs.Notes.{Notes, noting}
 
--- whether a condition holds, the place after it, its letters, and the symbols that it read
+-- whether a condition holds, the place after it, its flags, and the symbols that it read
 pub record Asked : Type 0 where
   pub holds : Bool
   pub end : ℕ
-  pub letters : ℕ
+  pub flags : ℕ
   pub symbols : List Symbol
 
 -- what the code finds of one, beside its symbols
 abbrev pub IsFound : Finding → Asked → Type 0
 IsFound finding asked =
-    (finding.holds ≡ asked.holds) × (finding.end ≡ asked.end) × (bits_of finding.letters ≡ asked.letters)
+    (finding.holds ≡ asked.holds) × (finding.end ≡ asked.end) × (bits_of finding.flags ≡ asked.flags)
 
 abbrev pub verdict_of : Asked → Verdict
 verdict_of asked = record { holds = asked.holds; end = asked.end }
 
 abbrev pub notes_of : Asked → Notes
-notes_of asked = noting asked.letters asked.symbols
+notes_of asked = noting asked.flags asked.symbols
 
 -- a condition that doesn't hold, since an argument is bad or missing
 abbrev pub refused : ℕ → Asked
-refused end = record { holds = false; end = end; letters = letter_A; symbols = [] }
+refused end = record { holds = false; end = end; flags = flag_A; symbols = [] }
 
 -- a number against 0, with its sign: those from 100000 on are negative
 abbrev pub is_negative : ℕ → Bool
@@ -68,7 +68,7 @@ abbrev pub compared : Known → Bytes → ℕ → Condition → Asked
 compared known line place condition = record {
   holds = passes condition (number_at known line place);
   end = expression_end line place;
-  letters = number_letters known line place;
+  flags = number_flags known line place;
   symbols = symbols_at line place;
 }
 
@@ -79,11 +79,11 @@ numeric known line place condition =
 -- DF NDF: the verdict of names
 abbrev pub named : Bytes → ℕ → Option Bool → Tested → Asked
 named line place (Some verdict) names =
-    record { holds = verdict; end = names.end; letters = skip_letters line place names.end; symbols = names.symbols }
+    record { holds = verdict; end = names.end; flags = skip_flags line place names.end; symbols = names.symbols }
 named line place None names = record {
   holds = false;
   end = names.end;
-  letters = bit_or letter_A (skip_letters line place names.end);
+  flags = bit_or flag_A (skip_flags line place names.end);
   symbols = names.symbols;
 }
 
@@ -98,8 +98,8 @@ abbrev pub text_of : Bytes → Actual → Bytes
 text_of line actual = text_between line actual.inside.start actual.inside.end
 
 -- A for an argument without its `>`
-abbrev pub actual_letters : Actual → ℕ
-actual_letters actual = letter_if (not actual.is_closed) letter_A
+abbrev pub actual_flags : Actual → ℕ
+actual_flags actual = flag_if (not actual.is_closed) flag_A
 
 -- blanks and tabs alone
 abbrev pub is_blank_text : Bytes → Bool
@@ -107,11 +107,11 @@ is_blank_text text = prefix_len is_blank text == length text
 
 -- B NB: one argument, which is empty where it is missing
 abbrev pub blank_by : Bytes → ℕ → Bool → Option Actual → Asked
-blank_by line place wants_blank None = record { holds = wants_blank; end = place; letters = 0; symbols = [] }
+blank_by line place wants_blank None = record { holds = wants_blank; end = place; flags = 0; symbols = [] }
 blank_by line place wants_blank (Some actual) = record {
   holds = is_as wants_blank (is_blank_text (text_of line actual));
   end = actual.end;
-  letters = actual_letters actual;
+  flags = actual_flags actual;
   symbols = [];
 }
 
@@ -120,16 +120,16 @@ blank line place wants_blank = blank_by line place wants_blank (next_actual line
 
 -- IDN DIF: two texts, byte for byte
 abbrev pub matched : Bool → Bytes → Bytes → ℕ → ℕ → Asked
-matched wants_same first second end letters =
-    record { holds = is_as wants_same (bytes_eq first second); end = end; letters = letters; symbols = [] }
+matched wants_same first second end flags =
+    record { holds = is_as wants_same (bytes_eq first second); end = end; flags = flags; symbols = [] }
 
 -- the second argument: after a comma it may be empty
 abbrev pub second_by : Bytes → Bool → Actual → Separator → Option Actual → Asked
 second_by line wants_same first separator (Some second) =
     matched wants_same (text_of line first) (text_of line second) second.end
-    (bit_or (actual_letters first) (actual_letters second))
+    (bit_or (actual_flags first) (actual_flags second))
 second_by line wants_same first separator None =
-    if separator.has_comma then matched wants_same (text_of line first) [] separator.end (actual_letters first)
+    if separator.has_comma then matched wants_same (text_of line first) [] separator.end (actual_flags first)
     else refused separator.end
 
 abbrev pub second_at : Bytes → Bool → Actual → Separator → Asked
@@ -173,14 +173,14 @@ named_by known line [] = refused (length line)
 named_by known line (name ∷ tokens) = asked_at known line name
 
 abbrev pub with_earlier : ℕ → Asked → Asked
-with_earlier letters asked = record {
+with_earlier flags asked = record {
   holds = asked.holds;
   end = asked.end;
-  letters = bit_or letters asked.letters;
+  flags = bit_or flags asked.flags;
   symbols = asked.symbols;
 }
 
 -- the condition at a place, with I for a character that is skipped before its name
 abbrev pub condition : Known → Bytes → ℕ → Asked
 condition known line place =
-    with_earlier (letters_before line place) (named_by known line (tokens_from line place))
+    with_earlier (flags_before line place) (named_by known line (tokens_from line place))

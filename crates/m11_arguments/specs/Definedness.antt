@@ -15,12 +15,12 @@ use Rattle.m11_arguments.specs.declared.definedness.JointAt.{JointAt}
 use Rattle.m11_arguments.specs.declared.definedness.SoFar.{SoFar}
 use Rattle.m11_arguments.specs.Expressions.{Known}
 
-abbrev pub letter_U : ℕ
-letter_U = 0o20000
+abbrev pub flag_U : ℕ
+flag_U = 0o20000
 
 -- a name is defined where what it stands for has no U
 abbrev pub is_defined : Quantity → Bool
-is_defined meaning = bit_and meaning.letters letter_U == 0
+is_defined meaning = bit_and meaning.flags flag_U == 0
 
 -- what is found is as it is wanted
 abbrev pub is_as : Bool → Bool → Bool

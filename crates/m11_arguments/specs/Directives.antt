@@ -6,11 +6,11 @@ use Rattle.m11_base.specs.Devices.{Bytes}
 use Rattle.m11_base.specs.Mnemonics.{six_of}
 use Rattle.m11_scan.specs.Cutting.{text_between}
 use Rattle.m11_statements.specs.declared.bodies.Body.{Body}
-use Rattle.m11_statements.specs.declared.bodies.Body.TheVariants.{Nothing, Assigns, SetsCounter, Operates, Words}
+use Rattle.m11_statements.specs.declared.bodies.Body.TheVariants.{Nothing, Assign, SetCounter, Operate, Words}
 use Rattle.m11_statements.specs.declared.spans.Span.{Span}
 use Rattle.m11_statements.specs.Statements.{body_of}
 use Rattle.m11_arguments.specs.declared.directives.Directive.{Directive}
-use Rattle.m11_arguments.specs.declared.directives.Directive.TheVariants.{If, IfFalse, IfTrue, IfTrueFalse, EndCondition, ImmediateIf, Macro, EndMacro, Repeat, EndRepeat, IndefiniteRepeat, CharacterRepeat, MacroExit, ArgumentCount, CharacterCount, End}
+use Rattle.m11_arguments.specs.declared.directives.Directive.TheVariants as word
 use Rattle.m11_arguments.specs.declared.directives.DirectiveRow.{DirectiveRow}
 
 abbrev pub named : Bytes → Directive → DirectiveRow
@@ -19,22 +19,22 @@ named name directive = record { name = name; directive = directive }
 -- the directives, each with its name of six characters
 abbrev pub directive_rows : List DirectiveRow
 directive_rows =
-    named (codes ".IF   ") If
-    ∷ named (codes ".IFF  ") IfFalse
-    ∷ named (codes ".IFT  ") IfTrue
-    ∷ named (codes ".IFTF ") IfTrueFalse
-    ∷ named (codes ".ENDC ") EndCondition
-    ∷ named (codes ".IIF  ") ImmediateIf
-    ∷ named (codes ".MACRO") Macro
-    ∷ named (codes ".ENDM ") EndMacro
-    ∷ named (codes ".REPT ") Repeat
-    ∷ named (codes ".ENDR ") EndRepeat
-    ∷ named (codes ".IRP  ") IndefiniteRepeat
-    ∷ named (codes ".IRPC ") CharacterRepeat
-    ∷ named (codes ".MEXIT") MacroExit
-    ∷ named (codes ".NARG ") ArgumentCount
-    ∷ named (codes ".NCHR ") CharacterCount
-    ∷ named (codes ".END  ") End
+    named (codes ".IF   ") word.If
+    ∷ named (codes ".IFF  ") word.Iff
+    ∷ named (codes ".IFT  ") word.Ift
+    ∷ named (codes ".IFTF ") word.Iftf
+    ∷ named (codes ".ENDC ") word.Endc
+    ∷ named (codes ".IIF  ") word.Iif
+    ∷ named (codes ".MACRO") word.Macro
+    ∷ named (codes ".ENDM ") word.Endm
+    ∷ named (codes ".REPT ") word.Rept
+    ∷ named (codes ".ENDR ") word.Endr
+    ∷ named (codes ".IRP  ") word.Irp
+    ∷ named (codes ".IRPC ") word.Irpc
+    ∷ named (codes ".MEXIT") word.Mexit
+    ∷ named (codes ".NARG ") word.Narg
+    ∷ named (codes ".NCHR ") word.Nchr
+    ∷ named (codes ".END  ") word.End
     ∷ []
 
 -- the directives whose names have this second character
@@ -56,9 +56,9 @@ directive_named name = directive_in (find (λ row. bytes_eq row.name name) direc
 -- the name in an operator's place
 abbrev pub operator_in : Body → Option Span
 operator_in Nothing = None
-operator_in (Assigns assignment) = None
-operator_in (SetsCounter value) = None
-operator_in (Operates name) = Some name
+operator_in (Assign assignment) = None
+operator_in (SetCounter value) = None
+operator_in (Operate name) = Some name
 operator_in (Words start) = None
 
 -- the name that stands after a line's labels, where no assignment stands

@@ -17,7 +17,7 @@ use Rattle.m11_values.specs.Quantities.{Quantity}
 use Rattle.m11_values.specs.Symbols.{with_symbol}
 use Rattle.m11_values.specs.Terms.{item, symbol_in}
 use Rattle.m11_values.specs.Values.{value_of}
-use Rattle.m11_arguments.specs.LeftOvers.{has_token, skip_letters}
+use Rattle.m11_arguments.specs.LeftOvers.{has_token, skip_flags}
 
 -- what names say: the radix, and what each symbol stands for
 pub record Known : Type 0 where
@@ -51,11 +51,11 @@ value_at known line place = value_in known (tokens_from line place)
 abbrev pub number_at : Known → Bytes → ℕ → ℕ
 number_at known line place = (value_at known line place).number
 
--- its letters: those of its value, that of a kind which isn't absolute, and I for a skipped character in it
-abbrev pub number_letters : Known → Bytes → ℕ → ℕ
-number_letters known line place =
-    bit_or (bit_or (value_at known line place).letters (absence (value_at known line place).kind))
-    (skip_letters line place (expression_end line place))
+-- its flags: those of its value, that of a kind which isn't absolute, and I for a skipped character in it
+abbrev pub number_flags : Known → Bytes → ℕ → ℕ
+number_flags known line place =
+    bit_or (bit_or (value_at known line place).flags (absence (value_at known line place).kind))
+    (skip_flags line place (expression_end line place))
 
 -- the symbols that it reads
 abbrev pub symbols_at : Bytes → ℕ → List Symbol
@@ -79,9 +79,9 @@ ends_before [] = true
 ends_before (token ∷ tokens) = not (joins (role_of token.sort))
 
 -- the expression that tokens begin with is one term
-abbrev pub is_lone : List Lexeme → Bool
-is_lone [] = false
-is_lone (token ∷ tokens) = is_term (role_of token.sort) && ends_before tokens
+abbrev pub is_single : List Lexeme → Bool
+is_single [] = false
+is_single (token ∷ tokens) = is_term (role_of token.sort) && ends_before tokens
 
 -- what stands next after a term joins it to another one
 abbrev pub joins_next : Option Token → Bool

@@ -4,12 +4,12 @@ use Rattle.std.specs.Prelude.{ℕ, if◌then◌else◌, List, [], ◌∷◌, Opt
 use Rattle.std.specs.Int.RustNames.{bit_or}
 use Rattle.m11_base.specs.Devices.{Bytes}
 use Rattle.m11_scan.specs.Cutting.{Lexeme, tokens_from}
-use Rattle.m11_scan.specs.Letters.{letter_A}
+use Rattle.m11_scan.specs.ErrorFlags.{flag_A}
 use Rattle.m11_statements.specs.Listed.{is_comma}
 use Rattle.m11_arguments.specs.declared.immediate.Immediate.{Immediate}
 use Rattle.m11_arguments.specs.Conditions.{Asked, condition}
 use Rattle.m11_arguments.specs.Expressions.{Known}
-use Rattle.m11_arguments.specs.LeftOvers.{left_over, skip_letters}
+use Rattle.m11_arguments.specs.LeftOvers.{left_over, skip_flags}
 use Rattle.m11_arguments.specs.Notes.{Notes, noting}
 
 -- the place after the comma that stands next
@@ -22,9 +22,9 @@ abbrev pub statement_at : Bytes → ℕ → Option ℕ
 statement_at line place = after_comma (tokens_from line place)
 
 -- I for a skipped character before the comma; without it A, and what is left over
-abbrev pub comma_letters : Bytes → ℕ → Option ℕ → ℕ
-comma_letters line place (Some end) = skip_letters line place end
-comma_letters line place None = bit_or letter_A (left_over line place)
+abbrev pub comma_flags : Bytes → ℕ → Option ℕ → ℕ
+comma_flags line place (Some end) = skip_flags line place end
+comma_flags line place None = bit_or flag_A (left_over line place)
 
 abbrev pub statement_by : Bytes → Asked → Option ℕ → Immediate
 statement_by line asked place = record { holds = asked.holds; statement = place }
@@ -34,7 +34,7 @@ immediate_of line asked = statement_by line asked (statement_at line asked.end)
 
 abbrev pub immediate_notes : Bytes → Asked → Notes
 immediate_notes line asked =
-    noting (bit_or asked.letters (comma_letters line asked.end (statement_at line asked.end))) asked.symbols
+    noting (bit_or asked.flags (comma_flags line asked.end (statement_at line asked.end))) asked.symbols
 
 -- whether the condition holds, and where the statement begins
 abbrev pub immediate : Known → Bytes → ℕ → Immediate

@@ -10,9 +10,9 @@ use Rattle.m11_statements.specs.declared.actuals.Actual.{Actual}
 use Rattle.m11_statements.specs.declared.actuals.ActualKind.{ActualKind}
 use Rattle.m11_statements.specs.declared.actuals.ActualKind.TheVariants.{Bare, Bracketed, Digits}
 use Rattle.m11_arguments.specs.Actuals.{Given, actuals_from, followed_by, given_by, texts_of}
-use Rattle.m11_arguments.specs.Conditions.{actual_letters, text_of}
+use Rattle.m11_arguments.specs.Conditions.{actual_flags, text_of}
 use Rattle.m11_arguments.specs.Expressions.{Known}
-use Rattle.m11_arguments.specs.LeftOvers.{bad_letters, left_over, letters_before}
+use Rattle.m11_arguments.specs.LeftOvers.{bad_flags, left_over, flags_before}
 use Rattle.m11_arguments.specs.Macros.{name_at}
 use Rattle.m11_arguments.specs.declared.macros.NameAt.{NameAt}
 use Rattle.m11_arguments.specs.Notes.{Notes, joined, noting}
@@ -32,7 +32,7 @@ pub record Repeated : Type 0 where
 -- brackets with a list of actuals, which is read as a line of its own
 abbrev pub listed_in : Known → Bytes → Actual → Given
 listed_in known line actual =
-    followed_by (record { texts = []; notes = noting (actual_letters actual) [] })
+    followed_by (record { texts = []; notes = noting (actual_flags actual) [] })
     (actuals_from known (text_of line actual) line_limit 0)
 
 -- any other actual is the one actual of the list
@@ -51,7 +51,7 @@ alone byte = byte ∷ []
 -- the actuals of `.IRPC`: each character of a text
 abbrev pub spelled : Bytes → Actual → Given
 spelled line actual =
-    record { texts = map alone (text_of line actual); notes = noting (actual_letters actual) [] }
+    record { texts = map alone (text_of line actual); notes = noting (actual_flags actual) [] }
 
 abbrev pub begun : Name → Option Actual → Option Begun
 begun formal None = None
@@ -69,13 +69,13 @@ begun_at line place gives_digits = begun_by line gives_digits (name_at (tokens_f
 
 -- where one is, nothing is repeated
 abbrev pub missing : Bytes → ℕ → Repeated
-missing line place = record { rounds = None; notes = noting (bad_letters line place) [] }
+missing line place = record { rounds = None; notes = noting (bad_flags line place) [] }
 
 -- the rounds of some texts, with what is left over after the list
 abbrev pub with_rounds : Bytes → ℕ → Begun → Given → Repeated
 with_rounds line place begun given = record {
   rounds = Some (record { formal = begun.formal; texts = given.texts });
-  notes = joined (joined (noting (letters_before line place) []) given.notes)
+  notes = joined (joined (noting (flags_before line place) []) given.notes)
       (noting (left_over line begun.list.end) []);
 }
 
@@ -84,13 +84,13 @@ repeated line place texts None = missing line place
 repeated line place texts (Some begun) = with_rounds line place begun (texts begun.list)
 
 -- `.IRP`
-abbrev pub indefinite_repeat : Known → Bytes → ℕ → Repeated
-indefinite_repeat known line place =
+abbrev pub irp : Known → Bytes → ℕ → Repeated
+irp known line place =
     repeated line place (λ list. listed known line list) (begun_at line place true)
 
 -- `.IRPC`
-abbrev pub character_repeat : Bytes → ℕ → Repeated
-character_repeat line place = repeated line place (λ list. spelled line list) (begun_at line place false)
+abbrev pub irpc : Bytes → ℕ → Repeated
+irpc line place = repeated line place (λ list. spelled line list) (begun_at line place false)
 
 -- the rounds that the code holds
 abbrev pub repetition : Rounds → Repetition

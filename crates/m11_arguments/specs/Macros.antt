@@ -21,7 +21,7 @@ use Rattle.m11_arguments.specs.declared.macros.Listed.{Listed}
 use Rattle.m11_arguments.specs.declared.macros.Listed.TheVariants.{Last, More}
 use Rattle.m11_arguments.specs.declared.macros.MacroFormal.{MacroFormal}
 use Rattle.m11_arguments.specs.declared.macros.NameAt.{NameAt}
-use Rattle.m11_arguments.specs.LeftOvers.{bad_letters, letters_before, rest_letters, skip_letters}
+use Rattle.m11_arguments.specs.LeftOvers.{bad_flags, flags_before, rest_flags, skip_flags}
 
 -- the name that a token is, if it is one that a line can define
 abbrev pub name_in : Sort → Bytes → Option Name
@@ -38,7 +38,7 @@ abbrev pub name_at : List Lexeme → Option NameAt
 name_at [] = None
 name_at (token ∷ tokens) = name_before token.end (name_in token.sort token.text)
 
--- what stands in a list of formals: its end, with letters; or a formal, with letters and the place after it
+-- what stands in a list of formals: its end, with flags; or a formal, with flags and the place after it
 pub data NextListed : Type 0 where
   Ending : ℕ → NextListed
   Formally : MacroFormal → ℕ → ℕ → NextListed
@@ -49,35 +49,35 @@ formal_start formal = if formal.is_created then formal.name.start - 1 else forma
 
 -- a formal has I for a character that is skipped before it
 abbrev pub listed_named : Bytes → ℕ → Formal → Option Name → NextListed
-listed_named line place formal None = Ending (bad_letters line place)
+listed_named line place formal None = Ending (bad_flags line place)
 listed_named line place formal (Some name) =
-    Formally (record { name = name; is_created = formal.is_created }) (skip_letters line place (formal_start formal))
+    Formally (record { name = name; is_created = formal.is_created }) (skip_flags line place (formal_start formal))
     formal.name.end
 
 abbrev pub formal_name : Bytes → Formal → Option Name
 formal_name line formal = name_of (six_of (text_between line formal.name.start formal.name.end))
 
 abbrev pub listed_by : Bytes → ℕ → NextFormal → NextListed
-listed_by line place Ends = Ending (rest_letters line place)
-listed_by line place Bad = Ending (bad_letters line place)
+listed_by line place Ends = Ending (rest_flags line place)
+listed_by line place Bad = Ending (bad_flags line place)
 listed_by line place (Named formal) = listed_named line place formal (formal_name line formal)
 
 abbrev pub listed_at : Bytes → ℕ → NextListed
 listed_at line place = listed_by line place (next_formal line place)
 
--- formals, and the letters of their list
+-- formals, and the flags of their list
 pub record FormalList : Type 0 where
   pub list : List MacroFormal
-  pub letters : ℕ
+  pub flags : ℕ
 
 abbrev pub formals_by : (ℕ → FormalList) → NextListed → FormalList
-formals_by more (Ending letters) = record { list = []; letters = letters }
-formals_by more (Formally formal letters end) =
-    record { list = formal ∷ (more end).list; letters = bit_or letters (more end).letters }
+formals_by more (Ending flags) = record { list = []; flags = flags }
+formals_by more (Formally formal flags end) =
+    record { list = formal ∷ (more end).list; flags = bit_or flags (more end).flags }
 
 -- at most n formals after a place: blanks, a comma or both stand before each
 abbrev pub formals_within : ℕ → Bytes → ℕ → FormalList
-formals_within zero line place = record { list = []; letters = 0 }
+formals_within zero line place = record { list = []; flags = 0 }
 formals_within (suc bound) line place =
     formals_by (λ next. formals_within bound line next) (listed_at line (separator_at line place).end)
 
@@ -93,15 +93,15 @@ pub record MacroNamed : Type 0 where
 -- what a `.MACRO` says; without a name nothing is defined
 pub record MacroHeader : Type 0 where
   pub named : Option MacroNamed
-  pub letters : ℕ
+  pub flags : ℕ
 
 abbrev pub without_name : Bytes → ℕ → MacroHeader
-without_name line place = record { named = None; letters = bad_letters line place }
+without_name line place = record { named = None; flags = bad_flags line place }
 
 abbrev pub with_name : Bytes → ℕ → Name → FormalList → MacroHeader
 with_name line place name formals = record {
   named = Some (record { name = name; formals = formals.list });
-  letters = bit_or (letters_before line place) formals.letters;
+  flags = bit_or (flags_before line place) formals.flags;
 }
 
 abbrev pub header_by : Bytes → ℕ → Option NameAt → MacroHeader
@@ -122,9 +122,9 @@ header_seen None = None
 
 -- what the code finds in a list of formals
 abbrev pub listed_seen : Listed → NextListed
-listed_seen (Last letters) = Ending (bits_of letters)
-listed_seen (More found) = Formally found.formal (bits_of found.letters) found.end
+listed_seen (Last flags) = Ending (bits_of flags)
+listed_seen (More found) = Formally found.formal (bits_of found.flags) found.end
 
 abbrev pub IsWithin : ℕ → Listed → Type 0
-IsWithin size (Last letters) = Unit {0}
+IsWithin size (Last flags) = Unit {0}
 IsWithin size (More found) = found.end ≤ size

@@ -4,9 +4,9 @@ use Rattle.std.specs.Prelude.{ℕ, if◌then◌else◌, []}
 use Rattle.std.specs.Int.RustNames.{bit_or}
 use Rattle.m11_base.specs.Devices.{Bytes}
 use Rattle.m11_scan.specs.Ends.{expression_end}
-use Rattle.m11_scan.specs.Letters.{letter_A}
+use Rattle.m11_scan.specs.ErrorFlags.{flag_A}
 use Rattle.m11_arguments.specs.Conditions.{is_negative}
-use Rattle.m11_arguments.specs.Expressions.{Known, has_expression, number_at, number_letters, symbols_at}
+use Rattle.m11_arguments.specs.Expressions.{Known, has_expression, number_at, number_flags, symbols_at}
 use Rattle.m11_arguments.specs.LeftOvers.{left_over}
 use Rattle.m11_arguments.specs.Notes.{Notes, noting}
 
@@ -14,12 +14,12 @@ use Rattle.m11_arguments.specs.Notes.{Notes, noting}
 abbrev pub rounds_of : ℕ → ℕ
 rounds_of number = if is_negative number then 0 else number
 
-abbrev pub repeat_count : Known → Bytes → ℕ → ℕ
-repeat_count known line place =
+abbrev pub rept_count : Known → Bytes → ℕ → ℕ
+rept_count known line place =
     if has_expression line place then rounds_of (number_at known line place) else 0
 
 abbrev pub notes : Known → Bytes → ℕ → Notes
 notes known line place =
     if has_expression line place then
-    noting (bit_or (number_letters known line place) (left_over line (expression_end line place))) (symbols_at line place)
-    else noting (bit_or letter_A (left_over line place)) []
+    noting (bit_or (number_flags known line place) (left_over line (expression_end line place))) (symbols_at line place)
+    else noting (bit_or flag_A (left_over line place)) []

@@ -9,11 +9,11 @@ ghost use Rattle.m11_arguments.specs.Actuals.{texts_of};
 ghost use Rattle.m11_arguments.specs.Expressions.{known_by};
 ghost use Rattle.m11_arguments.specs.Notes.{joined};
 
-use crate::conditions::actual_letters;
+use crate::conditions::actual_flags;
 use crate::digits::digits_of;
 use crate::expressions::number_at;
 use crate::notes::Notes;
-use m11_scan::{Letters, Line};
+use m11_scan::{ErrorFlags, Line};
 use m11_statements::{Actual, ActualKind, next_actual, separator_at};
 use m11_values::Names;
 use std::alloc::{AllocError, Global};
@@ -46,7 +46,7 @@ pub fn actuals_from<N: Names>(
         begin = usize::from(separator_at(line, usize::from(actual.end)).end);
         left -= 1;
     }
-    notes.add_letters(Letters::Q.when(has_actual(line, begin)));
+    notes.add_flags(ErrorFlags::Q.when(has_actual(line, begin)));
     Ok(texts)
 }
 
@@ -92,7 +92,7 @@ fn characters(
     ensures notes { IfOk result (λ _. notes.new
         ≡ joined notes.old (spec.characters line.now.text actual.now).notes) }
 {
-    notes.add_letters(actual_letters(actual));
+    notes.add_flags(actual_flags(actual));
     actual.inside.text(line).to_vec(alloc)
 }
 
@@ -111,6 +111,6 @@ fn numeral<N: Names>(
         (known_by (N.base names.now) (N.stands_for names.now)) line.now.text place).notes) }
 {
     let number = number_at(line, place, names, notes)?;
-    notes.add_letters(number.letters);
+    notes.add_flags(number.flags);
     digits_of(alloc, names.radix().base(), number.value)
 }

@@ -10,11 +10,13 @@ ghost use Rattle.m11_arguments.specs.Expressions.{known_by};
 ghost use Rattle.m11_arguments.specs.Notes.{joined, with_symbols};
 
 use crate::definedness::{is_as, names_at};
+use crate::expression_ends::begins_expression;
 use crate::expressions::number_from;
-use crate::extents::begins_expression;
-use crate::left_overs::{place_in, rest_letters, skip_letters};
+use crate::left_overs::{place_in, rest_flags, skip_flags};
 use crate::notes::Notes;
-use m11_scan::{Condition, Letters, Line, Sort, Token, blanks_length, next_token, read_condition};
+use m11_scan::{
+    Condition, ErrorFlags, Line, Sort, Token, blanks_length, next_token, read_condition,
+};
 use m11_statements::{Actual, next_actual, separator_at};
 use m11_values::Names;
 use std::alloc::AllocError;
@@ -33,11 +35,11 @@ pub struct Verdict {
 pub struct Finding {
     pub(crate) holds: bool,
     pub(crate) end: u8,
-    pub(crate) letters: Letters,
+    pub(crate) flags: ErrorFlags,
 }
 
 /// The condition whose name stands next in a line from a place on, under names. An unknown one, a bad name in DF and NDF, and a
-/// missing argument have A, and don't hold. The letters and the symbols of its arguments are noted. Error: memory may be refused.
+/// missing argument have A, and don't hold. The flags and the symbols of its arguments are noted. Error: memory may be refused.
 pub fn condition<N: Names>(
     line: &Line,
     place: usize,
@@ -52,7 +54,7 @@ pub fn condition<N: Names>(
     ensures most { IfOk result (λ verdict. verdict.end ≤ length line.now.text) }
 {
     let finding = named_at(line, place, names, notes)?;
-    notes.add_letters(finding.letters);
+    notes.add_flags(finding.flags);
     Ok(Verdict {
         holds: finding.holds,
         end: finding.end,
@@ -75,17 +77,17 @@ fn named_at<N: Names>(
 {
     match next_token(line, place) {
         Some(name) => {
-            let before = skip_letters(line, place, usize::from(name.start));
+            let before = skip_flags(line, place, usize::from(name.start));
             let finding = asked_by(line, name, names, notes)?;
             Ok(Finding {
-                letters: before.with(finding.letters),
+                flags: before.with(finding.flags),
                 ..finding
             })
         }
         None => {
             let end = place_in(line, line.text().len());
             Ok(Finding {
-                letters: rest_letters(line, place).with(Letters::A),
+                flags: rest_flags(line, place).with(ErrorFlags::A),
                 ..refused(end)
             })
         }
@@ -156,7 +158,7 @@ fn refused(end: u8) -> Finding
     Finding {
         holds: false,
         end,
-        letters: Letters::A,
+        flags: ErrorFlags::A,
     }
 }
 
@@ -182,7 +184,7 @@ fn numeric<N: Names>(
             Ok(Finding {
                 holds: passes(condition, number.value),
                 end: number.end,
-                letters: number.letters,
+                flags: number.flags,
             })
         }
         _ => Ok(refused(place_in(line, place))),
@@ -227,17 +229,17 @@ fn defined<N: Names>(
     ensures most { IfOk result (λ finding. finding.end ≤ length line.now.text) }
 {
     let tested = names_at(line, place, wants_defined, names, notes)?;
-    let skipped = skip_letters(line, place, usize::from(tested.end));
+    let skipped = skip_flags(line, place, usize::from(tested.end));
     match tested.verdict {
         Some(verdict) => Ok(Finding {
             holds: verdict,
             end: tested.end,
-            letters: skipped,
+            flags: skipped,
         }),
         None => Ok(Finding {
             holds: false,
             end: tested.end,
-            letters: Letters::A.with(skipped),
+            flags: ErrorFlags::A.with(skipped),
         }),
     }
 }
@@ -252,12 +254,12 @@ fn blank(line: &Line, place: usize, wants_blank: bool) -> Finding
         Some(actual) => Finding {
             holds: is_as(wants_blank, is_blank_text(actual.inside.text(line))),
             end: actual.end,
-            letters: actual_letters(&actual),
+            flags: actual_flags(&actual),
         },
         None => Finding {
             holds: wants_blank,
             end: place_in(line, place),
-            letters: Letters::none(),
+            flags: ErrorFlags::none(),
         },
     }
 }
@@ -269,10 +271,10 @@ fn is_blank_text(text: &[u8]) -> bool
 }
 
 /// A for an argument without its `>`.
-pub fn actual_letters(actual: &Actual) -> Letters
-    ensures { bits_of result ≡ spec.actual_letters actual.now }
+pub fn actual_flags(actual: &Actual) -> ErrorFlags
+    ensures { bits_of result ≡ spec.actual_flags actual.now }
 {
-    Letters::A.when(!actual.is_closed)
+    ErrorFlags::A.when(!actual.is_closed)
 }
 
 // IDN DIF.
@@ -296,17 +298,17 @@ fn second_at(line: &Line, wants_same: bool, first: Actual) -> Finding
 {
     let separator = separator_at(line, usize::from(first.end));
     let text = first.inside.text(line);
-    let letters = actual_letters(&first);
+    let flags = actual_flags(&first);
     match next_actual(line, usize::from(separator.end), false) {
         Some(second) => Finding {
             holds: is_as(wants_same, text == second.inside.text(line)),
             end: second.end,
-            letters: letters.with(actual_letters(&second)),
+            flags: flags.with(actual_flags(&second)),
         },
         None if separator.has_comma => Finding {
             holds: is_as(wants_same, text.is_empty()),
             end: separator.end,
-            letters,
+            flags,
         },
         None => refused(separator.end),
     }

@@ -10,7 +10,7 @@ ghost use Rattle.m11_arguments.specs.Notes.{with_symbols};
 
 use crate::notes::Notes;
 use bitflags::Flags;
-use m11_scan::{Letters, Line, Sort, Token, next_token};
+use m11_scan::{ErrorFlags, Line, Sort, Token, next_token};
 use m11_values::{Names, Symbol, Value, next_symbol};
 use std::alloc::AllocError;
 
@@ -159,7 +159,7 @@ pub(crate) fn is_as(wanted: bool, found: bool) -> bool
 fn is_defined(meaning: Value) -> bool
     ensures { result ≡ spec.is_defined (quantity meaning) }
 {
-    meaning.letters.bits() & Letters::U.bits() == 0
+    meaning.flags.bits() & ErrorFlags::U.bits() == 0
 }
 
 // A verdict joined to what stands before it, if something does.

@@ -15,33 +15,33 @@ pub enum Directive {
     /// `.IF`
     If,
     /// `.IFF`
-    IfFalse,
+    Iff,
     /// `.IFT`
-    IfTrue,
+    Ift,
     /// `.IFTF`
-    IfTrueFalse,
+    Iftf,
     /// `.ENDC`
-    EndCondition,
+    Endc,
     /// `.IIF`
-    ImmediateIf,
+    Iif,
     /// `.MACRO`
     Macro,
     /// `.ENDM`
-    EndMacro,
+    Endm,
     /// `.REPT`
-    Repeat,
+    Rept,
     /// `.ENDR`
-    EndRepeat,
+    Endr,
     /// `.IRP`
-    IndefiniteRepeat,
+    Irp,
     /// `.IRPC`
-    CharacterRepeat,
+    Irpc,
     /// `.MEXIT`
-    MacroExit,
+    Mexit,
     /// `.NARG`
-    ArgumentCount,
+    Narg,
     /// `.NCHR`
-    CharacterCount,
+    Nchr,
     /// `.END`
     End,
 }
@@ -65,32 +65,32 @@ macro_rules! row {
 // The directives by the second characters of their names, since the first is the same in all.
 const WITH_I: [DirectiveRow; 7] = [
     row!(b".IF   ", Directive::If),
-    row!(b".IFF  ", Directive::IfFalse),
-    row!(b".IFT  ", Directive::IfTrue),
-    row!(b".IFTF ", Directive::IfTrueFalse),
-    row!(b".IIF  ", Directive::ImmediateIf),
-    row!(b".IRP  ", Directive::IndefiniteRepeat),
-    row!(b".IRPC ", Directive::CharacterRepeat),
+    row!(b".IFF  ", Directive::Iff),
+    row!(b".IFT  ", Directive::Ift),
+    row!(b".IFTF ", Directive::Iftf),
+    row!(b".IIF  ", Directive::Iif),
+    row!(b".IRP  ", Directive::Irp),
+    row!(b".IRPC ", Directive::Irpc),
 ];
 
 const WITH_E: [DirectiveRow; 4] = [
-    row!(b".ENDC ", Directive::EndCondition),
-    row!(b".ENDM ", Directive::EndMacro),
-    row!(b".ENDR ", Directive::EndRepeat),
+    row!(b".ENDC ", Directive::Endc),
+    row!(b".ENDM ", Directive::Endm),
+    row!(b".ENDR ", Directive::Endr),
     row!(b".END  ", Directive::End),
 ];
 
 const WITH_M: [DirectiveRow; 2] = [
     row!(b".MACRO", Directive::Macro),
-    row!(b".MEXIT", Directive::MacroExit),
+    row!(b".MEXIT", Directive::Mexit),
 ];
 
 const WITH_N: [DirectiveRow; 2] = [
-    row!(b".NARG ", Directive::ArgumentCount),
-    row!(b".NCHR ", Directive::CharacterCount),
+    row!(b".NARG ", Directive::Narg),
+    row!(b".NCHR ", Directive::Nchr),
 ];
 
-const WITH_R: [DirectiveRow; 1] = [row!(b".REPT ", Directive::Repeat)];
+const WITH_R: [DirectiveRow; 1] = [row!(b".REPT ", Directive::Rept)];
 
 /// The directive of a name, in either case; its first six characters count.
 // Inline: each operator comes here, and most are none of these.
@@ -152,7 +152,7 @@ pub fn operator_in(body: Body) -> Option<Span>
     ensures within { IfSome result (λ name. (size : ℕ) → end_of body size ≡ name.end) }
 {
     match body {
-        Body::Operates(name) => Some(name),
+        Body::Operate(name) => Some(name),
         _ => None,
     }
 }

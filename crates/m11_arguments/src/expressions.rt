@@ -8,10 +8,10 @@ ghost use Rattle.m11_arguments.specs.Expressions as spec;
 ghost use Rattle.m11_arguments.specs.Expressions.{IsAlone, IsNext, known_by};
 ghost use Rattle.m11_arguments.specs.Notes.{with_symbols};
 
-use crate::extents::{LoneTerm, lone_at, lone_from, lone_term};
-use crate::left_overs::{place_in, skip_letters};
+use crate::expression_ends::{SingleTerm, single_at, single_from, single_term};
+use crate::left_overs::{place_in, skip_flags};
 use crate::notes::Notes;
-use m11_scan::{Letters, Line, Token, expression_at};
+use m11_scan::{ErrorFlags, Line, Token, expression_at};
 use m11_values::{Names, Value, expression_value, term_value};
 use std::alloc::AllocError;
 
@@ -20,8 +20,8 @@ use std::alloc::AllocError;
 pub(crate) struct Number {
     // Its number, whatever its kind.
     pub value: u16,
-    // Its letters, that of a kind which isn't absolute, and I for a skipped character in it.
-    pub letters: Letters,
+    // Its flags, that of a kind which isn't absolute, and I for a skipped character in it.
+    pub flags: ErrorFlags,
     // The place after it.
     pub end: u8,
 }
@@ -36,14 +36,14 @@ pub(crate) fn number_at<N: Names>(
     requires { place ≤ length line.now.text }
     ensures value { IfOk result (λ number. number.value
         ≡ spec.number_at (known_by (N.base names.now) (N.stands_for names.now)) line.now.text place) }
-    ensures letters { IfOk result (λ number. bits_of number.letters
-        ≡ spec.number_letters (known_by (N.base names.now) (N.stands_for names.now)) line.now.text place) }
+    ensures flags { IfOk result (λ number. bits_of number.flags
+        ≡ spec.number_flags (known_by (N.base names.now) (N.stands_for names.now)) line.now.text place) }
     ensures end { IfOk result (λ number. number.end ≡ expression_end line.now.text place) }
     ensures least { IfOk result (λ number. place ≤ number.end) }
     ensures most { IfOk result (λ number. number.end ≤ length line.now.text) }
     ensures notes { IfOk result (λ _. notes.new ≡ with_symbols notes.old (spec.symbols_at line.now.text place)) }
 {
-    number_by(line, place, lone_at(line, place), names, notes)
+    number_by(line, place, single_at(line, place), names, notes)
 }
 
 // The same, with the token that stands next from that place on. Inline: a call would hand tokens on by memory.
@@ -60,14 +60,14 @@ pub(crate) fn number_from<N: Names>(
     requires within { token.end ≤ length line.now.text }
     ensures value { IfOk result (λ number. number.value
         ≡ spec.number_at (known_by (N.base names.now) (N.stands_for names.now)) line.now.text place) }
-    ensures letters { IfOk result (λ number. bits_of number.letters
-        ≡ spec.number_letters (known_by (N.base names.now) (N.stands_for names.now)) line.now.text place) }
+    ensures flags { IfOk result (λ number. bits_of number.flags
+        ≡ spec.number_flags (known_by (N.base names.now) (N.stands_for names.now)) line.now.text place) }
     ensures end { IfOk result (λ number. number.end ≡ expression_end line.now.text place) }
     ensures least { IfOk result (λ number. place ≤ number.end) }
     ensures most { IfOk result (λ number. number.end ≤ length line.now.text) }
     ensures notes { IfOk result (λ _. notes.new ≡ with_symbols notes.old (spec.symbols_at line.now.text place)) }
 {
-    number_by(line, place, lone_from(line, place, token), names, notes)
+    number_by(line, place, single_from(line, place, token), names, notes)
 }
 
 // The same, with its one term, where it is one. Inline for the same reason.
@@ -75,33 +75,33 @@ pub(crate) fn number_from<N: Names>(
 fn number_by<N: Names>(
     line: &Line,
     place: usize,
-    lone: Option<LoneTerm>,
+    single: Option<SingleTerm>,
     names: &N,
     notes: &mut Notes,
 ) -> Result<Number, AllocError>
     requires within { place ≤ length line.now.text }
-    requires alone { IfSome lone (λ lone. IsAlone line.now.text place lone.term) }
-    requires end { IfSome lone (λ lone. lone.term.end ≡ expression_end line.now.text place) }
-    requires least { IfSome lone (λ lone. place ≤ lone.term.end) }
-    requires most { IfSome lone (λ lone. lone.term.end ≤ length line.now.text) }
+    requires alone { IfSome single (λ single. IsAlone line.now.text place single.term) }
+    requires end { IfSome single (λ single. single.term.end ≡ expression_end line.now.text place) }
+    requires least { IfSome single (λ single. place ≤ single.term.end) }
+    requires most { IfSome single (λ single. single.term.end ≤ length line.now.text) }
     ensures value { IfOk result (λ number. number.value
         ≡ spec.number_at (known_by (N.base names.now) (N.stands_for names.now)) line.now.text place) }
-    ensures letters { IfOk result (λ number. bits_of number.letters
-        ≡ spec.number_letters (known_by (N.base names.now) (N.stands_for names.now)) line.now.text place) }
+    ensures flags { IfOk result (λ number. bits_of number.flags
+        ≡ spec.number_flags (known_by (N.base names.now) (N.stands_for names.now)) line.now.text place) }
     ensures end { IfOk result (λ number. number.end ≡ expression_end line.now.text place) }
     ensures least { IfOk result (λ number. place ≤ number.end) }
     ensures most { IfOk result (λ number. number.end ≤ length line.now.text) }
     ensures notes { IfOk result (λ _. notes.new ≡ with_symbols notes.old (spec.symbols_at line.now.text place)) }
 {
-    let read = read_expression(line, place, lone, names, notes)?;
+    let read = read_expression(line, place, single, names, notes)?;
     let value = read.value;
-    let letters = value
-        .letters
+    let flags = value
+        .flags
         .with(value.kind.absence())
-        .with(skip_letters(line, place, usize::from(read.end)));
+        .with(skip_flags(line, place, usize::from(read.end)));
     Ok(Number {
         value: value.number,
-        letters,
+        flags,
         end: read.end,
     })
 }
@@ -118,15 +118,15 @@ pub(crate) struct Reading {
 fn read_expression<N: Names>(
     line: &Line,
     place: usize,
-    lone: Option<LoneTerm>,
+    single: Option<SingleTerm>,
     names: &N,
     notes: &mut Notes,
 ) -> Result<Reading, AllocError>
     requires within { place ≤ length line.now.text }
-    requires alone { IfSome lone (λ lone. IsAlone line.now.text place lone.term) }
-    requires end { IfSome lone (λ lone. lone.term.end ≡ expression_end line.now.text place) }
-    requires least { IfSome lone (λ lone. place ≤ lone.term.end) }
-    requires most { IfSome lone (λ lone. lone.term.end ≤ length line.now.text) }
+    requires alone { IfSome single (λ single. IsAlone line.now.text place single.term) }
+    requires end { IfSome single (λ single. single.term.end ≡ expression_end line.now.text place) }
+    requires least { IfSome single (λ single. place ≤ single.term.end) }
+    requires most { IfSome single (λ single. single.term.end ≤ length line.now.text) }
     ensures value { IfOk result (λ read. quantity read.value
         ≡ spec.value_at (known_by (N.base names.now) (N.stands_for names.now)) line.now.text place) }
     ensures end { IfOk result (λ read. read.end ≡ expression_end line.now.text place) }
@@ -134,12 +134,12 @@ fn read_expression<N: Names>(
     ensures most { IfOk result (λ read. read.end ≤ length line.now.text) }
     ensures notes { IfOk result (λ _. notes.new ≡ with_symbols notes.old (spec.symbols_at line.now.text place)) }
 {
-    match lone {
-        Some(lone) => {
-            notes.add_symbols(&[lone.term], line)?;
+    match single {
+        Some(single) => {
+            notes.add_symbols(&[single.term], line)?;
             Ok(Reading {
-                value: term_value(&lone.term, line, names),
-                end: lone.term.end,
+                value: term_value(&single.term, line, names),
+                end: single.term.end,
             })
         }
         None => read_tokens(line, place, names, notes),
@@ -179,7 +179,7 @@ pub fn value_at<N: Names>(line: &Line, place: usize, names: &N) -> Value
     ensures { quantity result
         ≡ spec.value_at (known_by (N.base names.now) (N.stands_for names.now)) line.now.text place }
 {
-    value_by(line, place, lone_term(line, place), names)
+    value_by(line, place, single_term(line, place), names)
 }
 
 /// The same, with its one token where it is found to be one term.
@@ -206,13 +206,13 @@ fn long_value<N: Names>(line: &Line, place: usize, names: &N) -> Value
 }
 
 /// Notes the symbols that the expression at a place reads, in order. Error: memory may be refused.
-// Inline as `lone_term` is, which is most of it.
+// Inline as `single_term` is, which is most of it.
 #[inline(always)]
 pub fn note_symbols(line: &Line, place: usize, notes: &mut Notes) -> Result<(), AllocError>
     requires { place ≤ length line.now.text }
     ensures { IfOk result (λ _. notes.new ≡ with_symbols notes.old (spec.symbols_at line.now.text place)) }
 {
-    match lone_term(line, place) {
+    match single_term(line, place) {
         Some(term) => notes.add_symbols(&[term], line),
         None => note_all(line, place, notes),
     }

@@ -9,9 +9,9 @@ ghost use Rattle.m11_arguments.specs.Immediate as spec;
 ghost use Rattle.m11_arguments.specs.Notes.{joined};
 
 use crate::conditions::condition;
-use crate::left_overs::{left_over, skip_letters};
+use crate::left_overs::{left_over, skip_flags};
 use crate::notes::Notes;
-use m11_scan::{Letters, Line, Sort, next_token};
+use m11_scan::{ErrorFlags, Line, Sort, next_token};
 use m11_values::Names;
 use std::alloc::AllocError;
 
@@ -26,7 +26,7 @@ pub struct Immediate {
 
 /// The condition, the comma and the statement that stand in a line from a place on. Without the comma the line has A, and Q and I
 /// for what is left over. Error: memory may be refused.
-pub fn immediate_condition<N: Names>(
+pub fn iif<N: Names>(
     line: &Line,
     place: usize,
     names: &N,
@@ -42,7 +42,7 @@ pub fn immediate_condition<N: Names>(
     let verdict = condition(line, place, names, notes)?;
     let end = usize::from(verdict.end);
     let statement = after_comma(line, end);
-    notes.add_letters(comma_letters(line, end, statement));
+    notes.add_flags(comma_flags(line, end, statement));
     Ok(Immediate {
         holds: verdict.holds,
         statement,
@@ -69,12 +69,12 @@ fn is_comma(sort: Sort) -> bool
 }
 
 // I for a skipped character before the comma; without it A, and what is left over.
-fn comma_letters(line: &Line, place: usize, statement: Option<u8>) -> Letters
+fn comma_flags(line: &Line, place: usize, statement: Option<u8>) -> ErrorFlags
     requires { place ≤ length line.now.text }
-    ensures { bits_of result ≡ spec.comma_letters line.now.text place statement }
+    ensures { bits_of result ≡ spec.comma_flags line.now.text place statement }
 {
     match statement {
-        Some(end) => skip_letters(line, place, usize::from(end)),
-        None => Letters::A.with(left_over(line, place)),
+        Some(end) => skip_flags(line, place, usize::from(end)),
+        None => ErrorFlags::A.with(left_over(line, place)),
     }
 }

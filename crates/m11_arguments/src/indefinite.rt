@@ -9,8 +9,8 @@ ghost use Rattle.m11_arguments.specs.Indefinite.{rounds_seen};
 ghost use Rattle.m11_arguments.specs.Notes.{joined};
 
 use crate::actuals::{actuals_from, text_of};
-use crate::conditions::actual_letters;
-use crate::left_overs::{bad_letters, left_over, letters_before};
+use crate::conditions::actual_flags;
+use crate::left_overs::{bad_flags, flags_before, left_over};
 use crate::macros::name_at;
 use crate::notes::Notes;
 use m11_base::Name;
@@ -37,7 +37,7 @@ pub struct Begun {
 
 /// The formal and the list of an `.IRP` that stand in a line from a place on: in brackets a list of actuals, else one actual. Where
 /// either is bad or missing the line has A, and nothing is repeated nor read. What is left over has Q and I. Error: memory may be refused.
-pub fn indefinite_repeat<N: Names>(
+pub fn irp<N: Names>(
     alloc: Global,
     line: &Line,
     place: usize,
@@ -45,18 +45,18 @@ pub fn indefinite_repeat<N: Names>(
     notes: &mut Notes,
 ) -> Result<Option<Rounds>, AllocError>
     requires { place ≤ length line.now.text }
-    ensures rounds { IfOk result (λ rounds. rounds_seen rounds ≡ (spec.indefinite_repeat
+    ensures rounds { IfOk result (λ rounds. rounds_seen rounds ≡ (spec.irp
         (known_by (N.base names.now) (N.stands_for names.now)) line.now.text place).rounds) }
-    ensures notes { IfOk result (λ _. notes.new ≡ joined notes.old (spec.indefinite_repeat
+    ensures notes { IfOk result (λ _. notes.new ≡ joined notes.old (spec.irp
         (known_by (N.base names.now) (N.stands_for names.now)) line.now.text place).notes) }
 {
     let Some(begun) = begun_at(line, place, true) else {
-        notes.add_letters(bad_letters(line, place));
+        notes.add_flags(bad_flags(line, place));
         return Ok(None);
     };
-    notes.add_letters(letters_before(line, place));
+    notes.add_flags(flags_before(line, place));
     let texts = listed(alloc, line, &begun.list, names, notes)?;
-    notes.add_letters(left_over(line, usize::from(begun.list.end)));
+    notes.add_flags(left_over(line, usize::from(begun.list.end)));
     Ok(Some(Rounds {
         formal: begun.formal,
         texts,
@@ -65,7 +65,7 @@ pub fn indefinite_repeat<N: Names>(
 
 /// The formal and the text of an `.IRPC` that stand in a line from a place on: each character of the text is the actual of a round.
 /// Where either is bad or missing the line has A, and nothing is repeated nor read. What is left over has Q and I. Error: memory may be refused.
-pub fn character_repeat(
+pub fn irpc(
     alloc: Global,
     line: &Line,
     place: usize,
@@ -73,17 +73,17 @@ pub fn character_repeat(
 ) -> Result<Option<Rounds>, AllocError>
     requires { place ≤ length line.now.text }
     ensures rounds { IfOk result (λ rounds. rounds_seen rounds
-        ≡ (spec.character_repeat line.now.text place).rounds) }
+        ≡ (spec.irpc line.now.text place).rounds) }
     ensures notes { IfOk result (λ _. notes.new
-        ≡ joined notes.old (spec.character_repeat line.now.text place).notes) }
+        ≡ joined notes.old (spec.irpc line.now.text place).notes) }
 {
     let Some(begun) = begun_at(line, place, false) else {
-        notes.add_letters(bad_letters(line, place));
+        notes.add_flags(bad_flags(line, place));
         return Ok(None);
     };
-    notes.add_letters(letters_before(line, place));
+    notes.add_flags(flags_before(line, place));
     let texts = spelled(alloc, line, &begun.list, notes)?;
-    notes.add_letters(left_over(line, usize::from(begun.list.end)));
+    notes.add_flags(left_over(line, usize::from(begun.list.end)));
     Ok(Some(Rounds {
         formal: begun.formal,
         texts,
@@ -143,7 +143,7 @@ fn listed_in<N: Names>(
     ensures notes { IfOk result (λ _. notes.new ≡ joined notes.old (spec.listed_in
         (known_by (N.base names.now) (N.stands_for names.now)) line.now.text list.now).notes) }
 {
-    notes.add_letters(actual_letters(list));
+    notes.add_flags(actual_flags(list));
     let inner = line_of(line, list);
     actuals_from(alloc, &inner, 0, LINE_LIMIT, names, notes)
 }
@@ -167,7 +167,7 @@ fn spelled(
     ensures texts { IfOk result (λ texts. texts_of texts.items ≡ (spec.spelled line.now.text list.now).texts) }
     ensures notes { IfOk result (λ _. notes.new ≡ joined notes.old (spec.spelled line.now.text list.now).notes) }
 {
-    notes.add_letters(actual_letters(list));
+    notes.add_flags(actual_flags(list));
     characters_of(alloc, list.inside.text(line))
 }
 

@@ -5,16 +5,16 @@ ghost use Rattle.m11_scan.specs.Cutting.{tokens_from};
 ghost use Rattle.m11_scan.specs.Views.{bits_of};
 ghost use Rattle.m11_arguments.specs.LeftOvers as spec;
 
-use m11_scan::{Letters, Line, next_token, skipped_between};
+use m11_scan::{ErrorFlags, Line, next_token, skipped_between};
 
-/// The letters of what stands in a line from a place on, where nothing more is wanted: Q for a token, I for a skipped character.
-pub fn left_over(line: &Line, place: usize) -> Letters
+/// The flags of what stands in a line from a place on, where nothing more is wanted: Q for a token, I for a skipped character.
+pub fn left_over(line: &Line, place: usize) -> ErrorFlags
     requires { place ≤ length line.now.text }
     ensures { bits_of result ≡ spec.left_over line.now.text place }
 {
-    Letters::Q
+    ErrorFlags::Q
         .when(has_token(line, place))
-        .with(rest_letters(line, place))
+        .with(rest_flags(line, place))
 }
 
 /// Whether a token stands in a line from a place on.
@@ -29,41 +29,41 @@ pub fn has_token(line: &Line, place: usize) -> bool
 }
 
 /// I for a skipped character from a place on.
-pub fn rest_letters(line: &Line, place: usize) -> Letters
+pub fn rest_flags(line: &Line, place: usize) -> ErrorFlags
     requires { place ≤ length line.now.text }
-    ensures { bits_of result ≡ spec.rest_letters line.now.text place }
+    ensures { bits_of result ≡ spec.rest_flags line.now.text place }
 {
-    skip_letters(line, place, line.text().len())
+    skip_flags(line, place, line.text().len())
 }
 
 /// A for an argument that is bad or missing at a place of a line. Nothing more is read there: I for a skipped character in all of
 /// the rest.
-pub fn bad_letters(line: &Line, place: usize) -> Letters
+pub fn bad_flags(line: &Line, place: usize) -> ErrorFlags
     requires { place ≤ length line.now.text }
-    ensures { bits_of result ≡ spec.bad_letters line.now.text place }
+    ensures { bits_of result ≡ spec.bad_flags line.now.text place }
 {
-    Letters::A.with(rest_letters(line, place))
+    ErrorFlags::A.with(rest_flags(line, place))
 }
 
 /// I for a skipped character before the token that stands next from a place on, or before the line's end.
-pub fn letters_before(line: &Line, place: usize) -> Letters
+pub fn flags_before(line: &Line, place: usize) -> ErrorFlags
     requires { place ≤ length line.now.text }
-    ensures { bits_of result ≡ spec.letters_before line.now.text place }
+    ensures { bits_of result ≡ spec.flags_before line.now.text place }
 {
     match next_token(line, place) {
-        Some(token) => skip_letters(line, place, usize::from(token.start)),
-        None => rest_letters(line, place),
+        Some(token) => skip_flags(line, place, usize::from(token.start)),
+        None => rest_flags(line, place),
     }
 }
 
 /// I for a skipped character between two places, if both are in the line and in this order.
-pub fn skip_letters(line: &Line, start: usize, end: usize) -> Letters
-    ensures { bits_of result ≡ spec.skip_letters line.now.text start end }
+pub fn skip_flags(line: &Line, start: usize, end: usize) -> ErrorFlags
+    ensures { bits_of result ≡ spec.skip_flags line.now.text start end }
 {
     if start <= end && end <= line.text().len() {
-        Letters::I.when(skipped_between(line, start, end))
+        ErrorFlags::I.when(skipped_between(line, start, end))
     } else {
-        Letters::none()
+        ErrorFlags::none()
     }
 }
 

@@ -8,8 +8,8 @@ mod conditions;
 mod definedness;
 mod digits;
 mod directives;
+mod expression_ends;
 mod expressions;
-mod extents;
 mod filling;
 mod immediate;
 mod indefinite;
@@ -20,17 +20,19 @@ mod notes;
 mod repeats;
 
 pub use actuals::actuals_from;
-pub use conditions::{Verdict, actual_letters, condition};
+pub use conditions::{Verdict, actual_flags, condition};
 pub use directives::{Directive, directive_named, directive_of, operator, operator_in};
+pub use expression_ends::{
+    ExpressionEnd, expression_end_at, expression_end_from, has_expression, single_term,
+};
 pub use expressions::{note_symbols, value_at, value_by};
-pub use extents::{Extent, extent_at, extent_from, has_expression, lone_term};
 pub use filling::{FIRST_CREATED, Filled, fill};
-pub use immediate::{Immediate, after_comma, immediate_condition};
-pub use indefinite::{Rounds, character_repeat, indefinite_repeat};
+pub use immediate::{Immediate, after_comma, iif};
+pub use indefinite::{Rounds, irp, irpc};
 pub use laws::created_symbols_differ;
 pub use left_overs::{
-    bad_letters, has_token, left_over, letters_before, place_in, rest_letters, skip_letters,
+    bad_flags, flags_before, has_token, left_over, place_in, rest_flags, skip_flags,
 };
 pub use macros::{Header, MacroFormal, NameAt, header_at, name_at};
 pub use notes::Notes;
-pub use repeats::repeat_count;
+pub use repeats::rept_count;

@@ -9,10 +9,10 @@ ghost use Rattle.m11_arguments.specs.Macros as spec;
 ghost use Rattle.m11_arguments.specs.Macros.{header_seen, listed_seen};
 ghost use Rattle.m11_arguments.specs.Notes.{joined, noting};
 
-use crate::left_overs::{bad_letters, letters_before, rest_letters, skip_letters};
+use crate::left_overs::{bad_flags, flags_before, rest_flags, skip_flags};
 use crate::notes::Notes;
 use m11_base::Name;
-use m11_scan::{LINE_LIMIT, Letters, Line, Sort, next_token, read_name};
+use m11_scan::{ErrorFlags, LINE_LIMIT, Line, Sort, next_token, read_name};
 use m11_statements::{Formal, NextFormal, next_formal, separator_at};
 use std::alloc::{AllocError, Global};
 
@@ -45,14 +45,14 @@ pub fn header_at(
     requires { place ≤ length line.now.text }
     ensures header { IfOk result (λ header. header_seen header ≡ (spec.header line.now.text place).named) }
     ensures notes { IfOk result (λ _. notes.new
-        ≡ joined notes.old (noting (spec.header line.now.text place).letters [])) }
+        ≡ joined notes.old (noting (spec.header line.now.text place).flags [])) }
 {
     let Some(name) = name_at(line, place) else {
-        notes.add_letters(bad_letters(line, place));
+        notes.add_flags(bad_flags(line, place));
         return Ok(None);
     };
     let formals = formals_within(alloc, line, usize::from(name.end), LINE_LIMIT)?;
-    notes.add_letters(letters_before(line, place).with(formals.letters));
+    notes.add_flags(flags_before(line, place).with(formals.flags));
     Ok(Some(Header {
         name: name.name,
         formals: formals.list,
@@ -98,11 +98,11 @@ fn is_counter(text: &[u8]) -> bool
     matches!(text, [b'.'])
 }
 
-// A list of formals, and its letters.
+// A list of formals, and its flags.
 #[derive(Drop)]
 struct Formals {
     list: Vec<MacroFormal>,
-    letters: Letters,
+    flags: ErrorFlags,
 }
 
 // At most `bound` formals after a place.
@@ -115,11 +115,11 @@ fn formals_within(
     requires { place ≤ length line.now.text }
     ensures list { IfOk result (λ formals. formals.list.items
         ≡ (spec.formals_within bound line.now.text place).list) }
-    ensures letters { IfOk result (λ formals. bits_of formals.letters
-        ≡ (spec.formals_within bound line.now.text place).letters) }
+    ensures flags { IfOk result (λ formals. bits_of formals.flags
+        ≡ (spec.formals_within bound line.now.text place).flags) }
 {
     let mut list = Vec::new(alloc);
-    let mut letters = Letters::none();
+    let mut flags = ErrorFlags::none();
     let mut end = place;
     let mut left = bound;
     'formals: while left > 0 {
@@ -127,34 +127,34 @@ fn formals_within(
         match listed_at(line, begin) {
             Listed::More(next) => {
                 list.push(next.formal)?;
-                letters = letters.with(next.letters);
+                flags = flags.with(next.flags);
                 end = usize::from(next.end);
             }
             Listed::Last(last) => {
                 return Ok(Formals {
                     list,
-                    letters: letters.with(last),
+                    flags: flags.with(last),
                 });
             }
         }
         left -= 1;
     }
-    Ok(Formals { list, letters })
+    Ok(Formals { list, flags })
 }
 
-// A formal, its letters, and the place after it.
+// A formal, its flags, and the place after it.
 #[derive(Clone, Copy, PartialEq, Eq, Debug)]
 pub struct FormalAt {
     pub(crate) formal: MacroFormal,
-    pub(crate) letters: Letters,
+    pub(crate) flags: ErrorFlags,
     pub(crate) end: u8,
 }
 
 // What stands in a list of formals.
 #[derive(Clone, Copy, PartialEq, Eq, Debug)]
 pub enum Listed {
-    // Its end, with the letters of what stands from there on.
-    Last(Letters),
+    // Its end, with the flags of what stands from there on.
+    Last(ErrorFlags),
     // A formal.
     More(FormalAt),
 }
@@ -166,18 +166,18 @@ fn listed_at(line: &Line, place: usize) -> Listed
     ensures within { spec.IsWithin (length line.now.text) result }
 {
     match next_formal(line, place) {
-        NextFormal::Ends => Listed::Last(rest_letters(line, place)),
-        NextFormal::Bad => Listed::Last(bad_letters(line, place)),
+        NextFormal::Ends => Listed::Last(rest_flags(line, place)),
+        NextFormal::Bad => Listed::Last(bad_flags(line, place)),
         NextFormal::Named(formal) => match read_name(formal.name.text(line)) {
             Some(name) => Listed::More(FormalAt {
                 formal: MacroFormal {
                     name,
                     is_created: formal.is_created,
                 },
-                letters: skip_letters(line, place, formal_start(formal)),
+                flags: skip_flags(line, place, formal_start(formal)),
                 end: formal.name.end,
             }),
-            None => Listed::Last(bad_letters(line, place)),
+            None => Listed::Last(bad_flags(line, place)),
         },
     }
 }

@@ -4,17 +4,17 @@
 ghost use Rattle.std.specs.Prelude.{◌≡◌, ◌∷◌, [], IfOk};
 ghost use Rattle.m11_scan.specs.Views.{bits_of};
 ghost use Rattle.m11_values.specs.Symbols.{symbols_of};
-ghost use Rattle.m11_arguments.specs.Notes.{no_notes, with_letters, with_symbols};
+ghost use Rattle.m11_arguments.specs.Notes.{no_notes, with_flags, with_symbols};
 
-use m11_scan::{Letters, Line, Token};
+use m11_scan::{ErrorFlags, Line, Token};
 use m11_values::{Symbol, next_symbol};
 use std::alloc::{AllocError, Global};
 use std::marker::Model;
 
-/// Letters that flag arguments, and the symbols that they read, in order. Each call that reads arguments adds its own.
+/// Flags that flag arguments, and the symbols that they read, in order. Each call that reads arguments adds its own.
 #[derive(Drop)]
 pub struct Notes {
-    letters: Letters,
+    flags: ErrorFlags,
     symbols: Vec<Symbol>,
 }
 
@@ -24,25 +24,25 @@ impl Model for Notes {
 
     ghost Value = { Notes };
 
-    ghost view = { λ notes. record { letters = bits_of notes.letters; symbols = notes.symbols.items } };
+    ghost view = { λ notes. record { flags = bits_of notes.flags; symbols = notes.symbols.items } };
 }
 
 impl Notes {
-    /// No letter and no symbol.
+    /// No flag and no symbol.
     pub fn new(alloc: Global) -> Notes
         ensures { result ≡ no_notes }
     {
         Notes {
-            letters: Letters::none(),
+            flags: ErrorFlags::none(),
             symbols: Vec::new(alloc),
         }
     }
 
-    /// The letters so far.
-    pub fn letters(&self) -> Letters
-        ensures { bits_of result ≡ self.now.letters }
+    /// The flags so far.
+    pub fn flags(&self) -> ErrorFlags
+        ensures { bits_of result ≡ self.now.flags }
     {
-        self.letters
+        self.flags
     }
 
     /// The symbols so far, in the order in which they were read.
@@ -52,11 +52,11 @@ impl Notes {
         self.symbols.as_slice()
     }
 
-    /// Further letters.
-    pub fn add_letters(&mut self, letters: Letters)
-        ensures { self.new ≡ with_letters self.old (bits_of letters) }
+    /// Further flags.
+    pub fn add_flags(&mut self, flags: ErrorFlags)
+        ensures { self.new ≡ with_flags self.old (bits_of flags) }
     {
-        self.letters = self.letters.with(letters);
+        self.flags = self.flags.with(flags);
     }
 
     // One more symbol.

@@ -14,8 +14,8 @@ use Rattle.m11_pass_laws.proofs.Counting.{at_most}
 use Rattle.m11_placement.specs.Meanings.{Map, map_of}
 use Rattle.m11_placement.specs.Places.{place_in}
 use Rattle.m11_placement.specs.Tables.{Table, place}
-use Rattle.m11_placement.specs.declared.settings.Settings.{Settings}
-use Rattle.m11_placing.specs.Mentioned.{Gathered}
+use Rattle.m11_placement.specs.declared.modes.Modes.{Modes}
+use Rattle.m11_placing.specs.UsedSymbols.{Gathered}
 use Rattle.m11_placing.specs.Passes.{Kept}
 use Rattle.m11_table.specs.Alike.{Alike}
 use Rattle.m11_unfolding.specs.Limits.{most_lines}
@@ -24,7 +24,7 @@ use Rattle.m11_writes.proofs.Writing.{writes_then}
 use Rattle.m11_asm.specs.Program.{Program, program_in, program_kept}
 use Rattle.m11_asm.specs.Second.{GoesOn, SecondEnds, SecondStands, SecondState, ended_with}
 use Rattle.m11_asm.specs.Writing.{Writing, WritingStands, most_counted}
-use Rattle.m11_asm.specs.Written.{flagged_count, flagged_in, is_flagged, last_place, last_writes, letters_after, pieces_in, written}
+use Rattle.m11_asm.specs.Written.{flagged_count, flagged_in, is_flagged, last_place, last_writes, flags_after, pieces_in, written}
 use Rattle.m11_asm.specs.declared.done.AsmDone.{AsmDone}
 use Rattle.m11_asm.proofs.LinesWritten.{nothing_written}
 use Rattle.m11_placing.specs.declared.counting.Counting.TheVariants.{Definitions}
@@ -76,15 +76,15 @@ module _ (kept : Kept) (gathered : Gathered) (facts : Facts) (going : Going) (wr
 
 -- ---- after the last line
 
-letters_counted : (program : Program) (before all : List Numbered) → length (letters_after program before all) ≡ length all
-letters_counted program before [] = refl
-letters_counted program before (line ∷ all) =
-    let rest = letters_counted program (before ++ line ∷ []) all in omega (arith, rest)
+flags_counted : (program : Program) (before all : List Numbered) → length (flags_after program before all) ≡ length all
+flags_counted program before [] = refl
+flags_counted program before (line ∷ all) =
+    let rest = flags_counted program (before ++ line ∷ []) all in omega (arith, rest)
 
 flagged_few : (program : Program) (lines : List Numbered) → flagged_in program lines ≤ length lines
 unfolding flagged_in
 flagged_few program lines =
-    let few = count_by-le-length is_flagged (letters_after program [] lines) in omega (arith, few, letters_counted program [] lines)
+    let few = count_by-le-length is_flagged (flags_after program [] lines) in omega (arith, few, flags_counted program [] lines)
 
 least_added : (has_end : Bool) → (if has_end then 0 else 1) ≤ 1
 least_added true = omega arith
@@ -96,7 +96,7 @@ count_few program lines has_end few = omega (arith, few, flagged_few program lin
 
 place_same : (one other : Table) → Alike one other → place one ≡ place other
 place_same one other alike =
-    alike.counters one.settings.section ∙ ap (λ (s : Settings). place_in s.section other.moves) alike.settings
+    alike.counters one.modes.section ∙ ap (λ (s : Modes). place_in s.section other.moves) alike.modes
 
 module _ (program : Program) (source : List SourceLine) (first now : Outputs) (state : SecondState)
     (stands : SecondStands program source first now state) where

@@ -26,11 +26,11 @@ use Rattle.m11_asm.specs.Outcome as outcome
 use Rattle.m11_asm.specs.Outcome.{Ends, Refuses, Unended}
 use Rattle.m11_asm.specs.Passes.{Pass, ReadsFirst, pass_of}
 use Rattle.m11_asm.proofs.LinesRead.{Begun, SoFar, all_read, begun, failed, few_read, one_more, too_many, too_much, given_all, given_till, lines_given, past_bytes, past_lines, reader_begins}
-use Rattle.m11_placing.specs.Counting.{none_mentioned}
+use Rattle.m11_placing.specs.Counting.{none_used}
 
 -- where `.END` isn't live, nothing is left of the lines
 pub first_unended : (source : List SourceLine) (first : FirstState) → (stands : FirstStands source first) → first.has_ended ≡ false
-    → Unended empty_map none_mentioned source stands.lines
+    → Unended empty_map none_used source stands.lines
 first_unended source first stands goes = record {
   stage = first.going.unfolder.stage;
   live = stands.taken.stands.lines_are;
@@ -63,7 +63,7 @@ module _ {F : Type 0} (text : F → Option Text) (faults : F → ℕ) (initial h
       }
 
   module _ (goes : first.has_ended ≡ false) (later : List F) (reader' : LineReading) where
-    unended : Unended empty_map none_mentioned so.source so.stands.lines
+    unended : Unended empty_map none_used so.source so.stands.lines
     unended = first_unended so.source first so.stands goes
 
     pub first_read : ReadsNext (place text faults here reader) (place text faults later reader') (Ok None)
@@ -215,12 +215,12 @@ ended_at source = record { read = length source; has_end = false }
 -- the live lines of the source
 module _ {F : Type 0} (pass : Pass F) (first : FirstState) (taken : FirstTaken pass first) where
   ends_by : (has_ended : Bool) → first.has_ended ≡ has_ended → IsTakenUp taken.reading taken.source has_ended
-      → Ends empty_map none_mentioned taken.reading taken.stands.lines (record { read = length taken.source; has_end = has_ended })
+      → Ends empty_map none_used taken.reading taken.stands.lines (record { read = length taken.source; has_end = has_ended })
   ends_by true is up =
       outcome.Ends.AtEnd taken.source up.0 first.going.unfolder.stage up.1 taken.stands.taken.stands.lines_are
       (sym taken.stands.ended ∙ is) refl
   ends_by false is up =
-      let P : List SourceLine → Type 0 = λ s. Unended empty_map none_mentioned s taken.stands.lines in
+      let P : List SourceLine → Type 0 = λ s. Unended empty_map none_used s taken.stands.lines in
       outcome.Ends.WithoutEnd (subst P (sym up.0) (first_unended taken.source first taken.stands is)) up.1
       (ap ended_at (sym up.0))
 
@@ -233,12 +233,12 @@ module _ {F : Type 0} (pass : Pass F) (first : FirstState) (taken : FirstTaken p
   )
 
   given_by : (has_ended : Bool) → first.has_ended ≡ has_ended → HaveGiven pass taken.source has_ended
-      → GivesToEnd pass empty_map none_mentioned taken.stands.lines
+      → GivesToEnd pass empty_map none_used taken.stands.lines
   given_by true is given =
       extents.GivesToEnd.AtEnd taken.source first.going.unfolder.stage taken.stands.taken.stands.lines_are
       (sym taken.stands.ended ∙ is) given
   given_by false is given =
       extents.GivesToEnd.WithoutEnd taken.source (first_unended taken.source first taken.stands is) given
 
-  pub first_gives : GivesToEnd pass empty_map none_mentioned taken.stands.lines
+  pub first_gives : GivesToEnd pass empty_map none_used taken.stands.lines
   first_gives = given_by first.has_ended refl taken.given

@@ -19,7 +19,7 @@ use Rattle.m11_asm.specs.Run.{AsmRuns, AsmRunsOr}
 use Rattle.m11_asm.proofs.FirstLines.{first_gives, first_reads}
 use Rattle.m11_asm.proofs.ProgramsAlike.{AlikePrograms, gives_alike, reads_alike}
 use Rattle.m11_asm.proofs.ProgramsAgree.{LawsOfFirstPasses, programs_alike}
-use Rattle.m11_placing.specs.Counting.{none_mentioned}
+use Rattle.m11_placing.specs.Counting.{none_used}
 
 module _ {F : Type 0} (first : Pass F) (laws : LawsOfFirstPasses) (symbols : Symbols)
     (few : length symbols.kept.table.sections ≤ most_sections) (gives : GivesSymbols first (Ok symbols)) where
@@ -46,7 +46,7 @@ module _ {F : Type 0} (Untouched : Type 0) (first second : Pass F) (old new : Ou
 
 -- how far the feeds of both have given
 module _ {F : Type 0} (first second : Pass F) where
-  gives_by : (lines : List Numbered) → GivesToEnd first empty_map none_mentioned lines → (result : Result AsmDone AsmFault)
+  gives_by : (lines : List Numbered) → GivesToEnd first empty_map none_used lines → (result : Result AsmDone AsmFault)
       → SecondGives second (program_of (givens lines)) result → AsmGives first second result
   gives_by lines given (Ok done) gives = (lines, given, gives)
   gives_by lines given (Err stopped) gives = inr (lines, given, gives)

@@ -14,7 +14,7 @@ use Rattle.m11_placement.specs.Tables.{Table, first_table}
 use Rattle.m11_passes.specs.Lines as lines
 use Rattle.m11_passes.specs.Lines.{Numbered, givens, table_at}
 use Rattle.m11_asm.specs.Program.{Program}
-use Rattle.m11_asm.specs.Written.{flagged_in, head_before, is_flagged, letters_after, letters_at, line_writes, pieces_in, pieces_of, written, written_after}
+use Rattle.m11_asm.specs.Written.{flagged_in, head_before, is_flagged, flags_after, flags_at, line_writes, pieces_in, pieces_of, written, written_after}
 
 givens_more : (all : List Numbered) (one : Numbered) → givens (all ++ one ∷ []) ≡ givens all ++ one.given ∷ []
 givens_more all one = map-append lines.given_in all (one ∷ [])
@@ -65,28 +65,28 @@ module _ (program : Program) where
 
   -- ---- flagged lines
 
-  letters_more : (before all : List Numbered) (one : Numbered)
-      → letters_after program before (all ++ one ∷ []) ≡ letters_after program before all ++ letters_at program (before ++ all) one ∷ []
-  letters_more before [] one = ap (λ (l : List Numbered). letters_at program l one ∷ []) (sym (append-nil before))
-  letters_more before (line ∷ all) one =
-      ap (λ (l : List ℕ). letters_at program before line ∷ l) (letters_more (before ++ line ∷ []) all one)
-      ∙ ap (λ (l : List Numbered). letters_after program before (line ∷ all) ++ letters_at program l one ∷ [])
+  flags_more : (before all : List Numbered) (one : Numbered)
+      → flags_after program before (all ++ one ∷ []) ≡ flags_after program before all ++ flags_at program (before ++ all) one ∷ []
+  flags_more before [] one = ap (λ (l : List Numbered). flags_at program l one ∷ []) (sym (append-nil before))
+  flags_more before (line ∷ all) one =
+      ap (λ (l : List ℕ). flags_at program before line ∷ l) (flags_more (before ++ line ∷ []) all one)
+      ∙ ap (λ (l : List Numbered). flags_after program before (line ∷ all) ++ flags_at program l one ∷ [])
       (append_assoc before (line ∷ []) all)
 
   abbrev one_if_flagged : ℕ → ℕ
-  one_if_flagged letters = cond (is_flagged letters) 1 0
+  one_if_flagged flags = cond (is_flagged flags) 1 0
 
-  flagged_with : (letters : List ℕ) (last : ℕ)
-      → count_by is_flagged (letters ++ last ∷ []) ≡ count_by is_flagged letters + (if is_flagged last then 1 else 0)
-  flagged_with letters last =
-      sum_by-append one_if_flagged letters (last ∷ []) ∙ ap (λ (n : ℕ). count_by is_flagged letters + n) (sum_by-cons one_if_flagged last [] ∙ omega arith)
+  flagged_with : (flags : List ℕ) (last : ℕ)
+      → count_by is_flagged (flags ++ last ∷ []) ≡ count_by is_flagged flags + (if is_flagged last then 1 else 0)
+  flagged_with flags last =
+      sum_by-append one_if_flagged flags (last ∷ []) ∙ ap (λ (n : ℕ). count_by is_flagged flags + n) (sum_by-cons one_if_flagged last [] ∙ omega arith)
 
   pub flagged_more : (all : List Numbered) (one : Numbered) → flagged_in program (all ++ one ∷ [])
-      ≡ flagged_in program all + (if is_flagged (letters_at program all one) then 1 else 0)
+      ≡ flagged_in program all + (if is_flagged (flags_at program all one) then 1 else 0)
   unfolding flagged_in
   flagged_more all one =
-      ap (count_by is_flagged) (letters_more [] all one)
-      ∙ flagged_with (letters_after program [] all) (letters_at program all one)
+      ap (count_by is_flagged) (flags_more [] all one)
+      ∙ flagged_with (flags_after program [] all) (flags_at program all one)
 
   pub none_flagged : flagged_in program [] ≡ 0
   unfolding flagged_in

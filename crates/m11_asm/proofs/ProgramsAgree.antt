@@ -12,8 +12,8 @@ use Rattle.m11_pass_laws.proofs.MapsAlike.{maps_same}
 use Rattle.m11_passes.specs.Lines.{Numbered, givens}
 use Rattle.m11_placement.specs.Limits.{most_sections}
 use Rattle.m11_placing.specs.Counting.{gathered_in}
-use Rattle.m11_placing.specs.Mentioned.{Gathered}
-use Rattle.m11_asm.specs.Program.{all_names, mentioned_in, program_in, program_kept, program_of, directory_facts_in, directory_facts_of}
+use Rattle.m11_placing.specs.UsedSymbols.{Gathered}
+use Rattle.m11_asm.specs.Program.{all_names, used_in, program_in, program_kept, program_of, directory_facts_in, directory_facts_of}
 use Rattle.m11_symbols.specs.Sections.{section_entries}
 use Rattle.m11_symbols.specs.Symbols.{symbol_entries}
 use Rattle.m11_asm.proofs.ProgramsAlike.{AlikePrograms}
@@ -27,7 +27,7 @@ pub record LawsOfFirstPasses : Type 0 where
 
 module _ (source : List SourceLine) (lines : List Numbered) (first : FirstState) (taken : Taken source lines first.going first.facts)
     (few : length first.going.kept.table.sections ≤ most_sections) (laws : LawsOfFirstPasses) where
-  referred_same : gathered_in first.going.counting ≡ mentioned_in (givens lines)
+  referred_same : gathered_in first.going.counting ≡ used_in (givens lines)
   referred_same = ap gathered_in taken.stands.counting
 
   told_same : directory.FirstPassesAgree (directory_facts_in first.going.kept (gathered_in first.going.counting) first.facts) (directory_facts_of (givens lines))
@@ -41,14 +41,14 @@ module _ (source : List SourceLine) (lines : List Numbered) (first : FirstState)
     transfer = ap (λ (f : Facts). f.transfer) taken.facts_are;
   }
 
-  names_same : directory.HaveTheSame (all_names (gathered_in first.going.counting)) (all_names (mentioned_in (givens lines)))
+  names_same : directory.HaveTheSame (all_names (gathered_in first.going.counting)) (all_names (used_in (givens lines)))
   names_same name = ap (λ (g : Gathered). has_name name (all_names g)) referred_same
 
   pub programs_alike : AlikePrograms (program_in (symbols_of first)) (program_of (givens lines))
   unfolding program_kept
   programs_alike = record {
     maps = maps_same _ _ taken.stands.matches.alike;
-    mentioned = referred_same;
+    used_symbols = referred_same;
     rows = laws.rows _ _ told_same;
     symbols = laws.symbols _ _ _ _ told_same names_same;
     sections = laws.sections _ _ told_same;

@@ -17,22 +17,22 @@ use Rattle.m11_listing.specs.declared.symbol_table.SectionEntry.{SectionEntry}
 use Rattle.m11_listing.specs.declared.symbol_table.SymbolEntry.{SymbolEntry}
 use Rattle.m11_pass_laws.specs.Maps.{MapsAgree}
 use Rattle.m11_pass_laws.proofs.LiveLines.{exceeds_same, pass_lines_same, table_at_same}
-use Rattle.m11_pass_laws.proofs.MapsAlike.{after_line_same, all_letters_same, items_same, pieces_same}
+use Rattle.m11_pass_laws.proofs.MapsAlike.{after_line_same, all_flags_same, items_same, pieces_same}
 use Rattle.m11_object_text.specs.declared.directory.DirectoryRow.{DirectoryRow}
 use Rattle.m11_object_text.specs.declared.pieces.Piece.{Piece}
 use Rattle.m11_passes.specs.Lines.{Numbered, PassLines, givens, table_at}
-use Rattle.m11_passes.specs.Placed.{all_letters}
+use Rattle.m11_passes.specs.Placed.{all_flags}
 use Rattle.m11_passes.specs.Reaching.{Exceeds}
-use Rattle.m11_placement.specs.Exports.{transfer_letters}
+use Rattle.m11_placement.specs.Exports.{transfer_flags}
 use Rattle.m11_placement.specs.Items.{is_listed}
-use Rattle.m11_placement.specs.Lines.{after_line, deed, pieces, put_place, stands}
+use Rattle.m11_placement.specs.Lines.{after_line, action, pieces, put_place, stands}
 use Rattle.m11_placement.specs.Placements.{placed_from}
 use Rattle.m11_placement.specs.Sources.{directed, end_in}
 use Rattle.m11_placement.specs.Tables.{Table, first_table, place}
 use Rattle.m11_readings.specs.Readings.{Reading}
-use Rattle.m11_scan.specs.Letters.{letters_text}
+use Rattle.m11_scan.specs.ErrorFlags.{flags_text}
 use Rattle.m11_asm.specs.Program.{Program}
-use Rattle.m11_asm.specs.Written.{Ended, added_writes, closing_writes, flagged_count, flagged_in, head_before, is_flagged, last_place, last_writes, letters_after, letters_at, line_writes, message_writes, pieces_in, pieces_of, program_writes, written, written_after}
+use Rattle.m11_asm.specs.Written.{Ended, added_writes, closing_writes, flagged_count, flagged_in, head_before, is_flagged, last_place, last_writes, flags_after, flags_at, line_writes, message_writes, pieces_in, pieces_of, program_writes, written, written_after}
 use Rattle.m11_asm.specs.declared.done.AsmDone.{AsmDone}
 use Rattle.m11_unfolding.specs.Stages.{Stage}
 use Rattle.m11_unfolding.specs.Unfolding.{Given}
@@ -47,7 +47,7 @@ use Rattle.m11_placing.specs.declared.counting.Counting.TheVariants.{Definitions
 
 pub record AlikePrograms (one other : Program) : Type 0 where
   pub maps : MapsAgree one.map other.map
-  pub mentioned : one.mentioned ≡ other.mentioned
+  pub used_symbols : one.used_symbols ≡ other.used_symbols
   pub rows : one.rows ≡ other.rows
   pub symbols : one.symbols ≡ other.symbols
   pub sections : one.sections ≡ other.sections
@@ -70,25 +70,25 @@ module _ (one other : Program) (alike : AlikePrograms one other) where
   unfolding pieces_in
   pieces_alike all = placed_same first_table (givens all)
 
-  -- ---- letters
+  -- ---- flags
 
-  letters_alike : (before : List Numbered) (line : Numbered) → letters_at one before line ≡ letters_at other before line
-  letters_alike before line =
-      let end : Option Quantity → ℕ = λ transfer. end_in (transfer_letters transfer) (directed line.given) in
-      ap (λ (t : Table). bit_or (all_letters one.map t line.given) (end one.transfer)) (table_at_same one.map other.map alike.maps before)
+  flags_alike : (before : List Numbered) (line : Numbered) → flags_at one before line ≡ flags_at other before line
+  flags_alike before line =
+      let end : Option Quantity → ℕ = λ transfer. end_in (transfer_flags transfer) (directed line.given) in
+      ap (λ (t : Table). bit_or (all_flags one.map t line.given) (end one.transfer)) (table_at_same one.map other.map alike.maps before)
       ∙ ap (λ (l : ℕ). bit_or l (end one.transfer))
-      (all_letters_same one.map other.map alike.maps (table_at other.map before) line.given)
-      ∙ ap (λ (q : Option Quantity). bit_or (all_letters other.map (table_at other.map before) line.given) (end q)) alike.transfer
+      (all_flags_same one.map other.map alike.maps (table_at other.map before) line.given)
+      ∙ ap (λ (q : Option Quantity). bit_or (all_flags other.map (table_at other.map before) line.given) (end q)) alike.transfer
 
-  all_letters_alike : (before all : List Numbered) → letters_after one before all ≡ letters_after other before all
-  all_letters_alike before [] = refl
-  all_letters_alike before (line ∷ all) =
-      ap (λ (l : ℕ). l ∷ letters_after one (before ++ line ∷ []) all) (letters_alike before line)
-      ∙ ap (λ (ls : List ℕ). letters_at other before line ∷ ls) (all_letters_alike (before ++ line ∷ []) all)
+  all_flags_alike : (before all : List Numbered) → flags_after one before all ≡ flags_after other before all
+  all_flags_alike before [] = refl
+  all_flags_alike before (line ∷ all) =
+      ap (λ (l : ℕ). l ∷ flags_after one (before ++ line ∷ []) all) (flags_alike before line)
+      ∙ ap (λ (ls : List ℕ). flags_at other before line ∷ ls) (all_flags_alike (before ++ line ∷ []) all)
 
   flagged_alike : (all : List Numbered) → flagged_in one all ≡ flagged_in other all
   unfolding flagged_in
-  flagged_alike all = ap (λ (ls : List ℕ). count_by is_flagged ls) (all_letters_alike [] all)
+  flagged_alike all = ap (λ (ls : List ℕ). count_by is_flagged ls) (all_flags_alike [] all)
 
   pub counts_alike : (all : List Numbered) (has_end : Bool) → flagged_count one all has_end ≡ flagged_count other all has_end
   counts_alike all has_end = ap (λ (n : ℕ). n + (if has_end then 0 else 1)) (flagged_alike all)
@@ -100,45 +100,45 @@ module _ (one other : Program) (alike : AlikePrograms one other) where
   head_alike (line ∷ before) = refl
 
   -- the listing of a line depends on the maps by its items and by the levels after it
-  listing_same : (table : Table) (letters number : ℕ) (given : Given)
-      → listing_writes one.map table letters number given ≡ listing_writes other.map table letters number given
+  listing_same : (table : Table) (flags number : ℕ) (given : Given)
+      → listing_writes one.map table flags number given ≡ listing_writes other.map table flags number given
   unfolding listing_writes
-  listing_same table letters number given =
+  listing_same table flags number given =
       let text = given.live.line.text in
-      let at : ℕ = put_place (stands table given) (deed given.is_own text) in
-      ap (λ (t : Table). if is_listed t given letters then all_to_listing (lines_of one.map table letters number given) else [])
+      let at : ℕ = put_place (stands table given) (action given.is_own text) in
+      ap (λ (t : Table). if is_listed t given flags then all_to_listing (lines_of one.map table flags number given) else [])
       (after_line_same one.map other.map alike.maps table given)
-      ∙ ap (λ (l : List Item). if is_listed (after_line other.map table given) given letters then
-      all_to_listing (listed_lines (letters_text letters) number (place table) at l text) else [])
+      ∙ ap (λ (l : List Item). if is_listed (after_line other.map table given) given flags then
+      all_to_listing (listed_lines (flags_text flags) number (place table) at l text) else [])
       (items_same one.map other.map alike.maps table given)
 
   listing_alike : (before : List Numbered) (line : Numbered)
-      → listing_writes one.map (table_at one.map before) (letters_at one before line) line.number line.given
-      ≡ listing_writes other.map (table_at other.map before) (letters_at other before line) line.number line.given
+      → listing_writes one.map (table_at one.map before) (flags_at one before line) line.number line.given
+      ≡ listing_writes other.map (table_at other.map before) (flags_at other before line) line.number line.given
   listing_alike before line =
-      ap (λ (t : Table). listing_writes one.map t (letters_at one before line) line.number line.given)
+      ap (λ (t : Table). listing_writes one.map t (flags_at one before line) line.number line.given)
       (table_at_same one.map other.map alike.maps before)
-      ∙ ap (λ (l : ℕ). listing_writes one.map (table_at other.map before) l line.number line.given) (letters_alike before line)
-      ∙ listing_same (table_at other.map before) (letters_at other before line) line.number line.given
+      ∙ ap (λ (l : ℕ). listing_writes one.map (table_at other.map before) l line.number line.given) (flags_alike before line)
+      ∙ listing_same (table_at other.map before) (flags_at other before line) line.number line.given
 
   line_alike : (before : List Numbered) (line : Numbered) → line_writes one before line ≡ line_writes other before line
   unfolding line_writes
   line_alike before line =
       let text : Bytes = line.given.live.line.text in
-      let of : List Piece → List Piece → List Write → ℕ → List Write = λ done more listed letters.
-      content_writes (records_closed_by done more) ++ (listed ++ message_writes letters line.number text) in
-      let shown : List Write = listing_writes one.map (table_at one.map before) (letters_at one before line) line.number line.given in
+      let of : List Piece → List Piece → List Write → ℕ → List Write = λ done more listed flags.
+      content_writes (records_closed_by done more) ++ (listed ++ message_writes flags line.number text) in
+      let shown : List Write = listing_writes one.map (table_at one.map before) (flags_at one before line) line.number line.given in
       let here : List Piece = pieces other.map (table_at other.map before) line.given in
-      ap (λ (p : List Piece). of p (pieces one.map (table_at one.map before) line.given) shown (letters_at one before line))
+      ap (λ (p : List Piece). of p (pieces one.map (table_at one.map before) line.given) shown (flags_at one before line))
       (pieces_alike before)
-      ∙ ap (λ (t : Table). of (pieces_in other.map before) (pieces one.map t line.given) shown (letters_at one before line))
+      ∙ ap (λ (t : Table). of (pieces_in other.map before) (pieces one.map t line.given) shown (flags_at one before line))
       (table_at_same one.map other.map alike.maps before)
-      ∙ ap (λ (p : List Piece). of (pieces_in other.map before) p shown (letters_at one before line))
+      ∙ ap (λ (p : List Piece). of (pieces_in other.map before) p shown (flags_at one before line))
       (pieces_same one.map other.map alike.maps (table_at other.map before) line.given)
-      ∙ ap (λ (w : List Write). of (pieces_in other.map before) here w (letters_at one before line)) (listing_alike before line)
+      ∙ ap (λ (w : List Write). of (pieces_in other.map before) here w (flags_at one before line)) (listing_alike before line)
       ∙ ap (of (pieces_in other.map before) here
-      (listing_writes other.map (table_at other.map before) (letters_at other before line) line.number line.given))
-      (letters_alike before line)
+      (listing_writes other.map (table_at other.map before) (flags_at other before line) line.number line.given))
+      (flags_alike before line)
 
   after_alike : (before all : List Numbered) → written_after one before all ≡ written_after other before all
   after_alike before [] = refl

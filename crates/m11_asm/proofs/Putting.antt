@@ -23,17 +23,17 @@ use Rattle.m11_object_text.specs.declared.directory.DirectoryRow.{DirectoryRow}
 use Rattle.m11_object_text.specs.declared.pieces.Piece.{Piece}
 use Rattle.m11_object_text.specs.declared.pieces.PieceContent.{PieceContent}
 use Rattle.m11_passes.specs.Lines.{Numbered, table_at}
-use Rattle.m11_passes.specs.Placed.{IsPlaced, all_letters}
+use Rattle.m11_passes.specs.Placed.{IsPlaced, all_flags}
 use Rattle.m11_passes.specs.declared.placed.PlacedLine.{PlacedLine}
 use Rattle.m11_placement.specs.Contents.{Put, pieces_from}
-use Rattle.m11_placement.specs.Exports.{transfer_letters}
-use Rattle.m11_placement.specs.Lines.{Deed, deed, pieces, put_place, stands}
+use Rattle.m11_placement.specs.Exports.{transfer_flags}
+use Rattle.m11_placement.specs.Lines.{Action, action, pieces, put_place, stands}
 use Rattle.m11_placement.specs.Sources.{directed_in, end_in}
 use Rattle.m11_placement.specs.Tables.{Table, section_name}
-use Rattle.m11_placing.specs.Deeds.{deed_seen}
-use Rattle.m11_placing.specs.Mentioned.{Gathered}
+use Rattle.m11_placing.specs.Actions.{action_seen}
+use Rattle.m11_placing.specs.UsedSymbols.{Gathered}
 use Rattle.m11_placing.specs.Passes.{Kept}
-use Rattle.m11_scan.specs.Letters.{letters_text}
+use Rattle.m11_scan.specs.ErrorFlags.{flags_text}
 use Rattle.m11_scan.specs.Views.{bits_of}
 use Rattle.m11_symbols.specs.Sections.{section_entries}
 use Rattle.m11_symbols.specs.Symbols.{symbol_entries}
@@ -42,7 +42,7 @@ use Rattle.m11_values.specs.Quantities.{Quantity}
 use Rattle.m11_writes.proofs.Writing.{gains_nothing, stops_after, stops_before, writes_then}
 use Rattle.m11_asm.specs.Program.{Program, all_names, program_kept, directory_facts_in}
 use Rattle.m11_asm.specs.Writing.{Writing, WritingStands, begun, counted, counted_last, is_some_line, most_counted, opened}
-use Rattle.m11_asm.specs.Written.{added_to_both, added_writes, closing_writes, flagged_count, flagged_in, head_before, is_flagged, letter_E, letters_at, line_writes, message_writes, pieces_in}
+use Rattle.m11_asm.specs.Written.{added_to_both, added_writes, closing_writes, flagged_count, flagged_in, head_before, is_flagged, flag_E, flags_at, line_writes, message_writes, pieces_in}
 use Rattle.m11_asm.proofs.LinesWritten.{flagged_more, none_flagged, pieces_more}
 
 -- ---- writes
@@ -89,20 +89,20 @@ module _ (program : Program) (lines : List Numbered) (writing : Writing) (stands
 
 -- ---- messages
 
-pub unflagged : (letters number : ℕ) (text : Bytes) → true ≡ (letters == 0) → message_writes letters number text ≡ []
-unflagged letters number text none =
-    ap (λ (b : Bool). if not b then to_messages (message_line (letters_text letters) number text) ∷ [] else []) (sym none)
+pub unflagged : (flags number : ℕ) (text : Bytes) → true ≡ (flags == 0) → message_writes flags number text ≡ []
+unflagged flags number text none =
+    ap (λ (b : Bool). if not b then to_messages (message_line (flags_text flags) number text) ∷ [] else []) (sym none)
 
-pub flagged : (letters number : ℕ) (text : Bytes) → false ≡ (letters == 0)
-    → to_messages (message_line (letters_text letters) number text) ∷ [] ≡ message_writes letters number text
-flagged letters number text some =
-    sym (ap (λ (b : Bool). if not b then to_messages (message_line (letters_text letters) number text) ∷ [] else []) (sym some))
+pub flagged : (flags number : ℕ) (text : Bytes) → false ≡ (flags == 0)
+    → to_messages (message_line (flags_text flags) number text) ∷ [] ≡ message_writes flags number text
+flagged flags number text some =
+    sym (ap (λ (b : Bool). if not b then to_messages (message_line (flags_text flags) number text) ∷ [] else []) (sym some))
 
-pub counts_none : (letters count : ℕ) → true ≡ (letters == 0) → count ≡ counted letters count
-counts_none letters count none = sym (ap (λ (b : Bool). if not b then min (count + 1) most_counted else count) (sym none))
+pub counts_none : (flags count : ℕ) → true ≡ (flags == 0) → count ≡ counted flags count
+counts_none flags count none = sym (ap (λ (b : Bool). if not b then min (count + 1) most_counted else count) (sym none))
 
-pub counts_one : (letters count : ℕ) → false ≡ (letters == 0) → min (count + 1) most_counted ≡ counted letters count
-counts_one letters count some = sym (ap (λ (b : Bool). if not b then min (count + 1) most_counted else count) (sym some))
+pub counts_one : (flags count : ℕ) → false ≡ (flags == 0) → min (count + 1) most_counted ≡ counted flags count
+counts_one flags count some = sym (ap (λ (b : Bool). if not b then min (count + 1) most_counted else count) (sym some))
 
 -- ---- counts
 
@@ -111,9 +111,9 @@ least_by : (b : Bool) (count : ℕ) → (if b then min (min count most_counted +
 least_by true count = omega arith
 least_by false count = omega arith
 
-counted_least : (letters count : ℕ) → counted letters (min count most_counted)
-    ≡ min (count + (if is_flagged letters then 1 else 0)) most_counted
-counted_least letters count = least_by (is_flagged letters) count
+counted_least : (flags count : ℕ) → counted flags (min count most_counted)
+    ≡ min (count + (if is_flagged flags then 1 else 0)) most_counted
+counted_least flags count = least_by (is_flagged flags) count
 
 pub counted_exactly : (program : Program) (lines : List Numbered) (has_end : Bool) → flagged_count program lines has_end ≤ most_counted
     → counted_last has_end (min (flagged_in program lines) most_counted) ≡ flagged_count program lines has_end
@@ -124,8 +124,8 @@ counted_exactly program lines false few = counted_least 8 (flagged_in program li
 
 pub line_parts : (program : Program) (lines : List Numbered) (one : Numbered)
     → content_writes (records_closed_by (pieces_in program.map lines) (pieces program.map (table_at program.map lines) one.given))
-    ++ (listing_writes program.map (table_at program.map lines) (letters_at program lines one) one.number one.given
-    ++ message_writes (letters_at program lines one) one.number one.given.live.line.text) ≡ line_writes program lines one
+    ++ (listing_writes program.map (table_at program.map lines) (flags_at program lines one) one.number one.given
+    ++ message_writes (flags_at program lines one) one.number one.given.live.line.text) ≡ line_writes program lines one
 unfolding line_writes
 line_parts program lines one = refl
 
@@ -134,7 +134,7 @@ module _ (program : Program) (lines : List Numbered) (one : Numbered) (placed : 
   pub pieces_so : pieces_from placed.section placed.place contents ≡ pieces program.map (table_at program.map lines) one.given
   pieces_so =
       let stood : Table = stands (table_at program.map lines) one.given in
-      let place : ℕ = put_place stood (deed one.given.is_own one.given.live.line.text) in
+      let place : ℕ = put_place stood (action one.given.is_own one.given.live.line.text) in
       ap (λ (s : Name). pieces_from s placed.place contents) is.section_is
       ∙ ap (λ (p : ℕ). pieces_from (section_name stood) p contents) is.place_is
       ∙ ap (pieces_from (section_name stood) place) (sym same ∙ is.contents_are)
@@ -142,18 +142,18 @@ module _ (program : Program) (lines : List Numbered) (one : Numbered) (placed : 
   pub text_so : placed.live.line.text ≡ one.given.live.line.text
   text_so = ap (λ (l : Live). l.line.text) is.is_live.live_is
 
-  pub letters_so : (transfer : Option Quantity) → transfer ≡ program.transfer
-      → bit_or (bits_of placed.letters) (end_in (transfer_letters transfer) (directed_in (deed_seen placed.live.deed)))
-      ≡ letters_at program lines one
-  letters_so transfer told =
-      let own : ℕ = all_letters program.map (table_at program.map lines) one.given in
-      ap (λ (l : ℕ). bit_or l (end_in (transfer_letters transfer) (directed_in (deed_seen placed.live.deed)))) is.letters_are
-      ∙ ap (λ (t : Option Quantity). bit_or own (end_in (transfer_letters t) (directed_in (deed_seen placed.live.deed)))) told
-      ∙ ap (λ (d : Deed). bit_or own (end_in (transfer_letters program.transfer) (directed_in d))) is.is_live.deed_is
+  pub flags_so : (transfer : Option Quantity) → transfer ≡ program.transfer
+      → bit_or (bits_of placed.flags) (end_in (transfer_flags transfer) (directed_in (action_seen placed.live.action)))
+      ≡ flags_at program lines one
+  flags_so transfer told =
+      let own : ℕ = all_flags program.map (table_at program.map lines) one.given in
+      ap (λ (l : ℕ). bit_or l (end_in (transfer_flags transfer) (directed_in (action_seen placed.live.action)))) is.flags_are
+      ∙ ap (λ (t : Option Quantity). bit_or own (end_in (transfer_flags t) (directed_in (action_seen placed.live.action)))) told
+      ∙ ap (λ (d : Action). bit_or own (end_in (transfer_flags program.transfer) (directed_in d))) is.is_live.action_is
 
--- the lines of a line in the listing, with these letters and this number
+-- the lines of a line in the listing, with these flags and this number
 abbrev pub shown : Program → List Numbered → Numbered → ℕ → ℕ → List Write
-shown program lines one letters number = listing_writes program.map (table_at program.map lines) letters number one.given
+shown program lines one flags number = listing_writes program.map (table_at program.map lines) flags number one.given
 
 -- the writes of a line's parts, one after the other
 module _ (program : Program) (lines : List Numbered) (one : Numbered) (a b c : Outputs) where
@@ -161,8 +161,8 @@ module _ (program : Program) (lines : List Numbered) (one : Numbered) (a b c : O
   texts ps = content_writes (records_closed_by (pieces_in program.map lines) ps)
 
   abbrev pub rest : List Write
-  rest = shown program lines one (letters_at program lines one) one.number
-      ++ message_writes (letters_at program lines one) one.number one.given.live.line.text
+  rest = shown program lines one (flags_at program lines one) one.number
+      ++ message_writes (flags_at program lines one) one.number one.given.live.line.text
 
   abbrev pub here : List Piece
   here = pieces program.map (table_at program.map lines) one.given
@@ -178,18 +178,18 @@ module _ (program : Program) (lines : List Numbered) (one : Numbered) (a b c : O
       (stops_before assembly b c (texts here) rest stopped (subst Q are stops)))
 
   -- what comes after its texts
-  pub line_goes_on : {A : Type 0} (d : Outputs) (ps : List Piece) (letters number : ℕ) (text : Bytes) (result : Result A AsmFault) → ps ≡ here
-      → letters ≡ letters_at program lines one → number ≡ one.number → text ≡ one.given.live.line.text
+  pub line_goes_on : {A : Type 0} (d : Outputs) (ps : List Piece) (flags number : ℕ) (text : Bytes) (result : Result A AsmFault) → ps ≡ here
+      → flags ≡ flags_at program lines one → number ≡ one.number → text ≡ one.given.live.line.text
       → Gains a b (head_before program lines) → Gains b c (texts ps)
-      → Writes c d (shown program lines one letters number ++ message_writes letters number text) result
+      → Writes c d (shown program lines one flags number ++ message_writes flags number text) result
       → Writes a d (head_before program lines ++ line_writes program lines one) result
-  line_goes_on d ps letters number text result are letters_are number_is text_is head put goes =
+  line_goes_on d ps flags number text result are flags_are number_is text_is head put goes =
       let P : List Write → Type 0 = λ ws. Writes a d (head_before program lines ++ ws) result in
       let Q : List Piece → Type 0 = λ these. Gains b c (texts these) in
-      let own : ℕ = letters_at program lines one in
+      let own : ℕ = flags_at program lines one in
       let of : ℕ → ℕ → Bytes → List Write = λ l n t. shown program lines one l n ++ message_writes l n t in
-      let same : of letters number text ≡ rest =
-      ap (λ (l : ℕ). of l number text) letters_are ∙ ap (λ (n : ℕ). of own n text) number_is ∙ ap (of own one.number) text_is in
+      let same : of flags number text ≡ rest =
+      ap (λ (l : ℕ). of l number text) flags_are ∙ ap (λ (n : ℕ). of own n text) number_is ∙ ap (of own one.number) text_is in
       subst P (line_parts program lines one)
       (writes_then assembly a b d (head_before program lines) (texts here ++ rest) result head
       (writes_then assembly b c d (texts here) rest result (subst Q are put) (writes_as c d _ _ result same goes)))
@@ -200,8 +200,8 @@ module _ (program : Program) (lines : List Numbered) (one : Numbered) (old : Wri
   some_more [] = refl
   some_more (line ∷ all) = refl
 
-  pub stands_more : (text : Option TextParts) (more : List Piece) (letters : ℕ)
-      → more ≡ pieces program.map (table_at program.map lines) one.given → letters ≡ letters_at program lines one
+  pub stands_more : (text : Option TextParts) (more : List Piece) (flags : ℕ)
+      → more ≡ pieces program.map (table_at program.map lines) one.given → flags ≡ flags_at program lines one
       → IsOpenAfter (pieces_in program.map lines ++ more) text
       → AllFit (head_contents program.rows) → AllFit (records_closed_by (pieces_in program.map lines) more)
       → WritingStands program (lines ++ one ∷ [])
@@ -212,9 +212,9 @@ module _ (program : Program) (lines : List Numbered) (one : Numbered) (old : Wri
         sections = old.sections;
         text = text;
         has_begun = true;
-        flagged = counted letters old.flagged;
+        flagged = counted flags old.flagged;
       })
-  stands_more text more letters more_is letters_is opens head_fits more_fit = record {
+  stands_more text more flags more_is flags_is opens head_fits more_fit = record {
     rows = stands.rows;
     transfer = stands.transfer;
     symbols = stands.symbols;
@@ -222,8 +222,8 @@ module _ (program : Program) (lines : List Numbered) (one : Numbered) (old : Wri
     text = subst (λ (ps : List Piece). IsOpenAfter ps text)
         (ap (λ (ps : List Piece). pieces_in program.map lines ++ ps) more_is ∙ sym (pieces_more program.map lines one)) opens;
     begun = some_more lines;
-    flagged = ap (counted letters) stands.flagged ∙ counted_least letters (flagged_in program lines)
-        ∙ ap (λ (l : ℕ). min (flagged_in program lines + (if is_flagged l then 1 else 0)) most_counted) letters_is
+    flagged = ap (counted flags) stands.flagged ∙ counted_least flags (flagged_in program lines)
+        ∙ ap (λ (l : ℕ). min (flagged_in program lines + (if is_flagged l then 1 else 0)) most_counted) flags_is
         ∙ ap (λ (n : ℕ). min n most_counted) (sym (flagged_more program lines one));
     head = λ is. head_fits;
     closed = fit_as _ _
@@ -238,32 +238,32 @@ unfolding pieces_in
 none_put program = refl
 
 pub keeps_more : {E : Type 0} (program : Program) (lines : List Numbered) (one : Numbered) (old : Writing)
-    → WritingStands program lines old → (began put listed new : Writing) (more : List Piece) (letters : ℕ) (result : Result (Unit {0}) E)
+    → WritingStands program lines old → (began put listed new : Writing) (more : List Piece) (flags : ℕ) (result : Result (Unit {0}) E)
     → began ≡ begun old → put ≡ opened put.text began → listed ≡ put
     → more ≡ pieces program.map (table_at program.map lines) one.given
-    → letters ≡ letters_at program lines one → IsOpenAfter (pieces_in program.map lines ++ more) put.text
+    → flags ≡ flags_at program lines one → IsOpenAfter (pieces_in program.map lines ++ more) put.text
     → AllFit (head_contents program.rows) → AllFit (records_closed_by (pieces_in program.map lines) more)
-    → IfOk result (λ _. new ≡ record listed { flagged = counted letters listed.flagged })
+    → IfOk result (λ _. new ≡ record listed { flagged = counted flags listed.flagged })
     → IfOk result (λ _. WritingStands program (lines ++ one ∷ []) new)
-keeps_more program lines one old stands began put listed new more letters (Err stopped) begins opens stays more_is letters_is open_after head_fits more_fit so = tt
-keeps_more program lines one old stands began put listed new more letters (Ok done) begins opens stays more_is letters_is open_after head_fits more_fit so =
-    let whole = so ∙ ap (λ (w : Writing). record w { flagged = counted letters w.flagged }) (stays ∙ opens ∙ ap (opened put.text) begins) in
+keeps_more program lines one old stands began put listed new more flags (Err stopped) begins opens stays more_is flags_is open_after head_fits more_fit so = tt
+keeps_more program lines one old stands began put listed new more flags (Ok done) begins opens stays more_is flags_is open_after head_fits more_fit so =
+    let whole = so ∙ ap (λ (w : Writing). record w { flagged = counted flags w.flagged }) (stays ∙ opens ∙ ap (opened put.text) begins) in
     subst (λ (w : Writing). WritingStands program (lines ++ one ∷ []) w) (sym whole)
-    (stands_more program lines one old stands put.text more letters more_is letters_is open_after head_fits more_fit)
+    (stands_more program lines one old stands put.text more flags more_is flags_is open_after head_fits more_fit)
 
 -- ---- the end
 
 -- the line that is added where there is no `.END`
 pub none_added : (read counter : ℕ) (has_end : Bool) → has_end ≡ true
     → added_writes (record { read = read; has_end = has_end }) counter ≡ []
-none_added read counter has_end is = ap (λ (b : Bool). if b then [] else added_to_both letter_E read counter) is
+none_added read counter has_end is = ap (λ (b : Bool). if b then [] else added_to_both flag_E read counter) is
 
-pub one_added : {A : Type 0} (a b : Outputs) (letters read counter : ℕ) (has_end : Bool) (result : Result A AsmFault) → has_end ≡ false
-    → letters ≡ letter_E → Writes a b (added_to_both letters read counter) result
+pub one_added : {A : Type 0} (a b : Outputs) (flags read counter : ℕ) (has_end : Bool) (result : Result A AsmFault) → has_end ≡ false
+    → flags ≡ flag_E → Writes a b (added_to_both flags read counter) result
     → Writes a b (added_writes (record { read = read; has_end = has_end }) counter) result
-one_added a b letters read counter has_end result is are h =
-    writes_as a b (added_to_both letters read counter) (added_writes (record { read = read; has_end = has_end }) counter) result
-    (ap (λ n. added_to_both n read counter) are ∙ sym (ap (λ (b : Bool). if b then [] else added_to_both letter_E read counter) is)) h
+one_added a b flags read counter has_end result is are h =
+    writes_as a b (added_to_both flags read counter) (added_writes (record { read = read; has_end = has_end }) counter) result
+    (ap (λ n. added_to_both n read counter) are ∙ sym (ap (λ (b : Bool). if b then [] else added_to_both flag_E read counter) is)) h
 
 -- the symbol table by what is kept
 pub table_so : (writing : Writing) (symbols : List SymbolEntry) (sections : List SectionEntry) (count : ℕ)

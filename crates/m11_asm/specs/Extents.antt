@@ -8,7 +8,7 @@ use Rattle.m11_lines.specs.declared.fault.LineFault.{LineFault}
 use Rattle.m11_passes.specs.Lines.{Numbered, PassLines, givens}
 use Rattle.m11_passes.specs.Reaching.{Exceeds}
 use Rattle.m11_placement.specs.Meanings.{Map, empty_map}
-use Rattle.m11_placing.specs.Counting.{none_mentioned}
+use Rattle.m11_placing.specs.Counting.{none_used}
 use Rattle.m11_placing.specs.declared.counting.Counting.{Counting}
 use Rattle.m11_placing.specs.declared.counting.Counting.TheVariants.{Definitions}
 use Rattle.m11_readings.specs.Extents.{GaveAll, GaveLines, GavePast, GaveTill}
@@ -64,6 +64,6 @@ SecondGives pass program (Err stopped) = GivesToFault pass program.map Definitio
 -- the first pass to its end, and the second one under what the first one gives; or the first one to its fault, and nothing of the second
 abbrev pub AsmGives : {F : Type 0} → Pass F → Pass F → Result AsmDone AsmFault → Type 0
 AsmGives first second (Ok done) =
-    (lines : List Numbered) × GivesToEnd first empty_map none_mentioned lines × SecondGives second (program_of (givens lines)) (Ok done)
-AsmGives first second (Err stopped) = (GivesToFault first empty_map none_mentioned stopped × (second.new ≡ second.old))
-    ⊎ ((lines : List Numbered) × GivesToEnd first empty_map none_mentioned lines × SecondGives second (program_of (givens lines)) (Err stopped))
+    (lines : List Numbered) × GivesToEnd first empty_map none_used lines × SecondGives second (program_of (givens lines)) (Ok done)
+AsmGives first second (Err stopped) = (GivesToFault first empty_map none_used stopped × (second.new ≡ second.old))
+    ⊎ ((lines : List Numbered) × GivesToEnd first empty_map none_used lines × SecondGives second (program_of (givens lines)) (Err stopped))

@@ -7,7 +7,7 @@ use Rattle.m11_placement.specs.Meanings.{empty_map}
 use Rattle.m11_readings.specs.Readings.{Reading}
 use Rattle.m11_asm.specs.Extents.{GivesToFault, HaveGiven}
 use Rattle.m11_asm.specs.Passes.{Pass, Reads, ReadsFirst}
-use Rattle.m11_placing.specs.Counting.{none_mentioned}
+use Rattle.m11_placing.specs.Counting.{none_used}
 
 -- these lines of a reading were taken: up to that in which `.END` became live, or all of them
 abbrev pub IsTakenUp : Reading → List SourceLine → Bool → Type 0
@@ -25,7 +25,7 @@ pub record FirstTaken {F : Type 0} (pass : Pass F) (first : FirstState) : Type 0
 
 -- it ends with a fault, and the feeds have given as far as that
 abbrev pub FirstStops : {F : Type 0} → Pass F → AsmFault → Type 0
-FirstStops pass stopped = ReadsFirst pass (Err stopped) × GivesToFault pass empty_map none_mentioned stopped
+FirstStops pass stopped = ReadsFirst pass (Err stopped) × GivesToFault pass empty_map none_used stopped
 
 abbrev pub TakesLines : {F : Type 0} → Pass F → FirstState → Result (Unit {0}) AsmFault → Type 0
 TakesLines pass first (Ok done) = FirstTaken pass first

@@ -10,7 +10,7 @@ use Rattle.m11_lines.specs.declared.fault.LineFault.{LineFault}
 use Rattle.m11_passes.specs.Lines.{Numbered, PassLines, givens}
 use Rattle.m11_passes.specs.Reaching.{Exceeds}
 use Rattle.m11_placement.specs.Meanings.{Map, empty_map}
-use Rattle.m11_placing.specs.Counting.{none_mentioned}
+use Rattle.m11_placing.specs.Counting.{none_used}
 use Rattle.m11_placing.specs.declared.counting.Counting.{Counting}
 use Rattle.m11_placing.specs.declared.counting.Counting.TheVariants.{Definitions}
 use Rattle.m11_readings.specs.Readings.{Reading}
@@ -52,14 +52,14 @@ pub data Outcome : Type 0 where
 -- the outcome of two readings. Those of one source are the same
 pub data HasOutcome (first second : Reading) : Outcome → Type 0 where
   -- a refusal of the first one has written nothing
-  FirstRefuses : (lines : List Numbered) (fault : AsmFault) → Refuses empty_map none_mentioned first lines fault
+  FirstRefuses : (lines : List Numbered) (fault : AsmFault) → Refuses empty_map none_used first lines fault
       → HasOutcome first second (Refused fault [])
   -- one of the second one has written what the live lines before it write
   SecondRefuses : (lines : List Numbered) (ended : Ended) (program : Program) (others : List Numbered) (fault : AsmFault)
-      → Ends empty_map none_mentioned first lines ended → program ≡ program_of (givens lines)
+      → Ends empty_map none_used first lines ended → program ≡ program_of (givens lines)
       → Refuses program.map Definitions second others fault
       → HasOutcome first second (Refused fault (written program others))
   Assembles : (lines : List Numbered) (ended : Ended) (program : Program) (others : List Numbered) (end : Ended)
-      → Ends empty_map none_mentioned first lines ended → program ≡ program_of (givens lines)
+      → Ends empty_map none_used first lines ended → program ≡ program_of (givens lines)
       → Ends program.map Definitions second others end
       → HasOutcome first second (Assembled (program_writes program others end) (flagged_count program others end.has_end))

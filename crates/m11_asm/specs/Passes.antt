@@ -8,7 +8,7 @@ use Rattle.m11_base.specs.Feed.{NoneFailed, Text}
 use Rattle.m11_lines.specs.Line.{SourceLine}
 use Rattle.m11_passes.specs.Lines.{Numbered, PassLines}
 use Rattle.m11_placement.specs.Meanings.{empty_map}
-use Rattle.m11_placing.specs.Counting.{none_mentioned}
+use Rattle.m11_placing.specs.Counting.{none_used}
 use Rattle.m11_placing.specs.declared.counting.Counting.TheVariants.{Definitions}
 use Rattle.m11_readings.specs.Calls.{FailReading, HaveReading}
 use Rattle.m11_readings.specs.Readings.{Reading}
@@ -40,13 +40,13 @@ ReadsTill pass lines = FailReading pass.text pass.faults pass.old pass.new (reco
 
 -- the live lines of the source; or the source is refused; or a feed failed, and what had come till then isn't; or memory was refused
 abbrev pub ReadsFirst : {F : Type 0} → Pass F → Result (List Numbered) AsmFault → Type 0
-ReadsFirst pass (Ok lines) = (reading : Reading) × Reads pass reading × (ended : Ended) × Ends empty_map none_mentioned reading lines ended
+ReadsFirst pass (Ok lines) = (reading : Reading) × Reads pass reading × (ended : Ended) × Ends empty_map none_used reading lines ended
 ReadsFirst pass (Err fault.Read) =
-    (source : List SourceLine) × ReadsTill pass source × (lines : List Numbered) × Unended empty_map none_mentioned source lines
+    (source : List SourceLine) × ReadsTill pass source × (lines : List Numbered) × Unended empty_map none_used source lines
 ReadsFirst pass (Err fault.NoMemory) = NoneFailed pass.faults pass.old pass.new
 ReadsFirst pass (Err (fault.Write output)) = ⊥
 ReadsFirst pass (Err stopped) =
-    (reading : Reading) × Reads pass reading × (lines : List Numbered) × Refuses empty_map none_mentioned reading lines stopped
+    (reading : Reading) × Reads pass reading × (lines : List Numbered) × Refuses empty_map none_used reading lines stopped
 
 -- ---- the second pass
 

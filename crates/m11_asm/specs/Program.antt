@@ -14,8 +14,8 @@ use Rattle.m11_placement.specs.Meanings.{Map, empty_map, map_of}
 use Rattle.m11_placement.specs.Placements.{program_map, table_after}
 use Rattle.m11_placement.specs.Places.{size_in}
 use Rattle.m11_placement.specs.Tables.{first_table}
-use Rattle.m11_placing.specs.Counting.{gathered_in, none_mentioned}
-use Rattle.m11_placing.specs.Mentioned.{Gathered}
+use Rattle.m11_placing.specs.Counting.{gathered_in, none_used}
+use Rattle.m11_placing.specs.UsedSymbols.{Gathered}
 use Rattle.m11_placing.specs.Passes.{Kept}
 use Rattle.m11_symbols.specs.Sections.{section_entries}
 use Rattle.m11_symbols.specs.Symbols.{symbol_entries}
@@ -25,7 +25,7 @@ use Rattle.m11_values.specs.Quantities.{Quantity}
 pub record Program : Type 0 where
   -- what its lines give their names in the end, and which names they mention
   pub map : Map
-  pub mentioned : Gathered
+  pub used_symbols : Gathered
   -- the rows of its directory
   pub rows : List DirectoryRow
   -- the names and the sections of its symbol table
@@ -36,19 +36,19 @@ pub record Program : Type 0 where
 
 -- the names that stand in its symbol table
 abbrev pub all_names : Gathered → List Name
-all_names mentioned = mentioned.names ++ mentioned.registers
+all_names used_symbols = used_symbols.names ++ used_symbols.registers
 
 -- ---- of the lines that became live in the first pass
 
 -- the names that they mention
-abbrev pub mentioned_in : List Given → Gathered
-mentioned_in lines = gathered_in (counting_after empty_map first_table lines none_mentioned)
+abbrev pub used_in : List Given → Gathered
+used_in lines = gathered_in (counting_after empty_map first_table lines none_used)
 
 abbrev pub directory_facts_of : List Given → DirectoryFacts
 directory_facts_of lines = record {
   table = table_after empty_map lines;
   size_of = λ number. size_in number (table_after empty_map lines).moves;
-  referred = (mentioned_in lines).referred;
+  referred = (used_in lines).referred;
   weak = (facts_of lines).weak;
   title = (facts_of lines).title;
   identification = (facts_of lines).identification;
@@ -58,9 +58,9 @@ directory_facts_of lines = record {
 abbrev pub program_of : List Given → Program
 program_of lines = record {
   map = program_map lines;
-  mentioned = mentioned_in lines;
+  used_symbols = used_in lines;
   rows = directory_rows (directory_facts_of lines);
-  symbols = symbol_entries (directory_facts_of lines) (all_names (mentioned_in lines));
+  symbols = symbol_entries (directory_facts_of lines) (all_names (used_in lines));
   sections = section_entries (directory_facts_of lines);
   transfer = (facts_of lines).transfer;
 }
@@ -81,7 +81,7 @@ directory_facts_in kept gathered facts = record {
 unfoldable pub program_kept : Kept → Gathered → Facts → Program
 program_kept kept gathered facts = record {
   map = map_of kept.table;
-  mentioned = gathered;
+  used_symbols = gathered;
   rows = directory_rows (directory_facts_in kept gathered facts);
   symbols = symbol_entries (directory_facts_in kept gathered facts) (all_names gathered);
   sections = section_entries (directory_facts_in kept gathered facts);

@@ -8,7 +8,7 @@ use Rattle.m11_values.specs.Quantities.{Quantity}
 use Rattle.m11_asm_outputs.specs.Object.{AllFit, IsOpenAfter, closed_records, head_contents}
 use Rattle.m11_passes.specs.Lines.{Numbered}
 use Rattle.m11_asm.specs.Program.{Program}
-use Rattle.m11_asm.specs.Written.{flagged_in, is_flagged, letter_E, pieces_in}
+use Rattle.m11_asm.specs.Written.{flagged_in, is_flagged, flag_E, pieces_in}
 
 -- the rows, the value and the entries of the symbol table that the first pass found, the text that is open, whether the head is written,
 -- and the count of flagged lines
@@ -32,11 +32,11 @@ abbrev pub most_counted : ℕ
 most_counted = 4294967295
 
 abbrev pub counted : ℕ → ℕ → ℕ
-counted letters count = if is_flagged letters then min (count + 1) most_counted else count
+counted flags count = if is_flagged flags then min (count + 1) most_counted else count
 
 -- the line that is added where there is no `.END` is flagged
 abbrev pub counted_last : Bool → ℕ → ℕ
-counted_last has_end count = if has_end then count else counted letter_E count
+counted_last has_end count = if has_end then count else counted flag_E count
 
 abbrev pub is_some_line : List Numbered → Bool
 is_some_line [] = false

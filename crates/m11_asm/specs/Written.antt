@@ -13,9 +13,9 @@ use Rattle.m11_listing.specs.declared.symbol_table.SectionEntry.{SectionEntry}
 use Rattle.m11_listing.specs.declared.symbol_table.SymbolEntry.{SymbolEntry}
 use Rattle.m11_obj.specs.Records.{EndOfModule}
 use Rattle.m11_object_text.specs.declared.pieces.Piece.{Piece}
-use Rattle.m11_scan.specs.Letters.{letters_text}
+use Rattle.m11_scan.specs.ErrorFlags.{flags_text}
 use Rattle.m11_unfolding.specs.Unfolding.{Given}
-use Rattle.m11_placement.specs.Exports.{transfer_letters}
+use Rattle.m11_placement.specs.Exports.{transfer_flags}
 use Rattle.m11_placement.specs.Lines.{pieces}
 use Rattle.m11_placement.specs.Meanings.{Map}
 use Rattle.m11_placement.specs.Placements.{Placed, placement}
@@ -24,27 +24,27 @@ use Rattle.m11_placement.specs.Tables.{Table, place}
 use Rattle.m11_asm_outputs.specs.Object.{content_writes, head_contents, last_records, records_closed_by}
 use Rattle.m11_asm_outputs.specs.Outputs.{Write, flushes, to_messages}
 use Rattle.m11_passes.specs.Lines.{Numbered, givens, table_at}
-use Rattle.m11_passes.specs.Placed.{all_letters}
+use Rattle.m11_passes.specs.Placed.{all_flags}
 use Rattle.m11_asm.specs.Program.{Program}
 
 -- ---- messages
 
--- the letters that a line reports: its own, and at `.END` those of the expression that names decide, as the first pass found them
-abbrev pub reported_letters : Program → Table → Given → ℕ
-reported_letters program table given =
-    bit_or (all_letters program.map table given) (end_in (transfer_letters program.transfer) (directed given))
+-- the flags that a line reports: its own, and at `.END` those of the expression that names decide, as the first pass found them
+abbrev pub reported_flags : Program → Table → Given → ℕ
+reported_flags program table given =
+    bit_or (all_flags program.map table given) (end_in (transfer_flags program.transfer) (directed given))
 
--- the set of the letter E
-abbrev pub letter_E : ℕ
-letter_E = 0o10
+-- the set of the flag E
+abbrev pub flag_E : ℕ
+flag_E = 0o10
 
 abbrev pub is_flagged : ℕ → Bool
-is_flagged letters = not (letters == 0)
+is_flagged flags = not (flags == 0)
 
 -- a flagged line is reported
 abbrev pub message_writes : ℕ → ℕ → Bytes → List Write
-message_writes letters number text =
-    if is_flagged letters then to_messages (message_line (letters_text letters) number text) ∷ [] else []
+message_writes flags number text =
+    if is_flagged flags then to_messages (message_line (flags_text flags) number text) ∷ [] else []
 
 -- ---- pieces
 
@@ -62,16 +62,16 @@ abbrev pub head_before : Program → List Numbered → List Write
 head_before program [] = content_writes (head_contents program.rows)
 head_before program (line ∷ lines) = []
 
--- the letters of a line
-abbrev pub letters_at : Program → List Numbered → Numbered → ℕ
-letters_at program before line = reported_letters program (table_at program.map before) line.given
+-- the flags of a line
+abbrev pub flags_at : Program → List Numbered → Numbered → ℕ
+flags_at program before line = reported_flags program (table_at program.map before) line.given
 
 -- the texts that its pieces close, then its lines in the listing, and then its message
 unfoldable pub line_writes : Program → List Numbered → Numbered → List Write
 line_writes program before line =
     content_writes (records_closed_by (pieces_in program.map before) (pieces program.map (table_at program.map before) line.given))
-    ++ (listing_writes program.map (table_at program.map before) (letters_at program before line) line.number line.given
-    ++ message_writes (letters_at program before line) line.number line.given.live.line.text)
+    ++ (listing_writes program.map (table_at program.map before) (flags_at program before line) line.number line.given
+    ++ message_writes (flags_at program before line) line.number line.given.live.line.text)
 
 abbrev pub written_after : Program → List Numbered → List Numbered → List Write
 written_after program before [] = []
@@ -82,14 +82,14 @@ written_after program before (line ∷ lines) =
 unfoldable pub written : Program → List Numbered → List Write
 written program lines = written_after program [] lines
 
--- the letters of some lines
-abbrev pub letters_after : Program → List Numbered → List Numbered → List ℕ
-letters_after program before [] = []
-letters_after program before (line ∷ lines) = letters_at program before line ∷ letters_after program (before ++ line ∷ []) lines
+-- the flags of some lines
+abbrev pub flags_after : Program → List Numbered → List Numbered → List ℕ
+flags_after program before [] = []
+flags_after program before (line ∷ lines) = flags_at program before line ∷ flags_after program (before ++ line ∷ []) lines
 
 -- how many of them are flagged
 unfoldable pub flagged_in : Program → List Numbered → ℕ
-flagged_in program lines = count_by is_flagged (letters_after program [] lines)
+flagged_in program lines = count_by is_flagged (flags_after program [] lines)
 
 -- ---- the end
 
@@ -102,13 +102,13 @@ pub record Ended : Type 0 where
 abbrev pub flagged_count : Program → List Numbered → Bool → ℕ
 flagged_count program lines has_end = flagged_in program lines + (if has_end then 0 else 1)
 
--- an empty line with letters: a line of the listing, with the counter, and a message
+-- an empty line with flags: a line of the listing, with the counter, and a message
 abbrev pub added_to_both : ℕ → ℕ → ℕ → List Write
-added_to_both letters read counter = all_to_listing (added_lines letters read counter) ++ message_writes letters read []
+added_to_both flags read counter = all_to_listing (added_lines flags read counter) ++ message_writes flags read []
 
 -- where there is no `.END`, an empty line is added, which is flagged E
 abbrev pub added_writes : Ended → ℕ → List Write
-added_writes ended counter = if ended.has_end then [] else added_to_both letter_E ended.read counter
+added_writes ended counter = if ended.has_end then [] else added_to_both flag_E ended.read counter
 
 -- the last text and the end of the module; the symbol table; a flush of object and listing, which have then got all; the count of flagged
 -- lines

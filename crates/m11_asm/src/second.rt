@@ -61,11 +61,11 @@ impl Second {
         ensures { IfOk result (λ second. (first now : Outputs) → Gains first now []
             → SecondStands (program_in symbols) [] first now second) }
     {
-        let (first, mentioned, facts) = symbols.into_parts();
-        let begun = Writing::new(alloc, &first, &mentioned, &facts);
+        let (first, used_symbols, facts) = symbols.into_parts();
+        let begun = Writing::new(alloc, &first, &used_symbols, &facts);
         // what isn't kept goes by calls, which are proved far sooner
         drop(facts);
-        drop(mentioned);
+        drop(used_symbols);
         match begun {
             Ok(writing) => match SourcePass::new(alloc, Counting::Definitions) {
                 Ok(pass) => Ok(Second {

@@ -17,7 +17,7 @@ ghost use Rattle.m11_placement.specs.Exports as exports;
 ghost use Rattle.m11_placement.specs.Meanings.{Map};
 ghost use Rattle.m11_placement.specs.Sources.{directed_in, end_in};
 ghost use Rattle.m11_placement.specs.Tables.{Table};
-ghost use Rattle.m11_placing.specs.Deeds.{deed_seen};
+ghost use Rattle.m11_placing.specs.Actions.{action_seen};
 ghost use Rattle.m11_scan.specs.Views.{bits_of};
 ghost use Rattle.m11_asm.specs.Program.{Program, program_kept, directory_facts_in};
 ghost use Rattle.m11_asm.specs.Writing.{WritingStands, begun, counted, counted_last, most_counted, opened};
@@ -38,11 +38,11 @@ use m11_first::Facts;
 use m11_listed::{put_listed, put_placed, put_symbol_table};
 use m11_listing::{Item, SectionEntry, SymbolEntry};
 use m11_object_text::{DirectoryRow, OpenText, PieceContent};
-use m11_operators::transfer_letters;
+use m11_operators::transfer_flags;
 use m11_passes::PlacedLine;
 use m11_placement::{Directive, Operator};
-use m11_placing::{Deed, Mentioned, Pass};
-use m11_scan::Letters;
+use m11_placing::{Action, Pass, UsedSymbols};
+use m11_scan::ErrorFlags;
 use m11_symbols::{section_entries, symbol_entries};
 use m11_values::Value;
 use std::alloc::{AllocError, Global};
@@ -91,17 +91,22 @@ impl Writing {
     pub fn new(
         alloc: Global,
         first: &Pass,
-        mentioned: &Mentioned,
+        used_symbols: &UsedSymbols,
         facts: &Facts,
     ) -> Result<Writing, AllocError>
-        ensures { IfOk result (λ writing. WritingStands (program_kept first.now mentioned.now facts.now) [] writing) }
+        ensures { IfOk result (λ writing. WritingStands (program_kept first.now used_symbols.now facts.now) [] writing) }
     {
-        let first_pass = first_pass_of(first, mentioned, facts);
+        let first_pass = first_pass_of(first, used_symbols, facts);
         Ok(Writing {
             alloc,
             rows: directory_rows(alloc, &first_pass)?,
             transfer: facts.transfer(),
-            symbols: symbol_entries(alloc, &first_pass, mentioned.names(), mentioned.registers())?,
+            symbols: symbol_entries(
+                alloc,
+                &first_pass,
+                used_symbols.names(),
+                used_symbols.registers(),
+            )?,
             sections: section_entries(alloc, &first_pass)?,
             items: Vec::new(alloc),
             text: open_text(),
@@ -135,11 +140,9 @@ impl Writing {
     {
         self.begin(object)?;
         self.put_pieces(line, contents, object)?;
-        let letters = line
-            .letters
-            .with(end_letters(&line.live.deed, self.transfer));
-        self.list(line, letters, number, contents, listing)?;
-        self.report(letters, number, line.live.line.text(), messages)
+        let flags = line.flags.with(end_flags(&line.live.action, self.transfer));
+        self.list(line, flags, number, contents, listing)?;
+        self.report(flags, number, line.live.line.text(), messages)
     }
 
     // The head of the object, where it isn't written.
@@ -193,7 +196,7 @@ impl Writing {
     fn list<T: Sink>(
         &mut self,
         line: &PlacedLine,
-        letters: Letters,
+        flags: ErrorFlags,
         number: u16,
         contents: &[PieceContent],
         listing: &mut Option<T>,
@@ -202,10 +205,10 @@ impl Writing {
             → IsPlaced map table given line.now put → put.contents ≡ contents.now → Writes
             (outputs object (optional_output T.Sink listing.old) messages)
             (outputs object (optional_output T.Sink listing.new) messages)
-            (listing_writes map table (bits_of letters) number given) result }
+            (listing_writes map table (bits_of flags) number given) result }
         ensures keeps { self.new ≡ self.old }
     {
-        put_placed(&mut self.items, line, letters, number, contents, listing)
+        put_placed(&mut self.items, line, flags, number, contents, listing)
     }
 
     // A flagged line is reported.
@@ -213,7 +216,7 @@ impl Writing {
     #[inline(always)]
     fn report<U: Sink>(
         &mut self,
-        letters: Letters,
+        flags: ErrorFlags,
         number: u16,
         text: &[u8],
         messages: &mut U,
@@ -222,14 +225,14 @@ impl Writing {
         ensures writes { (object listing : Output) → Writes
             (outputs object listing (output_of U.Sink messages.old))
             (outputs object listing (output_of U.Sink messages.new))
-            (message_writes (bits_of letters) number text.now) result }
+            (message_writes (bits_of flags) number text.now) result }
         ensures counts { IfOk result (λ _. self.new
-            ≡ record self.old { flagged = counted (bits_of letters) self.old.flagged }) }
+            ≡ record self.old { flagged = counted (bits_of flags) self.old.flagged }) }
     {
-        if letters.is_empty() {
+        if flags.is_empty() {
             return Ok(());
         }
-        put_flagged(messages, letters, number, text)?;
+        put_flagged(messages, flags, number, text)?;
         self.flagged = self.flagged.saturating_add(1);
         Ok(())
     }
@@ -283,8 +286,8 @@ impl Writing {
         if has_ended {
             return Ok(());
         }
-        put_listed(listing, Letters::E, read, place, place, &[], &[])?;
-        self.report(Letters::E, read, &[], messages)
+        put_listed(listing, ErrorFlags::E, read, place, place, &[], &[])?;
+        self.report(ErrorFlags::E, read, &[], messages)
     }
 
     // The last text and the end of the module, the symbol table, the flush, and the count.
@@ -332,14 +335,18 @@ fn flush_and_count<S: Sink, T: Sink, U: Sink>(
 }
 
 // What a first pass found of the directory and of the symbol table.
-fn first_pass_of<'a>(first: &'a Pass, mentioned: &'a Mentioned, facts: &'a Facts) -> FirstPass<'a>
+fn first_pass_of<'a>(
+    first: &'a Pass,
+    used_symbols: &'a UsedSymbols,
+    facts: &'a Facts,
+) -> FirstPass<'a>
     ensures table { result.table.now ≡ first.now.table }
-    ensures facts { directory_facts result ≡ directory_facts_in first.now mentioned.now facts.now }
+    ensures facts { directory_facts result ≡ directory_facts_in first.now used_symbols.now facts.now }
 {
     FirstPass {
         table: first.table(),
         sizes: first.sizes(),
-        referred: mentioned.referred(),
+        referred: used_symbols.referred(),
         weak: facts.weak(),
         title: facts.title(),
         identification: facts.identification(),
@@ -347,13 +354,13 @@ fn first_pass_of<'a>(first: &'a Pass, mentioned: &'a Mentioned, facts: &'a Facts
     }
 }
 
-// At a `.END` the letters of its expression that names decide, as the first pass found them.
-fn end_letters(deed: &Deed, transfer: Option<Value>) -> Letters
+// At a `.END` the flags of its expression that names decide, as the first pass found them.
+fn end_flags(action: &Action, transfer: Option<Value>) -> ErrorFlags
     ensures { bits_of result
-        ≡ end_in (exports.transfer_letters (option_map quantity transfer)) (directed_in (deed_seen deed.now)) }
+        ≡ end_in (exports.transfer_flags (option_map quantity transfer)) (directed_in (action_seen action.now)) }
 {
-    match *deed {
-        Deed::Operates(Operator::Directs(Directive::End), _) => transfer_letters(transfer),
-        _ => Letters::none(),
+    match *action {
+        Action::Operate(Operator::Directive(Directive::End), _) => transfer_flags(transfer),
+        _ => ErrorFlags::none(),
     }
 }

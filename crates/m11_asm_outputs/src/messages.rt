@@ -2,7 +2,7 @@
 
 ghost use Rattle.std.specs.Prelude.{◌≤◌, ◌≢◌, [], ◌∷◌, length, IfErr};
 ghost use Rattle.m11_listing.specs.Messages.{count_line, message_line};
-ghost use Rattle.m11_scan.specs.Letters.{letters_text};
+ghost use Rattle.m11_scan.specs.ErrorFlags.{flags_text};
 ghost use Rattle.m11_scan.specs.Views.{bits_of};
 ghost use Rattle.m11_writes.specs.Outputs.{Output, output_of};
 ghost use Rattle.m11_asm_outputs.specs.Outputs.{Writes, outputs, to_messages};
@@ -11,14 +11,14 @@ use crate::outputs::put_message;
 use m11_asm_faults::AsmFault;
 use m11_base::Sink;
 use m11_listing::{count_line, message_line};
-use m11_scan::Letters;
+use m11_scan::ErrorFlags;
 
-/// The message on a flagged line: its letters, its number and its text, which has at most 132 bytes.
+/// The message on a flagged line: its flags, its number and its text, which has at most 132 bytes.
 ///
 /// Fault: `Write` of the messages.
 pub fn put_flagged<U: Sink>(
     messages: &mut U,
-    letters: Letters,
+    flags: ErrorFlags,
     number: u16,
     text: &[u8],
 ) -> Result<(), AsmFault>
@@ -26,10 +26,10 @@ pub fn put_flagged<U: Sink>(
     ensures writes { (object listing : Output) → Writes
         (outputs object listing (output_of U.Sink messages.old))
         (outputs object listing (output_of U.Sink messages.new))
-        (to_messages (message_line (letters_text (bits_of letters)) number text.now) ∷ []) result }
+        (to_messages (message_line (flags_text (bits_of flags)) number text.now) ∷ []) result }
     ensures no_memory { IfErr result (λ fault. fault ≢ AsmFault.NoMemory) }
 {
-    let line = message_line(letters.text().as_slice(), number, text);
+    let line = message_line(flags.text().as_slice(), number, text);
     put_message(messages, line.as_slice())
 }
 

@@ -12,7 +12,7 @@ use Rattle.m11_placement.specs.declared.definitions.Definition.{Definition}
 use Rattle.m11_placement.specs.declared.definitions.Key.{Key}
 use Rattle.m11_placement.specs.declared.definitions.Key.TheVariants.{Named, Numbered as Local}
 use Rattle.m11_placement.specs.declared.sections.Section.{Section}
-use Rattle.m11_placement.specs.Labels.{global_if, label_name, labelled, with_block, with_definition, with_doubled, with_kind, with_label, with_labels}
+use Rattle.m11_placement.specs.Labels.{global_if, label_name, labelled, with_block, with_definition, with_doubly_defined, with_kind, with_label, with_labels}
 use Rattle.m11_placement.specs.Lines.{after_line, line_change, stands}
 use Rattle.m11_placement.specs.Meanings.{Map, empty_map}
 use Rattle.m11_placement.specs.Placements.{after_lines, table_after}
@@ -37,14 +37,14 @@ global_keeps true name table = refl
 global_keeps false name table = refl
 
 either_keeps : (known : Bool) (key : Key) (definition : Definition) (table : Table)
-    → (if known then with_doubled key table else with_definition definition table).sections ≡ table.sections
+    → (if known then with_doubly_defined key table else with_definition definition table).sections ≡ table.sections
 either_keeps true key definition table = refl
 either_keeps false key definition table = refl
 
 -- ---- labels
 
 name_keeps : (known is_global : Bool) (name : Name) (table : Table)
-    → (if known then with_doubled (Named name) table
+    → (if known then with_doubly_defined (Named name) table
     else global_if is_global name (with_block (with_definition (labelled table (Named name)) table))).sections ≡ table.sections
 name_keeps true is_global name table = refl
 name_keeps false is_global name table = global_keeps is_global name (with_block (with_definition (labelled table (Named name)) table))
@@ -55,8 +55,8 @@ kind_keeps table None label.Ordinary = refl
 kind_keeps table (Some name) label.Global = name_keeps (is_defined (Named name) table.definitions) true name table
 kind_keeps table None label.Global = refl
 kind_keeps table name (label.Local number) =
-    either_keeps (is_defined (Local table.settings.block number) table.definitions) (Local table.settings.block number)
-    (labelled table (Local table.settings.block number)) table
+    either_keeps (is_defined (Local table.modes.block number) table.definitions) (Local table.modes.block number)
+    (labelled table (Local table.modes.block number)) table
 kind_keeps table name label.Outside = refl
 
 labels_keep : (line : Bytes) (table : Table) (labels : List Label) → (with_labels line table labels).sections ≡ table.sections
@@ -88,7 +88,7 @@ change_begins map line (change.Numbers name number) table b =
     begins_as (changed map line (change.Numbers name number) table).sections table.sections
     (either_keeps (is_labelled (Named name) table.definitions) (Named name) (numbered name number) table) b
 change_begins map line (change.Exports start) table b = b
-change_begins map line (change.Sets settings) table b = b
+change_begins map line (change.Sets modes) table b = b
 
 -- ---- lines
 

@@ -10,7 +10,7 @@ use Rattle.m11_passes.specs.Lines.{Numbered, givens}
 use Rattle.m11_placement.specs.Alignment.{gap}
 use Rattle.m11_placement.specs.Contents.{content_size, further, pieces_from}
 use Rattle.m11_placement.specs.Lines as lines
-use Rattle.m11_placement.specs.Lines.{Deed, after_line, deed, line_put, pieces, put_place, stands}
+use Rattle.m11_placement.specs.Lines.{Action, after_line, action, line_put, pieces, put_place, stands}
 use Rattle.m11_placement.specs.Meanings.{Map}
 use Rattle.m11_placement.specs.Operators.{is_even}
 use Rattle.m11_placement.specs.Placements.{placed_from}
@@ -28,19 +28,19 @@ from_word section start (content ∷ contents) low =
     (low, from_word section (further start (content_size content)) contents (word (start + content_size content)))
 
 place_is_word : (table : Table) → place table < 65536
-place_is_word table = word (last_set (moves_in table.settings.section table.moves) + sizes_since (moves_in table.settings.section table.moves))
+place_is_word table = word (last_set (moves_in table.modes.section table.moves) + sizes_since (moves_in table.modes.section table.moves))
 
-put_at_word : (table : Table) (done : Deed) → put_place table done < 65536
-put_at_word table lines.Rests = place_is_word table
-put_at_word table (lines.Assigning name is_global start) = place_is_word table
-put_at_word table (lines.Setting start) = place_is_word table
-put_at_word table (lines.Operating operator start) = word (place table + gap (is_even operator) (place table))
+put_at_word : (table : Table) (done : Action) → put_place table done < 65536
+put_at_word table lines.NoAction = place_is_word table
+put_at_word table (lines.Assign name is_global start) = place_is_word table
+put_at_word table (lines.SetCounter start) = place_is_word table
+put_at_word table (lines.Operate operator start) = word (place table + gap (is_even operator) (place table))
 
 line_at_words : (map : Map) (table : Table) (given : Given) → AllByRecursion LiesAtWord (pieces map table given)
 line_at_words map table given =
     from_word (section_name (stands table given))
-    (put_place (stands table given) (deed given.is_own given.live.line.text)) (line_put map (stands table given) given).contents
-    (put_at_word (stands table given) (deed given.is_own given.live.line.text))
+    (put_place (stands table given) (action given.is_own given.live.line.text)) (line_put map (stands table given) given).contents
+    (put_at_word (stands table given) (action given.is_own given.live.line.text))
 
 both_at_words : (xs ys : List Piece) → AllByRecursion LiesAtWord xs → AllByRecursion LiesAtWord ys → AllByRecursion LiesAtWord (xs ++ ys)
 both_at_words [] ys first second = second

@@ -11,7 +11,7 @@ use Rattle.m11_outcome_laws.specs.Live.{AreRefused}
 use Rattle.m11_passes.specs.Lines.{Numbered, givens}
 use Rattle.m11_placement.specs.Meanings.{empty_map}
 use Rattle.m11_placement.specs.Placements.{program_map}
-use Rattle.m11_placing.specs.Counting.{none_mentioned}
+use Rattle.m11_placing.specs.Counting.{none_used}
 use Rattle.m11_readings.specs.Readings.{reading_of}
 
 -- what live lines give to a link: sections, names and `.END` of the first pass, and the pieces that they put under the program's map
@@ -28,7 +28,7 @@ sources_of all = map source_of all
 
 -- these are the live lines of some texts that are assembled together
 abbrev pub AreLive : List Bytes → List Numbered → Type 0
-AreLive texts lines = (ended : Ended) × Ends empty_map none_mentioned (reading_of texts) lines ended
+AreLive texts lines = (ended : Ended) × Ends empty_map none_used (reading_of texts) lines ended
 
 -- those of several assemblies, each with its texts
 abbrev pub AllLive : List (List Bytes) → List (List Numbered) → Type 0

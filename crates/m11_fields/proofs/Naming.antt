@@ -5,10 +5,10 @@ use Rattle.m11_placement.specs.Operators.{directive_or}
 use Rattle.m11_placement.specs.declared.operators.Directive.{Directive}
 use Rattle.m11_placement.specs.declared.operators.DirectiveRow.{DirectiveRow}
 use Rattle.m11_placement.specs.declared.operators.Operator.{Operator}
-use Rattle.m11_placement.specs.declared.operators.Operator.TheVariants.{Directs}
+use Rattle.m11_placement.specs.declared.operators.Operator.TheVariants as operators
 
 abbrev directed : Option Directive → Option Operator → Option Operator
-directed (Some directive) other = Some (Directs directive)
+directed (Some directive) other = Some (operators.Directive directive)
 directed None other = other
 
 by_row : (found : Option DirectiveRow) (other : Option Operator) → directed (directive_in found) other ≡ directive_or found other
@@ -16,5 +16,5 @@ by_row (Some row) other = refl
 by_row None other = refl
 
 pub directs : (found : Option DirectiveRow) (other : Option Operator) (directive : Directive)
-    → Some directive ≡ directive_in found → Some (Directs directive) ≡ directive_or found other
+    → Some directive ≡ directive_in found → Some (operators.Directive directive) ≡ directive_or found other
 directs found other directive is = ap (λ (d : Option Directive). directed d other) is ∙ by_row found other

@@ -4,7 +4,7 @@ use Rattle.m11_base.specs.Encoding.{has_double, has_single}
 use Rattle.m11_base.specs.declared.instruction.Op.{Op}
 use Rattle.m11_base.specs.declared.instruction.Op.TheVariants as op
 use Rattle.m11_placement.specs.declared.operators.Operator.{Operator}
-use Rattle.m11_placement.specs.declared.operators.Operator.TheVariants.{Instruction, Directs}
+use Rattle.m11_placement.specs.declared.operators.Operator.TheVariants as operators
 
 abbrev pub is_listed : Op → Bool
 is_listed (op.Double operation size) = has_double operation size
@@ -13,5 +13,5 @@ is_listed _ = true
 
 -- an instruction of a listed operation, or a directive
 abbrev pub has_listed_operation : Operator → Bool
-has_listed_operation (Instruction operation) = is_listed operation
-has_listed_operation (Directs directive) = true
+has_listed_operation (operators.Instruction operation) = is_listed operation
+has_listed_operation (operators.Directive directive) = true

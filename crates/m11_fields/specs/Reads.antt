@@ -16,17 +16,17 @@ use Rattle.m11_fields.specs.declared.fields.Places.TheVariants.{Zero, One, Two}
 use Rattle.m11_fields.specs.declared.operands.OperandRead.{OperandRead}
 
 abbrev pub read_seen : OperandRead → Read
-read_seen operand = record { form = operand.form; end = operand.end; letters = bits_of operand.letters }
+read_seen operand = record { form = operand.form; end = operand.end; flags = bits_of operand.flags }
 
 -- a `(` after a place, with no character skipped between them
 abbrev pub opens_after : Bytes → ℕ → Lexeme → Bool
 opens_after line place token = is_open token.sort && not (skipped_between line place token.start)
 
 abbrev pub field_seen : FieldRead → placed.FieldRead
-field_seen read = record { field = read.field; end = read.end; letters = bits_of read.letters }
+field_seen read = record { field = read.field; end = read.end; flags = bits_of read.flags }
 
 abbrev pub fields_seen : Fields → placed.Fields
-fields_seen fields = record { list = fields.list.items; end = fields.end; letters = bits_of fields.letters }
+fields_seen fields = record { list = fields.list.items; end = fields.end; flags = bits_of fields.flags }
 
 -- a field after which no other one stands
 abbrev pub alone : placed.FieldRead → placed.Fields

@@ -13,10 +13,10 @@ ghost use Rattle.m11_scan.specs.Views.{bits_of};
 
 use crate::operands::operand_at;
 use arrayvec::ArrayVec;
-use m11_arguments::{after_comma, extent_at, has_expression, place_in};
+use m11_arguments::{after_comma, expression_end_at, has_expression, place_in};
 use m11_base::Op;
 use m11_placement::{Field, FieldPlace, Form};
-use m11_scan::{Letters, Line, Token};
+use m11_scan::{ErrorFlags, Line, Token};
 use m11_values::Names;
 
 /// The fields of an instruction.
@@ -27,7 +27,7 @@ pub struct Fields {
     /// The place after them.
     pub end: u8,
     /// A for each operand, register or target that is missing, and for each missing `)`.
-    pub letters: Letters,
+    pub flags: ErrorFlags,
     /// The tokens of those that are one term.
     pub terms: FieldTerms,
 }
@@ -69,7 +69,7 @@ pub struct FieldRead {
     pub(crate) field: Field,
     // The place after it.
     pub(crate) end: u8,
-    pub(crate) letters: Letters,
+    pub(crate) flags: ErrorFlags,
     // Its token, where it is one term.
     pub(crate) term: Option<Token>,
 }
@@ -128,7 +128,7 @@ fn no_fields(line: &Line, place: usize) -> Fields
     Fields {
         list: ArrayVec::new(),
         end: place_in(line, place),
-        letters: Letters::none(),
+        flags: ErrorFlags::none(),
         terms: FieldTerms::none(),
     }
 }
@@ -144,7 +144,7 @@ fn one_field(field: FieldRead) -> Fields
     Fields {
         list,
         end: field.end,
-        letters: field.letters,
+        flags: field.flags,
         terms: FieldTerms {
             first: field.term,
             second: None,
@@ -165,7 +165,7 @@ fn two_fields(first: FieldRead, second: FieldRead) -> Fields
     Fields {
         list,
         end: second.end,
-        letters: first.letters.with(second.letters),
+        flags: first.flags.with(second.flags),
         terms: FieldTerms {
             first: first.term,
             second: second.term,
@@ -194,21 +194,21 @@ fn missing(place: FieldPlace, end: u8) -> FieldRead
     ensures term { result.term ≡ None }
 {
     match place {
-        FieldPlace::Operand => field_read(Field::Formed(Form::Absent), end, Letters::A),
-        FieldPlace::Register | FieldPlace::Target => field_read(Field::Missing, end, Letters::A),
-        FieldPlace::Number => field_read(Field::Missing, end, Letters::none()),
+        FieldPlace::Operand => field_read(Field::Formed(Form::Absent), end, ErrorFlags::A),
+        FieldPlace::Register | FieldPlace::Target => field_read(Field::Missing, end, ErrorFlags::A),
+        FieldPlace::Number => field_read(Field::Missing, end, ErrorFlags::none()),
     }
 }
 
-fn field_read(field: Field, end: u8, letters: Letters) -> FieldRead
-    ensures field { field_seen result ≡ spec.field_read field end (bits_of letters) }
+fn field_read(field: Field, end: u8, flags: ErrorFlags) -> FieldRead
+    ensures field { field_seen result ≡ spec.field_read field end (bits_of flags) }
     ensures end { result.end ≡ end }
     ensures term { result.term ≡ None }
 {
     FieldRead {
         field,
         end,
-        letters,
+        flags,
         term: None,
     }
 }
@@ -225,9 +225,9 @@ fn field_at<N: Names>(line: &Line, start: usize, place: FieldPlace, names: &N) -
     let begin = place_in(line, start);
     match place {
         FieldPlace::Operand => operand(line, start, names),
-        FieldPlace::Register => expression(line, begin, Field::Registered(begin), Letters::A),
-        FieldPlace::Target => expression(line, begin, Field::Targeted(begin), Letters::A),
-        FieldPlace::Number => expression(line, begin, Field::Numbered(begin), Letters::none()),
+        FieldPlace::Register => expression(line, begin, Field::Registered(begin), ErrorFlags::A),
+        FieldPlace::Target => expression(line, begin, Field::Targeted(begin), ErrorFlags::A),
+        FieldPlace::Number => expression(line, begin, Field::Numbered(begin), ErrorFlags::none()),
     }
 }
 
@@ -243,33 +243,33 @@ fn operand<N: Names>(line: &Line, start: usize, names: &N) -> FieldRead
     FieldRead {
         field: Field::Formed(operand.form),
         end: operand.end,
-        letters: operand.letters,
+        flags: operand.flags,
         term: operand.term,
     }
 }
 
-// A field that is an expression at a place, or with letters where none stands there.
-fn expression(line: &Line, start: u8, field: Field, letters: Letters) -> FieldRead
+// A field that is an expression at a place, or with flags where none stands there.
+fn expression(line: &Line, start: u8, field: Field, flags: ErrorFlags) -> FieldRead
     requires { start ≤ length line.now.text }
     ensures field { field_seen result
-        ≡ spec.expression_read field (bits_of letters) line.now.text start }
+        ≡ spec.expression_read field (bits_of flags) line.now.text start }
     ensures within { result.end ≤ length line.now.text }
     ensures same { IfSome result.term (λ _. result.field ≡ field) }
     ensures term { IfSome result.term (λ term. IsAlone line.now.text start term) }
 {
-    let extent = extent_at(line, usize::from(start));
-    if stands(line, start, extent.term) {
+    let expression_end = expression_end_at(line, usize::from(start));
+    if stands(line, start, expression_end.term) {
         FieldRead {
             field,
-            end: extent.end,
-            letters: Letters::none(),
-            term: extent.term,
+            end: expression_end.end,
+            flags: ErrorFlags::none(),
+            term: expression_end.term,
         }
     } else {
         FieldRead {
             field: Field::Missing,
             end: start,
-            letters,
+            flags,
             term: None,
         }
     }

@@ -9,15 +9,15 @@ ghost use Rattle.m11_fields.specs.Terms.{IsFormTerm};
 ghost use Rattle.m11_placement.specs.declared.operands.Form.TheVariants.{Absent, AfterCounter};
 ghost use Rattle.m11_placement.specs.Operands as spec;
 ghost use Rattle.m11_scan.specs.Cutting.{tokens_from};
-ghost use Rattle.m11_scan.specs.Ends.{expression_end};
-ghost use Rattle.m11_scan.specs.Letters.{letter_A};
+ghost use Rattle.m11_scan.specs.Ends as ends;
+ghost use Rattle.m11_scan.specs.ErrorFlags.{flag_A};
 ghost use Rattle.m11_scan.specs.Views.{lexeme};
 ghost use Rattle.m11_values.specs.Kinds.{is_register};
 
-use m11_arguments::{Extent, extent_at, extent_from, place_in, value_by};
+use m11_arguments::{ExpressionEnd, expression_end_at, expression_end_from, place_in, value_by};
 use m11_base::Mode;
 use m11_placement::Form;
-use m11_scan::{Letters, Line, Sort, Token, next_token, skipped_between};
+use m11_scan::{ErrorFlags, Line, Sort, Token, next_token, skipped_between};
 use m11_values::Names;
 
 /// An operand, as it stands in a line.
@@ -28,7 +28,7 @@ pub struct OperandRead {
     /// The place after it.
     pub end: u8,
     /// A where nothing stands there, or where a `)` is missing.
-    pub letters: Letters,
+    pub flags: ErrorFlags,
     /// The token of its expression, where it has one and this is found to be one term; of `X(R)` that of the register.
     pub term: Option<Token>,
 }
@@ -70,14 +70,14 @@ fn operand_by<N: Names>(line: &Line, start: usize, token: Token, names: &N) -> O
 // Nothing stands there.
 fn absent(line: &Line, start: usize) -> OperandRead
     requires { start ≤ length line.now.text }
-    ensures read { read_seen result ≡ spec.read Absent start letter_A }
+    ensures read { read_seen result ≡ spec.read Absent start flag_A }
     ensures within { result.end ≤ length line.now.text }
     ensures term { IfSome result.term (λ term. IsFormTerm line.now.text result.form term) }
 {
     OperandRead {
         form: Form::Absent,
         end: place_in(line, start),
-        letters: Letters::A,
+        flags: ErrorFlags::A,
         term: None,
     }
 }
@@ -92,7 +92,7 @@ fn deferred<N: Names>(line: &Line, start: usize, names: &N) -> OperandRead
 {
     match next_token(line, start) {
         Some(token) => begun_by(line, true, start, token, names),
-        None => reached(line, true, start, extent_at(line, start), names),
+        None => reached(line, true, start, expression_end_at(line, start), names),
     }
 }
 
@@ -126,16 +126,16 @@ fn begun_by<N: Names>(
 fn immediate(line: &Line, is_deferred: bool, start: u8) -> OperandRead
     requires { start ≤ length line.now.text }
     ensures read { read_seen result ≡ spec.read (AfterCounter (spec.autoincrement is_deferred) start)
-        (expression_end line.now.text start) 0 }
+        (ends.expression_end line.now.text start) 0 }
     ensures within { result.end ≤ length line.now.text }
     ensures term { IfSome result.term (λ term. IsFormTerm line.now.text result.form term) }
 {
-    let extent = extent_at(line, usize::from(start));
+    let expression_end = expression_end_at(line, usize::from(start));
     OperandRead {
         form: Form::AfterCounter(autoincrement(is_deferred), start),
-        end: extent.end,
-        letters: Letters::none(),
-        term: extent.term,
+        end: expression_end.end,
+        flags: ErrorFlags::none(),
+        term: expression_end.term,
     }
 }
 
@@ -193,8 +193,8 @@ fn expression<N: Names>(
     ensures within { result.end ≤ length line.now.text }
     ensures term { IfSome result.term (λ term. IsFormTerm line.now.text result.form term) }
 {
-    let extent = extent_from(line, start, token);
-    reached(line, is_deferred, start, extent, names)
+    let expression_end = expression_end_from(line, start, token);
+    reached(line, is_deferred, start, expression_end, names)
 }
 
 // An expression that reaches so far: before `(` it is an index. Inline for the same reason.
@@ -203,32 +203,32 @@ fn reached<N: Names>(
     line: &Line,
     is_deferred: bool,
     start: usize,
-    extent: Extent,
+    expression_end: ExpressionEnd,
     names: &N,
 ) -> OperandRead
     requires start { start ≤ length line.now.text }
-    requires end { extent.end ≡ expression_end line.now.text start }
-    requires next { MatchOption extent.next (tokens_from line.now.text extent.end ≡ [])
-        (λ token. tokens_from line.now.text extent.end ≡ lexeme line.now.text token ∷ tokens_from line.now.text token.end) }
-    requires term { IfSome extent.term (λ term. IsAlone line.now.text start term) }
-    requires within { extent.end ≤ length line.now.text }
-    requires next_within { IfSome extent.next (λ token. token.end ≤ length line.now.text) }
+    requires end { expression_end.end ≡ ends.expression_end line.now.text start }
+    requires next { MatchOption expression_end.next (tokens_from line.now.text expression_end.end ≡ [])
+        (λ token. tokens_from line.now.text expression_end.end ≡ lexeme line.now.text token ∷ tokens_from line.now.text token.end) }
+    requires term { IfSome expression_end.term (λ term. IsAlone line.now.text start term) }
+    requires within { expression_end.end ≤ length line.now.text }
+    requires next_within { IfSome expression_end.next (λ token. token.end ≤ length line.now.text) }
     ensures read { read_seen result ≡ spec.expression (known_by (N.base names.now) (N.stands_for names.now)) is_deferred
         line.now.text start }
     ensures within { result.end ≤ length line.now.text }
     ensures term { IfSome result.term (λ term. IsFormTerm line.now.text result.form term) }
 {
-    match extent.next {
+    match expression_end.next {
         Some(token) if is_open(token.sort) => closed(
             line,
             Form::Indexed(indexed(is_deferred), token.end, place_in(line, start)),
             token.end,
         ),
         _ => OperandRead {
-            form: plain(line, is_deferred, start, extent.term, names),
-            end: extent.end,
-            letters: Letters::none(),
-            term: extent.term,
+            form: plain(line, is_deferred, start, expression_end.term, names),
+            end: expression_end.end,
+            flags: ErrorFlags::none(),
+            term: expression_end.term,
         },
     }
 }
@@ -270,20 +270,20 @@ fn bracketed(line: &Line, is_deferred: bool, register: u8) -> OperandRead
     ensures within { result.end ≤ length line.now.text }
     ensures term { IfSome result.term (λ term. IsFormTerm line.now.text result.form term) }
 {
-    let extent = extent_at(line, usize::from(register));
-    match extent.next {
+    let expression_end = expression_end_at(line, usize::from(register));
+    match expression_end.next {
         Some(token) if is_close(token.sort) => stepped(
             line,
             is_deferred,
             register,
-            extent.term,
+            expression_end.term,
             token.end,
         ),
         _ => OperandRead {
             form: pointed(is_deferred, register),
-            end: extent.end,
-            letters: Letters::A,
-            term: extent.term,
+            end: expression_end.end,
+            flags: ErrorFlags::A,
+            term: expression_end.term,
         },
     }
 }
@@ -307,13 +307,13 @@ fn stepped(
         Some(token) if is_plus(token.sort) => OperandRead {
             form: Form::InRegister(autoincrement(is_deferred), register),
             end: token.end,
-            letters: Letters::none(),
+            flags: ErrorFlags::none(),
             term,
         },
         _ => OperandRead {
             form: pointed(is_deferred, register),
             end,
-            letters: Letters::none(),
+            flags: ErrorFlags::none(),
             term,
         },
     }
@@ -328,19 +328,19 @@ fn closed(line: &Line, form: Form, register: u8) -> OperandRead
     ensures within { result.end ≤ length line.now.text }
     ensures term { IfSome result.term (λ term. IsFormTerm line.now.text result.form term) }
 {
-    let extent = extent_at(line, usize::from(register));
-    match extent.next {
+    let expression_end = expression_end_at(line, usize::from(register));
+    match expression_end.next {
         Some(token) if is_close(token.sort) => OperandRead {
             form,
             end: token.end,
-            letters: Letters::none(),
-            term: extent.term,
+            flags: ErrorFlags::none(),
+            term: expression_end.term,
         },
         _ => OperandRead {
             form,
-            end: extent.end,
-            letters: Letters::A,
-            term: extent.term,
+            end: expression_end.end,
+            flags: ErrorFlags::A,
+            term: expression_end.term,
         },
     }
 }

@@ -23,32 +23,32 @@ macro_rules! row {
 
 // The directives, each with its name of six characters.
 const DIRECTIVES: [DirectiveRow; 27] = [
-    row!(b".WORD ", Directive::Words),
-    row!(b".BYTE ", Directive::Bytewise),
+    row!(b".WORD ", Directive::Word),
+    row!(b".BYTE ", Directive::Byte),
     row!(b".ASCII", Directive::Ascii),
     row!(b".ASCIZ", Directive::Asciz),
     row!(b".RAD50", Directive::Rad50),
-    row!(b".BLKB ", Directive::ByteBlock),
-    row!(b".BLKW ", Directive::WordBlock),
+    row!(b".BLKB ", Directive::Blkb),
+    row!(b".BLKW ", Directive::Blkw),
     row!(b".EVEN ", Directive::Even),
     row!(b".ODD  ", Directive::Odd),
     row!(b".LIMIT", Directive::Limit),
-    row!(b".RADIX", Directive::InRadix),
-    row!(b".ASECT", Directive::AbsoluteSection),
-    row!(b".CSECT", Directive::ControlSection),
-    row!(b".PSECT", Directive::ProgramSection),
-    row!(b".GLOBL", Directive::Global),
+    row!(b".RADIX", Directive::Radix),
+    row!(b".ASECT", Directive::Asect),
+    row!(b".CSECT", Directive::Csect),
+    row!(b".PSECT", Directive::Psect),
+    row!(b".GLOBL", Directive::Globl),
     row!(b".WEAK ", Directive::Weak),
     row!(b".TITLE", Directive::Title),
-    row!(b".IDENT", Directive::Identification),
-    row!(b".SBTTL", Directive::Subtitle),
+    row!(b".IDENT", Directive::Ident),
+    row!(b".SBTTL", Directive::Sbttl),
     row!(b".PAGE ", Directive::Page),
-    row!(b".LIST ", Directive::Lists),
-    row!(b".NLIST", Directive::Unlists),
-    row!(b".ENABL", Directive::Enable),
-    row!(b".DSABL", Directive::Disable),
-    row!(b".NARG ", Directive::ArgumentCount),
-    row!(b".NCHR ", Directive::CharacterCount),
+    row!(b".LIST ", Directive::List),
+    row!(b".NLIST", Directive::Nlist),
+    row!(b".ENABL", Directive::Enabl),
+    row!(b".DSABL", Directive::Dsabl),
+    row!(b".NARG ", Directive::Narg),
+    row!(b".NCHR ", Directive::Nchr),
     row!(b".END  ", Directive::End),
 ];
 
@@ -65,7 +65,7 @@ fn find_operator(name: &[u8; 6]) -> Option<Operator>
     ensures { result ≡ spec.operator_named name.now }
 {
     match directive_of(name) {
-        Some(directive) => Some(Operator::Directs(directive)),
+        Some(directive) => Some(Operator::Directive(directive)),
         None => instruction_of(name),
     }
 }
@@ -101,7 +101,7 @@ pub fn is_even(operator: Operator) -> bool
 {
     match operator {
         Operator::Instruction(_) => true,
-        Operator::Directs(directive) => is_even_directive(directive),
+        Operator::Directive(directive) => is_even_directive(directive),
     }
 }
 
@@ -109,7 +109,7 @@ fn is_even_directive(directive: Directive) -> bool
     ensures { result ≡ spec.is_even_directive directive }
 {
     match directive {
-        Directive::Words | Directive::Rad50 | Directive::WordBlock | Directive::Limit => true,
+        Directive::Word | Directive::Rad50 | Directive::Blkw | Directive::Limit => true,
         _ => false,
     }
 }

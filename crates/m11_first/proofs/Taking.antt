@@ -13,7 +13,7 @@ use Rattle.m11_placement.specs.Lines.{after_line}
 use Rattle.m11_placement.specs.Meanings.{Map, empty_map}
 use Rattle.m11_placement.specs.Placements.{after_lines, table_after}
 use Rattle.m11_placement.specs.Tables.{Table, first_table}
-use Rattle.m11_placing.specs.Counting.{none_mentioned}
+use Rattle.m11_placing.specs.Counting.{none_used}
 use Rattle.m11_placing.specs.declared.counting.Counting.{Counting}
 use Rattle.m11_table.specs.Alike.{Alike}
 use Rattle.m11_passes.specs.Lines as lines
@@ -70,8 +70,8 @@ SomeTaken source going facts = (lines : List Numbered) × Taken source lines goi
 module _ (turn : TurnsSo) (source : List SourceLine) (old new : Going) (live : LiveLine) (facts : Facts) (some : SomeTaken source old facts)
   where
     module _ (came : Turn) (turned : Turns empty_map old new (live_in live) (SaysLive live) (Ok came)) where
-      reached : Reaches empty_map none_mentioned source some.0 new (live_in live) (SaysLive live) (Ok came)
-      reached = turn none_mentioned source some.0 old new live (Ok came) some.1.stands turned
+      reached : Reaches empty_map none_used source some.0 new (live_in live) (SaysLive live) (Ok came)
+      reached = turn none_used source some.0 old new live (Ok came) some.1.stands turned
 
       -- what is noted of a live line is what it says
       pub placed_more : came ≡ Line → (later : Facts) (table : Table) → table ≡ new.kept.table
@@ -79,8 +79,8 @@ module _ (turn : TurnsSo) (source : List SourceLine) (old new : Going) (live : L
           → Alike table (after_line empty_map before given) → later ≡ with_line before given facts)
           → SomeTaken source new later
       placed_more is later table table_is notes =
-          let P : Turn → Type 0 = λ t. Reaches empty_map none_mentioned source some.0 new (live_in live) (SaysLive live) (Ok t) in
-          let here : PlacesLine empty_map none_mentioned source some.0 new (live_in live) (SaysLive live) = subst P is reached in
+          let P : Turn → Type 0 = λ t. Reaches empty_map none_used source some.0 new (live_in live) (SaysLive live) (Ok t) in
+          let here : PlacesLine empty_map none_used source some.0 new (live_in live) (SaysLive live) = subst P is reached in
           let one = numbered (length source) (given_by (table_at empty_map some.0) (live_in live) here.stage) in
           let A : Table → Type 0 = λ t. Alike new.kept.table t in
           let B : Table → Type 0 = λ t. Alike t (after_line empty_map (table_at empty_map some.0) one.given) in (
@@ -96,14 +96,14 @@ module _ (turn : TurnsSo) (source : List SourceLine) (old new : Going) (live : L
 
       pub rests_all : came ≡ NeedLine → TakesAll source new facts false
       rests_all is =
-          let P : Turn → Type 0 = λ t. Reaches empty_map none_mentioned source some.0 new (live_in live) (SaysLive live) (Ok t) in
-          let here : Reaches empty_map none_mentioned source some.0 new (live_in live) (SaysLive live) (Ok NeedLine) = subst P is reached in
+          let P : Turn → Type 0 = λ t. Reaches empty_map none_used source some.0 new (live_in live) (SaysLive live) (Ok t) in
+          let here : Reaches empty_map none_used source some.0 new (live_in live) (SaysLive live) (Ok NeedLine) = subst P is reached in
           record { lines = some.0; taken = record { stands = here.0; facts_are = some.1.facts_are }; ended = sym here.2 }
 
       pub ends_all : came ≡ End → TakesAll source new facts true
       ends_all is =
-          let P : Turn → Type 0 = λ t. Reaches empty_map none_mentioned source some.0 new (live_in live) (SaysLive live) (Ok t) in
-          let here : Reaches empty_map none_mentioned source some.0 new (live_in live) (SaysLive live) (Ok End) = subst P is reached in
+          let P : Turn → Type 0 = λ t. Reaches empty_map none_used source some.0 new (live_in live) (SaysLive live) (Ok t) in
+          let here : Reaches empty_map none_used source some.0 new (live_in live) (SaysLive live) (Ok End) = subst P is reached in
           record { lines = some.0; taken = record { stands = here.0; facts_are = some.1.facts_are }; ended = sym here.1 }
 
     -- a fault of the pass, which is handed on
@@ -111,16 +111,16 @@ module _ (turn : TurnsSo) (source : List SourceLine) (old new : Going) (live : L
         → IsErrAnd result (λ f. f ≡ fault) → TakesLeft source new later result
     fails_all fault later (Ok ended) turned is = absurd is
     fails_all fault later (Err other) turned is =
-        let P : AsmFault → Type 0 = λ f. Refused empty_map none_mentioned source some.0 f in (
+        let P : AsmFault → Type 0 = λ f. Refused empty_map none_used source some.0 f in (
           some.0,
-          subst P (sym is) (turn none_mentioned source some.0 old new live (Err fault) some.1.stands turned),
+          subst P (sym is) (turn none_used source some.0 old new live (Err fault) some.1.stands turned),
         )
 
 -- ---- a line of the source
 
 -- before the first one
 pub begins : (going : Going) (counting : Counting) (facts : Facts) (fault : Option AsmFault)
-    → ((map : Map) → PassStands map counting [] [] going) → counting ≡ none_mentioned → going.unfolder.stage ≡ start []
+    → ((map : Map) → PassStands map counting [] [] going) → counting ≡ none_used → going.unfolder.stage ≡ start []
     → facts ≡ no_facts → fault ≡ None
     → FirstStands [] (record { going = going; facts = facts; read = 0; has_ended = false; fault = fault })
 begins going counting facts fault stands none first untold goes =
@@ -182,7 +182,7 @@ module _ (source : List SourceLine) (line : SourceLine) (pass : PassState) (fact
     left =
         let G : Going → Type 0 = λ g. Taken (source ++ line ∷ []) here.lines g facts in
         takes (source ++ line ∷ []) here.lines (subst G (sym (ap (λ (p : PassState). p.going) fed_is)) (record {
-          stands = feeds empty_map none_mentioned source here.lines line pass.going here.taken.stands (here.needs goes)
+          stands = feeds empty_map none_used source here.lines line pass.going here.taken.stands (here.needs goes)
               (sym here.ended ∙ goes);
           facts_are = here.taken.facts_are;
         }))

@@ -6,8 +6,8 @@ use Rattle.m11_asm_faults.specs.declared.fault.AsmFault.TheVariants.{TooMuchSour
 use Rattle.m11_lines.specs.Line.{SourceLine}
 use Rattle.m11_lines.specs.Lines.{most_lines}
 use Rattle.m11_placement.specs.Meanings.{empty_map}
-use Rattle.m11_placing.specs.Counting.{gathered_in, none_mentioned}
-use Rattle.m11_placing.specs.Mentioned.{Gathered}
+use Rattle.m11_placing.specs.Counting.{gathered_in, none_used}
+use Rattle.m11_placing.specs.UsedSymbols.{Gathered}
 use Rattle.m11_placing.specs.Passes.{Kept}
 use Rattle.m11_passes.specs.Lines.{Numbered, givens}
 use Rattle.m11_passes.specs.Reaching.{Refused}
@@ -30,7 +30,7 @@ pub record GoesOn (fault : Option AsmFault) (has_ended : Bool) (pass : PassState
 
 -- these are the live lines of a source, and what they say
 pub record Taken (source : List SourceLine) (lines : List Numbered) (going : Going) (facts : Facts) : Type 0 where
-  pub stands : PassStands empty_map none_mentioned source lines going
+  pub stands : PassStands empty_map none_used source lines going
   pub facts_are : facts ≡ facts_of (givens lines)
 
 -- all that follows from lines of the source is done
@@ -53,7 +53,7 @@ IsFull state = (state.has_ended ≡ false) × (state.read ≡ most_lines)
 -- the source has a line too many, or it passes another limit with this line, or memory is refused
 abbrev pub FirstFails : List SourceLine → FirstState → AsmFault → Type 0
 FirstFails source old TooMuchSource = IsFull old
-FirstFails source old fault = HasRoom old × (lines : List Numbered) × Refused empty_map none_mentioned source lines fault
+FirstFails source old fault = HasRoom old × (lines : List Numbered) × Refused empty_map none_used source lines fault
 
 -- one more line of the source: after `.END` became live none is read
 abbrev pub FirstTakes : List SourceLine → SourceLine → FirstState → FirstState → Result (Unit {0}) AsmFault → Type 0
@@ -71,7 +71,7 @@ pub record TakesAll (source : List SourceLine) (new : Going) (facts : Facts) (ha
 
 abbrev pub TakesLeft : List SourceLine → Going → Facts → Result Bool AsmFault → Type 0
 TakesLeft source new facts (Ok has_ended) = TakesAll source new facts has_ended
-TakesLeft source new facts (Err fault) = (lines : List Numbered) × Refused empty_map none_mentioned source lines fault
+TakesLeft source new facts (Err fault) = (lines : List Numbered) × Refused empty_map none_used source lines fault
 
 -- ---- what the pass gives
 

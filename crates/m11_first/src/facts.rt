@@ -4,7 +4,7 @@
 ghost use Rattle.std.specs.Prelude.{◌≡◌, ◌≤◌, [], ◌∷◌, IfOk, length, min, option_map};
 ghost use Rattle.m11_operators.specs.Changes.{names_among};
 ghost use Rattle.m11_first.specs.Facts.{each_once, no_facts, with_line};
-ghost use Rattle.m11_first.specs.Noted.{with_deed, with_directive, with_operator};
+ghost use Rattle.m11_first.specs.Noted.{with_action, with_directive, with_operator};
 ghost use Rattle.m11_passes.specs.Placed.{IsLive};
 ghost use Rattle.m11_placement.specs.Elements.{listed_names};
 ghost use Rattle.m11_placement.specs.Exports as exports;
@@ -18,10 +18,10 @@ ghost use Rattle.m11_values.specs.Quantities.{quantity};
 
 use indexmap::IndexSet;
 use m11_base::Name;
-use m11_operators::{identification, listed_names, title, transfer};
+use m11_operators::{ident, listed_names, title, transfer};
 use m11_passes::LiveLine;
 use m11_placement::{Directive, Operator};
-use m11_placing::Deed;
+use m11_placing::Action;
 use m11_scan::Line;
 use m11_statements::labels_and_body_stand_in_order;
 use m11_table::{Map, Table};
@@ -101,15 +101,15 @@ impl Facts {
     {
         // what stands in a line lies in it
         labels_and_body_stand_in_order();
-        self.note_deed(live, table)
+        self.note_action(live, table)
     }
 
     // What stands after its labels says.
-    fn note_deed(&mut self, live: &LiveLine, table: &Table) -> Result<(), AllocError>
-        ensures { IfOk result (λ _. self.new ≡ with_deed table.now live.now.line.text live.now.deed self.old) }
+    fn note_action(&mut self, live: &LiveLine, table: &Table) -> Result<(), AllocError>
+        ensures { IfOk result (λ _. self.new ≡ with_action table.now live.now.line.text live.now.action self.old) }
     {
-        match live.deed {
-            Deed::Operates(operator, start) => {
+        match live.action {
+            Action::Operate(operator, start) => {
                 self.note_operator(&live.line, table, operator, start)
             }
             _ => Ok(()),
@@ -126,7 +126,7 @@ impl Facts {
         ensures { IfOk result (λ _. self.new ≡ with_operator table.now line.now.text operator start self.old) }
     {
         match operator {
-            Operator::Directs(directive) => {
+            Operator::Directive(directive) => {
                 self.note_directive(line, table, directive, within(line, start))
             }
             Operator::Instruction(_) => Ok(()),
@@ -148,7 +148,7 @@ impl Facts {
                 self.note_title(line, start);
                 Ok(())
             }
-            Directive::Identification => {
+            Directive::Ident => {
                 self.note_identification(line, start);
                 Ok(())
             }
@@ -173,10 +173,10 @@ impl Facts {
     fn note_identification(&mut self, line: &Line, start: usize)
         requires { start ≤ length line.now.text }
         ensures { self.new ≡ record self.old {
-          identification = last_or (exports.identification line.now.text start) self.old.identification;
+          identification = last_or (exports.ident line.now.text start) self.old.identification;
         } }
     {
-        if let Some(name) = identification(line, start) {
+        if let Some(name) = ident(line, start) {
             self.identification = Some(name);
         }
     }

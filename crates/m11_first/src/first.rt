@@ -13,7 +13,7 @@ use crate::symbols::Symbols;
 use m11_asm_faults::AsmFault;
 use m11_base::Latch;
 use m11_passes::{LiveLine, SourcePass, Turn, the_calls_place_the_lines_of_a_source};
-use m11_placing::{Counting, Mentioned};
+use m11_placing::{Counting, UsedSymbols};
 use m11_scan::Line;
 use std::alloc::{AllocError, Global};
 use std::marker::Model;
@@ -54,7 +54,7 @@ impl First {
         ensures { IfOk result (λ first. FirstStands [] first) }
     {
         Ok(First {
-            pass: SourcePass::new(alloc, Counting::Mentions(Mentioned::new(alloc)))?,
+            pass: SourcePass::new(alloc, Counting::SymbolUses(UsedSymbols::new(alloc)))?,
             facts: Facts::new(alloc),
             read: 0,
             has_ended: false,
@@ -102,8 +102,8 @@ impl First {
     {
         match self.fault.check() {
             Ok(()) => {
-                let (pass, mentioned) = self.pass.end();
-                Ok(Symbols::new(pass, mentioned, self.facts))
+                let (pass, used_symbols) = self.pass.end();
+                Ok(Symbols::new(pass, used_symbols, self.facts))
             }
             Err(fault) => {
                 // by a call, which is proved sooner

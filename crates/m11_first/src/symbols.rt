@@ -4,14 +4,14 @@ ghost use Rattle.std.specs.Prelude.{◌≡◌, ◌≤◌, length};
 ghost use Rattle.m11_placement.specs.Limits.{most_sections};
 
 use crate::facts::Facts;
-use m11_placing::{Mentioned, Pass};
+use m11_placing::{Pass, UsedSymbols};
 use std::marker::Model;
 
 /// What the first pass of a source gives: what its lines give their names, which names they mention, and what they say of their module.
 #[derive(Drop)]
 pub struct Symbols {
     pass: Pass,
-    mentioned: Mentioned,
+    used_symbols: UsedSymbols,
     facts: Facts,
 }
 
@@ -20,17 +20,17 @@ impl Model for Symbols {
 
     ghost Value = { spec.Symbols };
 
-    ghost view = { λ s. record { kept = s.pass; gathered = s.mentioned; facts = s.facts } };
+    ghost view = { λ s. record { kept = s.pass; gathered = s.used_symbols; facts = s.facts } };
 }
 
 impl Symbols {
     // Of a pass that took its lines.
-    pub(crate) fn new(pass: Pass, mentioned: Mentioned, facts: Facts) -> Symbols
-        ensures { result ≡ record { kept = pass; gathered = mentioned; facts = facts } }
+    pub(crate) fn new(pass: Pass, used_symbols: UsedSymbols, facts: Facts) -> Symbols
+        ensures { result ≡ record { kept = pass; gathered = used_symbols; facts = facts } }
     {
         Symbols {
             pass,
-            mentioned,
+            used_symbols,
             facts,
         }
     }
@@ -44,11 +44,11 @@ impl Symbols {
     }
 
     /// The table after the last line with the sizes of sections, the names that the lines mention, and what they say beside that.
-    pub fn into_parts(self) -> (Pass, Mentioned, Facts)
+    pub fn into_parts(self) -> (Pass, UsedSymbols, Facts)
         ensures pass { result.0 ≡ self.kept }
-        ensures mentioned { result.1 ≡ self.gathered }
+        ensures used_symbols { result.1 ≡ self.gathered }
         ensures facts { result.2 ≡ self.facts }
     {
-        (self.pass, self.mentioned, self.facts)
+        (self.pass, self.used_symbols, self.facts)
     }
 }

@@ -9,7 +9,7 @@ use Rattle.m11_placement.specs.Assignments.{assigned}
 use Rattle.m11_placement.specs.Changes as change
 use Rattle.m11_placement.specs.Changes.{Change, becomes_global, changed, numbered}
 use Rattle.m11_placement.specs.Definitions.{is_defined, is_labelled, is_of_label, is_same, last_definition, later_or}
-use Rattle.m11_placement.specs.Labels.{global_if, labelled, with_block, with_definition, with_doubled, with_kind}
+use Rattle.m11_placement.specs.Labels.{global_if, labelled, with_block, with_definition, with_doubly_defined, with_kind}
 use Rattle.m11_placement.specs.Assignments.{with_assigned}
 use Rattle.m11_placement.specs.Meanings.{Map}
 use Rattle.m11_placement.specs.Tables.{Table}
@@ -139,7 +139,7 @@ module _ (name : Name) where
   new_label table other false e f = other_added table (labelled table (Named other)) e
 
   name_marks : (table : Table) (is_global : Bool) (other : Name) (known : Bool) → is_defined (Named other) table.definitions ≡ known
-      → LabelMarks table (if known then with_doubled (Named other) table
+      → LabelMarks table (if known then with_doubly_defined (Named other) table
       else global_if is_global other (with_block (with_definition (labelled table (Named other)) table)))
   name_marks table is_global other true e = Stays refl
   name_marks table is_global other false e =
@@ -147,7 +147,7 @@ module _ (name : Name) where
       (new_label table other (is_same_name other name) refl e)
 
   local_marks : (table : Table) (block number : ℕ) (known : Bool)
-      → LabelMarks table (if known then with_doubled (Numbered block number) table
+      → LabelMarks table (if known then with_doubly_defined (Numbered block number) table
       else with_definition (labelled table (Numbered block number)) table)
   local_marks table block number true = Stays refl
   local_marks table block number false = other_added table (labelled table (Numbered block number)) refl
@@ -158,13 +158,13 @@ module _ (name : Name) where
   kind_marks table (Some other) label.Global = name_marks table true other (is_defined (Named other) table.definitions) refl
   kind_marks table None label.Global = Stays refl
   kind_marks table other (label.Local number) =
-      local_marks table table.settings.block number (is_defined (Numbered table.settings.block number) table.definitions)
+      local_marks table table.modes.block number (is_defined (Numbered table.modes.block number) table.definitions)
   kind_marks table other label.Outside = Stays refl
 
   -- a name is assigned a value, where it isn't a label's
   value_turns : (table : Table) (other : Name) (definition : Definition) (known : Bool) → definition.key ≡ Named other → definition.label ≡ None
       → is_labelled (Named other) table.definitions ≡ known
-      → LineTurns table (if known then with_doubled (Named other) table else with_definition definition table)
+      → LineTurns table (if known then with_doubly_defined (Named other) table else with_definition definition table)
   value_turns table other definition true k l e = Marking (Stays refl)
   value_turns table other definition false k l e = by (is_same_name other name) refl
     where
@@ -185,4 +185,4 @@ module _ (name : Name) where
   change_turns known line (change.Numbers other number) table =
       value_turns table other (numbered other number) (is_labelled (Named other) table.definitions) refl refl refl
   change_turns known line (change.Exports start) table = Marking (Stays refl)
-  change_turns known line (change.Sets settings) table = Marking (Stays refl)
+  change_turns known line (change.Sets modes) table = Marking (Stays refl)

@@ -6,9 +6,9 @@ use Rattle.m11_base.specs.Rad50.{Name}
 use Rattle.m11_link_text.specs.Relocation.{modulo}
 use Rattle.m11_placement.proofs.FirmNames.{firm_option, last_firm}
 use Rattle.m11_placement.specs.Definitions.{firm_part, firm_standing, has_key, is_defined, last_definition}
-use Rattle.m11_placement.specs.Labels.{global_if, label_name, labelled, with_block, with_definition, with_doubled, with_kind, with_label, with_labels}
+use Rattle.m11_placement.specs.Labels.{global_if, label_name, labelled, with_block, with_definition, with_doubly_defined, with_kind, with_label, with_labels}
 use Rattle.m11_placement.specs.Lines.{after_line, line_change, stands}
-use Rattle.m11_placement.specs.Meanings.{Map, defined_or, empty_map, letter_D, quantity_of}
+use Rattle.m11_placement.specs.Meanings.{Map, defined_or, empty_map, flag_D, quantity_of}
 use Rattle.m11_placement.specs.Placements.{after_lines, program_map, table_after}
 use Rattle.m11_placement.specs.Places.{Moved, last_set, moves_in, place_in, sizes_since}
 use Rattle.m11_placement.specs.Relocations.{is_moved}
@@ -21,7 +21,7 @@ use Rattle.m11_placement.specs.declared.definitions.Standing.{Standing}
 use Rattle.m11_placement.specs.declared.definitions.Standing.TheVariants.{Known, Unknown}
 use Rattle.m11_placement.specs.declared.sections.Section.{Section}
 use Rattle.m11_statements.specs.Labels.{labels_at}
-use Rattle.m11_statements.specs.Statements.{letter_if}
+use Rattle.m11_statements.specs.Statements.{flag_if}
 use Rattle.m11_statements.specs.declared.labels.Label.{Label}
 use Rattle.m11_statements.specs.declared.labels.LabelKind.{LabelKind}
 use Rattle.m11_statements.specs.declared.labels.LabelKind.TheVariants as label
@@ -42,7 +42,7 @@ abbrev pub Frame : Type 0
 Frame = List Moved × (ℕ × List Section)
 
 abbrev pub frame : Table → Frame
-frame table = (table.moves, (table.settings.section, table.sections))
+frame table = (table.moves, (table.modes.section, table.sections))
 
 place_by : Frame → ℕ
 place_by f = place_in f.1.0 f.0
@@ -59,14 +59,14 @@ unfolding kind_by
 same_kind one other e = ap kind_by e
 
 name_frames : (known is_global : Bool) (name : Name) (table : Table)
-    → frame (if known then with_doubled (Named name) table
+    → frame (if known then with_doubly_defined (Named name) table
     else global_if is_global name (with_block (with_definition (labelled table (Named name)) table))) ≡ frame table
 name_frames true is_global name table = refl
 name_frames false true name table = refl
 name_frames false false name table = refl
 
 local_frames : (known : Bool) (key : Key) (table : Table)
-    → frame (if known then with_doubled key table else with_definition (labelled table key) table) ≡ frame table
+    → frame (if known then with_doubly_defined key table else with_definition (labelled table key) table) ≡ frame table
 local_frames true key table = refl
 local_frames false key table = refl
 
@@ -76,7 +76,7 @@ kind_frames table None label.Ordinary = refl
 kind_frames table (Some name) label.Global = name_frames (is_defined (Named name) table.definitions) true name table
 kind_frames table None label.Global = refl
 kind_frames table name (label.Local number) =
-    local_frames (is_defined (Numbered table.settings.block number) table.definitions) (Numbered table.settings.block number) table
+    local_frames (is_defined (Numbered table.modes.block number) table.definitions) (Numbered table.modes.block number) table
 kind_frames table name label.Outside = refl
 
 labels_frame : (line : Bytes) (table : Table) (labels : List Label) → frame (with_labels line table labels) ≡ frame table
@@ -262,17 +262,17 @@ module _ (program : Addresses) (source : ℕ) where
       ap (λ (b : Bool). target_by program source (place table) (if b then kind.Section (section_name table) else kind.Absolute)) e
   kind_lies table false e absolute =
       ap (λ (b : Bool). target_by program source (place table) (if b then kind.Section (section_name table) else kind.Absolute)) e
-      ∙ (low_place (last_set (moves_in table.settings.section table.moves) + sizes_since (moves_in table.settings.section table.moves))
+      ∙ (low_place (last_set (moves_in table.modes.section table.moves) + sizes_since (moves_in table.modes.section table.moves))
       ∙ ap (λ (base : ℕ). modulo (base + place table)) (sym (absolute e)))
 
   -- what a name stands for, by what it is in the line and in the map
-  pub meaning_lies : (name : Name) (doubled more : List Key) (other : Quantity) (number : ℕ) (sort : Kind)
+  pub meaning_lies : (name : Name) (doubly_defined more : List Key) (other : Quantity) (number : ℕ) (sort : Kind)
       (here : Option Definition) (map : Option Definition) (one label : Definition) → one.standing ≡ Known number sort → label.standing ≡ Known number sort
       → map ≡ Some one → IsOrNone label here
-      → target program source (defined_or (Named name) doubled (defined_or (Named name) more other map) here) ≡ target_by program source number sort
-  meaning_lies name doubled more other number sort here map one label s l m (inl e) =
-      ap₂ (λ (h o : Option Definition). target program source (defined_or (Named name) doubled (defined_or (Named name) more other o) h)) e m
-      ∙ ap (λ (standing : Standing). target program source (quantity_of (letter_if (has_key (Named name) more) letter_D) standing)) s
-  meaning_lies name doubled more other number sort here map one label s l m (inr e) =
-      ap (λ (h : Option Definition). target program source (defined_or (Named name) doubled (defined_or (Named name) more other map) h)) e
-      ∙ ap (λ (standing : Standing). target program source (quantity_of (letter_if (has_key (Named name) doubled) letter_D) standing)) l
+      → target program source (defined_or (Named name) doubly_defined (defined_or (Named name) more other map) here) ≡ target_by program source number sort
+  meaning_lies name doubly_defined more other number sort here map one label s l m (inl e) =
+      ap₂ (λ (h o : Option Definition). target program source (defined_or (Named name) doubly_defined (defined_or (Named name) more other o) h)) e m
+      ∙ ap (λ (standing : Standing). target program source (quantity_of (flag_if (has_key (Named name) more) flag_D) standing)) s
+  meaning_lies name doubly_defined more other number sort here map one label s l m (inr e) =
+      ap (λ (h : Option Definition). target program source (defined_or (Named name) doubly_defined (defined_or (Named name) more other map) h)) e
+      ∙ ap (λ (standing : Standing). target program source (quantity_of (flag_if (has_key (Named name) doubly_defined) flag_D) standing)) l

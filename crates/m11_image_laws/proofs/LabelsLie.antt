@@ -64,11 +64,11 @@ module _ (alike : Alike) (bottom : ℕ) (sources : List Source) where
         subst (λ (i : ℕ). LieAtZero program i (table_after (program_map lines) lines).sections) at
         (zeros_at 0 index all sources lines are (all_at_zero bottom sources 0 sources agree) own)
 
-    zero_line : (line : LineOf lines) → LiesAtZero program index (numbered (at_line lines line).settings.section (at_line lines line).sections)
+    zero_line : (line : LineOf lines) → LiesAtZero program index (numbered (at_line lines line).modes.section (at_line lines line).sections)
     zero_line line =
         let known = program_map lines in
         let next = after_line known (before_line lines line) line.given in
-        one_of program index (at_line lines line).settings.section (at_line lines line).sections
+        one_of program index (at_line lines line).modes.section (at_line lines line).sections
         (sections.at_line (LiesAtZero program index) known (before_line lines line) line.given
         (sections.before_lines (LiesAtZero program index) known next line.after
         (subst (λ (t : Table). LieAtZero program index t.sections)
@@ -91,7 +91,7 @@ module _ (alike : Alike) (bottom : ℕ) (sources : List Source) where
     label_lies line has other context here =
         let is = is_labelled name lines line has in
         let one = under_the_empty_map name alike lines line is in
-        meaning_lies program index name (at_line lines other).doubled (program_map lines).doubled (undefined context (Ordinary name))
+        meaning_lies program index name (at_line lines other).doubly_defined (program_map lines).doubly_defined (undefined context (Ordinary name))
         (place is.at) (kind_here is.at) (last name (at_line lines other)) (last_definition (Named name) (program_map lines).definitions)
         one.0 (definition_of name lines line is) one.2 refl one.1 (in_a_line name lines line other is)
         ∙ at_the_line line is

@@ -6,25 +6,25 @@ use Rattle.m11_placement.specs.Contents.{further}
 use Rattle.m11_placement.specs.Effects.{directive_put, operator_put}
 use Rattle.m11_placement.specs.Elements.{elements_at}
 use Rattle.m11_placement.specs.Fields.{forms_of}
-use Rattle.m11_placement.specs.Instructions.{fields, setting}
-use Rattle.m11_placement.specs.Lines.{Deed, deed, line_put, pieces, put_by, put_place, stands}
+use Rattle.m11_placement.specs.Instructions.{fields, line_context}
+use Rattle.m11_placement.specs.Lines.{Action, action, line_put, pieces, put_by, put_place, stands}
 use Rattle.m11_placement.specs.Lines as lines
 use Rattle.m11_placement.specs.Meanings.{Map, known_at}
 use Rattle.m11_placement.specs.Operators.{is_even}
 use Rattle.m11_placement.specs.Relocations.{is_moved}
 use Rattle.m11_placement.specs.Strings.{parts_at, parts_bytes, parts_codes}
 use Rattle.m11_placement.specs.Tables.{Table, place, section_name}
-use Rattle.m11_placement.specs.declared.meanings.Context.TheVariants.{Knows}
+use Rattle.m11_placement.specs.declared.meanings.Context.TheVariants.{LocalOnly}
 use Rattle.m11_placement.specs.declared.operators.Directive.{Directive}
 use Rattle.m11_placement.specs.declared.operators.Directive.TheVariants as word
 use Rattle.m11_placement.specs.declared.operators.Operator.{Operator}
-use Rattle.m11_placement.specs.declared.operators.Operator.TheVariants.{Instruction, Directs}
+use Rattle.m11_placement.specs.declared.operators.Operator.TheVariants as operators
 use Rattle.m11_unfolding.specs.Unfolding.{Given}
 use Rattle.std.specs.Prelude.{Option}
 use Rattle.m11_image.specs.Addresses.{Addresses}
 use Rattle.m11_image.specs.Pieces.{placed}
 use Rattle.m11_image_laws.specs.Lines.{line_lying, line_place}
-use Rattle.m11_image_laws.specs.Stated.{deed_stated, directive_stated, line_stated, operator_stated, parts_stated}
+use Rattle.m11_image_laws.specs.Stated.{action_stated, directive_stated, line_stated, operator_stated, parts_stated}
 use Rattle.m11_image_laws.proofs.OneThing.{limit_words, plain_word}
 use Rattle.m11_image_laws.proofs.ManyThings.{AllStay, Mean, anywhere, both_stay, bytes_stay, forms_mean, laid_out, packed_stay, parts_stay, words_stay, zero_stays}
 
@@ -33,9 +33,9 @@ module _ (program : Addresses) (source : ℕ) (table : Table)
   directive_stays : (known : Map) (here : ℕ) (line : Bytes) (start : ℕ) (arguments : Option ℕ) (directive : Directive)
       → AllStay program source table absolute (directive_put known table here line start arguments directive).contents
       (directive_stated known table here line start directive)
-  directive_stays known here line start arguments word.Words =
+  directive_stays known here line start arguments word.Word =
       words_stay program source table absolute known line here (elements_at line start).places
-  directive_stays known here line start arguments word.Bytewise =
+  directive_stays known here line start arguments word.Byte =
       bytes_stay program source table absolute known line here (elements_at line start).places
   directive_stays known here line start arguments word.Ascii =
       parts_stay program source table absolute known here line (parts_at line start).list
@@ -44,28 +44,28 @@ module _ (program : Addresses) (source : ℕ) (table : Table)
       (parts_stated known table here line (parts_at line start).list) _
       (parts_stay program source table absolute known here line (parts_at line start).list) (zero_stays program source table absolute)
   directive_stays known here line start arguments word.Rad50 =
-      packed_stay program source table absolute (parts_codes (known_at known Knows table here) line (parts_at line start).list).codes
+      packed_stay program source table absolute (parts_codes (known_at known LocalOnly table here) line (parts_at line start).list).codes
   directive_stays known here line start arguments word.Limit = (λ (at : ℕ). limit_words program source table absolute at, tt)
-  directive_stays known here line start arguments word.ByteBlock = tt
-  directive_stays known here line start arguments word.WordBlock = tt
+  directive_stays known here line start arguments word.Blkb = tt
+  directive_stays known here line start arguments word.Blkw = tt
   directive_stays known here line start arguments word.Even = tt
   directive_stays known here line start arguments word.Odd = tt
-  directive_stays known here line start arguments word.InRadix = tt
-  directive_stays known here line start arguments word.AbsoluteSection = tt
-  directive_stays known here line start arguments word.ControlSection = tt
-  directive_stays known here line start arguments word.ProgramSection = tt
-  directive_stays known here line start arguments word.Global = tt
+  directive_stays known here line start arguments word.Radix = tt
+  directive_stays known here line start arguments word.Asect = tt
+  directive_stays known here line start arguments word.Csect = tt
+  directive_stays known here line start arguments word.Psect = tt
+  directive_stays known here line start arguments word.Globl = tt
   directive_stays known here line start arguments word.Weak = tt
   directive_stays known here line start arguments word.Title = tt
-  directive_stays known here line start arguments word.Identification = tt
-  directive_stays known here line start arguments word.Subtitle = tt
+  directive_stays known here line start arguments word.Ident = tt
+  directive_stays known here line start arguments word.Sbttl = tt
   directive_stays known here line start arguments word.Page = tt
-  directive_stays known here line start arguments word.Lists = tt
-  directive_stays known here line start arguments word.Unlists = tt
-  directive_stays known here line start arguments word.Enable = tt
-  directive_stays known here line start arguments word.Disable = tt
-  directive_stays known here line start arguments word.ArgumentCount = tt
-  directive_stays known here line start arguments word.CharacterCount = tt
+  directive_stays known here line start arguments word.List = tt
+  directive_stays known here line start arguments word.Nlist = tt
+  directive_stays known here line start arguments word.Enabl = tt
+  directive_stays known here line start arguments word.Dsabl = tt
+  directive_stays known here line start arguments word.Narg = tt
+  directive_stays known here line start arguments word.Nchr = tt
   directive_stays known here line start arguments word.End = tt
 
   further_low : (place size : ℕ) → further place size < 65536
@@ -74,27 +74,27 @@ module _ (program : Addresses) (source : ℕ) (table : Table)
   operator_means : (known : Map) (here : ℕ) (line : Bytes) (start : ℕ) (arguments : Option ℕ) (operator : Operator)
       → Mean program source table absolute here (operator_put known table here line start arguments operator).contents
       (operator_stated known table here line start operator)
-  operator_means known here line start arguments (Instruction operation) = (
+  operator_means known here line start arguments (operators.Instruction operation) = (
     plain_word program source table absolute here _,
-    forms_mean program source table absolute (setting known table here line) (further here 2)
+    forms_mean program source table absolute (line_context known table here line) (further here 2)
         (forms_of (fields table here line start operation).list) refl (further_low here 2),
   )
-  operator_means known here line start arguments (Directs directive) =
+  operator_means known here line start arguments (operators.Directive directive) =
       anywhere program source table absolute here _ _ (directive_stays known here line start arguments directive)
 
-  deed_means : (known : Map) (line : Bytes) (arguments : Option ℕ) (done : Deed)
+  action_means : (known : Map) (line : Bytes) (arguments : Option ℕ) (done : Action)
       → Mean program source table absolute (put_place table done) (put_by known table line arguments done).contents
-      (deed_stated known table line done)
-  deed_means known line arguments lines.Rests = tt
-  deed_means known line arguments (lines.Assigning name is_global start) = tt
-  deed_means known line arguments (lines.Setting start) = tt
-  deed_means known line arguments (lines.Operating operator start) =
+      (action_stated known table line done)
+  action_means known line arguments lines.NoAction = tt
+  action_means known line arguments (lines.Assign name is_global start) = tt
+  action_means known line arguments (lines.SetCounter start) = tt
+  action_means known line arguments (lines.Operate operator start) =
       operator_means known (place_for (is_even operator) (place table)) line start arguments operator
 
   pub stood_lies : (known : Map) (given : Given)
       → Mean program source table absolute (line_place table given) (line_put known table given).contents (line_stated known table given)
   unfolding line_put line_stated
-  stood_lies known given = deed_means known given.live.line.text given.arguments (deed given.is_own given.live.line.text)
+  stood_lies known given = action_means known given.live.line.text given.arguments (action given.is_own given.live.line.text)
 
 pub line_lies : (program : Addresses) (source : ℕ) (known : Map) (table : Table) (given : Given)
     → (is_moved (stands table given) ≡ false → program.base source (section_name (stands table given)) ≡ 0)

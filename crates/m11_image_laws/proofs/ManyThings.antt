@@ -4,7 +4,7 @@ use Rattle.m11_base.specs.Devices.{Bytes}
 use Rattle.m11_object_text.specs.declared.pieces.PieceContent.{PieceContent}
 use Rattle.m11_object_text.specs.declared.pieces.PieceContent.TheVariants.{Word}
 use Rattle.m11_arguments.specs.Expressions.{value_at}
-use Rattle.m11_placement.specs.Codes.{Setting, form_words, is_relative}
+use Rattle.m11_placement.specs.Codes.{LineContext, form_words, is_relative}
 use Rattle.m11_placement.specs.Codes as codes
 use Rattle.m11_placement.specs.Contents.{content_size, element_value, fixed_byte, further, pieces_from}
 use Rattle.m11_placement.specs.Meanings.{Map, known_at}
@@ -12,7 +12,7 @@ use Rattle.m11_placement.specs.Relocations.{is_moved, stored}
 use Rattle.m11_placement.specs.Storage.{bytes_from, words_from}
 use Rattle.m11_placement.specs.Strings.{packed_words, part_bytes, part_size, part_text, parts_bytes}
 use Rattle.m11_placement.specs.Tables.{Table, section_name}
-use Rattle.m11_placement.specs.declared.meanings.Context.TheVariants.{Refers}
+use Rattle.m11_placement.specs.declared.meanings.Context.TheVariants.{MayBeGlobal}
 use Rattle.m11_placement.specs.declared.operands.Form.{Form}
 use Rattle.m11_placement.specs.declared.operands.Form.TheVariants.{Absent, InRegister, Indexed, Unindexed, AfterCounter}
 use Rattle.m11_statements.specs.declared.parts.Part.{Part}
@@ -82,7 +82,7 @@ module _ (program : Addresses) (source : ℕ) (table : Table)
       → AllStay (words_from known table line place starts).contents (words_stated known table line place starts)
   words_stay known line place [] = tt
   words_stay known line place (start ∷ starts) = (
-    λ (at : ℕ). value_word program source table absolute place at (element_value (known_at known Refers table place) line start),
+    λ (at : ℕ). value_word program source table absolute place at (element_value (known_at known MayBeGlobal table place) line start),
     words_stay known line (further place 2) starts,
   )
 
@@ -90,7 +90,7 @@ module _ (program : Addresses) (source : ℕ) (table : Table)
       → AllStay (bytes_from known table line place starts).contents (bytes_stated known table line place starts)
   bytes_stay known line place [] = tt
   bytes_stay known line place (start ∷ starts) = (
-    λ (at : ℕ). value_byte program source table absolute place at (element_value (known_at known Refers table place) line start),
+    λ (at : ℕ). value_byte program source table absolute place at (element_value (known_at known MayBeGlobal table place) line start),
     bytes_stay known line (further place 1) starts,
   )
 
@@ -104,7 +104,7 @@ module _ (program : Addresses) (source : ℕ) (table : Table)
       → AllStay (part_bytes known table place line part sort).contents (part_stated known table place line part sort)
   part_stays known place line part Text = characters_stay (part_text line part)
   part_stays known place line part Expression =
-      (λ (at : ℕ). value_byte program source table absolute place at (value_at (known_at known Refers table place) line part.inside.start), tt)
+      (λ (at : ℕ). value_byte program source table absolute place at (value_at (known_at known MayBeGlobal table place) line part.inside.start), tt)
 
   pub parts_stay : (known : Map) (place : ℕ) (line : Bytes) (parts : List Part)
       → AllStay (parts_bytes known table place line parts).contents (parts_stated known table place line parts)
@@ -136,27 +136,27 @@ module _ (program : Addresses) (source : ℕ) (table : Table)
   after_counter place value true low = distance_word program source table absolute place value low
   after_counter place value false low = value_word program source table absolute place place value
 
-  pub forms_mean : (setting : Setting) (place : ℕ) (forms : List Form) → setting.table ≡ table → place < 65536
-      → Mean place (codes.words_from setting place forms).contents (flat_map (form_stated setting) forms)
-  forms_mean setting place [] same low = tt
-  forms_mean setting place (Absent ∷ forms) same low =
-      subst (λ (p : ℕ). Mean place (codes.words_from setting p forms).contents (flat_map (form_stated setting) forms))
-      (sym (no_further place low)) (forms_mean setting place forms same low)
-  forms_mean setting place (InRegister kind start ∷ forms) same low =
-      subst (λ (p : ℕ). Mean place (codes.words_from setting p forms).contents (flat_map (form_stated setting) forms))
-      (sym (no_further place low)) (forms_mean setting place forms same low)
-  forms_mean setting place (Indexed kind start index ∷ forms) same low = (
-    subst (λ (t : Table). M place (Word (stored t false place (value_at setting.refers setting.line index)))
-        (ValueWord (value_at setting.refers setting.line index))) (sym same)
-        (value_word program source table absolute place place (value_at setting.refers setting.line index)),
-    forms_mean setting (further place 2) forms same (further_low place 2),
+  pub forms_mean : (line_context : LineContext) (place : ℕ) (forms : List Form) → line_context.table ≡ table → place < 65536
+      → Mean place (codes.words_from line_context place forms).contents (flat_map (form_stated line_context) forms)
+  forms_mean line_context place [] same low = tt
+  forms_mean line_context place (Absent ∷ forms) same low =
+      subst (λ (p : ℕ). Mean place (codes.words_from line_context p forms).contents (flat_map (form_stated line_context) forms))
+      (sym (no_further place low)) (forms_mean line_context place forms same low)
+  forms_mean line_context place (InRegister kind start ∷ forms) same low =
+      subst (λ (p : ℕ). Mean place (codes.words_from line_context p forms).contents (flat_map (form_stated line_context) forms))
+      (sym (no_further place low)) (forms_mean line_context place forms same low)
+  forms_mean line_context place (Indexed kind start index ∷ forms) same low = (
+    subst (λ (t : Table). M place (Word (stored t false place (value_at line_context.refers line_context.line index)))
+        (ValueWord (value_at line_context.refers line_context.line index))) (sym same)
+        (value_word program source table absolute place place (value_at line_context.refers line_context.line index)),
+    forms_mean line_context (further place 2) forms same (further_low place 2),
   )
-  forms_mean setting place (Unindexed start ∷ forms) same low =
-      (plain_word program source table absolute place 0, forms_mean setting (further place 2) forms same (further_low place 2))
-  forms_mean setting place (AfterCounter kind start ∷ forms) same low = (
-    subst (λ (t : Table). M place (Word (stored t (is_relative kind) place (value_at setting.refers setting.line start)))
-        (if is_relative kind then DistanceWord (value_at setting.refers setting.line start)
-        else ValueWord (value_at setting.refers setting.line start))) (sym same)
-        (after_counter place (value_at setting.refers setting.line start) (is_relative kind) low),
-    forms_mean setting (further place 2) forms same (further_low place 2),
+  forms_mean line_context place (Unindexed start ∷ forms) same low =
+      (plain_word program source table absolute place 0, forms_mean line_context (further place 2) forms same (further_low place 2))
+  forms_mean line_context place (AfterCounter kind start ∷ forms) same low = (
+    subst (λ (t : Table). M place (Word (stored t (is_relative kind) place (value_at line_context.refers line_context.line start)))
+        (if is_relative kind then DistanceWord (value_at line_context.refers line_context.line start)
+        else ValueWord (value_at line_context.refers line_context.line start))) (sym same)
+        (after_counter place (value_at line_context.refers line_context.line start) (is_relative kind) low),
+    forms_mean line_context (further place 2) forms same (further_low place 2),
   )

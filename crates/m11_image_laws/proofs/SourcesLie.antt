@@ -8,7 +8,7 @@ use Rattle.m11_placement.specs.Assignments.{assigned}
 use Rattle.m11_placement.specs.Changes as change
 use Rattle.m11_placement.specs.Changes.{Change, becomes_global, changed, numbered, with_new}
 use Rattle.m11_placement.specs.Definitions.{is_defined, is_labelled}
-use Rattle.m11_placement.specs.Labels.{global_if, label_name, labelled, with_block, with_definition, with_doubled, with_kind, with_label, with_labels}
+use Rattle.m11_placement.specs.Labels.{global_if, label_name, labelled, with_block, with_definition, with_doubly_defined, with_kind, with_label, with_labels}
 use Rattle.m11_placement.specs.Assignments.{with_assigned}
 use Rattle.m11_placement.specs.Lines.{after_line, line_change, pieces, stands}
 use Rattle.m11_placement.specs.Meanings.{Map, empty_map}
@@ -42,12 +42,12 @@ global_keeps true name table = refl
 global_keeps false name table = refl
 
 either_keeps : (known : Bool) (key : Key) (definition : Definition) (table : Table)
-    → (if known then with_doubled key table else with_definition definition table).sections ≡ table.sections
+    → (if known then with_doubly_defined key table else with_definition definition table).sections ≡ table.sections
 either_keeps true key definition table = refl
 either_keeps false key definition table = refl
 
 name_keeps : (known is_global : Bool) (name : Name) (table : Table)
-    → (if known then with_doubled (Named name) table
+    → (if known then with_doubly_defined (Named name) table
     else global_if is_global name (with_block (with_definition (labelled table (Named name)) table))).sections ≡ table.sections
 name_keeps true is_global name table = refl
 name_keeps false is_global name table = global_keeps is_global name (with_block (with_definition (labelled table (Named name)) table))
@@ -58,8 +58,8 @@ kind_keeps table None label.Ordinary = refl
 kind_keeps table (Some name) label.Global = name_keeps (is_defined (Named name) table.definitions) true name table
 kind_keeps table None label.Global = refl
 kind_keeps table name (label.Local number) =
-    either_keeps (is_defined (Numbered table.settings.block number) table.definitions) (Numbered table.settings.block number)
-    (labelled table (Numbered table.settings.block number)) table
+    either_keeps (is_defined (Numbered table.modes.block number) table.definitions) (Numbered table.modes.block number)
+    (labelled table (Numbered table.modes.block number)) table
 kind_keeps table name label.Outside = refl
 
 labels_keep : (line : Bytes) (table : Table) (labels : List Label) → (with_labels line table labels).sections ≡ table.sections
@@ -95,7 +95,7 @@ module _ (P : Section → Type 0) where
       subst (AllByRecursion P)
       (either_keeps (is_labelled (Named name) table.definitions) (Named name) (numbered name number) table) all
   before_change known line (change.Exports start) table all = all
-  before_change known line (change.Sets settings) table all = all
+  before_change known line (change.Sets modes) table all = all
 
   pub at_line : (known : Map) (table : Table) (given : Given) → AllByRecursion P (after_line known table given).sections
       → AllByRecursion P (stands table given).sections
@@ -123,7 +123,7 @@ lines_lie program source known table (given ∷ lines) all =
     (flat_map agreement.placed_pieces (placed_from known (after_line known table given) lines))
     ∙ ap₂ (λ (here more : List (ℕ × Bytes)). here ++ more)
     (line_lies program source known table given
-    (one_of program source (stands table given).settings.section (stands table given).sections stood))
+    (one_of program source (stands table given).modes.section (stands table given).sections stood))
     (lines_lie program source known (after_line known table given) lines all)
 
 -- ---- all sources

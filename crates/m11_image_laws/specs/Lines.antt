@@ -6,7 +6,7 @@ use Rattle.m11_base.specs.Devices.{Bytes}
 use Rattle.m11_base.specs.Rad50.{Name}
 use Rattle.m11_link_text.specs.Relocation.{modulo}
 use Rattle.m11_placement.specs.Contents.{further}
-use Rattle.m11_placement.specs.Lines.{after_line, deed, put_place, stands}
+use Rattle.m11_placement.specs.Lines.{after_line, action, put_place, stands}
 use Rattle.m11_placement.specs.Meanings.{Map}
 use Rattle.m11_placement.specs.Placements.{program_map}
 use Rattle.m11_placement.specs.Tables.{Table, first_table, section_name}
@@ -31,7 +31,7 @@ lying_from program source section place (stated ∷ more) =
 
 -- where a line puts what it states
 abbrev pub line_place : Table → Given → ℕ
-line_place stood given = put_place stood (deed given.is_own given.live.line.text)
+line_place stood given = put_place stood (action given.is_own given.live.line.text)
 
 abbrev pub line_lying : Addresses → ℕ → Map → Table → Given → List (ℕ × Bytes)
 line_lying program source map stood given =

@@ -8,25 +8,25 @@ use Rattle.m11_base.specs.Devices.{Bytes}
 use Rattle.m11_base.specs.Encoding.{code_of}
 use Rattle.m11_base.specs.declared.instruction.Op.{Op}
 use Rattle.m11_placement.specs.Alignment.{place_for}
-use Rattle.m11_placement.specs.Codes.{Setting, instruction, is_relative}
+use Rattle.m11_placement.specs.Codes.{LineContext, instruction, is_relative}
 use Rattle.m11_placement.specs.Contents.{element_value, further}
 use Rattle.m11_placement.specs.Elements.{elements_at}
 use Rattle.m11_placement.specs.Fields.{forms_of}
-use Rattle.m11_placement.specs.Instructions.{fields, setting}
-use Rattle.m11_placement.specs.Lines.{Deed, deed}
+use Rattle.m11_placement.specs.Instructions.{fields, line_context}
+use Rattle.m11_placement.specs.Lines.{Action, action}
 use Rattle.m11_placement.specs.Lines as lines
 use Rattle.m11_placement.specs.Meanings.{Map, known_at}
 use Rattle.m11_placement.specs.Operators.{is_even}
 use Rattle.m11_placement.specs.Strings.{part_size, part_text, parts_at, parts_codes}
 use Rattle.m11_placement.specs.Tables.{Table, place}
 use Rattle.m11_placement.specs.declared.fields.Field.{Field}
-use Rattle.m11_placement.specs.declared.meanings.Context.TheVariants.{Knows, Refers}
+use Rattle.m11_placement.specs.declared.meanings.Context.TheVariants.{LocalOnly, MayBeGlobal}
 use Rattle.m11_placement.specs.declared.operands.Form.{Form}
 use Rattle.m11_placement.specs.declared.operands.Form.TheVariants.{Absent, InRegister, Indexed, Unindexed, AfterCounter}
 use Rattle.m11_placement.specs.declared.operators.Directive.{Directive}
 use Rattle.m11_placement.specs.declared.operators.Directive.TheVariants as word
 use Rattle.m11_placement.specs.declared.operators.Operator.{Operator}
-use Rattle.m11_placement.specs.declared.operators.Operator.TheVariants.{Instruction, Directs}
+use Rattle.m11_placement.specs.declared.operators.Operator.TheVariants as operators
 use Rattle.m11_statements.specs.declared.parts.Part.{Part}
 use Rattle.m11_statements.specs.declared.parts.PartKind.{PartKind}
 use Rattle.m11_statements.specs.declared.parts.PartKind.TheVariants.{Text, Expression}
@@ -58,19 +58,19 @@ stated_size LimitWords = 4
 abbrev pub words_stated : Map → Table → Bytes → ℕ → List ℕ → List Stated
 words_stated map table line place [] = []
 words_stated map table line place (start ∷ starts) =
-    ValueWord (element_value (known_at map Refers table place) line start) ∷ words_stated map table line (further place 2) starts
+    ValueWord (element_value (known_at map MayBeGlobal table place) line start) ∷ words_stated map table line (further place 2) starts
 
 abbrev pub bytes_stated : Map → Table → Bytes → ℕ → List ℕ → List Stated
 bytes_stated map table line place [] = []
 bytes_stated map table line place (start ∷ starts) =
-    ValueByte (element_value (known_at map Refers table place) line start) ∷ bytes_stated map table line (further place 1) starts
+    ValueByte (element_value (known_at map MayBeGlobal table place) line start) ∷ bytes_stated map table line (further place 1) starts
 
 -- ---- texts: characters, and expressions between `<` and `>`
 
 abbrev pub part_stated : Map → Table → ℕ → Bytes → Part → PartKind → List Stated
 part_stated known table place line part Text = map PlainByte (part_text line part)
 part_stated known table place line part Expression =
-    ValueByte (value_at (known_at known Refers table place) line part.inside.start) ∷ []
+    ValueByte (value_at (known_at known MayBeGlobal table place) line part.inside.start) ∷ []
 
 abbrev pub parts_stated : Map → Table → ℕ → Bytes → List Part → List Stated
 parts_stated known table place line [] = []
@@ -89,44 +89,44 @@ packed_stated (first ∷ (second ∷ (third ∷ codes))) =
 -- ---- instructions: the word of the code, and one for each operand that has one
 
 -- by the modes of PC: `#n` and `@#n` have the value of n, `A` and `@A` say how far A lies
-abbrev pub form_stated : Setting → Form → List Stated
-form_stated setting Absent = []
-form_stated setting (InRegister kind start) = []
-form_stated setting (Indexed kind start index) = ValueWord (value_at setting.refers setting.line index) ∷ []
-form_stated setting (Unindexed start) = PlainWord 0 ∷ []
-form_stated setting (AfterCounter kind start) =
-    (if is_relative kind then DistanceWord (value_at setting.refers setting.line start)
-    else ValueWord (value_at setting.refers setting.line start)) ∷ []
+abbrev pub form_stated : LineContext → Form → List Stated
+form_stated line_context Absent = []
+form_stated line_context (InRegister kind start) = []
+form_stated line_context (Indexed kind start index) = ValueWord (value_at line_context.refers line_context.line index) ∷ []
+form_stated line_context (Unindexed start) = PlainWord 0 ∷ []
+form_stated line_context (AfterCounter kind start) =
+    (if is_relative kind then DistanceWord (value_at line_context.refers line_context.line start)
+    else ValueWord (value_at line_context.refers line_context.line start)) ∷ []
 
-abbrev pub instruction_stated : Setting → Op → List Field → List Stated
-instruction_stated setting operation fields =
-    PlainWord (code_of (instruction setting operation fields)) ∷ flat_map (form_stated setting) (forms_of fields)
+abbrev pub instruction_stated : LineContext → Op → List Field → List Stated
+instruction_stated line_context operation fields =
+    PlainWord (code_of (instruction line_context operation fields)) ∷ flat_map (form_stated line_context) (forms_of fields)
 
 -- ---- lines
 
 -- what a directive states at a place, whose name ends at a place of its line
 abbrev pub directive_stated : Map → Table → ℕ → Bytes → ℕ → Directive → List Stated
-directive_stated map table here line start word.Words = words_stated map table line here (elements_at line start).places
-directive_stated map table here line start word.Bytewise = bytes_stated map table line here (elements_at line start).places
+directive_stated map table here line start word.Word = words_stated map table line here (elements_at line start).places
+directive_stated map table here line start word.Byte = bytes_stated map table line here (elements_at line start).places
 directive_stated map table here line start word.Ascii = parts_stated map table here line (parts_at line start).list
 directive_stated map table here line start word.Asciz =
     parts_stated map table here line (parts_at line start).list ++ PlainByte 0 ∷ []
 directive_stated map table here line start word.Rad50 =
-    packed_stated (parts_codes (known_at map Knows table here) line (parts_at line start).list).codes
+    packed_stated (parts_codes (known_at map LocalOnly table here) line (parts_at line start).list).codes
 directive_stated map table here line start word.Limit = LimitWords ∷ []
 directive_stated map table here line start other = []
 
 abbrev pub operator_stated : Map → Table → ℕ → Bytes → ℕ → Operator → List Stated
-operator_stated map table here line start (Instruction operation) =
-    instruction_stated (setting map table here line) operation (fields table here line start operation).list
-operator_stated map table here line start (Directs directive) = directive_stated map table here line start directive
+operator_stated map table here line start (operators.Instruction operation) =
+    instruction_stated (line_context map table here line) operation (fields table here line start operation).list
+operator_stated map table here line start (operators.Directive directive) = directive_stated map table here line start directive
 
-abbrev pub deed_stated : Map → Table → Bytes → Deed → List Stated
-deed_stated map table line (lines.Operating operator start) =
+abbrev pub action_stated : Map → Table → Bytes → Action → List Stated
+action_stated map table line (lines.Operate operator start) =
     operator_stated map table (place_for (is_even operator) (place table)) line start operator
-deed_stated map table line other = []
+action_stated map table line other = []
 
 -- what a line states once its labels stand
 unfoldable pub line_stated : Map → Table → Given → List Stated
 line_stated map stood given =
-    deed_stated map stood given.live.line.text (deed given.is_own given.live.line.text)
+    action_stated map stood given.live.line.text (action given.is_own given.live.line.text)

@@ -2,7 +2,7 @@
 
 ghost use Rattle.std.specs.Prelude.{◌≡◌, ◌≤◌, length, take, drop};
 ghost use Rattle.m11_listing.specs.Listing.{further_lines, listed_lines};
-ghost use Rattle.m11_scan.specs.Letters.{letters_text};
+ghost use Rattle.m11_scan.specs.ErrorFlags.{flags_text};
 ghost use Rattle.m11_scan.specs.Views.{bits_of};
 ghost use Rattle.m11_writes.specs.Outputs.{Output, optional_output};
 ghost use Rattle.m11_asm_outputs.specs.Outputs.{Writes, outputs};
@@ -12,15 +12,15 @@ use m11_asm_faults::AsmFault;
 use m11_asm_outputs::put_listing;
 use m11_base::Sink;
 use m11_listing::{Item, further_line, listed_line, place_after};
-use m11_scan::Letters;
+use m11_scan::ErrorFlags;
 
-/// The lines of a source line: its letters, its number, the place of the counter before it, its items, which lie from another place on,
+/// The lines of a source line: its flags, its number, the place of the counter before it, its items, which lie from another place on,
 /// and its text, which has at most 132 bytes.
 ///
 /// Fault: `Write` of the listing.
 pub fn put_listed<T: Sink>(
     listing: &mut Option<T>,
-    letters: Letters,
+    flags: ErrorFlags,
     number: u16,
     place: u16,
     first_item_place: u16,
@@ -31,9 +31,9 @@ pub fn put_listed<T: Sink>(
     ensures { (object messages : Output) → Writes
         (outputs object (optional_output T.Sink listing.old) messages)
         (outputs object (optional_output T.Sink listing.new) messages)
-        (all_to_listing (listed_lines (letters_text (bits_of letters)) number place first_item_place items.now text.now)) result }
+        (all_to_listing (listed_lines (flags_text (bits_of flags)) number place first_item_place items.now text.now)) result }
 {
-    let line = listed_line(letters.text().as_slice(), number, place, items, text);
+    let line = listed_line(flags.text().as_slice(), number, place, items, text);
     put_listing(listing, line.as_slice())?;
     let (shown, more) = three(items);
     put_further(listing, place_after(first_item_place, shown), more)

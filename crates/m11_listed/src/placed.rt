@@ -22,7 +22,7 @@ use m11_object_text::PieceContent;
 use m11_passes::PlacedLine;
 use m11_placement::labels_keep_the_counter;
 use m11_placing::add_content_items;
-use m11_scan::Letters;
+use m11_scan::ErrorFlags;
 use std::alloc::AllocError;
 
 /// The lines of a placed line, where there is a listing: a flagged line is always listed, any other by the levels after it. The number is
@@ -32,7 +32,7 @@ use std::alloc::AllocError;
 pub fn put_placed<T: Sink>(
     items: &mut Vec<Item>,
     line: &PlacedLine,
-    letters: Letters,
+    flags: ErrorFlags,
     number: u16,
     contents: &[PieceContent],
     listing: &mut Option<T>,
@@ -41,20 +41,20 @@ pub fn put_placed<T: Sink>(
         → IsPlaced map table given line.now put → put.contents ≡ contents.now → Writes
         (outputs object (optional_output T.Sink listing.old) messages)
         (outputs object (optional_output T.Sink listing.new) messages)
-        (listing_writes map table (bits_of letters) number given) result }
+        (listing_writes map table (bits_of flags) number given) result }
 {
     labels_keep_the_counter();
     if listing.is_none() {
         return Ok(());
     }
-    if !is_listed(line, letters) {
+    if !is_listed(line, flags) {
         return Ok(());
     }
     gather(items, contents, line.assigned)?;
     let text = line.live.line.text();
     put_listed(
         listing,
-        letters,
+        flags,
         number,
         line.counter,
         line.place,
@@ -64,10 +64,10 @@ pub fn put_placed<T: Sink>(
 }
 
 // Whether a line is listed: a flagged one is.
-fn is_listed(line: &PlacedLine, letters: Letters) -> bool
-    ensures { result ≡ not (bits_of letters == 0) || line.now.is_shown }
+fn is_listed(line: &PlacedLine, flags: ErrorFlags) -> bool
+    ensures { result ≡ not (bits_of flags == 0) || line.now.is_shown }
 {
-    !letters.is_empty() || line.is_shown
+    !flags.is_empty() || line.is_shown
 }
 
 // The items of what a line puts, and of what it assigns.

@@ -15,16 +15,16 @@ use Rattle.m11_print.proofs.LineEnds.{length-line_of, whole_line}
 use Rattle.m11_print.specs.Lines.{line_of}
 
 abbrev front_of : Bytes → ℕ → ℕ → List Item → Bytes
-front_of letters number place items = head letters number ++ places place items ++ blanks 1
+front_of flags number place items = head flags number ++ places place items ++ blanks 1
 
 longest : (front text : Bytes) → length front ≡ 42 → length (line_of (front ++ printed text)) ≤ 42 + length text + 1
 longest front text e =
     omega (arith, e, length-line_of (front ++ printed text), length-append front (printed text), length-map text shown)
 
-pub listed_length : (letters : Bytes) (number place : ℕ) (items : List Item) (text : Bytes) → number < 65536
-    → length (listed_line letters number place items text) ≤ 42 + length text + 1
-listed_length letters number place items text h =
-    longest (front_of letters number place items) text (length-front letters number place items h)
+pub listed_length : (flags : Bytes) (number place : ℕ) (items : List Item) (text : Bytes) → number < 65536
+    → length (listed_line flags number place items text) ≤ 42 + length text + 1
+listed_length flags number place items text h =
+    longest (front_of flags number place items) text (length-front flags number place items h)
 
 pub further_length : (place : ℕ) (items : List Item) → length (further_line place items) ≤ 41 + 1
 further_length place items =
@@ -61,17 +61,17 @@ after_front front text e =
     let Q : Bytes → Type 0 = λ bs. drop 42 bs ≡ text ++ 10 ∷ [] in
     subst Q (sym (append_assoc front text (10 ∷ []))) (subst P e (drop-append_seam front (text ++ 10 ∷ [])))
 
-pub text_begins : (letters : Bytes) (number place : ℕ) (items : List Item) (text : Bytes) (last : ℕ) → number < 65536
+pub text_begins : (flags : Bytes) (number place : ℕ) (items : List Item) (text : Bytes) (last : ℕ) → number < 65536
     → (last ≡ 32 → ⊥)
-    → drop 42 (listed_line letters number place items (text ++ last ∷ [])) ≡ printed (text ++ last ∷ []) ++ 10 ∷ []
-text_begins letters number place items text last h other =
-    ap (λ (bs : Bytes). drop 42 bs) (whole (front_of letters number place items) text last other)
-    ∙ after_front (front_of letters number place items) (printed (text ++ last ∷ [])) (length-front letters number place items h)
+    → drop 42 (listed_line flags number place items (text ++ last ∷ [])) ≡ printed (text ++ last ∷ []) ++ 10 ∷ []
+text_begins flags number place items text last h other =
+    ap (λ (bs : Bytes). drop 42 bs) (whole (front_of flags number place items) text last other)
+    ∙ after_front (front_of flags number place items) (printed (text ++ last ∷ [])) (length-front flags number place items h)
 
-pub message_whole : (letters : Bytes) (number : ℕ) (text : Bytes) (last : ℕ) → (last ≡ 32 → ⊥)
-    → message_line letters number (text ++ last ∷ [])
-    ≡ (letters ++ codes " " ++ decimal number ++ codes ": " ++ printed (text ++ last ∷ [])) ++ 10 ∷ []
-message_whole letters number text last other = whole (letters ++ codes " " ++ decimal number ++ codes ": ") text last other
+pub message_whole : (flags : Bytes) (number : ℕ) (text : Bytes) (last : ℕ) → (last ≡ 32 → ⊥)
+    → message_line flags number (text ++ last ∷ [])
+    ≡ (flags ++ codes " " ++ decimal number ++ codes ": " ++ printed (text ++ last ∷ [])) ++ 10 ∷ []
+message_whole flags number text last other = whole (flags ++ codes " " ++ decimal number ++ codes ": ") text last other
 
 -- ---- further lines
 

@@ -9,7 +9,7 @@ use Rattle.m11_listing.specs.declared.items.Item.{Item}
 use Rattle.m11_listing.specs.declared.items.Item.TheVariants.{InByte, InWord}
 use Rattle.m11_listing.specs.Columns.{at_left, at_right, blanks}
 use Rattle.m11_listing.specs.Items.{item_column, items_column}
-use Rattle.m11_listing.specs.Listing.{head, letters_column, number_column, place_column, places}
+use Rattle.m11_listing.specs.Listing.{head, flags_column, number_column, place_column, places}
 
 pub length-at_left : (width : ℕ) (text : Bytes) → length text ≤ width → length (at_left width text) ≡ width
 length-at_left width text h =
@@ -32,19 +32,19 @@ length-items_column items =
     length-three (item_column (slice_get items 0)) (item_column (slice_get items 1)) (item_column (slice_get items 2))
     (length-item (slice_get items 0)) (length-item (slice_get items 1)) (length-item (slice_get items 2))
 
-length-letters_column : (letters : Bytes) → length (letters_column letters) ≡ 4
-length-letters_column letters = length-at_left 4 (take 4 letters) (omega (arith, length-take 4 letters))
+length-flags_column : (flags : Bytes) → length (flags_column flags) ≡ 4
+length-flags_column flags = length-at_left 4 (take 4 flags) (omega (arith, length-take 4 flags))
 
 length-number_column : (number : ℕ) → number < 65536 → length (number_column number) ≡ 6
 length-number_column number h =
     length-at_right 6 (decimal number) (omega (arith, length-decimal-le 5 number (lit< tt) (omega arith) (omega arith)))
 
-pub length-head : (letters : Bytes) (number : ℕ) → number < 65536 → length (head letters number) ≡ 10
-length-head letters number h =
+pub length-head : (flags : Bytes) (number : ℕ) → number < 65536 → length (head flags number) ≡ 10
+length-head flags number h =
     omega (
       arith,
-      length-append (letters_column letters) (number_column number),
-      length-letters_column letters,
+      length-append (flags_column flags) (number_column number),
+      length-flags_column flags,
       length-number_column number h,
     )
 
@@ -53,13 +53,13 @@ length-places place items =
     let seven : length (place_column place) ≡ 7 = refl in
     omega (arith, seven, length-append (place_column place) (items_column items), length-items_column items)
 
-pub length-front : (letters : Bytes) (number place : ℕ) (items : List Item) → number < 65536
-    → length (head letters number ++ places place items ++ blanks 1) ≡ 42
-length-front letters number place items h =
+pub length-front : (flags : Bytes) (number place : ℕ) (items : List Item) → number < 65536
+    → length (head flags number ++ places place items ++ blanks 1) ≡ 42
+length-front flags number place items h =
     omega (
       arith,
-      length-append (head letters number ++ places place items) (blanks 1),
-      length-append (head letters number) (places place items),
-      length-head letters number h,
+      length-append (head flags number ++ places place items) (blanks 1),
+      length-append (head flags number) (places place items),
+      length-head flags number h,
       length-places place items,
     )

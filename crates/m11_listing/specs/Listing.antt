@@ -1,4 +1,4 @@
--- The lines of a listing. (MACRO-11 Language Reference Manual, "Listing control directives", for what stands in a line: letters, number,
+-- The lines of a listing. (MACRO-11 Language Reference Manual, "Listing control directives", for what stands in a line: flags, number,
 -- place, contents, text. The columns and their widths, in decimal, are this project's own.)
 --
 --     1234567890123456789012345678901234567890123456789012345
@@ -15,9 +15,9 @@ use Rattle.m11_print.specs.Lines.{line_of}
 
 -- ---- columns
 
--- 4 columns: the first four letters that flag the line
-abbrev pub letters_column : Bytes → Bytes
-letters_column letters = at_left 4 (take 4 letters)
+-- 4 columns: the first four flags that flag the line
+abbrev pub flags_column : Bytes → Bytes
+flags_column flags = at_left 4 (take 4 flags)
 
 -- 6 columns: the number of the line
 abbrev pub number_column : ℕ → Bytes
@@ -31,7 +31,7 @@ place_column place = blanks 1 ++ octal_text place
 
 -- 10 columns
 abbrev pub head : Bytes → ℕ → Bytes
-head letters number = letters_column letters ++ number_column number
+head flags number = flags_column flags ++ number_column number
 
 -- 31 columns
 abbrev pub places : ℕ → List Item → Bytes
@@ -41,8 +41,8 @@ places place items = place_column place ++ items_column items
 
 -- a source line with the first three of its items; its text begins in column 43
 abbrev pub listed_line : Bytes → ℕ → ℕ → List Item → Bytes → Bytes
-listed_line letters number place items text =
-    line_of (head letters number ++ places place items ++ blanks 1 ++ printed text)
+listed_line flags number place items text =
+    line_of (head flags number ++ places place items ++ blanks 1 ++ printed text)
 
 -- three more of its items, and the place of the first of them
 abbrev pub further_line : ℕ → List Item → Bytes
@@ -61,5 +61,5 @@ further_lines place (one ∷ two ∷ three ∷ items) =
 -- the place that the first line shows is that of the counter before the line; its items lie from another one on, where the counter
 -- went to an even place first
 abbrev pub listed_lines : Bytes → ℕ → ℕ → ℕ → List Item → Bytes → List Bytes
-listed_lines letters number place first_item_place items text =
-    listed_line letters number place items text ∷ further_lines (place_after first_item_place (take 3 items)) (drop 3 items)
+listed_lines flags number place first_item_place items text =
+    listed_line flags number place items text ∷ further_lines (place_after first_item_place (take 3 items)) (drop 3 items)

@@ -5,9 +5,9 @@ use Rattle.m11_base.specs.Devices.{Bytes}
 use Rattle.m11_listing.specs.Columns.{printed}
 use Rattle.m11_print.specs.Lines.{line_of}
 
--- the letters, the number and the text of a flagged line
+-- the flags, the number and the text of a flagged line
 abbrev pub message_line : Bytes → ℕ → Bytes → Bytes
-message_line letters number text = line_of (letters ++ codes " " ++ decimal number ++ codes ": " ++ printed text)
+message_line flags number text = line_of (flags ++ codes " " ++ decimal number ++ codes ": " ++ printed text)
 
 -- how many lines are flagged
 abbrev pub count_line : ℕ → Bytes

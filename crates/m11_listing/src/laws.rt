@@ -15,8 +15,8 @@ ghost use Rattle.m11_listing.specs.SymbolTable.{section_line, symbol_line};
 
 /// A listed line has at most 42 characters and those of its text, and a line feed.
 pub fn a_listed_line_has_at_most_42_characters_and_its_text()
-    ensures { (letters : Bytes) (number place : ℕ) (items : List Item) (text : Bytes) → number < 65536
-        → length (listed_line letters number place items text) ≤ 42 + length text + 1 }
+    ensures { (flags : Bytes) (number place : ℕ) (items : List Item) (text : Bytes) → number < 65536
+        → length (listed_line flags number place items text) ≤ 42 + length text + 1 }
 {}
 
 /// A further line has at most 41 characters, and a line feed.
@@ -26,25 +26,25 @@ pub fn a_further_line_has_at_most_41_characters()
 
 /// The text of a listed line begins in column 43, whatever stands before it. The text is one that ends with no blank.
 pub fn the_text_of_a_listed_line_begins_in_column_43()
-    ensures { (letters : Bytes) (number place : ℕ) (items : List Item) (text : Bytes) (last : ℕ) → number < 65536 → last ≢ 32
-        → drop 42 (listed_line letters number place items (text ++ last ∷ [])) ≡ printed (text ++ last ∷ []) ++ 10 ∷ [] }
+    ensures { (flags : Bytes) (number place : ℕ) (items : List Item) (text : Bytes) (last : ℕ) → number < 65536 → last ≢ 32
+        → drop 42 (listed_line flags number place items (text ++ last ∷ [])) ≡ printed (text ++ last ∷ []) ++ 10 ∷ [] }
 {}
 
 /// No line ends with a blank: none of source lines, none of messages, none of the symbol table.
 pub fn no_line_ends_with_a_blank()
-    ensures listed { (letters : Bytes) (number place : ℕ) (items : List Item) (text : Bytes)
-        → EndsWithNoBlank (listed_line letters number place items text) }
+    ensures listed { (flags : Bytes) (number place : ℕ) (items : List Item) (text : Bytes)
+        → EndsWithNoBlank (listed_line flags number place items text) }
     ensures further { (place : ℕ) (items : List Item) → EndsWithNoBlank (further_line place items) }
-    ensures message { (letters : Bytes) (number : ℕ) (text : Bytes) → EndsWithNoBlank (message_line letters number text) }
+    ensures message { (flags : Bytes) (number : ℕ) (text : Bytes) → EndsWithNoBlank (message_line flags number text) }
     ensures symbol { (symbol : SymbolEntry) → EndsWithNoBlank (symbol_line symbol) }
     ensures section { (section : SectionEntry) → EndsWithNoBlank (section_line section) }
 {}
 
-/// A message has its letters, its number and its text, where that doesn't end with a blank.
+/// A message has its flags, its number and its text, where that doesn't end with a blank.
 pub fn a_message_shows_its_text()
-    ensures { (letters : Bytes) (number : ℕ) (text : Bytes) (last : ℕ) → last ≢ 32
-        → message_line letters number (text ++ last ∷ [])
-        ≡ (letters ++ codes " " ++ decimal number ++ codes ": " ++ printed (text ++ last ∷ [])) ++ 10 ∷ [] }
+    ensures { (flags : Bytes) (number : ℕ) (text : Bytes) (last : ℕ) → last ≢ 32
+        → message_line flags number (text ++ last ∷ [])
+        ≡ (flags ++ codes " " ++ decimal number ++ codes ": " ++ printed (text ++ last ∷ [])) ++ 10 ∷ [] }
 {}
 
 /// Three items more stand in each further line, from the place of the first of them on.

@@ -1,5 +1,5 @@
 //! What an assembly prints, as texts: the lines of its listing, its symbol table and its messages. No output, no source and
-//! no memory is taken: letters, numbers, items and texts are handed in; a call gives one line, or the place after items. (This project's
+//! no memory is taken: flags, numbers, items and texts are handed in; a call gives one line, or the place after items. (This project's
 //! own.)
 #![tactic(auto)]
 

@@ -10,25 +10,21 @@ use itoa::Buffer;
 use m11_base::octal6;
 use m11_print::{Line, ended, put};
 
-// At most four of the letters.
-fn first_letters(letters: &[u8]) -> &[u8]
-    ensures value { result.now ≡ take 4 letters.now }
+// At most four of the flags.
+fn first_flags(flags: &[u8]) -> &[u8]
+    ensures value { result.now ≡ take 4 flags.now }
     ensures few { length result.now ≤ 4 }
 {
-    if letters.len() > 4 {
-        &letters[..4]
-    } else {
-        letters
-    }
+    if flags.len() > 4 { &flags[..4] } else { flags }
 }
 
-// Adds the columns of letters and number.
-fn put_head(line: &mut Line, letters: &[u8], number: u16)
+// Adds the columns of flags and number.
+fn put_head(line: &mut Line, flags: &[u8], number: u16)
     requires { array_vec_len line.old ≤ 100 }
-    ensures items { line.new.items ≡ line.old.items ++ spec.head letters.now number }
+    ensures items { line.new.items ≡ line.old.items ++ spec.head flags.now number }
     ensures size { array_vec_len line.new ≡ array_vec_len line.old + 10 }
 {
-    put_left(line, 4, first_letters(letters));
+    put_left(line, 4, first_flags(flags));
     put_right(line, 6, Buffer::new().format(number).as_bytes());
 }
 
@@ -43,14 +39,14 @@ fn put_places(line: &mut Line, place: u16, items: &[Item])
     put_items(line, items);
 }
 
-/// The line of a source line: the first four of its letters, its number, a place, the first three of its items, and its text, which has
+/// The line of a source line: the first four of its flags, its number, a place, the first three of its items, and its text, which has
 /// at most 132 characters.
-pub fn listed_line(letters: &[u8], number: u16, place: u16, items: &[Item], text: &[u8]) -> Line
+pub fn listed_line(flags: &[u8], number: u16, place: u16, items: &[Item], text: &[u8]) -> Line
     requires { length text.now ≤ 132 }
-    ensures { result.items ≡ spec.listed_line letters.now number place items.now text.now }
+    ensures { result.items ≡ spec.listed_line flags.now number place items.now text.now }
 {
     let mut line = Line::new();
-    put_head(&mut line, letters, number);
+    put_head(&mut line, flags, number);
     put_places(&mut line, place, items);
     put(&mut line, b" ");
     put_printed(&mut line, text);

@@ -7,14 +7,14 @@ use crate::columns::put_printed;
 use itoa::Buffer;
 use m11_print::{Line, ended, put};
 
-/// The message of a flagged line: its letters, 14 at most, its number, and its text of at most 132 characters.
-pub fn message_line(letters: &[u8], number: u16, text: &[u8]) -> Line
-    requires few { length letters.now ≤ 14 }
+/// The message of a flagged line: its flags, 14 at most, its number, and its text of at most 132 characters.
+pub fn message_line(flags: &[u8], number: u16, text: &[u8]) -> Line
+    requires few { length flags.now ≤ 14 }
     requires short { length text.now ≤ 132 }
-    ensures { result.items ≡ spec.message_line letters.now number text.now }
+    ensures { result.items ≡ spec.message_line flags.now number text.now }
 {
     let mut line = Line::new();
-    put(&mut line, letters);
+    put(&mut line, flags);
     put(&mut line, b" ");
     put(&mut line, Buffer::new().format(number).as_bytes());
     put(&mut line, b": ");

@@ -10,55 +10,55 @@ use Rattle.m11_placement.specs.Meanings.{empty_map, firm_known, known_at}
 use Rattle.m11_placement.specs.Operands.{instruction_size}
 use Rattle.m11_placement.specs.Operators.{is_even}
 use Rattle.m11_placement.specs.Tables.{Table, firm_table, place}
-use Rattle.m11_placement.specs.declared.meanings.Context.TheVariants.{Knows}
+use Rattle.m11_placement.specs.declared.meanings.Context.TheVariants.{LocalOnly}
 use Rattle.m11_placement.specs.declared.operators.Directive.{Directive}
 use Rattle.m11_placement.specs.declared.operators.Directive.TheVariants as word
 use Rattle.m11_placement.specs.declared.operators.Operator.{Operator}
-use Rattle.m11_placement.specs.declared.operators.Operator.TheVariants.{Instruction, Directs}
+use Rattle.m11_placement.specs.declared.operators.Operator.TheVariants as operators
 
 known_firm : (table : Table) (here : ℕ) → firm_known (firm_table table) here ≡ firm_known table here
-known_firm table here = ap (λ (t : Table). known_at empty_map Knows t here) (table_twice table)
+known_firm table here = ap (λ (t : Table). known_at empty_map LocalOnly t here) (table_twice table)
 
 module _ (table : Table) (passed here : ℕ) (line : List ℕ) (start : ℕ) (arguments : Option ℕ) where
   directive_firm : (directive : Directive)
       → directive_change (firm_table table) passed here line start arguments directive
       ≡ directive_change table passed here line start arguments directive
-  directive_firm word.Words = refl
-  directive_firm word.Bytewise = refl
+  directive_firm word.Word = refl
+  directive_firm word.Byte = refl
   directive_firm word.Ascii = refl
   directive_firm word.Asciz = refl
   directive_firm word.Rad50 = refl
-  directive_firm word.ByteBlock =
+  directive_firm word.Blkb =
       ap (λ (k : Known). steps passed (if has_expression line start then number_at k line start else 1)) (known_firm table here)
-  directive_firm word.WordBlock =
+  directive_firm word.Blkw =
       ap (λ (k : Known). steps passed ((if has_expression line start then number_at k line start else 1) * 2)) (known_firm table here)
   directive_firm word.Even = refl
   directive_firm word.Odd = refl
   directive_firm word.Limit = refl
-  directive_firm word.InRadix = refl
-  directive_firm word.AbsoluteSection = refl
-  directive_firm word.ControlSection = refl
-  directive_firm word.ProgramSection = refl
-  directive_firm word.Global = refl
+  directive_firm word.Radix = refl
+  directive_firm word.Asect = refl
+  directive_firm word.Csect = refl
+  directive_firm word.Psect = refl
+  directive_firm word.Globl = refl
   directive_firm word.Weak = refl
   directive_firm word.Title = refl
-  directive_firm word.Identification = refl
-  directive_firm word.Subtitle = refl
+  directive_firm word.Ident = refl
+  directive_firm word.Sbttl = refl
   directive_firm word.Page = refl
-  directive_firm word.Lists = refl
-  directive_firm word.Unlists = refl
-  directive_firm word.Enable = refl
-  directive_firm word.Disable = refl
-  directive_firm word.ArgumentCount = refl
-  directive_firm word.CharacterCount = refl
+  directive_firm word.List = refl
+  directive_firm word.Nlist = refl
+  directive_firm word.Enabl = refl
+  directive_firm word.Dsabl = refl
+  directive_firm word.Narg = refl
+  directive_firm word.Nchr = refl
   directive_firm word.End = refl
 
   by_firm : (operator : Operator)
       → change_by (firm_table table) passed here line start arguments operator
       ≡ change_by table passed here line start arguments operator
-  by_firm (Instruction operation) =
+  by_firm (operators.Instruction operation) =
       ap (λ (k : Known). steps passed (instruction_size (forms_of (fields_at k line start operation).list))) (known_firm table here)
-  by_firm (Directs directive) = directive_firm directive
+  by_firm (operators.Directive directive) = directive_firm directive
 
 pub change_firm : (table : Table) (line : List ℕ) (start : ℕ) (arguments : Option ℕ) (operator : Operator)
     → operator_change (firm_table table) line start arguments operator ≡ operator_change table line start arguments operator

@@ -15,27 +15,27 @@ pub third_code : (done new : Put) (waiting : Waiting) (first second code word : 
     → (more : Codes) → packing new Nothing more ≡ packing done waiting (codes_first (code ∷ []) more)
 third_code done new waiting first second code word is same adds more =
     ap (λ (p : Put). packing p Nothing more) (adds ∙ ap (λ (c : PieceContent). followed_by done (put (c ∷ []) 0)) (sym same))
-    ∙ followed_joins done (put (packed first second code ∷ []) 0) (put (packed_words more.codes) more.letters)
-    ∙ ap (λ (l : ℕ). followed_by done (put (packed first second code ∷ packed_words more.codes) l)) (or_zero_l more.letters)
+    ∙ followed_joins done (put (packed first second code ∷ []) 0) (put (packed_words more.codes) more.flags)
+    ∙ ap (λ (l : ℕ). followed_by done (put (packed first second code ∷ packed_words more.codes) l)) (or_zero_l more.flags)
     ∙ ap (λ (w : Waiting). packing done w (codes_first (code ∷ []) more)) (sym is)
 
--- letters of the codes that come next
-pub lettered_codes : (done new : Put) (waiting : Waiting) (codes : List ℕ) (letters bits : ℕ) → bits ≡ letters
+-- flags of the codes that come next
+pub flagged_codes : (done new : Put) (waiting : Waiting) (codes : List ℕ) (flags bits : ℕ) → bits ≡ flags
     → new ≡ followed_by done (nothing bits)
-    → (more : Codes) → packing new waiting (codes_first codes more) ≡ packing done waiting (codes_then (codes_of codes letters) more)
-lettered_codes done new waiting codes letters bits same adds more =
+    → (more : Codes) → packing new waiting (codes_first codes more) ≡ packing done waiting (codes_then (codes_of codes flags) more)
+flagged_codes done new waiting codes flags bits same adds more =
     ap (λ (p : Put). packing p waiting (codes_first codes more)) (adds ∙ ap (λ (l : ℕ). followed_by done (nothing l)) same)
-    ∙ followed_joins done (nothing letters) (put (packed_words (waiting_codes waiting ++ (codes ++ more.codes))) more.letters)
+    ∙ followed_joins done (nothing flags) (put (packed_words (waiting_codes waiting ++ (codes ++ more.codes))) more.flags)
 
 -- the same of codes that are put, if there is memory for them
-pub codes_after : {E : Type 0} (result : Result Waiting E) (old lettered new : Put) (waiting : Waiting) (codes : List ℕ)
-    (letters bits : ℕ) → bits ≡ letters → lettered ≡ followed_by old (nothing bits)
-    → IfOk result (λ after. (more : Codes) → packing new after more ≡ packing lettered waiting (codes_first codes more))
+pub codes_after : {E : Type 0} (result : Result Waiting E) (old flagged new : Put) (waiting : Waiting) (codes : List ℕ)
+    (flags bits : ℕ) → bits ≡ flags → flagged ≡ followed_by old (nothing bits)
+    → IfOk result (λ after. (more : Codes) → packing new after more ≡ packing flagged waiting (codes_first codes more))
     → IfOk result (λ after. (more : Codes)
-    → packing new after more ≡ packing old waiting (codes_then (codes_of codes letters) more))
-codes_after (Ok after) old lettered new waiting codes letters bits same adds given = λ more.
-    given more ∙ lettered_codes old lettered waiting codes letters bits same adds more
-codes_after (Err e) old lettered new waiting codes letters bits same adds given = tt
+    → packing new after more ≡ packing old waiting (codes_then (codes_of codes flags) more))
+codes_after (Ok after) old flagged new waiting codes flags bits same adds given = λ more.
+    given more ∙ flagged_codes old flagged waiting codes flags bits same adds more
+codes_after (Err e) old flagged new waiting codes flags bits same adds given = tt
 
 -- where none waits, nothing is left to put
 pub none_waits : (done : Put) (waiting : Waiting) → waiting ≡ Nothing → done ≡ packing done waiting (codes_of [] 0)

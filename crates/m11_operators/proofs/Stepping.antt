@@ -7,7 +7,7 @@ use Rattle.m11_placement.specs.Contents.{Put, byte, element_value, followed_by, 
 use Rattle.m11_placement.specs.Meanings.{Map, known_at}
 use Rattle.m11_placement.specs.Storage.{bytes_from, words_from}
 use Rattle.m11_placement.specs.Tables.{Table}
-use Rattle.m11_placement.specs.declared.meanings.Context.TheVariants.{Refers}
+use Rattle.m11_placement.specs.declared.meanings.Context.TheVariants.{MayBeGlobal}
 use Rattle.m11_values.specs.Quantities.{Quantity, absolute}
 
 -- one thing, and then others
@@ -19,7 +19,7 @@ step_on done new first rest more adds same =
     ∙ ap (λ (p : Put). followed_by done (followed_by first p)) same
 
 module _ (map : Map) (table : Table) (line : List ℕ) (done new : Put) (place next start : ℕ) (value : Quantity)
-    (is : value ≡ element_value (known_at map Refers table place) line start) where
+    (is : value ≡ element_value (known_at map MayBeGlobal table place) line start) where
   pub word_on : new ≡ followed_by done (word table false place value) → next ≡ further place 2 → (starts : List ℕ)
       → followed_by new (words_from map table line next starts) ≡ followed_by done (words_from map table line place (start ∷ starts))
   word_on adds goes starts =

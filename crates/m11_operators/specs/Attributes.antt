@@ -2,7 +2,7 @@
 use Rattle.std.specs.Prelude.{ℕ, List, [], ◌∷◌, codes, Option, Some, None}
 use Rattle.std.specs.Int.RustNames.{bit_or}
 use Rattle.m11_base.specs.Devices.{Bytes}
-use Rattle.m11_placement.specs.ProgramSections as sections
+use Rattle.m11_placement.specs.Psects as sections
 use Rattle.m11_placement.specs.declared.sections.Section.{Section}
 use Rattle.m11_operators.specs.declared.attributes.Attribute.{Attribute}
 
@@ -32,8 +32,8 @@ rows =
     ∷ row (codes "SAV   ") 0o001 0o001
     ∷ []
 
--- letters with those of attributes, one after the other
-abbrev pub letters_from : ℕ → Option Section → List Bytes → ℕ
-letters_from letters known [] = letters
-letters_from letters known (name ∷ names) =
-    letters_from (bit_or letters (sections.differing known (sections.attribute_named name))) known names
+-- flags with those of attributes, one after the other
+abbrev pub flags_from : ℕ → Option Section → List Bytes → ℕ
+flags_from flags known [] = flags
+flags_from flags known (name ∷ names) =
+    flags_from (bit_or flags (sections.differing known (sections.attribute_named name))) known names

@@ -33,4 +33,4 @@ change_seen (Counts move) = changes.Counts (move_seen move)
 change_seen (Selects name attributes) = changes.Selects name attributes
 change_seen (Numbers name number) = changes.Numbers name number
 change_seen (Exports start) = changes.Exports start
-change_seen (Sets settings) = changes.Sets settings
+change_seen (Sets modes) = changes.Sets modes

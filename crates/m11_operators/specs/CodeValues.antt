@@ -3,7 +3,7 @@
 use Rattle.std.specs.Prelude.{ℕ, List, [], ◌∷◌}
 use Rattle.m11_arguments.specs.Expressions.{value_at}
 use Rattle.m11_base.specs.declared.instruction.Op.{Op}
-use Rattle.m11_placement.specs.Codes.{Setting, field_letters}
+use Rattle.m11_placement.specs.Codes.{LineContext, field_flags}
 use Rattle.m11_placement.specs.declared.fields.Field.{Field}
 use Rattle.m11_placement.specs.declared.fields.Field.TheVariants.{Formed, Registered, Targeted, Numbered, Missing}
 use Rattle.m11_placement.specs.declared.operands.Form.{Form}
@@ -15,26 +15,26 @@ abbrev pub no_value : Quantity
 no_value = absolute 0 0
 
 -- that of the register of a form
-abbrev pub form_value : Setting → Form → Quantity
-form_value setting Absent = no_value
-form_value setting (InRegister kind start) = value_at setting.known setting.line start
-form_value setting (Indexed kind start index) = value_at setting.known setting.line start
-form_value setting (Unindexed start) = value_at setting.known setting.line start
-form_value setting (AfterCounter kind start) = no_value
+abbrev pub form_value : LineContext → Form → Quantity
+form_value line_context Absent = no_value
+form_value line_context (InRegister kind start) = value_at line_context.known line_context.line start
+form_value line_context (Indexed kind start index) = value_at line_context.known line_context.line start
+form_value line_context (Unindexed start) = value_at line_context.known line_context.line start
+form_value line_context (AfterCounter kind start) = no_value
 
-abbrev pub field_value : Setting → Field → Quantity
-field_value setting (Formed form) = form_value setting form
-field_value setting (Registered start) = value_at setting.known setting.line start
-field_value setting (Targeted start) = value_at setting.known setting.line start
-field_value setting (Numbered start) = value_at setting.known setting.line start
-field_value setting Missing = no_value
+abbrev pub field_value : LineContext → Field → Quantity
+field_value line_context (Formed form) = form_value line_context form
+field_value line_context (Registered start) = value_at line_context.known line_context.line start
+field_value line_context (Targeted start) = value_at line_context.known line_context.line start
+field_value line_context (Numbered start) = value_at line_context.known line_context.line start
+field_value line_context Missing = no_value
 
 -- that in the first of some fields
-abbrev pub value_in : Setting → List Field → Quantity
-value_in setting [] = no_value
-value_in setting (field ∷ fields) = field_value setting field
+abbrev pub value_in : LineContext → List Field → Quantity
+value_in line_context [] = no_value
+value_in line_context (field ∷ fields) = field_value line_context field
 
--- the letters of the first of some fields
-abbrev pub letters_in : Setting → Op → List Field → ℕ
-letters_in setting operation [] = 0
-letters_in setting operation (field ∷ fields) = field_letters setting operation field
+-- the flags of the first of some fields
+abbrev pub flags_in : LineContext → Op → List Field → ℕ
+flags_in line_context operation [] = 0
+flags_in line_context operation (field ∷ fields) = field_flags line_context operation field

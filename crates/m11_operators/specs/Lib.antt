@@ -8,4 +8,4 @@ pub mod Packing
 pub mod Reading
 pub mod SectionNames
 pub mod Seen
-pub mod Settings
+pub mod LineContext

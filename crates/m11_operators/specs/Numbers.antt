@@ -1,7 +1,7 @@
--- Numbers that don't fit a word, by their letters. (MACRO-11 Language Reference Manual, "Numbers".)
+-- Numbers that don't fit a word, by their flags. (MACRO-11 Language Reference Manual, "Numbers".)
 use Rattle.std.specs.Prelude.{ℕ, ◌==◌, not, Bool, bit_and}
-use Rattle.m11_scan.specs.Letters.{letter_T}
+use Rattle.m11_scan.specs.ErrorFlags.{flag_T}
 
--- letters have that of a number over 65535
+-- flags have that of a number over 65535
 abbrev pub is_large : ℕ → Bool
-is_large letters = not (bit_and letters letter_T == 0)
+is_large flags = not (bit_and flags flag_T == 0)

@@ -8,12 +8,12 @@ use Rattle.m11_placement.specs.Instructions as instructions
 use Rattle.m11_placement.specs.Operators.{is_even}
 use Rattle.m11_placement.specs.Tables.{Table, place}
 use Rattle.m11_placement.specs.declared.operators.Operator.{Operator}
-use Rattle.m11_placement.specs.declared.operators.Operator.TheVariants.{Instruction, Directs}
+use Rattle.m11_placement.specs.declared.operators.Operator.TheVariants as operators
 
 -- of an operator that puts what it puts at a place, and whose name ends at a place of its line
 abbrev pub fields_at : Table → ℕ → Bytes → ℕ → Operator → Fields
-fields_at table here line start (Instruction operation) = instructions.fields table here line start operation
-fields_at table here line start (Directs directive) = no_fields 0
+fields_at table here line start (operators.Instruction operation) = instructions.fields table here line start operation
+fields_at table here line start (operators.Directive directive) = no_fields 0
 
 -- where the table says that it does
 abbrev pub operator_fields : Table → Bytes → ℕ → Operator → Fields

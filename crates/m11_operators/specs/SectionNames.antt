@@ -1,8 +1,8 @@
 -- What the definitions see of the name of a section that the code has found.
 use Rattle.std.specs.Prelude.{ℕ, ◌≤◌}
-use Rattle.m11_placement.specs.ProgramSections as sections
-use Rattle.m11_operators.specs.declared.sections.SectionAt.{SectionAt}
-use Rattle.m11_operators.specs.declared.sections.SectionAt.TheVariants.{Unnamed, Named, Bad}
+use Rattle.m11_placement.specs.Psects as sections
+use Rattle.m11_operators.specs.declared.psects.SectionAt.{SectionAt}
+use Rattle.m11_operators.specs.declared.psects.SectionAt.TheVariants.{Unnamed, Named, Bad}
 
 abbrev pub section_seen : SectionAt → sections.SectionAt
 section_seen Unnamed = sections.Unnamed

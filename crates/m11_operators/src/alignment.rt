@@ -4,7 +4,7 @@ ghost use Rattle.std.specs.Prelude.{◌≡◌, ◌≤◌};
 ghost use Rattle.m11_placement.specs.Alignment as spec;
 ghost use Rattle.m11_scan.specs.Views.{bits_of};
 
-use m11_scan::Letters;
+use m11_scan::ErrorFlags;
 
 // How many bytes a place lies before the next even one.
 pub(crate) fn to_even(place: u16) -> u16
@@ -38,8 +38,8 @@ pub fn place_for(is_even: bool, place: u16) -> u16
 }
 
 /// B where bytes were passed over.
-pub fn gap_letters(is_even: bool, place: u16) -> Letters
-    ensures { bits_of result ≡ spec.gap_letters is_even place }
+pub fn gap_flags(is_even: bool, place: u16) -> ErrorFlags
+    ensures { bits_of result ≡ spec.gap_flags is_even place }
 {
-    Letters::B.when(gap(is_even, place) == 1)
+    ErrorFlags::B.when(gap(is_even, place) == 1)
 }

@@ -7,16 +7,16 @@ ghost use Rattle.m11_values.specs.Quantities.{quantity};
 ghost use Rattle.m11_placement.specs.Assigning as spec;
 ghost use Rattle.m11_placement.specs.Meanings.{known_at};
 ghost use Rattle.m11_placement.specs.Tables.{place};
-ghost use Rattle.m11_placement.specs.declared.meanings.Context.TheVariants.{Knows};
+ghost use Rattle.m11_placement.specs.declared.meanings.Context.TheVariants.{LocalOnly};
 ghost use Rattle.m11_operators.specs.Changes.{change_seen};
 
 use crate::changes::{Change, Move};
-use m11_arguments::{has_token, lone_term, value_at, value_by};
+use m11_arguments::{has_token, single_term, value_at, value_by};
 use m11_base::Name;
 use m11_placement::{Context, Definition, Key, Standing};
-use m11_scan::{Letters, Line, Token, expression_end, read_name};
+use m11_scan::{ErrorFlags, Line, Token, expression_end, read_name};
 use m11_statements::Span;
-use m11_table::{FirmNames, Map, NamesAt, Table, register_letters};
+use m11_table::{FirmNames, Map, NamesAt, Table, register_flags};
 use m11_values::Value;
 
 /// The name that an assignment assigns its value to, if it is one.
@@ -26,31 +26,31 @@ pub fn target(line: &Line, name: Span) -> Option<Name>
     read_name(name.text(line))
 }
 
-/// The letters of an assignment: M for a label's name, U for a global one whose value is never known, those of the value, and Q for what
+/// The flags of an assignment: M for a label's name, U for a global one whose value is never known, those of the value, and Q for what
 /// stands after it.
-pub fn assignment_letters(
+pub fn assignment_flags(
     map: &Map<'_>,
     table: &Table,
     line: &Line,
     name: Span,
     start: usize,
     term: Option<Token>,
-) -> Letters
+) -> ErrorFlags
     requires within { start ≤ length line.now.text }
     requires term { IfSome term (λ term. IsAlone line.now.text start term) }
-    ensures { bits_of result ≡ spec.assignment_letters map.now table.now line.now.text name start }
+    ensures { bits_of result ≡ spec.assignment_flags map.now table.now line.now.text name start }
 {
     let value = known_value_by(map, table, line, start, term);
-    let letters = value.letters.with(after_expression(line, start));
-    target_letters(map, table, target(line, name)).with(letters)
+    let flags = value.flags.with(after_expression(line, start));
+    target_flags(map, table, target(line, name)).with(flags)
 }
 
 /// The value of the expression at a place, where a name that no line defines is unknown.
 pub fn known_value(map: &Map<'_>, table: &Table, line: &Line, start: usize) -> Value
     requires { start ≤ length line.now.text }
-    ensures { quantity result ≡ value_at (known_at map.now Knows table.now (place table.now)) line.now.text start }
+    ensures { quantity result ≡ value_at (known_at map.now LocalOnly table.now (place table.now)) line.now.text start }
 {
-    known_value_by(map, table, line, start, lone_term(line, start))
+    known_value_by(map, table, line, start, single_term(line, start))
 }
 
 /// The same, with its one token where it is found to be one term.
@@ -63,59 +63,59 @@ pub fn known_value_by(
 ) -> Value
     requires within { start ≤ length line.now.text }
     requires term { IfSome term (λ term. IsAlone line.now.text start term) }
-    ensures { quantity result ≡ value_at (known_at map.now Knows table.now (place table.now)) line.now.text start }
+    ensures { quantity result ≡ value_at (known_at map.now LocalOnly table.now (place table.now)) line.now.text start }
 {
-    let names = NamesAt::new(map, Context::Knows, table, table.place());
+    let names = NamesAt::new(map, Context::LocalOnly, table, table.place());
     value_by(line, start, term, &names)
 }
 
 // Q for what stands after the expression at a place.
-fn after_expression(line: &Line, start: usize) -> Letters
+fn after_expression(line: &Line, start: usize) -> ErrorFlags
     requires { start ≤ length line.now.text }
     ensures { bits_of result ≡ spec.after_expression line.now.text start }
 {
-    Letters::Q.when(has_token(line, expression_end(line, start)))
+    ErrorFlags::Q.when(has_token(line, expression_end(line, start)))
 }
 
-fn target_letters(map: &Map<'_>, table: &Table, name: Option<Name>) -> Letters
-    ensures { bits_of result ≡ spec.target_letters map.now table.now name }
+fn target_flags(map: &Map<'_>, table: &Table, name: Option<Name>) -> ErrorFlags
+    ensures { bits_of result ≡ spec.target_flags map.now table.now name }
 {
     match name {
-        Some(name) => definition_letters(map, table, name),
-        None => Letters::none(),
+        Some(name) => definition_flags(map, table, name),
+        None => ErrorFlags::none(),
     }
 }
 
-/// The letters of a change that assigns a number.
-pub fn number_letters(map: &Map<'_>, table: &Table, change: &Change) -> Letters
-    ensures { bits_of result ≡ spec.number_letters map.now table.now (change_seen change.now) }
+/// The flags of a change that assigns a number.
+pub fn number_flags(map: &Map<'_>, table: &Table, change: &Change) -> ErrorFlags
+    ensures { bits_of result ≡ spec.number_flags map.now table.now (change_seen change.now) }
 {
     match change {
-        Change::Numbers(name, _) => definition_letters(map, table, *name),
-        _ => Letters::none(),
+        Change::Numbers(name, _) => definition_flags(map, table, *name),
+        _ => ErrorFlags::none(),
     }
 }
 
-// The letters of any definition of a name that isn't a label's.
-fn definition_letters(map: &Map<'_>, table: &Table, name: Name) -> Letters
-    ensures { bits_of result ≡ spec.definition_letters map.now table.now name }
+// The flags of any definition of a name that isn't a label's.
+fn definition_flags(map: &Map<'_>, table: &Table, name: Name) -> ErrorFlags
+    ensures { bits_of result ≡ spec.definition_flags map.now table.now name }
 {
-    label_letters(table, name).with(global_letters(map, name))
+    label_flags(table, name).with(globl_flags(map, name))
 }
 
 // M for a label's name.
-fn label_letters(table: &Table, name: Name) -> Letters
-    ensures { bits_of result ≡ spec.label_letters table.now name }
+fn label_flags(table: &Table, name: Name) -> ErrorFlags
+    ensures { bits_of result ≡ spec.label_flags table.now name }
 {
-    Letters::M.when(table.is_labelled(&Key::Named(name)))
+    ErrorFlags::M.when(table.is_labelled(&Key::Named(name)))
 }
 
 // U for a name that is global, and whose value isn't known when the whole source was read.
-fn global_letters(map: &Map<'_>, name: Name) -> Letters
-    ensures { bits_of result ≡ spec.global_letters map.now name }
+fn globl_flags(map: &Map<'_>, name: Name) -> ErrorFlags
+    ensures { bits_of result ≡ spec.globl_flags map.now name }
 {
     let is_unknown = is_unknown(map.definition(&Key::Named(name)));
-    Letters::U.when(map.is_exported(name) && is_unknown)
+    ErrorFlags::U.when(map.is_exported(name) && is_unknown)
 }
 
 fn is_unknown(definition: Option<Definition>) -> bool
@@ -149,30 +149,30 @@ pub fn counter_change(table: &Table, line: &Line, start: usize) -> Change
     }
 }
 
-/// The letters of `.=`: those of its value, R for a register, A for a place outside the section, and Q for what stands after it.
-pub fn counter_letters(table: &Table, line: &Line, start: usize) -> Letters
+/// The flags of `.=`: those of its value, R for a register, A for a place outside the section, and Q for what stands after it.
+pub fn counter_flags(table: &Table, line: &Line, start: usize) -> ErrorFlags
     requires { start ≤ length line.now.text }
-    ensures { bits_of result ≡ spec.counter_letters table.now line.now.text start }
+    ensures { bits_of result ≡ spec.counter_flags table.now line.now.text start }
 {
     let value = counter_value(table, line, start);
-    counter_letters_of(table, value).with(after_expression(line, start))
+    counter_flags_of(table, value).with(after_expression(line, start))
 }
 
-fn counter_letters_of(table: &Table, value: Value) -> Letters
-    ensures { bits_of result ≡ spec.counter_letters_of table.now (quantity value) }
+fn counter_flags_of(table: &Table, value: Value) -> ErrorFlags
+    ensures { bits_of result ≡ spec.counter_flags_of table.now (quantity value) }
 {
-    let letters = value.letters;
-    let register = register_letters(value.kind);
-    letters.with(register.with(outside_letters(table, value)))
+    let flags = value.flags;
+    let register = register_flags(value.kind);
+    flags.with(register.with(outside_flags(table, value)))
 }
 
-fn outside_letters(table: &Table, value: Value) -> Letters
-    ensures { bits_of result ≡ spec.outside_letters table.now (quantity value) }
+fn outside_flags(table: &Table, value: Value) -> ErrorFlags
+    ensures { bits_of result ≡ spec.outside_flags table.now (quantity value) }
 {
     if table.is_here(value.kind) {
-        Letters::none()
+        ErrorFlags::none()
     } else {
-        Letters::A
+        ErrorFlags::A
     }
 }
 

@@ -4,11 +4,11 @@ ghost use Rattle.std.specs.Prelude.{◌≡◌, [], ◌∷◌, find};
 ghost use Rattle.std.specs.Str.{bytes_eq};
 ghost use Rattle.m11_scan.specs.Views.{bits_of};
 ghost use Rattle.m11_placement.specs.Elements.{texts_of};
-ghost use Rattle.m11_placement.specs.ProgramSections as spec;
-ghost use Rattle.m11_operators.specs.Attributes.{attribute_seen, letters_from, row_seen, rows};
+ghost use Rattle.m11_placement.specs.Psects as spec;
+ghost use Rattle.m11_operators.specs.Attributes.{attribute_seen, flags_from, row_seen, rows};
 
 use m11_placement::Section;
-use m11_scan::{Letters, Line, six_characters};
+use m11_scan::{ErrorFlags, Line, six_characters};
 use m11_statements::Span;
 
 /// An attribute: its name of six characters, the bits that it decides, and what it makes of them.
@@ -137,54 +137,54 @@ fn has_attribute(bits: u8, row: Attribute) -> bool
 }
 
 // A for an attribute that a known section doesn't have, and for a name that is none.
-fn differing(known: Option<Section>, attribute: Option<Attribute>) -> Letters
+fn differing(known: Option<Section>, attribute: Option<Attribute>) -> ErrorFlags
     ensures { bits_of result ≡ spec.differing known (attribute_seen attribute) }
 {
     match (known, attribute) {
-        (_, None) => Letters::A,
-        (None, Some(_)) => Letters::none(),
-        (Some(known), Some(row)) => Letters::A.when(!has_attribute(known.attributes, row)),
+        (_, None) => ErrorFlags::A,
+        (None, Some(_)) => ErrorFlags::none(),
+        (Some(known), Some(row)) => ErrorFlags::A.when(!has_attribute(known.attributes, row)),
     }
 }
 
-// Letters with those of the attribute that an element of a list is.
+// Flags with those of the attribute that an element of a list is.
 fn with_differing(
-    letters: Letters,
+    flags: ErrorFlags,
     known: &Option<Section>,
     line: &Line,
     name: Option<Span>,
-) -> Letters
-    ensures { bits_of result ≡ letters_from (bits_of letters) known.now (texts_of line.now.text (name ∷ [])) }
+) -> ErrorFlags
+    ensures { bits_of result ≡ flags_from (bits_of flags) known.now (texts_of line.now.text (name ∷ [])) }
 {
     match name {
-        Some(name) => letters.with(differing(
+        Some(name) => flags.with(differing(
             *known,
             attribute_named(&six_characters(name.text(line))),
         )),
-        None => letters,
+        None => flags,
     }
 }
 
-// The letters of the attributes that the names of a list are.
+// The flags of the attributes that the names of a list are.
 #[tactic(auto, using(crate::proofs::Differing::from_none))]
-pub(crate) fn differing_letters(
+pub(crate) fn differing_flags(
     known: &Option<Section>,
     line: &Line,
     names: &[Option<Span>],
-) -> Letters
-    ensures { bits_of result ≡ spec.differing_letters known.now (texts_of line.now.text names.now) }
+) -> ErrorFlags
+    ensures { bits_of result ≡ spec.differing_flags known.now (texts_of line.now.text names.now) }
 {
     all_differing(known, line, names)
 }
 
-fn all_differing(known: &Option<Section>, line: &Line, names: &[Option<Span>]) -> Letters
-    ensures { bits_of result ≡ letters_from 0 known.now (texts_of line.now.text names.now) }
+fn all_differing(known: &Option<Section>, line: &Line, names: &[Option<Span>]) -> ErrorFlags
+    ensures { bits_of result ≡ flags_from 0 known.now (texts_of line.now.text names.now) }
 {
-    let mut letters = Letters::none();
+    let mut flags = ErrorFlags::none();
     let mut rest = names;
     'names: while let [name, others @ ..] = rest {
-        letters = with_differing(letters, known, line, *name);
+        flags = with_differing(flags, known, line, *name);
         rest = others;
     }
-    letters
+    flags
 }

@@ -6,7 +6,7 @@ ghost use Rattle.m11_placement.specs.Branches as spec;
 ghost use Rattle.m11_values.specs.Quantities.{quantity};
 
 use crate::relocations::distance;
-use m11_scan::Letters;
+use m11_scan::ErrorFlags;
 use m11_table::Table;
 use m11_values::Value;
 
@@ -71,8 +71,8 @@ pub(crate) fn loop_offset(table: &Table, place: u16, target: &Value) -> u8
 }
 
 // A for a target that isn't reached.
-pub(crate) fn target_letters(reaches: bool) -> Letters
-    ensures { bits_of result ≡ spec.target_letters reaches }
+pub(crate) fn target_flags(reaches: bool) -> ErrorFlags
+    ensures { bits_of result ≡ spec.target_flags reaches }
 {
-    Letters::A.when(!reaches)
+    ErrorFlags::A.when(!reaches)
 }

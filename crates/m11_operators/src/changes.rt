@@ -2,7 +2,7 @@
 //! section directives", "Direct assignment statements", ".GLOBL directive", "Radix control" and "Listing control directives".)
 
 use m11_base::Name;
-use m11_placement::Settings;
+use m11_placement::Modes;
 
 /// What a line does to the counter of its section.
 #[derive(Clone, Copy)]
@@ -27,5 +27,5 @@ pub enum Change {
     /// The names of the list at a place become global.
     Exports(u8),
     /// The radix, or what is listed.
-    Sets(Settings),
+    Sets(Modes),
 }

@@ -7,14 +7,14 @@ ghost use Rattle.m11_placement.specs.Counts as spec;
 ghost use Rattle.m11_operators.specs.Changes.{change_seen};
 
 use crate::changes::Change;
-use m11_arguments::{actual_letters, bad_letters, left_over, letters_before, name_at};
-use m11_scan::{Letters, Line};
+use m11_arguments::{actual_flags, bad_flags, flags_before, left_over, name_at};
+use m11_scan::{ErrorFlags, Line};
 use m11_statements::{Actual, Separator, next_actual, separator_at};
 
 /// What a `.NARG` assigns its name: the number of actuals of the innermost macro. Without a macro, or a name, it changes nothing.
-pub fn argument_count(arguments: Option<u16>, line: &Line, start: usize) -> Change
+pub fn narg(arguments: Option<u16>, line: &Line, start: usize) -> Change
     requires { start ≤ length line.now.text }
-    ensures { change_seen result ≡ spec.argument_count arguments line.now.text start }
+    ensures { change_seen result ≡ spec.narg arguments line.now.text start }
 {
     match (arguments, name_at(line, start)) {
         (Some(count), Some(name)) => Change::Numbers(name.name, count),
@@ -22,31 +22,31 @@ pub fn argument_count(arguments: Option<u16>, line: &Line, start: usize) -> Chan
     }
 }
 
-/// The letters of a `.NARG`: O without a macro, A without a name.
-pub fn argument_letters(arguments: Option<u16>, line: &Line, start: usize) -> Letters
+/// The flags of a `.NARG`: O without a macro, A without a name.
+pub fn narg_flags(arguments: Option<u16>, line: &Line, start: usize) -> ErrorFlags
     requires { start ≤ length line.now.text }
-    ensures { bits_of result ≡ spec.argument_letters arguments line.now.text start }
+    ensures { bits_of result ≡ spec.narg_flags arguments line.now.text start }
 {
-    Letters::O
+    ErrorFlags::O
         .when(arguments.is_none())
-        .with(argument_name_letters(line, start))
+        .with(narg_name_flags(line, start))
 }
 
-fn argument_name_letters(line: &Line, start: usize) -> Letters
+fn narg_name_flags(line: &Line, start: usize) -> ErrorFlags
     requires { start ≤ length line.now.text }
     ensures { bits_of result
-        ≡ spec.argument_name_letters line.now.text start (spec.name_in line.now.text start) }
+        ≡ spec.narg_name_flags line.now.text start (spec.name_in line.now.text start) }
 {
     match name_at(line, start) {
-        Some(name) => letters_before(line, start).with(left_over(line, usize::from(name.end))),
-        None => bad_letters(line, start),
+        Some(name) => flags_before(line, start).with(left_over(line, usize::from(name.end))),
+        None => bad_flags(line, start),
     }
 }
 
 /// What a `.NCHR` assigns its name: the number of characters of its text. Without a name it changes nothing.
-pub fn character_count(line: &Line, start: usize) -> Change
+pub fn nchr(line: &Line, start: usize) -> Change
     requires { start ≤ length line.now.text }
-    ensures { change_seen result ≡ spec.character_count line.now.text start }
+    ensures { change_seen result ≡ spec.nchr line.now.text start }
 {
     match name_at(line, start) {
         Some(name) => {
@@ -76,38 +76,38 @@ fn text_length(line: &Line, text: Option<Actual>) -> u16
     }
 }
 
-/// The letters of a `.NCHR`: A without a name, and without a text, but not where a comma stands before it.
-pub fn character_letters(line: &Line, start: usize) -> Letters
+/// The flags of a `.NCHR`: A without a name, and without a text, but not where a comma stands before it.
+pub fn nchr_flags(line: &Line, start: usize) -> ErrorFlags
     requires { start ≤ length line.now.text }
-    ensures { bits_of result ≡ spec.character_letters line.now.text start }
+    ensures { bits_of result ≡ spec.nchr_flags line.now.text start }
 {
     match name_at(line, start) {
-        Some(name) => letters_before(line, start).with(letters_after(line, usize::from(name.end))),
-        None => bad_letters(line, start),
+        Some(name) => flags_before(line, start).with(flags_after(line, usize::from(name.end))),
+        None => bad_flags(line, start),
     }
 }
 
 // Those of what stands after the name.
-fn letters_after(line: &Line, end: usize) -> Letters
+fn flags_after(line: &Line, end: usize) -> ErrorFlags
     requires { end ≤ length line.now.text }
     ensures { bits_of result
-        ≡ spec.text_letters line.now.text (separator_at line.now.text end) (spec.text_at line.now.text end) }
+        ≡ spec.text_flags line.now.text (separator_at line.now.text end) (spec.text_at line.now.text end) }
 {
     match text_at(line, end) {
-        Some(actual) => { actual_letters(&actual).with(left_over(line, usize::from(actual.end))) }
-        None => missing_letters(line, separator_at(line, end)),
+        Some(actual) => { actual_flags(&actual).with(left_over(line, usize::from(actual.end))) }
+        None => missing_flags(line, separator_at(line, end)),
     }
 }
 
 // Those of a text that is missing.
-fn missing_letters(line: &Line, separator: Separator) -> Letters
+fn missing_flags(line: &Line, separator: Separator) -> ErrorFlags
     requires { separator.end ≤ length line.now.text }
-    ensures { bits_of result ≡ spec.text_letters line.now.text separator None }
+    ensures { bits_of result ≡ spec.text_flags line.now.text separator None }
 {
-    let letters = left_over(line, usize::from(separator.end));
+    let flags = left_over(line, usize::from(separator.end));
     if separator.has_comma {
-        letters
+        flags
     } else {
-        Letters::A.with(letters)
+        ErrorFlags::A.with(flags)
     }
 }

@@ -14,13 +14,13 @@ ghost use Rattle.m11_placement.specs.declared.operators.Operator.TheVariants.{In
 use crate::alignment::{gap, place_for, to_even, to_odd};
 use crate::ascii::{ascii_size, asciz_size};
 use crate::changes::{Change, Move};
-use crate::counts::{argument_count, character_count};
+use crate::counts::{narg, nchr};
 use crate::exports::global;
-use crate::listing::{list, unlist};
+use crate::listing::{list, nlist};
+use crate::psects::{asect, csect, psect};
 use crate::radix_control::radix;
 use crate::radix50::rad50_size;
-use crate::sections::{absolute_section, control_section, program_section};
-use crate::storage::{LIMIT_SIZE, byte_block_size, byte_size, word_block_size, word_size};
+use crate::storage::{LIMIT_SIZE, blkb_size, blkw_size, byte_size, word_size};
 use m11_base::Op;
 use m11_fields::{Fields, instruction_size, is_even};
 use m11_placement::{Directive, Operator};
@@ -39,8 +39,8 @@ pub fn operator_change(
     fields: &Fields,
 ) -> Change
     requires within { start ≤ length line.now.text }
-    requires listed { table.now.settings.listed < u64.MAX }
-    requires unlisted { table.now.settings.unlisted < u64.MAX }
+    requires listed { table.now.modes.listed < u64.MAX }
+    requires unlisted { table.now.modes.unlisted < u64.MAX }
     requires fields { fields_seen fields.now ≡ operator_fields table.now line.now.text start operator }
     ensures { change_seen result ≡ spec.operator_change (firm_table table.now) line.now.text start arguments operator }
 {
@@ -82,8 +82,8 @@ fn change_at(
     fields: &Fields,
 ) -> Change
     requires within { start ≤ length line.now.text }
-    requires listed { table.now.settings.listed < u64.MAX }
-    requires unlisted { table.now.settings.unlisted < u64.MAX }
+    requires listed { table.now.modes.listed < u64.MAX }
+    requires unlisted { table.now.modes.unlisted < u64.MAX }
     requires fields { fields_seen fields.now ≡ fields_at table.now here line.now.text start operator }
     ensures { change_seen result ≡ spec.change_by table.now passed here line.now.text start arguments operator }
 {
@@ -91,7 +91,7 @@ fn change_at(
         Operator::Instruction(_) => {
             steps(passed, u32::from(instruction_size(fields.list.as_slice())))
         }
-        Operator::Directs(directive) => {
+        Operator::Directive(directive) => {
             directive_change(table, passed, here, line, start, arguments, directive)
         }
     }
@@ -116,37 +116,37 @@ fn directive_change(
     directive: Directive,
 ) -> Change
     requires within { start ≤ length line.now.text }
-    requires listed { table.now.settings.listed < u64.MAX }
-    requires unlisted { table.now.settings.unlisted < u64.MAX }
+    requires listed { table.now.modes.listed < u64.MAX }
+    requires unlisted { table.now.modes.unlisted < u64.MAX }
     ensures { change_seen result ≡ spec.directive_change table.now passed here line.now.text start arguments directive }
 {
     match directive {
-        Directive::Words => steps(passed, u32::from(word_size(line, start))),
-        Directive::Bytewise => steps(passed, u32::from(byte_size(line, start))),
+        Directive::Word => steps(passed, u32::from(word_size(line, start))),
+        Directive::Byte => steps(passed, u32::from(byte_size(line, start))),
         Directive::Ascii => steps(passed, u32::from(ascii_size(line, start))),
         Directive::Asciz => steps(passed, u32::from(asciz_size(line, start))),
         Directive::Rad50 => steps(passed, u32::from(rad50_size(line, start))),
-        Directive::ByteBlock => steps(passed, byte_block_size(table, here, line, start)),
-        Directive::WordBlock => steps(passed, word_block_size(table, here, line, start)),
+        Directive::Blkb => steps(passed, blkb_size(table, here, line, start)),
+        Directive::Blkw => steps(passed, blkw_size(table, here, line, start)),
         Directive::Even => steps(passed, u32::from(to_even(here))),
         Directive::Odd => steps(passed, u32::from(to_odd(here))),
         Directive::Limit => steps(passed, u32::from(LIMIT_SIZE)),
-        Directive::InRadix => radix(table.settings(), line, start),
-        Directive::AbsoluteSection => absolute_section(),
-        Directive::ControlSection => control_section(line, start),
-        Directive::ProgramSection => program_section(line, start),
-        Directive::Global => global(line, start),
+        Directive::Radix => radix(table.modes(), line, start),
+        Directive::Asect => asect(),
+        Directive::Csect => csect(line, start),
+        Directive::Psect => psect(line, start),
+        Directive::Globl => global(line, start),
         Directive::Weak => global(line, start),
-        Directive::Lists => list(table.settings(), line, start),
-        Directive::Unlists => unlist(table.settings(), line, start),
-        Directive::ArgumentCount => argument_count(arguments, line, start),
-        Directive::CharacterCount => character_count(line, start),
+        Directive::List => list(table.modes(), line, start),
+        Directive::Nlist => nlist(table.modes(), line, start),
+        Directive::Narg => narg(arguments, line, start),
+        Directive::Nchr => nchr(line, start),
         Directive::Title => Change::Keeps,
-        Directive::Identification => Change::Keeps,
-        Directive::Subtitle => Change::Keeps,
+        Directive::Ident => Change::Keeps,
+        Directive::Sbttl => Change::Keeps,
         Directive::Page => Change::Keeps,
-        Directive::Enable => Change::Keeps,
-        Directive::Disable => Change::Keeps,
+        Directive::Enabl => Change::Keeps,
+        Directive::Dsabl => Change::Keeps,
         Directive::End => Change::Keeps,
     }
 }

@@ -8,9 +8,9 @@ ghost use Rattle.m11_placement.specs.Exports as spec;
 
 use crate::assigning::known_value;
 use bitflags::Flags;
-use m11_arguments::{has_expression, left_over, skip_letters};
-use m11_scan::{Letters, Line, expression_end};
-use m11_table::{Map, Table, register_letters};
+use m11_arguments::{has_expression, left_over, skip_flags};
+use m11_scan::{ErrorFlags, Line, expression_end};
+use m11_table::{Map, Table, register_flags};
 use m11_values::Value;
 
 /// The address where the program begins, if a `.END` has one.
@@ -31,41 +31,41 @@ const DECIDED_BY_NAMES: u16 = 0o24005;
 // N, Q and T: whatever names stand for, the value of an expression has the same ones.
 const DECIDED_BY_TEXT: u16 = 0o12200;
 
-/// The letters of that address which names decide, and R for a register.
-pub fn transfer_letters(address: Option<Value>) -> Letters
-    ensures { bits_of result ≡ spec.transfer_letters (option_map quantity address) }
+/// The flags of that address which names decide, and R for a register.
+pub fn transfer_flags(address: Option<Value>) -> ErrorFlags
+    ensures { bits_of result ≡ spec.transfer_flags (option_map quantity address) }
 {
     match address {
         Some(value) => among(
-            value.letters.with(register_letters(value.kind)),
+            value.flags.with(register_flags(value.kind)),
             DECIDED_BY_NAMES,
         ),
-        None => Letters::none(),
+        None => ErrorFlags::none(),
     }
 }
 
-// The letters of an expression that its text decides.
-fn expression_letters(address: Option<Value>) -> Letters
-    ensures { bits_of result ≡ spec.expression_letters (option_map quantity address) }
+// The flags of an expression that its text decides.
+fn expression_flags(address: Option<Value>) -> ErrorFlags
+    ensures { bits_of result ≡ spec.expression_flags (option_map quantity address) }
 {
     match address {
-        Some(value) => among(value.letters, DECIDED_BY_TEXT),
-        None => Letters::none(),
+        Some(value) => among(value.flags, DECIDED_BY_TEXT),
+        None => ErrorFlags::none(),
     }
 }
 
-fn among(letters: Letters, set: u16) -> Letters
-    ensures { bits_of result ≡ bit_and (bits_of letters) set }
+fn among(flags: ErrorFlags, set: u16) -> ErrorFlags
+    ensures { bits_of result ≡ bit_and (bits_of flags) set }
 {
-    Letters::from_bits_retain(letters.bits() & set)
+    ErrorFlags::from_bits_retain(flags.bits() & set)
 }
 
-/// The letters of the text of a `.END`: those of its expression that names don't decide, of what is skipped, and of what is left over.
-pub fn end_letters(map: &Map<'_>, table: &Table, line: &Line, start: usize) -> Letters
+/// The flags of the text of a `.END`: those of its expression that names don't decide, of what is skipped, and of what is left over.
+pub fn end_flags(map: &Map<'_>, table: &Table, line: &Line, start: usize) -> ErrorFlags
     requires { start ≤ length line.now.text }
-    ensures { bits_of result ≡ spec.end_letters map.now table.now line.now.text start }
+    ensures { bits_of result ≡ spec.end_flags map.now table.now line.now.text start }
 {
     let end = expression_end(line, start);
-    let rest = skip_letters(line, start, end).with(left_over(line, end));
-    expression_letters(transfer(map, table, line, start)).with(rest)
+    let rest = skip_flags(line, start, end).with(left_over(line, end));
+    expression_flags(transfer(map, table, line, start)).with(rest)
 }

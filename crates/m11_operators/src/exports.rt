@@ -4,17 +4,17 @@ ghost use Rattle.std.specs.Prelude.{◌≡◌, ◌+◌, ◌<◌, ◌≤◌, [], 
 ghost use Rattle.arrayvec.specs.ArrayVec.{array_vec_len};
 ghost use Rattle.m11_scan.specs.Views.{bits_of};
 ghost use Rattle.m11_placement.specs.Changes.{Exports};
-ghost use Rattle.m11_placement.specs.Elements.{bad_letters, listed_names, names_of, texts_of};
+ghost use Rattle.m11_placement.specs.Elements.{bad_flags, listed_names, names_of, texts_of};
 ghost use Rattle.m11_placement.specs.Exports as spec;
 ghost use Rattle.m11_operators.specs.Changes.{change_seen, name_in, names_among};
 ghost use Rattle.m11_operators.specs.Gathering.{names_from};
 
 use crate::changes::Change;
 use arrayvec::ArrayVec;
-use m11_arguments::{left_over, skip_letters};
+use m11_arguments::{left_over, skip_flags};
 use m11_base::Name;
 use m11_fields::names_at;
-use m11_scan::{LINE_LIMIT, Letters, Line, read_name};
+use m11_scan::{ErrorFlags, LINE_LIMIT, Line, read_name};
 use m11_statements::Span;
 
 /// The most names of a list: it has no more than its line has characters, and one.
@@ -79,28 +79,26 @@ fn name_of(line: &Line, name: Option<Span>) -> Option<Name>
     }
 }
 
-/// The letters of a `.GLOBL` or a `.WEAK`: A for an element that is no name, I for what is skipped, and Q for what is left over.
-pub fn global_letters(line: &Line, start: usize) -> Letters
+/// The flags of a `.GLOBL` or a `.WEAK`: A for an element that is no name, I for what is skipped, and Q for what is left over.
+pub fn globl_flags(line: &Line, start: usize) -> ErrorFlags
     requires { start ≤ length line.now.text }
-    ensures { bits_of result ≡ spec.global_letters line.now.text start }
+    ensures { bits_of result ≡ spec.globl_flags line.now.text start }
 {
     let names = names_at(line, start);
     let end = usize::from(names.end);
-    bad_letters(names.list.as_slice()).with(skip_letters(line, start, end).with(left_over(
-        line, end,
-    )))
+    bad_flags(names.list.as_slice()).with(skip_flags(line, start, end).with(left_over(line, end)))
 }
 
 // A for an element that is no name.
-pub(crate) fn bad_letters(names: &[Option<Span>]) -> Letters
-    ensures { bits_of result ≡ bad_letters names.now }
+pub(crate) fn bad_flags(names: &[Option<Span>]) -> ErrorFlags
+    ensures { bits_of result ≡ bad_flags names.now }
 {
     let mut rest = names;
     'names: while let [name, others @ ..] = rest {
         if name.is_none() {
-            return Letters::A;
+            return ErrorFlags::A;
         }
         rest = others;
     }
-    Letters::none()
+    ErrorFlags::none()
 }

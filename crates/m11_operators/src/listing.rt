@@ -7,16 +7,16 @@ ghost use Rattle.std.specs.List.{list_any};
 ghost use Rattle.m11_scan.specs.Views.{bits_of};
 ghost use Rattle.m11_placement.specs.Changes.{Keeps, Sets};
 ghost use Rattle.m11_placement.specs.Control as spec;
-ghost use Rattle.m11_placement.specs.Elements.{bad_letters, names_at, texts_of};
+ghost use Rattle.m11_placement.specs.Elements.{bad_flags, names_at, texts_of};
 ghost use Rattle.m11_operators.specs.Changes.{change_seen};
 ghost use Rattle.m11_operators.specs.Gathering.{among_from};
 
 use crate::changes::Change;
-use crate::exports::bad_letters;
-use m11_arguments::{has_token, left_over, rest_letters, skip_letters};
+use crate::exports::bad_flags;
+use m11_arguments::{has_token, left_over, rest_flags, skip_flags};
 use m11_fields::names_at;
-use m11_placement::Settings;
-use m11_scan::{Letters, Line, six_characters};
+use m11_placement::Modes;
+use m11_scan::{ErrorFlags, Line, six_characters};
 use m11_statements::Span;
 
 // All but ME do nothing.
@@ -32,44 +32,44 @@ const EXPANSIONS: &[u8; 6] = b"ME    ";
 const ENABLED_WORDS: [[u8; 6]; 2] = [*b"LC    ", *b"GBL   "];
 
 /// What a `.LIST` changes: the level goes up where nothing stands; with ME among its words, expansions are listed.
-pub fn list(settings: Settings, line: &Line, start: usize) -> Change
+pub fn list(modes: Modes, line: &Line, start: usize) -> Change
     requires place { start ≤ length line.now.text }
-    requires counted { settings.listed < u64.MAX }
-    ensures { change_seen result ≡ spec.list settings line.now.text start }
+    requires counted { modes.listed < u64.MAX }
+    ensures { change_seen result ≡ spec.list modes line.now.text start }
 {
     if has_token(line, start) {
-        with_words(settings, true, has_expansions(line, start))
+        with_words(modes, true, has_expansions(line, start))
     } else {
-        Change::Sets(Settings {
-            listed: settings.listed + 1,
-            ..settings
+        Change::Sets(Modes {
+            listed: modes.listed + 1,
+            ..modes
         })
     }
 }
 
 /// What a `.NLIST` changes: the level goes down where nothing stands; with ME among its words, expansions aren't listed.
-pub fn unlist(settings: Settings, line: &Line, start: usize) -> Change
+pub fn nlist(modes: Modes, line: &Line, start: usize) -> Change
     requires place { start ≤ length line.now.text }
-    requires counted { settings.unlisted < u64.MAX }
-    ensures { change_seen result ≡ spec.unlist settings line.now.text start }
+    requires counted { modes.unlisted < u64.MAX }
+    ensures { change_seen result ≡ spec.nlist modes line.now.text start }
 {
     if has_token(line, start) {
-        with_words(settings, false, has_expansions(line, start))
+        with_words(modes, false, has_expansions(line, start))
     } else {
-        Change::Sets(Settings {
-            unlisted: settings.unlisted + 1,
-            ..settings
+        Change::Sets(Modes {
+            unlisted: modes.unlisted + 1,
+            ..modes
         })
     }
 }
 
-fn with_words(settings: Settings, shows_expansions: bool, has_expansions: bool) -> Change
-    ensures { change_seen result ≡ (if has_expansions then Sets (record settings { shows_expansions = shows_expansions }) else Keeps) }
+fn with_words(modes: Modes, shows_expansions: bool, has_expansions: bool) -> Change
+    ensures { change_seen result ≡ (if has_expansions then Sets (record modes { shows_expansions = shows_expansions }) else Keeps) }
 {
     if has_expansions {
-        Change::Sets(Settings {
+        Change::Sets(Modes {
             shows_expansions,
-            ..settings
+            ..modes
         })
     } else {
         Change::Keeps
@@ -113,66 +113,66 @@ fn found_or(found: bool, line: &Line, name: Option<Span>, word: &[u8; 6]) -> boo
     }
 }
 
-/// The letters of a `.LIST` or `.NLIST`: A for a word that is none of those that they know.
-pub fn list_letters(line: &Line, start: usize) -> Letters
+/// The flags of a `.LIST` or `.NLIST`: A for a word that is none of those that they know.
+pub fn list_flags(line: &Line, start: usize) -> ErrorFlags
     requires { start ≤ length line.now.text }
-    ensures { bits_of result ≡ spec.list_letters line.now.text start }
+    ensures { bits_of result ≡ spec.list_flags line.now.text start }
 {
     if has_token(line, start) {
-        words_letters(&LISTING_WORDS, line, start)
+        words_flags(&LISTING_WORDS, line, start)
     } else {
-        rest_letters(line, start)
+        rest_flags(line, start)
     }
 }
 
-/// The letters of a `.ENABL`: A for anything but LC and GBL.
-pub fn enable_letters(line: &Line, start: usize) -> Letters
+/// The flags of a `.ENABL`: A for anything but LC and GBL.
+pub fn enabl_flags(line: &Line, start: usize) -> ErrorFlags
     requires { start ≤ length line.now.text }
-    ensures { bits_of result ≡ spec.enable_letters line.now.text start }
+    ensures { bits_of result ≡ spec.enabl_flags line.now.text start }
 {
-    words_letters(&ENABLED_WORDS, line, start)
+    words_flags(&ENABLED_WORDS, line, start)
 }
 
-/// The letters of a `.DSABL`: A for any word.
-pub fn disable_letters(line: &Line, start: usize) -> Letters
+/// The flags of a `.DSABL`: A for any word.
+pub fn dsabl_flags(line: &Line, start: usize) -> ErrorFlags
     requires { start ≤ length line.now.text }
-    ensures { bits_of result ≡ spec.disable_letters line.now.text start }
+    ensures { bits_of result ≡ spec.dsabl_flags line.now.text start }
 {
-    words_letters(&[], line, start)
+    words_flags(&[], line, start)
 }
 
-/// The letters of a `.PAGE`, which takes nothing.
-pub fn page_letters(line: &Line, start: usize) -> Letters
+/// The flags of a `.PAGE`, which takes nothing.
+pub fn page_flags(line: &Line, start: usize) -> ErrorFlags
     requires { start ≤ length line.now.text }
-    ensures { bits_of result ≡ spec.page_letters line.now.text start }
+    ensures { bits_of result ≡ spec.page_flags line.now.text start }
 {
     left_over(line, start)
 }
 
-/// The letters of a `.SBTTL`, which takes any text.
-pub fn subtitle_letters(line: &Line, start: usize) -> Letters
-    ensures { bits_of result ≡ spec.subtitle_letters line.now.text start }
+/// The flags of a `.SBTTL`, which takes any text.
+pub fn sbttl_flags(line: &Line, start: usize) -> ErrorFlags
+    ensures { bits_of result ≡ spec.sbttl_flags line.now.text start }
 {
-    Letters::none()
+    ErrorFlags::none()
 }
 
-fn words_letters(known: &[[u8; 6]], line: &Line, start: usize) -> Letters
+fn words_flags(known: &[[u8; 6]], line: &Line, start: usize) -> ErrorFlags
     requires { start ≤ length line.now.text }
-    ensures { bits_of result ≡ spec.words_letters known.now line.now.text start (names_at line.now.text start) }
+    ensures { bits_of result ≡ spec.words_flags known.now line.now.text start (names_at line.now.text start) }
 {
     let names = names_at(line, start);
     let end = usize::from(names.end);
-    elements_letters(known, line, names.list.as_slice()).with(skip_letters(line, start, end).with(
+    elements_flags(known, line, names.list.as_slice()).with(skip_flags(line, start, end).with(
         left_over(line, end),
     ))
 }
 
 // A for an element that is no name, and for one that is none of some.
-fn elements_letters(known: &[[u8; 6]], line: &Line, names: &[Option<Span>]) -> Letters
+fn elements_flags(known: &[[u8; 6]], line: &Line, names: &[Option<Span>]) -> ErrorFlags
     ensures { bits_of result
-        ≡ bit_or (bad_letters names.now) (spec.unknown_letters known.now (texts_of line.now.text names.now)) }
+        ≡ bit_or (bad_flags names.now) (spec.unknown_flags known.now (texts_of line.now.text names.now)) }
 {
-    bad_letters(names).with(Letters::A.when(has_unknown(known, line, names)))
+    bad_flags(names).with(ErrorFlags::A.when(has_unknown(known, line, names)))
 }
 
 // Whether a list has a word that is none of some.

@@ -6,20 +6,20 @@ ghost use Rattle.m11_arguments.specs.Expressions.{IsAlone, value_at};
 ghost use Rattle.m11_base.specs.Operand.{register_of};
 ghost use Rattle.m11_fields.specs.Terms.{IsFormTerm};
 ghost use Rattle.m11_operators.specs.CodeValues.{form_value};
-ghost use Rattle.m11_operators.specs.Settings.{setting_of};
+ghost use Rattle.m11_operators.specs.LineContext.{line_context_of};
 ghost use Rattle.m11_placement.specs.Codes as spec;
-ghost use Rattle.m11_placement.specs.Codes.{Setting as Place};
+ghost use Rattle.m11_placement.specs.Codes.{LineContext as Place};
 ghost use Rattle.m11_placement.specs.Contents.{followed_by, word};
 ghost use Rattle.m11_placement.specs.Operands.{words_of};
 ghost use Rattle.m11_scan.specs.Views.{bits_of};
 ghost use Rattle.m11_values.specs.Quantities.{quantity};
 
+use crate::line_context::LineContext;
 use crate::puts::Put;
-use crate::settings::Setting;
 use crate::values::put_word;
 use m11_base::{Mode, Operand, Register};
 use m11_placement::Form;
-use m11_scan::{Letters, Token};
+use m11_scan::{ErrorFlags, Token};
 use m11_values::Value;
 use std::alloc::AllocError;
 
@@ -31,11 +31,11 @@ pub(crate) fn register(value: &Value) -> Register
 }
 
 // R where no register stands.
-pub(crate) fn as_register_letters(value: &Value) -> Letters
-    ensures { bits_of result ≡ spec.as_register_letters (quantity value.now) }
+pub(crate) fn as_register_flags(value: &Value) -> ErrorFlags
+    ensures { bits_of result ≡ spec.as_register_flags (quantity value.now) }
 {
-    let letters = value.letters;
-    letters.with(Letters::R.when(!value.kind.is_register()))
+    let flags = value.flags;
+    flags.with(ErrorFlags::R.when(!value.kind.is_register()))
 }
 
 fn operand(mode: Mode, register: Register) -> Operand
@@ -46,7 +46,7 @@ fn operand(mode: Mode, register: Register) -> Operand
 
 // The mode and the register of a form, whose value this is.
 pub(crate) fn operand_of(form: Form, value: &Value) -> Operand
-    ensures { (setting : Place) → quantity value.now ≡ form_value setting form → result ≡ spec.operand_of setting form }
+    ensures { (line_context : Place) → quantity value.now ≡ form_value line_context form → result ≡ spec.operand_of line_context form }
 {
     match form {
         Form::Absent => operand(Mode::Register, Register::R0),
@@ -57,14 +57,14 @@ pub(crate) fn operand_of(form: Form, value: &Value) -> Operand
     }
 }
 
-// The letters of the register of a form, whose value this is.
-pub(crate) fn form_letters(form: Form, value: &Value) -> Letters
-    ensures { (setting : Place) → quantity value.now ≡ form_value setting form → bits_of result ≡ spec.form_letters setting form }
+// The flags of the register of a form, whose value this is.
+pub(crate) fn form_flags(form: Form, value: &Value) -> ErrorFlags
+    ensures { (line_context : Place) → quantity value.now ≡ form_value line_context form → bits_of result ≡ spec.form_flags line_context form }
 {
     match form {
-        Form::Absent | Form::AfterCounter(_, _) => Letters::none(),
+        Form::Absent | Form::AfterCounter(_, _) => ErrorFlags::none(),
         Form::InRegister(_, _) | Form::Indexed(_, _, _) | Form::Unindexed(_) => {
-            as_register_letters(value)
+            as_register_flags(value)
         }
     }
 }
@@ -90,20 +90,20 @@ pub(crate) fn size_of(form: Form) -> u16
 #[tactic(auto, using(crate::proofs::Joining::followed_nothing))]
 pub(crate) fn put_form(
     put: &mut Put,
-    setting: &Setting,
+    line_context: &LineContext,
     place: u16,
     form: Form,
     term: Option<Token>,
 ) -> Result<(), AllocError>
-    requires { IfSome term (λ term. IsFormTerm setting.now.line form term) }
-    ensures { IfOk result (λ _. put.new ≡ followed_by put.old (spec.form_words (setting_of setting.now) place form)) }
+    requires { IfSome term (λ term. IsFormTerm line_context.now.line form term) }
+    ensures { IfOk result (λ _. put.new ≡ followed_by put.old (spec.form_words (line_context_of line_context.now) place form)) }
 {
     match form {
         Form::Absent | Form::InRegister(_, _) => Ok(()),
-        Form::Indexed(_, _, index) => put_reference(put, setting, false, place, index, None),
+        Form::Indexed(_, _, index) => put_reference(put, line_context, false, place, index, None),
         Form::Unindexed(_) => put.add_fixed_word(0),
         Form::AfterCounter(mode, start) => {
-            put_reference(put, setting, is_relative(mode), place, start, term)
+            put_reference(put, line_context, is_relative(mode), place, start, term)
         }
     }
 }
@@ -111,16 +111,16 @@ pub(crate) fn put_form(
 // A word for the expression at a place of the line. Where it is found to be one term, this is its token.
 fn put_reference(
     put: &mut Put,
-    setting: &Setting,
+    line_context: &LineContext,
     is_relative: bool,
     place: u16,
     start: u8,
     term: Option<Token>,
 ) -> Result<(), AllocError>
-    requires { IfSome term (λ term. IsAlone setting.now.line start term) }
-    ensures { IfOk result (λ _. put.new ≡ followed_by put.old (word setting.now.table is_relative
-        place (value_at (setting_of setting.now).refers setting.now.line start))) }
+    requires { IfSome term (λ term. IsAlone line_context.now.line start term) }
+    ensures { IfOk result (λ _. put.new ≡ followed_by put.old (word line_context.now.table is_relative
+        place (value_at (line_context_of line_context.now).refers line_context.now.line start))) }
 {
-    let value = setting.reference_by(start, term);
-    put_word(put, setting, is_relative, place, value)
+    let value = line_context.reference_by(start, term);
+    put_word(put, line_context, is_relative, place, value)
 }

@@ -1,4 +1,4 @@
-//! What operators put at their places, with their letters. (MACRO-11 Language Reference Manual, "General assembler directives"; PDP-11/40
+//! What operators put at their places, with their flags. (MACRO-11 Language Reference Manual, "General assembler directives"; PDP-11/40
 //! Processor Handbook, "Instruction set".)
 
 ghost use Rattle.std.specs.Prelude.{◌≡◌, ◌≤◌, length, IfOk, IsTrue};
@@ -7,44 +7,42 @@ ghost use Rattle.m11_fields.specs.ListedOperations.{has_listed_operation, is_lis
 ghost use Rattle.m11_fields.specs.Reads.{fields_seen};
 ghost use Rattle.m11_fields.specs.Terms.{AreTerms};
 ghost use Rattle.m11_operators.specs.Reading.{fields_at, operator_fields};
-ghost use Rattle.m11_placement.specs.Assigning.{number_letters};
+ghost use Rattle.m11_placement.specs.Assigning.{number_flags};
 ghost use Rattle.m11_placement.specs.Contents.{followed_by, nothing};
 ghost use Rattle.m11_placement.specs.Counts as counts;
 ghost use Rattle.m11_placement.specs.Effects as effects;
 ghost use Rattle.m11_placement.specs.Exports as exports;
 ghost use Rattle.m11_placement.specs.Instructions as instructions;
 ghost use Rattle.m11_placement.specs.Lines as lines;
-ghost use Rattle.m11_placement.specs.ProgramSections as sections;
+ghost use Rattle.m11_placement.specs.Psects as sections;
 ghost use Rattle.m11_placement.specs.Storage as storage;
 ghost use Rattle.m11_scan.specs.Views.{bits_of};
 
-use crate::alignment::{gap_letters, place_for};
+use crate::alignment::{gap_flags, place_for};
 use crate::ascii::{put_ascii, put_asciz};
-use crate::assigning::number_letters;
-use crate::counts::{argument_count, argument_letters, character_count, character_letters};
-use crate::endings::end_letters;
-use crate::exports::global_letters;
-use crate::identifications::identification_letters;
+use crate::assigning::number_flags;
+use crate::counts::{narg, narg_flags, nchr, nchr_flags};
+use crate::endings::end_flags;
+use crate::exports::globl_flags;
+use crate::idents::ident_flags;
 use crate::instructions::put_instruction;
-use crate::listing::{
-    disable_letters, enable_letters, list_letters, page_letters, subtitle_letters,
-};
+use crate::line_context::LineContext;
+use crate::listing::{dsabl_flags, enabl_flags, list_flags, page_flags, sbttl_flags};
+use crate::psects::{asect_flags, csect_flags, psect_flags};
 use crate::puts::Put;
-use crate::radix_control::radix_letters;
+use crate::radix_control::radix_flags;
 use crate::radix50::put_rad50;
-use crate::sections::{absolute_letters, control_letters, program_letters};
-use crate::settings::Setting;
-use crate::storage::{block_letters, put_bytes, put_limits, put_words};
-use crate::titles::title_letters;
+use crate::storage::{block_flags, put_bytes, put_limits, put_words};
+use crate::titles::title_flags;
 use m11_arguments::left_over;
 use m11_base::Op;
 use m11_fields::{Fields, is_even};
 use m11_placement::{Directive, Operator};
-use m11_scan::{Letters, Line};
+use m11_scan::{ErrorFlags, Line};
 use m11_table::{Map, Table};
 use std::alloc::AllocError;
 
-/// What an operator puts, whose name ends at a place of its line, and whose fields these are, with its letters. What has to stand at an even
+/// What an operator puts, whose name ends at a place of its line, and whose fields these are, with its flags. What has to stand at an even
 /// place goes on to the next one, with B. `arguments` is the number of actuals of the macro around the line. Error: memory may be refused.
 pub fn put_operator(
     put: &mut Put,
@@ -65,59 +63,71 @@ pub fn put_operator(
         (lines.operation_put map.now table.now line.now.text arguments operator start)) }
 {
     let is_even = is_even(operator);
-    put.add_letters(gap_letters(is_even, table.place()));
-    let setting = Setting::new(map, table, place_for(is_even, table.place()), line);
-    put_at(put, &setting, start, arguments, operator, fields)
+    put.add_flags(gap_flags(is_even, table.place()));
+    let line_context = LineContext::new(map, table, place_for(is_even, table.place()), line);
+    put_at(put, &line_context, start, arguments, operator, fields)
 }
 
 // What an operator puts at the place of a setting.
 fn put_at(
     put: &mut Put,
-    setting: &Setting,
+    line_context: &LineContext,
     start: usize,
     arguments: Option<u16>,
     operator: Operator,
     fields: &Fields,
 ) -> Result<(), AllocError>
-    requires within { start ≤ length setting.now.line }
+    requires within { start ≤ length line_context.now.line }
     requires listed { IsTrue (has_listed_operation operator) }
-    requires fields { fields_seen fields.now ≡ fields_at setting.now.table setting.now.place setting.now.line start operator }
-    requires ends { fields.now.end ≤ length setting.now.line }
-    requires terms { AreTerms setting.now.line fields.now.list.items fields.now.terms }
+    requires fields { fields_seen fields.now ≡ fields_at line_context.now.table line_context.now.place line_context.now.line start operator }
+    requires ends { fields.now.end ≤ length line_context.now.line }
+    requires terms { AreTerms line_context.now.line fields.now.list.items fields.now.terms }
     ensures { IfOk result (λ _. put.new ≡ followed_by put.old (effects.operator_put
-        setting.now.map setting.now.table setting.now.place setting.now.line start arguments operator)) }
+        line_context.now.map line_context.now.table line_context.now.place line_context.now.line start arguments operator)) }
 {
     match operator {
-        Operator::Instruction(operation) => put_operation(put, setting, start, operation, fields),
-        Operator::Directs(directive) => put_directive(put, setting, start, arguments, directive),
+        Operator::Instruction(operation) => put_operation(
+            put,
+            line_context,
+            start,
+            operation,
+            fields,
+        ),
+        Operator::Directive(directive) => put_directive(
+            put,
+            line_context,
+            start,
+            arguments,
+            directive,
+        ),
     }
 }
 
 // The words of an instruction.
 fn put_operation(
     put: &mut Put,
-    setting: &Setting,
+    line_context: &LineContext,
     start: usize,
     operation: Op,
     fields: &Fields,
 ) -> Result<(), AllocError>
-    requires within { start ≤ length setting.now.line }
+    requires within { start ≤ length line_context.now.line }
     requires listed { IsTrue (is_listed operation) }
     requires fields { fields_seen fields.now
-        ≡ instructions.fields setting.now.table setting.now.place setting.now.line start operation }
-    requires ends { fields.now.end ≤ length setting.now.line }
-    requires terms { AreTerms setting.now.line fields.now.list.items fields.now.terms }
+        ≡ instructions.fields line_context.now.table line_context.now.place line_context.now.line start operation }
+    requires ends { fields.now.end ≤ length line_context.now.line }
+    requires terms { AreTerms line_context.now.line fields.now.list.items fields.now.terms }
     ensures { IfOk result (λ _. put.new ≡ followed_by put.old (instructions.words
-        setting.now.map setting.now.table setting.now.place setting.now.line start operation)) }
+        line_context.now.map line_context.now.table line_context.now.place line_context.now.line start operation)) }
 {
     put_instruction(
         put,
-        setting,
+        line_context,
         operation,
         start,
         fields.list.as_slice(),
         usize::from(fields.end),
-        fields.letters,
+        fields.flags,
         &fields.terms,
     )
 }
@@ -125,100 +135,110 @@ fn put_operation(
 // What a directive puts.
 fn put_directive(
     put: &mut Put,
-    setting: &Setting,
+    line_context: &LineContext,
     start: usize,
     arguments: Option<u16>,
     directive: Directive,
 ) -> Result<(), AllocError>
-    requires { start ≤ length setting.now.line }
+    requires { start ≤ length line_context.now.line }
     ensures { IfOk result (λ _. put.new ≡ followed_by put.old (effects.directive_put
-        setting.now.map setting.now.table setting.now.place setting.now.line start arguments directive)) }
+        line_context.now.map line_context.now.table line_context.now.place line_context.now.line start arguments directive)) }
 {
-    let line = setting.line();
+    let line = line_context.line();
     match directive {
-        Directive::Words => put_words(put, setting, start),
-        Directive::Bytewise => put_bytes(put, setting, start),
-        Directive::Ascii => put_ascii(put, setting, start),
-        Directive::Asciz => put_asciz(put, setting, start),
-        Directive::Rad50 => put_rad50(put, setting, start),
-        Directive::Limit => put_limits(put, setting, start),
-        Directive::ByteBlock => put_letters(put, room_letters(setting, start)),
-        Directive::WordBlock => put_letters(put, room_letters(setting, start)),
-        Directive::Even => put_letters(put, left_over(line, start)),
-        Directive::Odd => put_letters(put, left_over(line, start)),
-        Directive::InRadix => put_letters(put, radix_letters(line, start)),
-        Directive::AbsoluteSection => put_letters(put, absolute_letters(line, start)),
-        Directive::ControlSection => put_letters(put, control_letters(line, start)),
-        Directive::ProgramSection => put_letters(put, section_letters(setting, start)),
-        Directive::Global => put_letters(put, global_letters(line, start)),
-        Directive::Weak => put_letters(put, global_letters(line, start)),
-        Directive::Title => put_letters(put, title_letters(line, start)),
-        Directive::Identification => put_letters(put, identification_letters(line, start)),
-        Directive::Subtitle => put_letters(put, subtitle_letters(line, start)),
-        Directive::Page => put_letters(put, page_letters(line, start)),
-        Directive::Lists => put_letters(put, list_letters(line, start)),
-        Directive::Unlists => put_letters(put, list_letters(line, start)),
-        Directive::Enable => put_letters(put, enable_letters(line, start)),
-        Directive::Disable => put_letters(put, disable_letters(line, start)),
-        Directive::ArgumentCount => put_letters(put, actuals_letters(setting, start, arguments)),
-        Directive::CharacterCount => put_letters(put, characters_letters(setting, start)),
-        Directive::End => put_letters(put, ending_letters(setting, start)),
+        Directive::Word => put_words(put, line_context, start),
+        Directive::Byte => put_bytes(put, line_context, start),
+        Directive::Ascii => put_ascii(put, line_context, start),
+        Directive::Asciz => put_asciz(put, line_context, start),
+        Directive::Rad50 => put_rad50(put, line_context, start),
+        Directive::Limit => put_limits(put, line_context, start),
+        Directive::Blkb => put_flags(put, block_flags_at(line_context, start)),
+        Directive::Blkw => put_flags(put, block_flags_at(line_context, start)),
+        Directive::Even => put_flags(put, left_over(line, start)),
+        Directive::Odd => put_flags(put, left_over(line, start)),
+        Directive::Radix => put_flags(put, radix_flags(line, start)),
+        Directive::Asect => put_flags(put, asect_flags(line, start)),
+        Directive::Csect => put_flags(put, csect_flags(line, start)),
+        Directive::Psect => put_flags(put, psect_flags_at(line_context, start)),
+        Directive::Globl => put_flags(put, globl_flags(line, start)),
+        Directive::Weak => put_flags(put, globl_flags(line, start)),
+        Directive::Title => put_flags(put, title_flags(line, start)),
+        Directive::Ident => put_flags(put, ident_flags(line, start)),
+        Directive::Sbttl => put_flags(put, sbttl_flags(line, start)),
+        Directive::Page => put_flags(put, page_flags(line, start)),
+        Directive::List => put_flags(put, list_flags(line, start)),
+        Directive::Nlist => put_flags(put, list_flags(line, start)),
+        Directive::Enabl => put_flags(put, enabl_flags(line, start)),
+        Directive::Dsabl => put_flags(put, dsabl_flags(line, start)),
+        Directive::Narg => put_flags(put, narg_flags_at(line_context, start, arguments)),
+        Directive::Nchr => put_flags(put, nchr_flags_at(line_context, start)),
+        Directive::End => put_flags(put, end_flags_at(line_context, start)),
     }
 }
 
-// Nothing but letters.
-fn put_letters(put: &mut Put, letters: Letters) -> Result<(), AllocError>
-    ensures { IfOk result (λ _. put.new ≡ followed_by put.old (nothing (bits_of letters))) }
+// Nothing but flags.
+fn put_flags(put: &mut Put, flags: ErrorFlags) -> Result<(), AllocError>
+    ensures { IfOk result (λ _. put.new ≡ followed_by put.old (nothing (bits_of flags))) }
 {
-    put.add_letters(letters);
+    put.add_flags(flags);
     Ok(())
 }
 
-// The letters of a `.BLKB` or `.BLKW`.
-fn room_letters(setting: &Setting, start: usize) -> Letters
-    requires { start ≤ length setting.now.line }
+// The flags of a `.BLKB` or `.BLKW`.
+fn block_flags_at(line_context: &LineContext, start: usize) -> ErrorFlags
+    requires { start ≤ length line_context.now.line }
     ensures { bits_of result
-        ≡ storage.block_letters setting.now.table setting.now.place setting.now.line start }
+        ≡ storage.block_flags line_context.now.table line_context.now.place line_context.now.line start }
 {
-    block_letters(setting.table(), setting.place(), setting.line(), start)
+    block_flags(
+        line_context.table(),
+        line_context.place(),
+        line_context.line(),
+        start,
+    )
 }
 
-// The letters of a `.PSECT`.
-fn section_letters(setting: &Setting, start: usize) -> Letters
-    requires { start ≤ length setting.now.line }
-    ensures { bits_of result ≡ sections.program_letters setting.now.table.sections setting.now.line start }
+// The flags of a `.PSECT`.
+fn psect_flags_at(line_context: &LineContext, start: usize) -> ErrorFlags
+    requires { start ≤ length line_context.now.line }
+    ensures { bits_of result ≡ sections.psect_flags line_context.now.table.sections line_context.now.line start }
 {
-    program_letters(setting.table(), setting.line(), start)
+    psect_flags(line_context.table(), line_context.line(), start)
 }
 
-// The letters of a `.END`.
-fn ending_letters(setting: &Setting, start: usize) -> Letters
-    requires { start ≤ length setting.now.line }
-    ensures { bits_of result ≡ exports.end_letters setting.now.map setting.now.table setting.now.line start }
+// The flags of a `.END`.
+fn end_flags_at(line_context: &LineContext, start: usize) -> ErrorFlags
+    requires { start ≤ length line_context.now.line }
+    ensures { bits_of result ≡ exports.end_flags line_context.now.map line_context.now.table line_context.now.line start }
 {
-    end_letters(setting.map(), setting.table(), setting.line(), start)
+    end_flags(
+        line_context.map(),
+        line_context.table(),
+        line_context.line(),
+        start,
+    )
 }
 
-// The letters of a `.NARG`, and of the name that it defines.
-fn actuals_letters(setting: &Setting, start: usize, arguments: Option<u16>) -> Letters
-    requires { start ≤ length setting.now.line }
-    ensures { bits_of result ≡ bit_or (counts.argument_letters arguments setting.now.line start)
-        (number_letters setting.now.map setting.now.table (counts.argument_count arguments setting.now.line start)) }
+// The flags of a `.NARG`, and of the name that it defines.
+fn narg_flags_at(line_context: &LineContext, start: usize, arguments: Option<u16>) -> ErrorFlags
+    requires { start ≤ length line_context.now.line }
+    ensures { bits_of result ≡ bit_or (counts.narg_flags arguments line_context.now.line start)
+        (number_flags line_context.now.map line_context.now.table (counts.narg arguments line_context.now.line start)) }
 {
-    let line = setting.line();
-    let change = argument_count(arguments, line, start);
-    let letters = number_letters(setting.map(), setting.table(), &change);
-    argument_letters(arguments, line, start).with(letters)
+    let line = line_context.line();
+    let change = narg(arguments, line, start);
+    let flags = number_flags(line_context.map(), line_context.table(), &change);
+    narg_flags(arguments, line, start).with(flags)
 }
 
-// The letters of a `.NCHR`, and of the name that it defines.
-fn characters_letters(setting: &Setting, start: usize) -> Letters
-    requires { start ≤ length setting.now.line }
-    ensures { bits_of result ≡ bit_or (counts.character_letters setting.now.line start)
-        (number_letters setting.now.map setting.now.table (counts.character_count setting.now.line start)) }
+// The flags of a `.NCHR`, and of the name that it defines.
+fn nchr_flags_at(line_context: &LineContext, start: usize) -> ErrorFlags
+    requires { start ≤ length line_context.now.line }
+    ensures { bits_of result ≡ bit_or (counts.nchr_flags line_context.now.line start)
+        (number_flags line_context.now.map line_context.now.table (counts.nchr line_context.now.line start)) }
 {
-    let line = setting.line();
-    let change = character_count(line, start);
-    let letters = number_letters(setting.map(), setting.table(), &change);
-    character_letters(line, start).with(letters)
+    let line = line_context.line();
+    let change = nchr(line, start);
+    let flags = number_flags(line_context.map(), line_context.table(), &change);
+    nchr_flags(line, start).with(flags)
 }

@@ -8,7 +8,7 @@ ghost use Rattle.m11_operators.specs.Packing.{codes_first, codes_of, packing, te
 
 use crate::puts::Put;
 use m11_base::Rad50;
-use m11_scan::Letters;
+use m11_scan::ErrorFlags;
 use std::alloc::AllocError;
 
 /// The codes that wait for a third one.
@@ -50,12 +50,12 @@ impl Waiting {
     }
 
     // The codes of characters, with A for one that has none.
-    #[tactic(auto, using(crate::proofs::Packs::lettered_codes))]
+    #[tactic(auto, using(crate::proofs::Packs::flagged_codes))]
     pub(crate) fn with_text(self, text: &[u8], put: &mut Put) -> Result<Waiting, AllocError>
         ensures { IfOk result (λ after. (more : spec.Codes)
             → packing put.new after more ≡ packing put.old self (spec.codes_then (text_codes text.now) more)) }
     {
-        put.add_letters(character_letters(text));
+        put.add_flags(character_flags(text));
         self.with_characters(text, put)
     }
 
@@ -91,8 +91,8 @@ fn character_code(character: u8) -> u16
 }
 
 // A for a character without a code.
-fn character_letters(text: &[u8]) -> Letters
-    ensures { bits_of result ≡ spec.character_letters text.now }
+fn character_flags(text: &[u8]) -> ErrorFlags
+    ensures { bits_of result ≡ spec.character_flags text.now }
 {
-    Letters::A.when(Rad50::has_uncoded(text))
+    ErrorFlags::A.when(Rad50::has_uncoded(text))
 }

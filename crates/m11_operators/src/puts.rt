@@ -1,4 +1,4 @@
-//! What is put, one thing after the other, with its letters. (MACRO-11 Language Reference Manual, "Diagnostic error message summary".)
+//! What is put, one thing after the other, with its flags. (MACRO-11 Language Reference Manual, "Diagnostic error message summary".)
 
 ghost use Rattle.std.specs.Prelude.{◌≡◌, ◌∷◌, [], IfOk};
 ghost use Rattle.m11_object_text.specs.declared.pieces.PieceContent.TheVariants.{Byte, Limits, Word};
@@ -7,15 +7,15 @@ ghost use Rattle.m11_placement.specs.Contents.{fixed_byte, fixed_word, followed_
 
 use crate::relocations::fixed;
 use m11_object_text::{PieceContent, Stored};
-use m11_scan::Letters;
+use m11_scan::ErrorFlags;
 use std::alloc::{AllocError, Global};
 use std::marker::Model;
 
-/// What stands at places, one after the other, and letters. Each call that puts something adds its own.
+/// What stands at places, one after the other, and flags. Each call that puts something adds its own.
 #[derive(Drop)]
 pub struct Put {
     contents: Vec<PieceContent>,
-    letters: Letters,
+    flags: ErrorFlags,
 }
 
 impl Model for Put {
@@ -24,17 +24,17 @@ impl Model for Put {
 
     ghost Value = { Put };
 
-    ghost view = { λ what. record { contents = what.contents.items; letters = bits_of what.letters } };
+    ghost view = { λ what. record { contents = what.contents.items; flags = bits_of what.flags } };
 }
 
 impl Put {
-    /// Nothing, and no letter.
+    /// Nothing, and no flag.
     pub fn new(alloc: Global) -> Put
         ensures { result ≡ nothing 0 }
     {
         Put {
             contents: Vec::new(alloc),
-            letters: Letters::none(),
+            flags: ErrorFlags::none(),
         }
     }
 
@@ -43,7 +43,7 @@ impl Put {
         ensures { self.new ≡ nothing 0 }
     {
         self.contents.clear();
-        self.letters = Letters::none();
+        self.flags = ErrorFlags::none();
     }
 
     /// What was put, in order.
@@ -53,27 +53,27 @@ impl Put {
         self.contents.as_slice()
     }
 
-    /// The letters so far.
-    pub fn letters(&self) -> Letters
-        ensures { bits_of result ≡ self.now.letters }
+    /// The flags so far.
+    pub fn flags(&self) -> ErrorFlags
+        ensures { bits_of result ≡ self.now.flags }
     {
-        self.letters
+        self.flags
     }
 
-    /// Further letters.
-    #[tactic(auto, using(crate::proofs::Joining::lettered))]
-    pub fn add_letters(&mut self, letters: Letters)
-        ensures { self.new ≡ followed_by self.old (nothing (bits_of letters)) }
+    /// Further flags.
+    #[tactic(auto, using(crate::proofs::Joining::flagged))]
+    pub fn add_flags(&mut self, flags: ErrorFlags)
+        ensures { self.new ≡ followed_by self.old (nothing (bits_of flags)) }
     {
-        self.letters = self.letters.with(letters);
+        self.flags = self.flags.with(flags);
     }
 
-    /// A word more, with its letters. Error: memory may be refused.
-    pub fn add_word(&mut self, stored: Stored, letters: Letters) -> Result<(), AllocError>
-        ensures { IfOk result (λ _. self.new ≡ followed_by self.old (put (Word stored ∷ []) (bits_of letters))) }
+    /// A word more, with its flags. Error: memory may be refused.
+    pub fn add_word(&mut self, stored: Stored, flags: ErrorFlags) -> Result<(), AllocError>
+        ensures { IfOk result (λ _. self.new ≡ followed_by self.old (put (Word stored ∷ []) (bits_of flags))) }
     {
         self.contents.push(PieceContent::Word(stored))?;
-        self.letters = self.letters.with(letters);
+        self.flags = self.flags.with(flags);
         Ok(())
     }
 
@@ -81,31 +81,31 @@ impl Put {
     pub fn add_fixed_word(&mut self, number: u16) -> Result<(), AllocError>
         ensures { IfOk result (λ _. self.new ≡ followed_by self.old (put (fixed_word number ∷ []) 0)) }
     {
-        self.add_word(fixed(number), Letters::none())
+        self.add_word(fixed(number), ErrorFlags::none())
     }
 
     /// A byte more that stands as it is. Error: memory may be refused.
     pub fn add_fixed_byte(&mut self, number: u16) -> Result<(), AllocError>
         ensures { IfOk result (λ _. self.new ≡ followed_by self.old (put (fixed_byte number ∷ []) 0)) }
     {
-        self.add_byte(fixed(number), Letters::none())
+        self.add_byte(fixed(number), ErrorFlags::none())
     }
 
-    /// A byte more, with its letters. Error: memory may be refused.
-    pub fn add_byte(&mut self, stored: Stored, letters: Letters) -> Result<(), AllocError>
-        ensures { IfOk result (λ _. self.new ≡ followed_by self.old (put (Byte stored ∷ []) (bits_of letters))) }
+    /// A byte more, with its flags. Error: memory may be refused.
+    pub fn add_byte(&mut self, stored: Stored, flags: ErrorFlags) -> Result<(), AllocError>
+        ensures { IfOk result (λ _. self.new ≡ followed_by self.old (put (Byte stored ∷ []) (bits_of flags))) }
     {
         self.contents.push(PieceContent::Byte(stored))?;
-        self.letters = self.letters.with(letters);
+        self.flags = self.flags.with(flags);
         Ok(())
     }
 
-    /// The limits of the program, with letters. Error: memory may be refused.
-    pub fn add_limits(&mut self, letters: Letters) -> Result<(), AllocError>
-        ensures { IfOk result (λ _. self.new ≡ followed_by self.old (put (Limits ∷ []) (bits_of letters))) }
+    /// The limits of the program, with flags. Error: memory may be refused.
+    pub fn add_limits(&mut self, flags: ErrorFlags) -> Result<(), AllocError>
+        ensures { IfOk result (λ _. self.new ≡ followed_by self.old (put (Limits ∷ []) (bits_of flags))) }
     {
         self.contents.extend_from_slice(&[PieceContent::Limits])?;
-        self.letters = self.letters.with(letters);
+        self.flags = self.flags.with(flags);
         Ok(())
     }
 }

@@ -1,19 +1,19 @@
 //! `.RAD50`. (MACRO-11 Language Reference Manual, ".RAD50 directive".)
 
 ghost use Rattle.std.specs.Prelude.{◌≡◌, ◌≤◌, [], length, IfOk};
-ghost use Rattle.m11_operators.specs.Settings.{setting_of};
+ghost use Rattle.m11_operators.specs.LineContext.{line_context_of};
 ghost use Rattle.m11_placement.specs.Contents.{followed_by};
 ghost use Rattle.m11_placement.specs.Strings as spec;
 ghost use Rattle.m11_scan.specs.Views.{bits_of};
 ghost use Rattle.m11_operators.specs.Packing.{codes_of, packing};
 ghost use Rattle.m11_values.specs.Quantities.{quantity};
 
-use crate::letters::text_letters;
+use crate::flags::text_flags;
+use crate::line_context::LineContext;
 use crate::packing::Waiting;
 use crate::parts::{parts_at, text_size};
 use crate::puts::Put;
-use crate::settings::Setting;
-use m11_scan::{Letters, Line};
+use m11_scan::{ErrorFlags, Line};
 use m11_statements::{Part, PartKind};
 use m11_values::Value;
 use std::alloc::AllocError;
@@ -27,30 +27,30 @@ pub fn rad50_size(line: &Line, start: usize) -> u16
 }
 
 /// The words of a `.RAD50`. Blanks fill the last one. Error: memory may be refused.
-pub fn put_rad50(put: &mut Put, setting: &Setting, start: usize) -> Result<(), AllocError>
-    requires { start ≤ length setting.now.line }
+pub fn put_rad50(put: &mut Put, line_context: &LineContext, start: usize) -> Result<(), AllocError>
+    requires { start ≤ length line_context.now.line }
     ensures { IfOk result (λ _. put.new ≡ followed_by put.old
-        (spec.rad50 setting.now.map setting.now.table setting.now.place setting.now.line start)) }
+        (spec.rad50 line_context.now.map line_context.now.table line_context.now.place line_context.now.line start)) }
 {
-    let parts = parts_at(setting.line(), start);
-    put.add_letters(text_letters(setting.line(), start, &parts));
-    let waiting = pack_parts(put, setting, Waiting::Nothing, parts.list.as_slice())?;
+    let parts = parts_at(line_context.line(), start);
+    put.add_flags(text_flags(line_context.line(), start, &parts));
+    let waiting = pack_parts(put, line_context, Waiting::Nothing, parts.list.as_slice())?;
     waiting.end(put)
 }
 
 // The codes of parts, one after the other.
 fn pack_parts(
     put: &mut Put,
-    setting: &Setting,
+    line_context: &LineContext,
     waiting: Waiting,
     parts: &[Part],
 ) -> Result<Waiting, AllocError>
     ensures { IfOk result (λ after. packing put.new after (codes_of [] 0) ≡ packing put.old waiting
-        (spec.parts_codes (setting_of setting.now).known setting.now.line parts.now)) }
+        (spec.parts_codes (line_context_of line_context.now).known line_context.now.line parts.now)) }
 {
     let mut waiting = waiting;
     'parts: for part in parts {
-        waiting = pack_part(put, setting, waiting, *part)?;
+        waiting = pack_part(put, line_context, waiting, *part)?;
     }
     Ok(waiting)
 }
@@ -58,16 +58,16 @@ fn pack_parts(
 // The codes of a part.
 fn pack_part(
     put: &mut Put,
-    setting: &Setting,
+    line_context: &LineContext,
     waiting: Waiting,
     part: Part,
 ) -> Result<Waiting, AllocError>
     ensures { IfOk result (λ after. (more : spec.Codes) → packing put.new after more ≡ packing put.old waiting
-        (spec.codes_then (spec.part_codes (setting_of setting.now).known setting.now.line part part.kind) more)) }
+        (spec.codes_then (spec.part_codes (line_context_of line_context.now).known line_context.now.line part part.kind) more)) }
 {
     match part.kind {
-        PartKind::Text => waiting.with_text(part.inside.text(setting.line()), put),
-        PartKind::Expression => pack_value(put, waiting, setting.value(part.inside.start)),
+        PartKind::Text => waiting.with_text(part.inside.text(line_context.line()), put),
+        PartKind::Expression => pack_value(put, waiting, line_context.value(part.inside.start)),
     }
 }
 
@@ -77,21 +77,21 @@ fn pack_value(put: &mut Put, waiting: Waiting, value: Value) -> Result<Waiting, 
         → packing put.new after more ≡ packing put.old waiting (spec.codes_then (spec.value_codes (quantity value)) more)) }
 {
     let code = value.number % 0o100;
-    put.add_letters(value_letters(value));
+    put.add_flags(value_flags(value));
     waiting.with(code, put)
 }
 
-// The letters of an expression: it has to be an absolute number up to 47.
-fn value_letters(value: Value) -> Letters
-    ensures { bits_of result ≡ (spec.value_codes (quantity value)).letters }
+// The flags of an expression: it has to be an absolute number up to 47.
+fn value_flags(value: Value) -> ErrorFlags
+    ensures { bits_of result ≡ (spec.value_codes (quantity value)).flags }
 {
-    let letters = value.letters.with(value.kind.absence());
-    letters.with(code_letters(value.number))
+    let flags = value.flags.with(value.kind.absence());
+    flags.with(code_flags(value.number))
 }
 
 // T for a number that is no code.
-fn code_letters(number: u16) -> Letters
-    ensures { bits_of result ≡ spec.code_letters number }
+fn code_flags(number: u16) -> ErrorFlags
+    ensures { bits_of result ≡ spec.code_flags number }
 {
-    Letters::T.when(number > 0o47)
+    ErrorFlags::T.when(number > 0o47)
 }

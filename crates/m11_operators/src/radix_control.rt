@@ -11,53 +11,53 @@ ghost use Rattle.m11_operators.specs.Numbers.{is_large};
 
 use crate::changes::Change;
 use bitflags::Flags;
-use m11_arguments::{left_over, letters_before, rest_letters};
-use m11_placement::Settings;
-use m11_scan::{Letters, Line, Radix, Sort, next_token, read_number};
+use m11_arguments::{flags_before, left_over, rest_flags};
+use m11_placement::Modes;
+use m11_scan::{ErrorFlags, Line, Radix, Sort, next_token, read_number};
 
 /// The radix that a `.RADIX` sets: that of its decimal digits, with a point or without, or 8 where nothing stands. A bad argument
 /// changes nothing.
-pub fn radix(settings: Settings, line: &Line, start: usize) -> Change
+pub fn radix(modes: Modes, line: &Line, start: usize) -> Change
     requires { start ≤ length line.now.text }
-    ensures { change_seen result ≡ spec.radix settings line.now.text start }
+    ensures { change_seen result ≡ spec.radix modes line.now.text start }
 {
     match next_token(line, start) {
-        Some(token) => with_radix(settings, radix_in(token.sort, token.text(line))),
-        None => with_radix(settings, Some(Radix::Octal)),
+        Some(token) => with_radix(modes, radix_in(token.sort, token.text(line))),
+        None => with_radix(modes, Some(Radix::Octal)),
     }
 }
 
-fn with_radix(settings: Settings, radix: Option<Radix>) -> Change
-    ensures { change_seen result ≡ spec.with_radix settings radix }
+fn with_radix(modes: Modes, radix: Option<Radix>) -> Change
+    ensures { change_seen result ≡ spec.with_radix modes radix }
 {
     match radix {
-        Some(radix) => Change::Sets(Settings { radix, ..settings }),
+        Some(radix) => Change::Sets(Modes { radix, ..modes }),
         None => Change::Keeps,
     }
 }
 
-/// The letters of a `.RADIX`: A for a bad argument, after which nothing more is looked at, but for I.
-pub fn radix_letters(line: &Line, start: usize) -> Letters
+/// The flags of a `.RADIX`: A for a bad argument, after which nothing more is looked at, but for I.
+pub fn radix_flags(line: &Line, start: usize) -> ErrorFlags
     requires { start ≤ length line.now.text }
-    ensures { bits_of result ≡ spec.radix_letters line.now.text start }
+    ensures { bits_of result ≡ spec.radix_flags line.now.text start }
 {
     match next_token(line, start) {
         Some(token) => {
             let radix = radix_in(token.sort, token.text(line));
-            radix_letters_of(line, start, usize::from(token.end), radix)
+            radix_flags_of(line, start, usize::from(token.end), radix)
         }
         None => left_over(line, start),
     }
 }
 
-fn radix_letters_of(line: &Line, start: usize, end: usize, radix: Option<Radix>) -> Letters
+fn radix_flags_of(line: &Line, start: usize, end: usize, radix: Option<Radix>) -> ErrorFlags
     requires start { start ≤ length line.now.text }
     requires end { end ≤ length line.now.text }
-    ensures { bits_of result ≡ spec.radix_letters_of line.now.text start end radix }
+    ensures { bits_of result ≡ spec.radix_flags_of line.now.text start end radix }
 {
     match radix {
-        Some(_) => letters_before(line, start).with(left_over(line, end)),
-        None => Letters::A.with(rest_letters(line, start)),
+        Some(_) => flags_before(line, start).with(left_over(line, end)),
+        None => ErrorFlags::A.with(rest_flags(line, start)),
     }
 }
 
@@ -84,7 +84,7 @@ fn radix_of(digits: &[u8]) -> Option<Radix>
     ensures { result ≡ spec.radix_of (number_of Decimal digits.now) }
 {
     let number = read_number(digits, Radix::Decimal);
-    if is_large(number.letters) {
+    if is_large(number.flags) {
         None
     } else {
         radix_of_word(number.value)
@@ -92,10 +92,10 @@ fn radix_of(digits: &[u8]) -> Option<Radix>
 }
 
 // A number over 65535 has T.
-fn is_large(letters: Letters) -> bool
-    ensures { result ≡ is_large (bits_of letters) }
+fn is_large(flags: ErrorFlags) -> bool
+    ensures { result ≡ is_large (bits_of flags) }
 {
-    letters.bits() & Letters::T.bits() != 0
+    flags.bits() & ErrorFlags::T.bits() != 0
 }
 
 fn radix_of_word(number: u16) -> Option<Radix>

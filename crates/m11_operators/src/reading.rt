@@ -13,7 +13,7 @@ use arrayvec::ArrayVec;
 use m11_base::Op;
 use m11_fields::{FieldTerms, Fields, fields_at};
 use m11_placement::Operator;
-use m11_scan::{Letters, Line, Token};
+use m11_scan::{ErrorFlags, Line, Token};
 use m11_table::{FirmNames, Table};
 
 /// The fields of an operator whose name ends at a place of its line: those of an instruction, whose forms are asked of firm names. A
@@ -34,7 +34,7 @@ pub fn operator_fields(table: &Table, line: &Line, start: usize, operator: Opera
                 operation,
             )
         }
-        Operator::Directs(_) => no_fields(),
+        Operator::Directive(_) => no_fields(),
     }
 }
 
@@ -47,13 +47,13 @@ pub fn no_fields() -> Fields
     Fields {
         list: ArrayVec::new(),
         end: 0,
-        letters: Letters::none(),
+        flags: ErrorFlags::none(),
         terms: FieldTerms::none(),
     }
 }
 
 /// The same, with the token of what has no fields but one expression, where that is one term.
-pub fn lone_fields(term: Option<Token>) -> Fields
+pub fn single_fields(term: Option<Token>) -> Fields
     ensures fields { fields_seen result ≡ no_fields 0 }
     ensures ends { result.end ≡ 0 }
     ensures term { result.terms.first ≡ term }

@@ -5,7 +5,7 @@ ghost use Rattle.std.specs.Prelude.{◌≡◌};
 ghost use Rattle.m11_values.specs.Quantities.{quantity};
 ghost use Rattle.m11_placement.specs.Relocations as spec;
 
-use crate::settings::Setting;
+use crate::line_context::LineContext;
 use m11_base::Name;
 use m11_object_text::{RelocationKind, Stored};
 use m11_table::Table;
@@ -117,10 +117,15 @@ fn relocation_of(table: &Table, is_relative: bool, kind: Kind) -> RelocationKind
 }
 
 // What stands at a place for a value.
-pub(crate) fn stored(setting: &Setting, is_relative: bool, place: u16, value: Value) -> Stored
-    ensures { result ≡ spec.stored setting.now.table is_relative place (quantity value) }
+pub(crate) fn stored(
+    line_context: &LineContext,
+    is_relative: bool,
+    place: u16,
+    value: Value,
+) -> Stored
+    ensures { result ≡ spec.stored line_context.now.table is_relative place (quantity value) }
 {
-    let kind = relocation_of(setting.table(), is_relative, value.kind);
+    let kind = relocation_of(line_context.table(), is_relative, value.kind);
     stored_as(is_relative, kind, place, value.number)
 }
 

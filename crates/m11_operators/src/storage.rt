@@ -2,21 +2,21 @@
 //! directive", ".BYTE directive", ".LIMIT directive" and ".BLKB and .BLKW directives".)
 
 ghost use Rattle.std.specs.Prelude.{◌≡◌, ◌≤◌, ℕ, ◌∷◌, length, List, IfOk};
-ghost use Rattle.m11_arguments.specs.Expressions.{has_expression, number_letters, value_at};
+ghost use Rattle.m11_arguments.specs.Expressions.{has_expression, number_flags, value_at};
 ghost use Rattle.m11_placement.specs.Contents.{element_value, followed_by};
 ghost use Rattle.m11_placement.specs.Elements as elements;
 ghost use Rattle.m11_placement.specs.Meanings.{firm_known, known_at};
 ghost use Rattle.m11_placement.specs.Storage as spec;
-ghost use Rattle.m11_placement.specs.declared.meanings.Context.TheVariants.{Refers};
+ghost use Rattle.m11_placement.specs.declared.meanings.Context.TheVariants.{MayBeGlobal};
 ghost use Rattle.m11_scan.specs.Views.{bits_of};
 ghost use Rattle.m11_values.specs.Quantities.{quantity};
 
+use crate::line_context::LineContext;
 use crate::puts::Put;
-use crate::settings::Setting;
 use crate::values::{further, put_byte, put_word};
-use m11_arguments::{has_expression, left_over, skip_letters, value_at};
+use m11_arguments::{has_expression, left_over, skip_flags, value_at};
 use m11_fields::elements_at;
-use m11_scan::{Letters, Line, expression_end};
+use m11_scan::{ErrorFlags, Line, expression_end};
 use m11_table::{FirmNames, Table};
 use m11_values::Value;
 use std::alloc::AllocError;
@@ -50,29 +50,34 @@ fn element_count(line: &Line, start: usize) -> u16
 }
 
 /// The words of a `.WORD`. Error: memory may be refused.
-pub fn put_words(put: &mut Put, setting: &Setting, start: usize) -> Result<(), AllocError>
-    requires { start ≤ length setting.now.line }
+pub fn put_words(put: &mut Put, line_context: &LineContext, start: usize) -> Result<(), AllocError>
+    requires { start ≤ length line_context.now.line }
     ensures { IfOk result (λ _. put.new ≡ followed_by put.old
-        (spec.words setting.now.map setting.now.table setting.now.place setting.now.line start)) }
+        (spec.words line_context.now.map line_context.now.table line_context.now.place line_context.now.line start)) }
 {
-    let elements = elements_at(setting.line(), start);
-    put.add_letters(end_letters(setting.line(), start, usize::from(elements.end)));
-    put_words_from(put, setting, setting.place(), elements.places.as_slice())
+    let elements = elements_at(line_context.line(), start);
+    put.add_flags(end_flags(line_context.line(), start, usize::from(elements.end)));
+    put_words_from(
+        put,
+        line_context,
+        line_context.place(),
+        elements.places.as_slice(),
+    )
 }
 
 // Elements as words, one after the other.
 fn put_words_from(
     put: &mut Put,
-    setting: &Setting,
+    line_context: &LineContext,
     place: u16,
     starts: &[u8],
 ) -> Result<(), AllocError>
     ensures { IfOk result (λ _. put.new ≡ followed_by put.old
-        (spec.words_from setting.now.map setting.now.table setting.now.line place starts.now)) }
+        (spec.words_from line_context.now.map line_context.now.table line_context.now.line place starts.now)) }
 {
     let mut place = place;
     'elements: for start in starts {
-        place = put_element_word(put, setting, place, *start)?;
+        place = put_element_word(put, line_context, place, *start)?;
     }
     Ok(())
 }
@@ -80,43 +85,48 @@ fn put_words_from(
 // An element as a word, and the place after it.
 fn put_element_word(
     put: &mut Put,
-    setting: &Setting,
+    line_context: &LineContext,
     place: u16,
     start: u8,
 ) -> Result<u16, AllocError>
     ensures { IfOk result (λ next. (starts : List ℕ)
-        → followed_by put.new (spec.words_from setting.now.map setting.now.table setting.now.line next starts)
-        ≡ followed_by put.old (spec.words_from setting.now.map setting.now.table setting.now.line place (start ∷ starts))) }
+        → followed_by put.new (spec.words_from line_context.now.map line_context.now.table line_context.now.line next starts)
+        ≡ followed_by put.old (spec.words_from line_context.now.map line_context.now.table line_context.now.line place (start ∷ starts))) }
 {
-    let value = element_value(setting, place, start);
-    put_word(put, setting, false, place, value)?;
+    let value = element_value(line_context, place, start);
+    put_word(put, line_context, false, place, value)?;
     Ok(further(place, 2))
 }
 
 /// The bytes of a `.BYTE`. Error: memory may be refused.
-pub fn put_bytes(put: &mut Put, setting: &Setting, start: usize) -> Result<(), AllocError>
-    requires { start ≤ length setting.now.line }
+pub fn put_bytes(put: &mut Put, line_context: &LineContext, start: usize) -> Result<(), AllocError>
+    requires { start ≤ length line_context.now.line }
     ensures { IfOk result (λ _. put.new ≡ followed_by put.old
-        (spec.bytes setting.now.map setting.now.table setting.now.place setting.now.line start)) }
+        (spec.bytes line_context.now.map line_context.now.table line_context.now.place line_context.now.line start)) }
 {
-    let elements = elements_at(setting.line(), start);
-    put.add_letters(end_letters(setting.line(), start, usize::from(elements.end)));
-    put_bytes_from(put, setting, setting.place(), elements.places.as_slice())
+    let elements = elements_at(line_context.line(), start);
+    put.add_flags(end_flags(line_context.line(), start, usize::from(elements.end)));
+    put_bytes_from(
+        put,
+        line_context,
+        line_context.place(),
+        elements.places.as_slice(),
+    )
 }
 
 // Elements as bytes, one after the other.
 fn put_bytes_from(
     put: &mut Put,
-    setting: &Setting,
+    line_context: &LineContext,
     place: u16,
     starts: &[u8],
 ) -> Result<(), AllocError>
     ensures { IfOk result (λ _. put.new ≡ followed_by put.old
-        (spec.bytes_from setting.now.map setting.now.table setting.now.line place starts.now)) }
+        (spec.bytes_from line_context.now.map line_context.now.table line_context.now.line place starts.now)) }
 {
     let mut place = place;
     'elements: for start in starts {
-        place = put_element_byte(put, setting, place, *start)?;
+        place = put_element_byte(put, line_context, place, *start)?;
     }
     Ok(())
 }
@@ -124,28 +134,28 @@ fn put_bytes_from(
 // An element as a byte, and the place after it.
 fn put_element_byte(
     put: &mut Put,
-    setting: &Setting,
+    line_context: &LineContext,
     place: u16,
     start: u8,
 ) -> Result<u16, AllocError>
     ensures { IfOk result (λ next. (starts : List ℕ)
-        → followed_by put.new (spec.bytes_from setting.now.map setting.now.table setting.now.line next starts)
-        ≡ followed_by put.old (spec.bytes_from setting.now.map setting.now.table setting.now.line place (start ∷ starts))) }
+        → followed_by put.new (spec.bytes_from line_context.now.map line_context.now.table line_context.now.line next starts)
+        ≡ followed_by put.old (spec.bytes_from line_context.now.map line_context.now.table line_context.now.line place (start ∷ starts))) }
 {
-    let value = element_value(setting, place, start);
-    put_byte(put, setting, place, value)?;
+    let value = element_value(line_context, place, start);
+    put_byte(put, line_context, place, value)?;
     Ok(further(place, 1))
 }
 
 // What an element stands for at its own place, which is `.` in it. An empty one counts as 0.
-fn element_value(setting: &Setting, place: u16, start: u8) -> Value
+fn element_value(line_context: &LineContext, place: u16, start: u8) -> Value
     ensures { quantity result ≡ element_value
-        (known_at setting.now.map Refers setting.now.table place) setting.now.line start }
+        (known_at line_context.now.map MayBeGlobal line_context.now.table place) line_context.now.line start }
 {
-    if has_element(setting.line(), start) {
-        setting.at(place).reference(start)
+    if has_element(line_context.line(), start) {
+        line_context.at(place).reference(start)
     } else {
-        Value::absolute(0, Letters::none())
+        Value::absolute(0, ErrorFlags::none())
     }
 }
 
@@ -163,34 +173,34 @@ fn has_element(line: &Line, start: u8) -> bool
 }
 
 // What is skipped up to the end of arguments, and what is left over after it.
-fn end_letters(line: &Line, start: usize, end: usize) -> Letters
+fn end_flags(line: &Line, start: usize, end: usize) -> ErrorFlags
     requires { end ≤ length line.now.text }
-    ensures { bits_of result ≡ spec.end_letters line.now.text start end }
+    ensures { bits_of result ≡ spec.end_flags line.now.text start end }
 {
-    skip_letters(line, start, end).with(left_over(line, end))
+    skip_flags(line, start, end).with(left_over(line, end))
 }
 
 /// The limits of the program, for a `.LIMIT`. Error: memory may be refused.
-pub fn put_limits(put: &mut Put, setting: &Setting, start: usize) -> Result<(), AllocError>
-    requires { start ≤ length setting.now.line }
-    ensures { IfOk result (λ _. put.new ≡ followed_by put.old (spec.limits setting.now.line start)) }
+pub fn put_limits(put: &mut Put, line_context: &LineContext, start: usize) -> Result<(), AllocError>
+    requires { start ≤ length line_context.now.line }
+    ensures { IfOk result (λ _. put.new ≡ followed_by put.old (spec.limits line_context.now.line start)) }
 {
-    put.add_limits(left_over(setting.line(), start))
+    put.add_limits(left_over(line_context.line(), start))
 }
 
 /// The size of a `.BLKB` in bytes.
-pub fn byte_block_size(table: &Table, place: u16, line: &Line, start: usize) -> u32
+pub fn blkb_size(table: &Table, place: u16, line: &Line, start: usize) -> u32
     requires { start ≤ length line.now.text }
-    ensures size { result ≡ spec.byte_block_size table.now place line.now.text start }
+    ensures size { result ≡ spec.blkb_size table.now place line.now.text start }
     ensures most { result ≤ 65535 }
 {
     u32::from(block_count(table, place, line, start))
 }
 
 /// The size of a `.BLKW` in bytes.
-pub fn word_block_size(table: &Table, place: u16, line: &Line, start: usize) -> u32
+pub fn blkw_size(table: &Table, place: u16, line: &Line, start: usize) -> u32
     requires { start ≤ length line.now.text }
-    ensures size { result ≡ spec.word_block_size table.now place line.now.text start }
+    ensures size { result ≡ spec.blkw_size table.now place line.now.text start }
     ensures most { result ≤ 131070 }
 {
     u32::from(block_count(table, place, line, start)) * 2
@@ -216,25 +226,25 @@ fn firm_value(table: &Table, place: u16, line: &Line, start: usize) -> Value
     value_at(line, start, &names)
 }
 
-/// The letters of a `.BLKB` or `.BLKW`: those of its count, and of what is left over.
-pub fn block_letters(table: &Table, place: u16, line: &Line, start: usize) -> Letters
+/// The flags of a `.BLKB` or `.BLKW`: those of its count, and of what is left over.
+pub fn block_flags(table: &Table, place: u16, line: &Line, start: usize) -> ErrorFlags
     requires { start ≤ length line.now.text }
-    ensures { bits_of result ≡ spec.block_letters table.now place line.now.text start }
+    ensures { bits_of result ≡ spec.block_flags table.now place line.now.text start }
 {
     if has_expression(line, start) {
-        let letters = count_letters(table, place, line, start);
-        letters.with(left_over(line, expression_end(line, start)))
+        let flags = count_flags(table, place, line, start);
+        flags.with(left_over(line, expression_end(line, start)))
     } else {
         left_over(line, start)
     }
 }
 
-// The letters of a count: it has to be an absolute number.
-fn count_letters(table: &Table, place: u16, line: &Line, start: usize) -> Letters
+// The flags of a count: it has to be an absolute number.
+fn count_flags(table: &Table, place: u16, line: &Line, start: usize) -> ErrorFlags
     requires { start ≤ length line.now.text }
-    ensures { bits_of result ≡ number_letters (firm_known table.now place) line.now.text start }
+    ensures { bits_of result ≡ number_flags (firm_known table.now place) line.now.text start }
 {
     let value = firm_value(table, place, line, start);
-    let letters = value.letters.with(value.kind.absence());
-    letters.with(skip_letters(line, start, expression_end(line, start)))
+    let flags = value.flags.with(value.kind.absence());
+    flags.with(skip_flags(line, start, expression_end(line, start)))
 }

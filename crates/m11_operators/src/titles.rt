@@ -4,9 +4,9 @@ ghost use Rattle.std.specs.Prelude.{◌≡◌, ◌≤◌, length};
 ghost use Rattle.m11_scan.specs.Views.{bits_of};
 ghost use Rattle.m11_placement.specs.Exports as spec;
 
-use m11_arguments::{letters_before, rest_letters};
+use m11_arguments::{flags_before, rest_flags};
 use m11_base::Name;
-use m11_scan::{Letters, Line, Sort, next_token, read_name};
+use m11_scan::{ErrorFlags, Line, Sort, next_token, read_name};
 
 /// The name that a `.TITLE` gives the module, if it is one. Any text may follow it.
 pub fn title(line: &Line, start: usize) -> Option<Name>
@@ -28,13 +28,13 @@ fn title_in(sort: Sort, text: &[u8]) -> Option<Name>
     }
 }
 
-/// The letters of a `.TITLE`: A without a name.
-pub fn title_letters(line: &Line, start: usize) -> Letters
+/// The flags of a `.TITLE`: A without a name.
+pub fn title_flags(line: &Line, start: usize) -> ErrorFlags
     requires { start ≤ length line.now.text }
-    ensures { bits_of result ≡ spec.title_letters line.now.text start }
+    ensures { bits_of result ≡ spec.title_flags line.now.text start }
 {
     match title(line, start) {
-        Some(_) => letters_before(line, start),
-        None => Letters::A.with(rest_letters(line, start)),
+        Some(_) => flags_before(line, start),
+        None => ErrorFlags::A.with(rest_flags(line, start)),
     }
 }

@@ -6,11 +6,11 @@ ghost use Rattle.m11_placement.specs.Contents.{followed_by};
 ghost use Rattle.m11_scan.specs.Views.{bits_of};
 ghost use Rattle.m11_values.specs.Quantities.{quantity};
 
+use crate::line_context::LineContext;
 use crate::puts::Put;
 use crate::relocations::stored;
-use crate::settings::Setting;
-use m11_scan::Letters;
-use m11_table::register_letters;
+use m11_scan::ErrorFlags;
+use m11_table::register_flags;
 use m11_values::Value;
 use std::alloc::AllocError;
 
@@ -22,10 +22,10 @@ pub fn further(place: u16, size: u16) -> u16
 }
 
 // T for a byte whose high byte is neither 000 nor 377.
-pub(crate) fn byte_letters(number: u16) -> Letters
-    ensures { bits_of result ≡ spec.byte_letters number }
+pub(crate) fn byte_flags(number: u16) -> ErrorFlags
+    ensures { bits_of result ≡ spec.byte_flags number }
 {
-    Letters::T.when(!is_byte_high(number / 256))
+    ErrorFlags::T.when(!is_byte_high(number / 256))
 }
 
 fn is_byte_high(number: u16) -> bool
@@ -37,31 +37,31 @@ fn is_byte_high(number: u16) -> bool
 /// A value as a word, relative to the place after it or not. Error: memory may be refused.
 pub fn put_word(
     put: &mut Put,
-    setting: &Setting,
+    line_context: &LineContext,
     is_relative: bool,
     place: u16,
     value: Value,
 ) -> Result<(), AllocError>
     ensures { IfOk result (λ _. put.new ≡ followed_by put.old
-        (spec.word setting.now.table is_relative place (quantity value))) }
+        (spec.word line_context.now.table is_relative place (quantity value))) }
 {
-    let letters = value.letters.with(register_letters(value.kind));
-    put.add_word(stored(setting, is_relative, place, value), letters)
+    let flags = value.flags.with(register_flags(value.kind));
+    put.add_word(stored(line_context, is_relative, place, value), flags)
 }
 
 /// A value as a byte: its number is asked, whatever it counts from. Error: memory may be refused.
 pub fn put_byte(
     put: &mut Put,
-    setting: &Setting,
+    line_context: &LineContext,
     place: u16,
     value: Value,
 ) -> Result<(), AllocError>
     ensures { IfOk result (λ _. put.new ≡ followed_by put.old
-        (spec.byte setting.now.table place (quantity value))) }
+        (spec.byte line_context.now.table place (quantity value))) }
 {
-    let letters = value
-        .letters
-        .with(register_letters(value.kind))
-        .with(byte_letters(value.number));
-    put.add_byte(stored(setting, false, place, value), letters)
+    let flags = value
+        .flags
+        .with(register_flags(value.kind))
+        .with(byte_flags(value.number));
+    put.add_byte(stored(line_context, false, place, value), flags)
 }

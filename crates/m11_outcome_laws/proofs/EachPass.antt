@@ -18,7 +18,7 @@ use Rattle.m11_unfolding.specs.Stages.{Stage}
 use Rattle.m11_outcome_laws.proofs.OnePass.{ended_at}
 use Rattle.m11_placing.specs.declared.counting.Counting.{Counting}
 use Rattle.m11_placing.specs.declared.counting.Counting.TheVariants.{Definitions}
-use Rattle.m11_placing.specs.Counting.{none_mentioned}
+use Rattle.m11_placing.specs.Counting.{none_used}
 
 -- what is known of passes over lines
 abbrev pub EachEnds : Type 0
@@ -57,7 +57,7 @@ module _ (map_ : Map) (counting : Counting) (reading : Reading) where
       inr (lines, limit, outcome.Refuses.AtLimit source x.more limit (sym x.whole) x.exceeds refl)
 
 module _ (each : EachEnds) (first second : Reading) where
-  by_second : (lines : List Numbered) (ended : Ended) (program : Program) → Ends empty_map none_mentioned first lines ended
+  by_second : (lines : List Numbered) (ended : Ended) (program : Program) → Ends empty_map none_used first lines ended
       → program ≡ program_of (givens lines) → Comes program.map Definitions second
       → (all : Outcome) × HasOutcome first second all
   by_second lines ended program ends is (inl (others, end, ends')) = (
@@ -69,7 +69,7 @@ module _ (each : EachEnds) (first second : Reading) where
     outcome.HasOutcome.SecondRefuses lines ended program others fault ends is refuses,
   )
 
-  by_first : Comes empty_map none_mentioned first → (all : Outcome) × HasOutcome first second all
+  by_first : Comes empty_map none_used first → (all : Outcome) × HasOutcome first second all
   by_first (inl (lines, ended, ends)) =
       let program : Program = program_of (givens lines) in
       by_second lines ended program ends refl
@@ -77,4 +77,4 @@ module _ (each : EachEnds) (first second : Reading) where
   by_first (inr (lines, fault, refuses)) = (Refused fault [], outcome.HasOutcome.FirstRefuses lines fault refuses)
 
   pub has_outcome : (all : Outcome) × HasOutcome first second all
-  has_outcome = by_first (comes_by empty_map none_mentioned first (each empty_map none_mentioned first.lines))
+  has_outcome = by_first (comes_by empty_map none_used first (each empty_map none_used first.lines))

@@ -20,7 +20,7 @@ use Rattle.m11_outcome_laws.specs.OneText.{program_after}
 use Rattle.m11_outcome_laws.proofs.OneText.{EndAlike, PassesNone, never, same_end}
 use Rattle.m11_outcome_laws.proofs.SourcesRead.{same_reading}
 use Rattle.m11_placing.specs.declared.counting.Counting.TheVariants.{Definitions}
-use Rattle.m11_placing.specs.Counting.{none_mentioned}
+use Rattle.m11_placing.specs.Counting.{none_used}
 
 module _ (alike : EndAlike) (passes_none : PassesNone) {F : Type 0} (text : F → Option Text) (faults : F → ℕ) (sources : List Bytes)
     (one again two later : List F) (known : AreKnown text one sources) (known' : AreKnown text two sources) (old new : Outputs) where
@@ -28,11 +28,11 @@ module _ (alike : EndAlike) (passes_none : PassesNone) {F : Type 0} (text : F �
   reading = reading_of sources
 
   -- the first pass reads the sources
-  first_ends : (lines : List Numbered) (ended : Ended) (read : Reading) → read ≡ reading → Ends empty_map none_mentioned read lines ended
-      → Ends empty_map none_mentioned reading lines ended
-  first_ends lines ended read same ends = subst (λ (r : Reading). Ends empty_map none_mentioned r lines ended) same ends
+  first_ends : (lines : List Numbered) (ended : Ended) (read : Reading) → read ≡ reading → Ends empty_map none_used read lines ended
+      → Ends empty_map none_used reading lines ended
+  first_ends lines ended read same ends = subst (λ (r : Reading). Ends empty_map none_used r lines ended) same ends
 
-  module _ (lines : List Numbered) (ended : Ended) (ends : Ends empty_map none_mentioned reading lines ended) where
+  module _ (lines : List Numbered) (ended : Ended) (ends : Ends empty_map none_used reading lines ended) where
     abbrev Second : Result AsmDone AsmFault → Type 0
     Second returned = ReadsSecond (pass_of text faults two later) (program_after lines) old new returned
 
@@ -68,7 +68,7 @@ module _ (alike : EndAlike) (passes_none : PassesNone) {F : Type 0} (text : F �
   first_stops fault.NoMemory h = inl tt
   first_stops stopped h =
       let here = same_reading text faults one again sources h.0 known h.1 in
-      inr (h.2, subst (λ (r : Reading). Refuses empty_map none_mentioned r h.2 stopped) here h.3)
+      inr (h.2, subst (λ (r : Reading). Refuses empty_map none_used r h.2 stopped) here h.3)
 
   pub run_comes_to : (returned : Result AsmDone AsmFault)
       → AsmRuns (pass_of text faults one again) (pass_of text faults two later) old new returned → ComesTo sources old new returned

@@ -13,9 +13,9 @@ use Rattle.m11_placement.specs.Items.{is_listed}
 use Rattle.m11_placement.specs.Lines.{after_line, pieces}
 use Rattle.m11_placement.specs.Meanings.{Map}
 use Rattle.m11_placement.specs.Tables.{Table}
-use Rattle.m11_scan.specs.Letters.{letters_text}
+use Rattle.m11_scan.specs.ErrorFlags.{flags_text}
 use Rattle.m11_asm.specs.Program.{Program}
-use Rattle.m11_asm.specs.Written.{Ended, added_writes, closing_writes, flagged_count, flagged_in, head_before, is_flagged, last_place, last_writes, letter_E, letters_after, letters_at, line_writes, message_writes, pieces_in, program_writes, written, written_after}
+use Rattle.m11_asm.specs.Written.{Ended, added_writes, closing_writes, flagged_count, flagged_in, head_before, is_flagged, last_place, last_writes, flag_E, flags_after, flags_at, line_writes, message_writes, pieces_in, program_writes, written, written_after}
 use Rattle.m11_unfolding.specs.Unfolding.{Given}
 use Rattle.m11_outcome_laws.specs.Messages.{is_message, messages_in}
 
@@ -23,7 +23,7 @@ abbrev one_if_message : Write → ℕ
 one_if_message write = cond (is_message write) 1 0
 
 abbrev one_if_flagged : ℕ → ℕ
-one_if_flagged letters = cond (is_flagged letters) 1 0
+one_if_flagged flags = cond (is_flagged flags) 1 0
 
 of_both : (xs ys : List Write) → messages_in (xs ++ ys) ≡ messages_in xs + messages_in ys
 of_both xs ys = sum_by-append one_if_message xs ys
@@ -43,19 +43,19 @@ listed_or_not : (lines : List Bytes) (listed : Bool) → messages_in (if listed 
 listed_or_not lines true = of_listing lines
 listed_or_not lines false = refl
 
-of_listed_line : (map : Map) (table : Table) (letters number : ℕ) (given : Given)
-    → messages_in (listing_writes map table letters number given) ≡ 0
+of_listed_line : (map : Map) (table : Table) (flags number : ℕ) (given : Given)
+    → messages_in (listing_writes map table flags number given) ≡ 0
 unfolding listing_writes
-of_listed_line map table letters number given =
-    listed_or_not (lines_of map table letters number given) (is_listed (after_line map table given) given letters)
+of_listed_line map table flags number given =
+    listed_or_not (lines_of map table flags number given) (is_listed (after_line map table given) given flags)
 
 flagged_or_not : (message : Bytes) (flagged : Bool)
     → messages_in (if flagged then to_messages message ∷ [] else []) ≡ cond flagged 1 0
 flagged_or_not message true = refl
 flagged_or_not message false = refl
 
-of_message : (letters number : ℕ) (text : Bytes) → messages_in (message_writes letters number text) ≡ one_if_flagged letters
-of_message letters number text = flagged_or_not (message_line (letters_text letters) number text) (is_flagged letters)
+of_message : (flags number : ℕ) (text : Bytes) → messages_in (message_writes flags number text) ≡ one_if_flagged flags
+of_message flags number text = flagged_or_not (message_line (flags_text flags) number text) (is_flagged flags)
 
 module _ (program : Program) where
   of_head : (before : List Numbered) → messages_in (head_before program before) ≡ 0
@@ -63,38 +63,38 @@ module _ (program : Program) where
   of_head (line ∷ before) = refl
 
   of_line : (before : List Numbered) (line : Numbered)
-      → messages_in (line_writes program before line) ≡ one_if_flagged (letters_at program before line)
+      → messages_in (line_writes program before line) ≡ one_if_flagged (flags_at program before line)
   unfolding line_writes
   of_line before line =
-      let letters = letters_at program before line in
+      let flags = flags_at program before line in
       let texts = content_writes (records_closed_by (pieces_in program.map before)
       (pieces program.map (table_at program.map before) line.given)) in
-      let listed = listing_writes program.map (table_at program.map before) letters line.number line.given in
-      let message = message_writes letters line.number line.given.live.line.text in
+      let listed = listing_writes program.map (table_at program.map before) flags line.number line.given in
+      let message = message_writes flags line.number line.given.live.line.text in
       of_both texts (listed ++ message) ∙ ap (λ (n : ℕ). messages_in texts + n) (of_both listed message)
       ∙ omega (
         arith,
         of_contents (records_closed_by (pieces_in program.map before)
             (pieces program.map (table_at program.map before) line.given)),
-        of_listed_line program.map (table_at program.map before) letters line.number line.given,
-        of_message letters line.number line.given.live.line.text,
+        of_listed_line program.map (table_at program.map before) flags line.number line.given,
+        of_message flags line.number line.given.live.line.text,
       )
 
   of_lines : (before all : List Numbered)
-      → messages_in (written_after program before all) ≡ count_by is_flagged (letters_after program before all)
+      → messages_in (written_after program before all) ≡ count_by is_flagged (flags_after program before all)
   of_lines before [] = refl
   of_lines before (line ∷ all) =
       let head = head_before program before in
       let here = line_writes program before line in
       let rest = written_after program (before ++ line ∷ []) all in
-      let letters = letters_at program before line in
+      let flags = flags_at program before line in
       of_both (head ++ here) rest ∙ ap (λ (n : ℕ). n + messages_in rest) (of_both head here)
       ∙ omega (
         arith,
         of_head before,
         of_line before line,
         of_lines (before ++ line ∷ []) all,
-        sum_by-cons one_if_flagged letters (letters_after program (before ++ line ∷ []) all),
+        sum_by-cons one_if_flagged flags (flags_after program (before ++ line ∷ []) all),
       )
 
   of_written : (all : List Numbered) → messages_in (written program all) ≡ flagged_in program all
@@ -105,8 +105,8 @@ module _ (program : Program) where
       → messages_in (added_writes (record { read = read; has_end = has_end }) counter) ≡ (if has_end then 0 else 1)
   of_added read counter true = refl
   of_added read counter false =
-      of_both (all_to_listing (added_lines letter_E read counter)) (message_writes letter_E read [])
-      ∙ omega (arith, of_listing (added_lines letter_E read counter), of_message letter_E read [])
+      of_both (all_to_listing (added_lines flag_E read counter)) (message_writes flag_E read [])
+      ∙ omega (arith, of_listing (added_lines flag_E read counter), of_message flag_E read [])
 
   of_closing : (all : List Numbered) (count : ℕ)
       → messages_in (closing_writes (pieces_in program.map all) program.symbols program.sections count) ≡ 1

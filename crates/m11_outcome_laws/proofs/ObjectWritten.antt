@@ -4,7 +4,7 @@ use Rattle.std.specs.List.{flat_map}
 use Rattle.std.proofs.lemmas.Grind.{flat_map-append}
 use Rattle.m11_asm.proofs.LinesWritten.{pieces_more}
 use Rattle.m11_asm.specs.Program.{Program}
-use Rattle.m11_asm.specs.Written.{Ended, added_writes, closing_writes, flagged_count, head_before, is_flagged, last_place, last_writes, letter_E, letters_at, line_writes, message_writes, pieces_in, program_writes, written, written_after}
+use Rattle.m11_asm.specs.Written.{Ended, added_writes, closing_writes, flagged_count, head_before, is_flagged, last_place, last_writes, flag_E, flags_at, line_writes, message_writes, pieces_in, program_writes, written, written_after}
 use Rattle.m11_asm_faults.specs.declared.fault.AsmOutput.TheVariants.{Object}
 use Rattle.m11_asm_outputs.proofs.Closing.{all_records, closed-append}
 use Rattle.m11_asm_outputs.specs.Object.{closed_records, content_writes, head_contents, last_records, object_contents, records_closed_by}
@@ -22,7 +22,7 @@ use Rattle.m11_placement.specs.Items.{is_listed}
 use Rattle.m11_placement.specs.Lines.{after_line, pieces}
 use Rattle.m11_placement.specs.Meanings.{Map}
 use Rattle.m11_placement.specs.Tables.{Table}
-use Rattle.m11_scan.specs.Letters.{letters_text}
+use Rattle.m11_scan.specs.ErrorFlags.{flags_text}
 use Rattle.m11_unfolding.specs.Unfolding.{Given}
 use Rattle.m11_writes.proofs.Writing.{gained-append}
 use Rattle.m11_writes.specs.Writes.{gained}
@@ -60,20 +60,20 @@ listed_or_not : (lines : List Bytes) (listed : Bool) → gains (if listed then a
 listed_or_not lines true = of_listing lines
 listed_or_not lines false = of_nothing
 
-of_listed_line : (map : Map) (table : Table) (letters number : ℕ) (given : Given)
-    → gains (listing_writes map table letters number given) ≡ []
+of_listed_line : (map : Map) (table : Table) (flags number : ℕ) (given : Given)
+    → gains (listing_writes map table flags number given) ≡ []
 unfolding listing_writes
-of_listed_line map table letters number given =
-    listed_or_not (lines_of map table letters number given) (is_listed (after_line map table given) given letters)
+of_listed_line map table flags number given =
+    listed_or_not (lines_of map table flags number given) (is_listed (after_line map table given) given flags)
 
 flagged_or_not : (message : Bytes) (flagged : Bool) → gains (if flagged then to_messages message ∷ [] else []) ≡ []
 unfolding gained
 flagged_or_not message true = refl
 flagged_or_not message false = refl
 
-of_message : (letters number : ℕ) (text : Bytes) → gains (message_writes letters number text) ≡ []
-of_message letters number text =
-    flagged_or_not (message_line (letters_text letters) number text) (is_flagged letters)
+of_message : (flags number : ℕ) (text : Bytes) → gains (message_writes flags number text) ≡ []
+of_message flags number text =
+    flagged_or_not (message_line (flags_text flags) number text) (is_flagged flags)
 
 -- two that give nothing after one that does
 then_two : (xs ys zs : List Write) → gains ys ≡ [] → gains zs ≡ [] → gains (xs ++ (ys ++ zs)) ≡ gains xs
@@ -100,13 +100,13 @@ module _ (program : Program) where
       ≡ blocks (records_closed_by (pieces_at before) (pieces program.map (table_at program.map before) line.given))
   unfolding line_writes
   of_line before line =
-      let letters = letters_at program before line in
+      let flags = flags_at program before line in
       let closed = records_closed_by (pieces_at before) (pieces program.map (table_at program.map before) line.given) in
       then_two (content_writes closed)
-      (listing_writes program.map (table_at program.map before) letters line.number line.given)
-      (message_writes letters line.number line.given.live.line.text)
-      (of_listed_line program.map (table_at program.map before) letters line.number line.given)
-      (of_message letters line.number line.given.live.line.text) ∙ of_contents closed
+      (listing_writes program.map (table_at program.map before) flags line.number line.given)
+      (message_writes flags line.number line.given.live.line.text)
+      (of_listed_line program.map (table_at program.map before) flags line.number line.given)
+      (of_message flags line.number line.given.live.line.text) ∙ of_contents closed
 
   -- ---- what was written after some lines
 
@@ -177,14 +177,14 @@ module _ (program : Program) where
   of_added : (ended : Ended) (counter : ℕ) → gains (added_writes ended counter) ≡ []
   of_added ended counter = by_end ended.has_end
     where
-      either : gains (all_to_listing (added_lines letter_E ended.read counter) ++ message_writes letter_E ended.read []) ≡ []
+      either : gains (all_to_listing (added_lines flag_E ended.read counter) ++ message_writes flag_E ended.read []) ≡ []
       either =
-          of_both (all_to_listing (added_lines letter_E ended.read counter)) (message_writes letter_E ended.read [])
-          ∙ ap₂ (λ (s t : Bytes). s ++ t) (of_listing (added_lines letter_E ended.read counter))
-          (of_message letter_E ended.read [])
+          of_both (all_to_listing (added_lines flag_E ended.read counter)) (message_writes flag_E ended.read [])
+          ∙ ap₂ (λ (s t : Bytes). s ++ t) (of_listing (added_lines flag_E ended.read counter))
+          (of_message flag_E ended.read [])
 
       by_end : (b : Bool) → gains (if b then []
-          else all_to_listing (added_lines letter_E ended.read counter) ++ message_writes letter_E ended.read []) ≡ []
+          else all_to_listing (added_lines flag_E ended.read counter) ++ message_writes flag_E ended.read []) ≡ []
       by_end true = of_nothing
       by_end false = either
 

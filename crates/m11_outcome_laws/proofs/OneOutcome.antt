@@ -10,7 +10,7 @@ use Rattle.m11_asm.specs.Program.{Program, program_of}
 use Rattle.m11_asm.specs.Written.{Ended, flagged_count, program_writes, written}
 use Rattle.m11_outcome_laws.proofs.OnePass.{EndsOnce, EndsOrExceeds, ExceedsOnce, not_both, one_end, one_refusal}
 use Rattle.m11_placing.specs.declared.counting.Counting.TheVariants.{Definitions}
-use Rattle.m11_placing.specs.Counting.{none_mentioned}
+use Rattle.m11_placing.specs.Counting.{none_used}
 
 -- the same lines of the first pass say the second one the same
 same_program : (lines later : List Numbered) (program program' : Program) → program ≡ program_of (givens lines)
@@ -59,19 +59,19 @@ module _ (once : EndsOnce) (limit_once : ExceedsOnce) (either : EndsOrExceeds) (
 
   -- ---- of the first one
 
-  first_lines : (lines later : List Numbered) (ended end : Ended) → Ends empty_map none_mentioned first lines ended
-      → Ends empty_map none_mentioned first later end → lines ≡ later
-  first_lines lines later ended end ends ends' = (one_end once limit_once either empty_map none_mentioned first lines later ended end ends ends').0
+  first_lines : (lines later : List Numbered) (ended end : Ended) → Ends empty_map none_used first lines ended
+      → Ends empty_map none_used first later end → lines ≡ later
+  first_lines lines later ended end ends ends' = (one_end once limit_once either empty_map none_used first lines later ended end ends ends').0
 
-  first_not_both : (lines later : List Numbered) (ended : Ended) (fault : AsmFault) → Ends empty_map none_mentioned first lines ended
-      → Refuses empty_map none_mentioned first later fault → ⊥
+  first_not_both : (lines later : List Numbered) (ended : Ended) (fault : AsmFault) → Ends empty_map none_used first lines ended
+      → Refuses empty_map none_used first later fault → ⊥
   first_not_both lines later ended fault ends refuses =
-      not_both once limit_once either empty_map none_mentioned first lines later ended fault ends refuses
+      not_both once limit_once either empty_map none_used first lines later ended fault ends refuses
 
   pub one_outcome : (one other : Outcome) → HasOutcome first second one → HasOutcome first second other → one ≡ other
   one_outcome _ _ (outcome.HasOutcome.FirstRefuses lines fault refuses) (outcome.HasOutcome.FirstRefuses lines' fault' refuses') =
       ap (λ (f : AsmFault). Refused f [])
-      (one_refusal once limit_once either empty_map none_mentioned first lines lines' fault fault' refuses refuses').1
+      (one_refusal once limit_once either empty_map none_used first lines lines' fault fault' refuses refuses').1
   one_outcome _ _ (outcome.HasOutcome.FirstRefuses lines fault refuses)
       (outcome.HasOutcome.SecondRefuses lines' ended' program' others' fault' ends' is' refuses') =
       absurd (first_not_both lines' lines ended' fault ends' refuses)

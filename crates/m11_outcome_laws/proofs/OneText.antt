@@ -17,7 +17,7 @@ use Rattle.m11_outcome_laws.proofs.EachPass.{Comes, EachEnds, comes_by}
 use Rattle.m11_outcome_laws.proofs.OnePass.{EndsSo, ends_so, none_some, same_ended, unended_after}
 use Rattle.m11_placing.specs.declared.counting.Counting.{Counting}
 use Rattle.m11_placing.specs.declared.counting.Counting.TheVariants.{Definitions}
-use Rattle.m11_placing.specs.Counting.{none_mentioned}
+use Rattle.m11_placing.specs.Counting.{none_used}
 
 -- ---- what is known of two passes over the same lines
 
@@ -38,20 +38,20 @@ NoneMoves = (one : Map) (counting others : Counting) (all source read rest : Lis
     → moved_after (map_from lines) before this ≡ 0
 
 module _ (alike : EndAlike) (passes_none : PassesNone) (reading : Reading) (lines : List Numbered) (ended : Ended)
-    (ends : Ends empty_map none_mentioned reading lines ended) where
+    (ends : Ends empty_map none_used reading lines ended) where
   abbrev map_after : Map
   map_after = (program_after lines).map
 
-  first : EndsSo empty_map none_mentioned reading lines ended
-  first = ends_so empty_map none_mentioned reading lines ended ends
+  first : EndsSo empty_map none_used reading lines ended
+  first = ends_so empty_map none_used reading lines ended ends
 
   pub never : (others : List Numbered) (fault : AsmFault) → Refuses map_after Definitions reading others fault → ⊥
   never others fault (outcome.Refuses.AtReading came stops is u) =
-      let same = alike empty_map map_after none_mentioned Definitions reading.lines first.source reading.lines lines others first.stage u.stage first.after
+      let same = alike empty_map map_after none_used Definitions reading.lines first.source reading.lines lines others first.stage u.stage first.after
       (unended_after map_after Definitions reading others u) in
       none_some reading.fault came (first.goes_on (ap (λ (s : Stage). s.has_ended) same.2 ∙ u.goes_on)) stops
   never others fault (outcome.Refuses.AtLimit source more limit whole exceeds is) =
-      passes_none empty_map map_after none_mentioned reading.lines first.source source lines others first.stage limit first.after (record {
+      passes_none empty_map map_after none_used reading.lines first.source source lines others first.stage limit first.after (record {
         exceeds = exceeds;
         more = more;
         whole = sym whole;
@@ -61,7 +61,7 @@ module _ (alike : EndAlike) (passes_none : PassesNone) (reading : Reading) (line
   pub same_end : (others : List Numbered) (end : Ended) → Ends map_after Definitions reading others end → (lines ≡ others) × (ended ≡ end)
   same_end others end ends' =
       let second = ends_so map_after Definitions reading others end ends' in
-      let same = alike empty_map map_after none_mentioned Definitions reading.lines first.source second.source lines others first.stage second.stage
+      let same = alike empty_map map_after none_used Definitions reading.lines first.source second.source lines others first.stage second.stage
       first.after second.after in
       (same.1, same_ended first.source second.source first.stage second.stage ended end same.0 same.2 first.are second.are)
 
@@ -83,7 +83,7 @@ module _ (alike : EndAlike) (passes_none : PassesNone) (reading : Reading) (line
     repeats = record {
       ends = again;
       unmoved = λ before more this split.
-          none_moves empty_map none_mentioned Definitions reading.lines first.source second_after.source second_after.after.more lines lines before more
+          none_moves empty_map none_used Definitions reading.lines first.source second_after.source second_after.after.more lines lines before more
           this first.stage second_after.stage first.after second_after.after.lines_are second_after.after.whole split;
     }
 
@@ -91,13 +91,13 @@ module _ (alike : EndAlike) (passes_none : PassesNone) (reading : Reading) (line
 
 module _ (alike : EndAlike) (passes_none : PassesNone) (reading : Reading) where
   never_under : (lines others : List Numbered) (ended : Ended) (program : Program) (fault : AsmFault)
-      → Ends empty_map none_mentioned reading lines ended → program ≡ program_of (givens lines)
+      → Ends empty_map none_used reading lines ended → program ≡ program_of (givens lines)
       → Refuses program.map Definitions reading others fault → ⊥
   never_under lines others ended program fault ends is refuses =
       never alike passes_none reading lines ended ends others fault
       (subst (λ (p : Program). Refuses p.map Definitions reading others fault) is refuses)
 
-  same_under : (lines others : List Numbered) (ended end : Ended) (program : Program) → Ends empty_map none_mentioned reading lines ended
+  same_under : (lines others : List Numbered) (ended end : Ended) (program : Program) → Ends empty_map none_used reading lines ended
       → program ≡ program_of (givens lines) → Ends program.map Definitions reading others end
       → (lines ≡ others) × (ended ≡ end)
   same_under lines others ended end program ends is ends' =

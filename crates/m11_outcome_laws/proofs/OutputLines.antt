@@ -3,7 +3,7 @@ use Rattle.std.proofs.Common.{◌≡◌, ◌∙◌, ℕ, Bool, true, false, if�
 use Rattle.std.specs.List.{concat, cons_option}
 use Rattle.std.proofs.lemmas.List.Folds.{concat-append}
 use Rattle.m11_asm.specs.Program.{Program}
-use Rattle.m11_asm.specs.Written.{Ended, added_writes, closing_writes, flagged_count, head_before, is_flagged, last_place, last_writes, letter_E, letters_at, line_writes, message_writes, pieces_in, program_writes, written, written_after}
+use Rattle.m11_asm.specs.Written.{Ended, added_writes, closing_writes, flagged_count, head_before, is_flagged, last_place, last_writes, flag_E, flags_at, line_writes, message_writes, pieces_in, program_writes, written, written_after}
 use Rattle.m11_asm_faults.specs.declared.fault.AsmOutput.{AsmOutput}
 use Rattle.m11_asm_faults.specs.declared.fault.AsmOutput.TheVariants.{Listing, Messages}
 use Rattle.m11_asm_outputs.specs.Object.{content_writes, head_contents, last_records, records_closed_by}
@@ -16,7 +16,7 @@ use Rattle.m11_obj.specs.Records.{Content, EndOfModule}
 use Rattle.m11_passes.specs.Lines.{Numbered, table_at}
 use Rattle.m11_placement.specs.Items.{is_listed}
 use Rattle.m11_placement.specs.Lines.{after_line, pieces}
-use Rattle.m11_scan.specs.Letters.{letters_text}
+use Rattle.m11_scan.specs.ErrorFlags.{flags_text}
 use Rattle.m11_writes.proofs.Writing.{gained-append}
 use Rattle.m11_writes.specs.Writes.{gained}
 use Rattle.m11_outcome_laws.specs.Outputs.{added_listed, added_message, listed, listed_after, listing_lines, message_lines, message_of, messages_after}
@@ -129,49 +129,49 @@ module _ (program : Program) where
 
   abbrev to_list : List Numbered → Numbered → List Write
   to_list before line =
-      listing_writes program.map (table_at program.map before) (letters_at program before line) line.number line.given
+      listing_writes program.map (table_at program.map before) (flags_at program before line) line.number line.given
 
   abbrev to_say : List Numbered → Numbered → List Write
-  to_say before line = message_writes (letters_at program before line) line.number line.given.live.line.text
+  to_say before line = message_writes (flags_at program before line) line.number line.given.live.line.text
 
   listed_made : (before : List Numbered) (line : Numbered) → Makes Listing (to_list before line) (listed program before line)
   unfolding listing_writes
   listed_made before line =
-      if_listed (lines_of program.map (table_at program.map before) (letters_at program before line) line.number line.given)
-      (is_listed (after_line program.map (table_at program.map before) line.given) line.given (letters_at program before line))
+      if_listed (lines_of program.map (table_at program.map before) (flags_at program before line) line.number line.given)
+      (is_listed (after_line program.map (table_at program.map before) line.given) line.given (flags_at program before line))
 
   listed_unsaid : (before : List Numbered) (line : Numbered) → Makes Messages (to_list before line) []
   unfolding listing_writes
   listed_unsaid before line =
-      lines_if_unsaid (lines_of program.map (table_at program.map before) (letters_at program before line) line.number line.given)
-      (is_listed (after_line program.map (table_at program.map before) line.given) line.given (letters_at program before line))
+      lines_if_unsaid (lines_of program.map (table_at program.map before) (flags_at program before line) line.number line.given)
+      (is_listed (after_line program.map (table_at program.map before) line.given) line.given (flags_at program before line))
 
   line_made : (before : List Numbered) (line : Numbered)
       → Makes Listing (head_before program before ++ line_writes program before line) (listed program before line)
   unfolding line_writes
   line_made before line =
-      let text = message_line (letters_text (letters_at program before line)) line.number line.given.live.line.text in
+      let text = message_line (flags_text (flags_at program before line)) line.number line.given.live.line.text in
       then_made Listing (head_before program before) (line_writes program before line) [] (listed program before line)
       (head_unlisted before)
       (then_made Listing (content_writes (closed before line)) (to_list before line ++ to_say before line) []
       (listed program before line) (contents_unlisted (closed before line))
       (then_skipped Listing (to_list before line) (to_say before line) (listed program before line) (listed_made before line)
-      (if_unlisted text (is_flagged (letters_at program before line)))))
+      (if_unlisted text (is_flagged (flags_at program before line)))))
 
   abbrev line_said : List Numbered → Numbered → Option Bytes
-  line_said before line = message_of (letters_at program before line) line.number line.given.live.line.text
+  line_said before line = message_of (flags_at program before line) line.number line.given.live.line.text
 
   line_says : (before : List Numbered) (line : Numbered)
       → Makes Messages (head_before program before ++ line_writes program before line) (lines_if (line_said before line))
   unfolding line_writes
   line_says before line =
-      let text = message_line (letters_text (letters_at program before line)) line.number line.given.live.line.text in
+      let text = message_line (flags_text (flags_at program before line)) line.number line.given.live.line.text in
       let said : List Bytes = lines_if (line_said before line) in
       then_made Messages (head_before program before) (line_writes program before line) [] said (head_unsaid before)
       (then_made Messages (content_writes (closed before line)) (to_list before line ++ to_say before line) [] said
       (contents_unsaid (closed before line))
       (then_made Messages (to_list before line) (to_say before line) [] said (listed_unsaid before line)
-      (if_said text (is_flagged (letters_at program before line)))))
+      (if_said text (is_flagged (flags_at program before line)))))
 
   all_listed : (before lines : List Numbered)
       → Makes Listing (written_after program before lines) (listed_after program before lines)
@@ -201,20 +201,20 @@ module _ (program : Program) where
   -- ---- the end
 
   abbrev last_text : ℕ → Bytes
-  last_text number = message_line (letters_text letter_E) number []
+  last_text number = message_line (flags_text flag_E) number []
 
   added_is_listed : (ended : Ended) (counter : ℕ) → Makes Listing (added_writes ended counter) (added_listed ended counter)
   added_is_listed ended counter =
-      let added = added_lines letter_E ended.read counter in
-      let message = message_writes letter_E ended.read [] in
+      let added = added_lines flag_E ended.read counter in
+      let message = message_writes flag_E ended.read [] in
       if_added Listing ended.has_end (all_to_listing added ++ message) added
       (then_skipped Listing (all_to_listing added) message added (lines_made added)
-      (if_unlisted (last_text ended.read) (is_flagged letter_E)))
+      (if_unlisted (last_text ended.read) (is_flagged flag_E)))
 
   added_is_said : (ended : Ended) (counter : ℕ) → Makes Messages (added_writes ended counter) (added_message ended)
   added_is_said ended counter =
-      let added = added_lines letter_E ended.read counter in
-      let message = message_writes letter_E ended.read [] in
+      let added = added_lines flag_E ended.read counter in
+      let message = message_writes flag_E ended.read [] in
       if_added Messages ended.has_end (all_to_listing added ++ message) (last_text ended.read ∷ [])
       (then_made Messages (all_to_listing added) message [] (last_text ended.read ∷ []) (lines_unsaid added)
       (message_made (last_text ended.read)))

@@ -29,7 +29,7 @@ use Rattle.m11_outcome_laws.proofs.OneText.{EndAlike, PassesNone, never, same_en
 use Rattle.m11_outcome_laws.proofs.SourcesRead.{fail_begins, same_reading}
 use Rattle.m11_placing.specs.declared.counting.Counting.{Counting}
 use Rattle.m11_placing.specs.declared.counting.Counting.TheVariants.{Definitions}
-use Rattle.m11_placing.specs.Counting.{none_mentioned}
+use Rattle.m11_placing.specs.Counting.{none_used}
 
 -- what is known of passes over the same lines
 abbrev pub BeginAlike : Type 0
@@ -101,7 +101,7 @@ module _ (once : EndsOnce) (limit_once : ExceedsOnce) (either : EndsOrExceeds) (
   abbrev reading : Reading
   reading = reading_of sources
 
-  module _ (lines : List Numbered) (ended : Ended) (ends : Ends empty_map none_mentioned reading lines ended) (old new : Outputs) where
+  module _ (lines : List Numbered) (ended : Ended) (ends : Ends empty_map none_used reading lines ended) (old new : Outputs) where
     abbrev program : Program
     program = program_after lines
 
@@ -111,14 +111,14 @@ module _ (once : EndsOnce) (limit_once : ExceedsOnce) (either : EndsOrExceeds) (
     abbrev Stopped : AsmFault → Type 0
     Stopped stopped = MayStop stopped × LeavesBeginnings assembly old new all
 
-    first : EndsSo empty_map none_mentioned reading lines ended
-    first = ends_so empty_map none_mentioned reading lines ended ends
+    first : EndsSo empty_map none_used reading lines ended
+    first = ends_so empty_map none_used reading lines ended ends
 
     lines_begin : (source more : List SourceLine) (others : List Numbered) (stage : Stage) → reading.lines ≡ source ++ more
         → PassLines program.map Definitions source others stage → Begins all (written program others)
     lines_begin source more others stage whole live =
         written_begins program lines others ended
-        (begins empty_map program.map none_mentioned Definitions reading.lines first.source source more lines others first.stage stage
+        (begins empty_map program.map none_used Definitions reading.lines first.source source more lines others first.stage stage
         first.after live (sym whole))
 
     all_alike : (others : List Numbered) (end : Ended) → Ends program.map Definitions reading others end
@@ -185,25 +185,25 @@ module _ (once : EndsOnce) (limit_once : ExceedsOnce) (either : EndsOrExceeds) (
       first_stops fault.NoMemory h same = (tt, nothing_begun old new all same)
       first_stops stopped h same =
           let here = same_reading text faults feeds feeds' sources h.0 known h.1 in
-          absurd (not_both once limit_once either empty_map none_mentioned reading lines h.2 ended stopped ends
-          (subst (λ (r : Reading). Refuses empty_map none_mentioned r h.2 stopped) here h.3))
+          absurd (not_both once limit_once either empty_map none_used reading lines h.2 ended stopped ends
+          (subst (λ (r : Reading). Refuses empty_map none_used r h.2 stopped) here h.3))
 
       -- the lines of the first pass are those of the sources
       same_lines : (others : List Numbered) → ReadsFirst (pass_of text faults feeds feeds') (Ok others) → others ≡ lines
       same_lines others (read, reads, end, ends') =
           let here = same_reading text faults feeds feeds' sources read known reads in
-          let same = one_end once limit_once either empty_map none_mentioned reading lines others ended end ends
-          (subst (λ (r : Reading). Ends empty_map none_mentioned r others end) here ends') in sym same.0
+          let same = one_end once limit_once either empty_map none_used reading lines others ended end ends
+          (subst (λ (r : Reading). Ends empty_map none_used r others end) here ends') in sym same.0
 
   -- ---- sources that are refused
 
-  module _ (refused : AsmFault) (lines : List Numbered) (refuses : Refuses empty_map none_mentioned reading lines refused)
+  module _ (refused : AsmFault) (lines : List Numbered) (refuses : Refuses empty_map none_used reading lines refused)
       (feeds feeds' : List F) (known : AreKnown text feeds sources) where
     never_first : (others : List Numbered) → ReadsFirst (pass_of text faults feeds feeds') (Ok others) → ⊥
     never_first others (read, reads, end, ends') =
         let here = same_reading text faults feeds feeds' sources read known reads in
-        not_both once limit_once either empty_map none_mentioned reading others lines end refused
-        (subst (λ (r : Reading). Ends empty_map none_mentioned r others end) here ends') refuses
+        not_both once limit_once either empty_map none_used reading others lines end refused
+        (subst (λ (r : Reading). Ends empty_map none_used r others end) here ends') refuses
 
     same_refused : (stopped : AsmFault) → stopped ≡ refused → IsRefusal refused stopped
     same_refused fault.Read e = tt
@@ -216,8 +216,8 @@ module _ (once : EndsOnce) (limit_once : ExceedsOnce) (either : EndsOrExceeds) (
     refused_first fault.NoMemory h = tt
     refused_first stopped h =
         let here = same_reading text faults feeds feeds' sources h.0 known h.1 in
-        let same = one_refusal once limit_once either empty_map none_mentioned reading lines h.2 refused stopped refuses
-        (subst (λ (r : Reading). Refuses empty_map none_mentioned r h.2 stopped) here h.3) in
+        let same = one_refusal once limit_once either empty_map none_used reading lines h.2 refused stopped refuses
+        (subst (λ (r : Reading). Refuses empty_map none_used r h.2 stopped) here h.3) in
         same_refused stopped (sym same.1)
 
   -- ---- the run
@@ -227,7 +227,7 @@ module _ (once : EndsOnce) (limit_once : ExceedsOnce) (either : EndsOrExceeds) (
     abbrev Runs : Result AsmDone AsmFault → Type 0
     Runs returned = AsmRuns (pass_of text faults one again) (pass_of text faults two later) old new returned
 
-    module _ (lines : List Numbered) (ended : Ended) (ends : Ends empty_map none_mentioned reading lines ended) where
+    module _ (lines : List Numbered) (ended : Ended) (ends : Ends empty_map none_used reading lines ended) where
       told : (others : List Numbered) (returned : Result AsmDone AsmFault) → others ≡ lines
           → ReadsSecond (pass_of text faults two later) (program_of (givens others)) old new returned
           → ReadsSecond (pass_of text faults two later) (program_after lines) old new returned
@@ -245,7 +245,7 @@ module _ (once : EndsOnce) (limit_once : ExceedsOnce) (either : EndsOrExceeds) (
           second_stops lines ended ends old new two later known' stopped
           (told others (Err stopped) (same_lines lines ended ends old new one again known others reads) reads')
 
-    by_refusal : (refused : AsmFault) (writes : List Write) (lines : List Numbered) → Refuses empty_map none_mentioned reading lines refused
+    by_refusal : (refused : AsmFault) (writes : List Write) (lines : List Numbered) → Refuses empty_map none_used reading lines refused
         → (returned : Result AsmDone AsmFault) → Runs returned → IsDecided (Refused refused writes) old new returned
     by_refusal refused writes lines refuses (Ok done) (others, reads, reads') =
         never_first refused lines refuses one again known others reads

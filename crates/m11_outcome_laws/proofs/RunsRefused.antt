@@ -16,12 +16,12 @@ use Rattle.m11_writes.proofs.Writing.{gains_nothing}
 use Rattle.m11_outcome_laws.specs.Runs as runs
 use Rattle.m11_outcome_laws.specs.Runs.{IsOfSources, IsRefused}
 use Rattle.m11_placing.specs.declared.counting.Counting.TheVariants.{Definitions}
-use Rattle.m11_placing.specs.Counting.{none_mentioned}
+use Rattle.m11_placing.specs.Counting.{none_used}
 
 -- the passes of a run say this where a fault of the sources ends them
 abbrev FirstRefuses : {F : Type 0} → Pass F → AsmFault → Type 0
 FirstRefuses first stopped =
-    (reading : Reading) × Reads first reading × (lines : List Numbered) × Refuses empty_map none_mentioned reading lines stopped
+    (reading : Reading) × Reads first reading × (lines : List Numbered) × Refuses empty_map none_used reading lines stopped
 
 abbrev SecondRefuses : {F : Type 0} → Pass F → Program → Outputs → Outputs → AsmFault → Type 0
 SecondRefuses second program old new stopped =

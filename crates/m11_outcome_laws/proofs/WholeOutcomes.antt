@@ -19,7 +19,7 @@ use Rattle.m11_unfolding.specs.Histories.{with_more}
 use Rattle.m11_unfolding.specs.Stages.{Stage}
 use Rattle.m11_placing.specs.declared.counting.Counting.{Counting}
 use Rattle.m11_placing.specs.declared.counting.Counting.TheVariants.{Definitions}
-use Rattle.m11_placing.specs.Counting.{none_mentioned}
+use Rattle.m11_placing.specs.Counting.{none_used}
 
 -- the two parts of the law of passes
 abbrev pub SoFar : Type 0
@@ -87,9 +87,9 @@ module _ (so_far : SoFar) (all_lines : AllLines) where
     refused stopped (outcome.Refuses.AtLimit source more limit parts exceeds is) = exceeded source more limit parts exceeds
 
   programmed : (reading : Reading) (lines : List Numbered) (ended : Ended) (program : Program)
-      → Ends empty_map none_mentioned reading lines ended → program ≡ program_of (givens lines) → IsProgramOf reading program
+      → Ends empty_map none_used reading lines ended → program ≡ program_of (givens lines) → IsProgramOf reading program
   programmed reading lines ended program ends is =
-      let these : IsWhole empty_map reading lines ended = whole empty_map none_mentioned reading lines ended ends in
+      let these : IsWhole empty_map reading lines ended = whole empty_map none_used reading lines ended ends in
       record { gives = givens lines; stage = these.stage; all = these.all; is = is }
 
   pub of_whole : (first second : Reading) (outcome : Outcome) → HasOutcome first second outcome → IsOfWholeSources first second outcome

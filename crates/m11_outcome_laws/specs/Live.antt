@@ -13,21 +13,21 @@ use Rattle.m11_placement.specs.Meanings.{empty_map}
 use Rattle.m11_readings.specs.Readings.{reading_of}
 use Rattle.m11_outcome_laws.specs.Beginnings.{MayStop}
 use Rattle.m11_outcome_laws.specs.OneText.{program_after}
-use Rattle.m11_placing.specs.Counting.{none_mentioned}
+use Rattle.m11_placing.specs.Counting.{none_used}
 
 -- all that the live lines of the sources write was written, object and listing hold nothing of it back, and each record of the object fits
 -- its block
 pub record WritesLive (sources : List Bytes) (old new : Outputs) : Type 0 where
   pub lines : List Numbered
   pub ended : Ended
-  pub ends : Ends empty_map none_mentioned (reading_of sources) lines ended
+  pub ends : Ends empty_map none_used (reading_of sources) lines ended
   pub gains : Gains old new (program_writes (program_after lines) lines ended)
   pub flushed : AreFlushed new
   pub fit : AllFit (object_contents (program_after lines).rows (pieces_in (program_after lines).map lines))
 
 -- this is the first refusal of the sources
 abbrev pub AreRefused : List Bytes → AsmFault → Type 0
-AreRefused sources stopped = (lines : List Numbered) × Refuses empty_map none_mentioned (reading_of sources) lines stopped
+AreRefused sources stopped = (lines : List Numbered) × Refuses empty_map none_used (reading_of sources) lines stopped
 
 -- a run that is Ok wrote what the live lines write; another was stopped by a device or for want of memory, or the sources are refused
 abbrev pub ComesTo : List Bytes → Outputs → Outputs → Result AsmDone AsmFault → Type 0

@@ -9,7 +9,7 @@ use Rattle.m11_readings.specs.Readings.{Reading}
 use Rattle.m11_asm.specs.Program.{Program, program_of}
 use Rattle.m11_asm.specs.Written.{Ended, flagged_count, program_writes}
 use Rattle.m11_placing.specs.declared.counting.Counting.TheVariants.{Definitions}
-use Rattle.m11_placing.specs.Counting.{none_mentioned}
+use Rattle.m11_placing.specs.Counting.{none_used}
 
 -- what the live lines of the first pass give the second one
 abbrev pub program_after : List Numbered → Program
@@ -23,6 +23,6 @@ pub record Repeats (reading : Reading) (lines : List Numbered) (ended : Ended) :
 
 -- the first pass decides the outcome: it is refused, and nothing is written; or its live lines are written
 abbrev pub IsDecidedByFirst : Reading → Outcome → Type 0
-IsDecidedByFirst reading (Refused fault writes) = (writes ≡ []) × (lines : List Numbered) × Refuses empty_map none_mentioned reading lines fault
-IsDecidedByFirst reading (Assembled writes flagged) = (lines : List Numbered) × (ended : Ended) × Ends empty_map none_mentioned reading lines ended
+IsDecidedByFirst reading (Refused fault writes) = (writes ≡ []) × (lines : List Numbered) × Refuses empty_map none_used reading lines fault
+IsDecidedByFirst reading (Assembled writes flagged) = (lines : List Numbered) × (ended : Ended) × Ends empty_map none_used reading lines ended
     × (writes ≡ program_writes (program_after lines) lines ended) × (flagged ≡ flagged_count (program_after lines) lines ended.has_end)

@@ -12,9 +12,9 @@ use Rattle.m11_obj.specs.Records.{Content, record_data}
 use Rattle.m11_passes.specs.Lines.{Numbered, table_at}
 use Rattle.m11_placement.specs.Items.{is_listed}
 use Rattle.m11_placement.specs.Lines.{after_line}
-use Rattle.m11_scan.specs.Letters.{letters_text}
+use Rattle.m11_scan.specs.ErrorFlags.{flags_text}
 use Rattle.m11_asm.specs.Program.{Program}
-use Rattle.m11_asm.specs.Written.{Ended, flagged_count, is_flagged, last_place, letter_E, letters_at}
+use Rattle.m11_asm.specs.Written.{Ended, flagged_count, is_flagged, last_place, flag_E, flags_at}
 
 -- ---- the object
 
@@ -27,8 +27,8 @@ content_block content = block (record_data content)
 -- the lines of a line of the source, where it is listed: one with its items, and one for each that finds no place there
 abbrev pub listed : Program → List Numbered → Numbered → List Bytes
 listed program before line =
-    if is_listed (after_line program.map (table_at program.map before) line.given) line.given (letters_at program before line)
-    then lines_of program.map (table_at program.map before) (letters_at program before line) line.number line.given else []
+    if is_listed (after_line program.map (table_at program.map before) line.given) line.given (flags_at program before line)
+    then lines_of program.map (table_at program.map before) (flags_at program before line) line.number line.given else []
 
 abbrev pub listed_after : Program → List Numbered → List Numbered → List Bytes
 listed_after program before [] = []
@@ -36,7 +36,7 @@ listed_after program before (line ∷ lines) = listed program before line ++ lis
 
 -- the empty line, flagged E, where there is no `.END`
 abbrev pub added_listed : Ended → ℕ → List Bytes
-added_listed ended counter = if ended.has_end then [] else added_lines letter_E ended.read counter
+added_listed ended counter = if ended.has_end then [] else added_lines flag_E ended.read counter
 
 -- the lines of each listed line, that which is added, and the symbol table with the count of flagged lines
 abbrev pub listing_lines : Program → List Numbered → Ended → List Bytes
@@ -48,17 +48,17 @@ listing_lines program lines ended = listed_after program [] lines
 
 -- the message of a line, if it is flagged
 abbrev pub message_of : ℕ → ℕ → Bytes → Option Bytes
-message_of letters number text = if is_flagged letters then Some (message_line (letters_text letters) number text) else None
+message_of flags number text = if is_flagged flags then Some (message_line (flags_text flags) number text) else None
 
 abbrev pub messages_after : Program → List Numbered → List Numbered → List Bytes
 messages_after program before [] = []
 messages_after program before (line ∷ lines) =
-    cons_option (message_of (letters_at program before line) line.number line.given.live.line.text)
+    cons_option (message_of (flags_at program before line) line.number line.given.live.line.text)
     (messages_after program (before ++ line ∷ []) lines)
 
 -- that of the added line
 abbrev pub added_message : Ended → List Bytes
-added_message ended = if ended.has_end then [] else message_line (letters_text letter_E) ended.read [] ∷ []
+added_message ended = if ended.has_end then [] else message_line (flags_text flag_E) ended.read [] ∷ []
 
 -- one for each flagged line, that of the line which is added, and the count
 abbrev pub message_lines : Program → List Numbered → Ended → List Bytes

@@ -18,7 +18,7 @@ ghost use Rattle.m11_readings.specs.Readings.{Reading};
 ghost use Rattle.m11_asm.specs.Program.{Program};
 ghost use Rattle.m11_asm.specs.Written.{Ended, flagged_count, program_writes};
 ghost use Rattle.m11_placing.specs.declared.counting.Counting.TheVariants.{Definitions};
-ghost use Rattle.m11_placing.specs.Counting.{none_mentioned};
+ghost use Rattle.m11_placing.specs.Counting.{none_used};
 
 use m11_pass_laws::{
     a_pass_has_one_end, a_second_pass_over_the_same_lines_passes_no_limit,
@@ -55,10 +55,10 @@ pub fn two_sources_after_a_line_feed_are_one_text()
 /// Where both passes read the same text, and the first one is not refused, the second one is not refused either: it has the same live lines
 /// up to the same end, and none of their labels has moved. So the first pass alone decides the outcome, and a refusal has written nothing.
 pub fn the_same_text_has_no_moved_label_and_no_second_refusal()
-    ensures repeats { (reading : Reading) (lines : List Numbered) (ended : Ended) → Ends empty_map none_mentioned reading lines ended
+    ensures repeats { (reading : Reading) (lines : List Numbered) (ended : Ended) → Ends empty_map none_used reading lines ended
         → Repeats reading lines ended }
     ensures refuses { (reading : Reading) (lines others : List Numbered) (ended : Ended) (fault : AsmFault)
-        → Ends empty_map none_mentioned reading lines ended
+        → Ends empty_map none_used reading lines ended
         → Refuses (program_after lines).map Definitions reading others fault → ⊥ }
     ensures outcome { (reading : Reading) (outcome : Outcome) → HasOutcome reading reading outcome → IsDecidedByFirst reading outcome }
 {

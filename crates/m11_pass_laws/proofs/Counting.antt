@@ -12,7 +12,7 @@ use Rattle.m11_passes.specs.Refusals.{given_by}
 use Rattle.m11_placement.specs.Meanings.{Map}
 use Rattle.m11_unfolding.specs.Limits.{fault_from, most_lines, next_fault, taking_fault}
 use Rattle.m11_unfolding.specs.Stages.{Stage}
-use Rattle.m11_unfolding.specs.Taking.{Gives, Live, Rests, move, move_from}
+use Rattle.m11_unfolding.specs.Taking.{Gives, Live, NothingLeft, move, move_from}
 use Rattle.m11_unfolding.specs.declared.fault.UnfoldFault.{UnfoldFault}
 use Rattle.m11_unfolding.specs.declared.fault.UnfoldFault.TheVariants.{TooManyLines}
 use Rattle.m11_passes.proofs.Counting.{act_takes, giving_takes, leads_takes}
@@ -35,7 +35,7 @@ below_from (Line line ∷ left) stage after live fits moves =
 
 below_by : (has_ended : Bool) (left : List Left) (stage after : Stage) (live : Live)
     → (if has_ended then None else fault_from left stage) ≡ None
-    → (if has_ended then Rests else move_from left stage) ≡ Gives live after → stage.taken < most_lines
+    → (if has_ended then NothingLeft else move_from left stage) ≡ Gives live after → stage.taken < most_lines
 below_by true left stage after live fits moves = absurd (cc)
 below_by false left stage after live fits moves = below_from left stage after live fits moves
 

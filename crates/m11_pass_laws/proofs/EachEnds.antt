@@ -12,7 +12,7 @@ use Rattle.m11_passes.specs.Refusals.{given_by, line_fault}
 use Rattle.m11_placement.specs.Meanings.{Map}
 use Rattle.m11_unfolding.specs.Limits.{next_fault}
 use Rattle.m11_unfolding.specs.Stages.{Stage, start}
-use Rattle.m11_unfolding.specs.Taking.{Gives, Live, Move, Passes, Rests, move}
+use Rattle.m11_unfolding.specs.Taking.{Gives, Live, Move, Passes, NothingLeft, move}
 use Rattle.m11_unfolding.specs.Unfolding as steps
 use Rattle.m11_unfolding.specs.declared.fault.UnfoldFault.{UnfoldFault}
 use Rattle.m11_pass_laws.proofs.Falling.{acts_falling, giving_falls, none_left, passing_falls, work_left}
@@ -56,13 +56,13 @@ module _ (map_ : Map) (counting : Counting) (all : List SourceLine) where
         (append_assoc source (line ∷ []) left ∙ ap (λ (ls : List SourceLine). source ++ ls) (sym is) ∙ whole)
         (omega (arith, fewer, shallow, small))
 
-    by_rest : move stage ≡ Rests → (has_ended : Bool) → stage.has_ended ≡ has_ended → HasEnd map_ counting all
+    by_rest : move stage ≡ NothingLeft → (has_ended : Bool) → stage.has_ended ≡ has_ended → HasEnd map_ counting all
     by_rest rests true ended =
         ends.HasEnd.AtEnd source placed stage (record { lines_are = passes; more = more; whole = whole; is_over = inl ended })
     by_rest rests false goes = by_more (none_left stage goes rests) goes more refl
 
     by_move : next_fault stage ≡ None → (next : Move) → move stage ≡ next → HasEnd map_ counting all
-    by_move fits Rests rests = by_rest rests stage.has_ended refl
+    by_move fits NothingLeft rests = by_rest rests stage.has_ended refl
     by_move fits (Passes after) moves =
         let less = passing_falls stage after fits moves in
         further source more placed after

@@ -11,7 +11,7 @@ use Rattle.m11_passes.specs.Refusals.{line_fault}
 use Rattle.m11_placement.specs.Meanings.{Map}
 use Rattle.m11_unfolding.specs.Limits.{next_fault}
 use Rattle.m11_unfolding.specs.Stages.{Stage}
-use Rattle.m11_unfolding.specs.Taking.{Gives, Live, Rests, move}
+use Rattle.m11_unfolding.specs.Taking.{Gives, Live, NothingLeft, move}
 use Rattle.m11_unfolding.specs.declared.fault.UnfoldFault.{UnfoldFault}
 use Rattle.m11_pass_laws.specs.Ends.{ExceedsAfter, EndsAfter, IsOver}
 use Rattle.m11_pass_laws.proofs.Onward.{one_end}
@@ -20,7 +20,7 @@ use Rattle.m11_pass_laws.proofs.Stepping.{At, LeadsTo, at, begin, exceeds_at, ex
 -- no limit is passed here, and nothing is taken
 record IsQuiet (stage : Stage) : Type 0 where
   fits : next_fault stage ≡ None
-  rests : move stage ≡ Rests
+  rests : move stage ≡ NothingLeft
 
 -- the fault of what comes next
 data NextFails (map_ : Map) (counting : Counting) (lines : List Numbered) (stage : Stage) (fault : AsmFault) : Type 0 where
@@ -62,7 +62,7 @@ none_fails : (map_ : Map) (counting : Counting) (lines : List Numbered) (stage :
 none_fails map_ counting lines stage fault quiet (Before inner fails is) =
     let both : None ≡ Some inner = sym quiet.fits ∙ fails in cc
 none_fails map_ counting lines stage fault quiet (Within live after fits moves refused) =
-    let both : Rests ≡ Gives live after = sym quiet.rests ∙ moves in cc
+    let both : NothingLeft ≡ Gives live after = sym quiet.rests ∙ moves in cc
 
 module _ (map_ : Map) (counting : Counting) where
   is_quiet : (more : List SourceLine) (stage : Stage) → IsOver more stage → IsQuiet stage

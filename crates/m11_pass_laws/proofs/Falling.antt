@@ -18,10 +18,10 @@ use Rattle.m11_expansions.specs.Left.{Left, Line, End, after_mark, depth, expand
 use Rattle.m11_expansions.specs.declared.mark.Mark.{Mark}
 use Rattle.m11_lines.specs.Line.{SourceLine}
 use Rattle.m11_passes.proofs.Counting.{act_takes, used_takes}
-use Rattle.m11_unfolding.specs.Acting.{Acted, Operation, Calls, Directs, Foreign, act, acted_by, formal_name, operation, with_statement}
+use Rattle.m11_unfolding.specs.Acting.{Acted, Operation, Calls, OwnDirective, Foreign, act, acted_by, formal_name, operation, with_statement}
 use Rattle.m11_unfolding.specs.Limits.{fault_from, has_room, most_lines, next_fault, taking_fault}
 use Rattle.m11_unfolding.specs.Stages.{Opening, Purpose, Defines, Repeats, Drops, Stage}
-use Rattle.m11_unfolding.specs.Taking.{Live, Move, Rests, Passes, Gives, into_body, line_taken, live_or_skipped, move, move_from, nesting, one_taken, opened, skipped}
+use Rattle.m11_unfolding.specs.Taking.{Live, Move, NothingLeft, Passes, Gives, into_body, line_taken, live_or_skipped, move, move_from, nesting, one_taken, opened, skipped}
 use Rattle.m11_pass_laws.proofs.Counting as counting
 
 -- twice the lines that may still be taken, and the ends that are left
@@ -63,28 +63,28 @@ choice_depth true one other most first second = first
 choice_depth false one other most first second = second
 
 directive_depth : (known : Known) (text : Bytes) (place : ℕ) (stage : Stage) (of : Directive)
-    → depth (acted_by known text stage (Directs of place)).after.left ≤ depth stage.left + 1
+    → depth (acted_by known text stage (OwnDirective of place)).after.left ≤ depth stage.left + 1
 directive_depth known text place stage word.If = choice_depth (has_room stage) _ _ (depth stage.left + 1) (omega arith) (omega arith)
-directive_depth known text place stage word.IfFalse =
+directive_depth known text place stage word.Iff =
     choice_depth (has_none stage.conditions) _ _ (depth stage.left + 1) (omega arith) (omega arith)
-directive_depth known text place stage word.IfTrue =
+directive_depth known text place stage word.Ift =
     choice_depth (has_none stage.conditions) _ _ (depth stage.left + 1) (omega arith) (omega arith)
-directive_depth known text place stage word.IfTrueFalse =
+directive_depth known text place stage word.Iftf =
     choice_depth (has_none stage.conditions) _ _ (depth stage.left + 1) (omega arith) (omega arith)
-directive_depth known text place stage word.EndCondition =
+directive_depth known text place stage word.Endc =
     choice_depth (has_none stage.conditions) _ _ (depth stage.left + 1) (omega arith) (omega arith)
-directive_depth known text place stage word.ImmediateIf =
+directive_depth known text place stage word.Iif =
     statement_depth text (immediate.immediate known text place).holds (immediate.immediate known text place).statement stage
 directive_depth known text place stage word.Macro = omega arith
-directive_depth known text place stage word.EndMacro = omega arith
-directive_depth known text place stage word.Repeat = omega arith
-directive_depth known text place stage word.EndRepeat = omega arith
-directive_depth known text place stage word.IndefiniteRepeat = omega arith
-directive_depth known text place stage word.CharacterRepeat = omega arith
-directive_depth known text place stage word.MacroExit =
+directive_depth known text place stage word.Endm = omega arith
+directive_depth known text place stage word.Rept = omega arith
+directive_depth known text place stage word.Endr = omega arith
+directive_depth known text place stage word.Irp = omega arith
+directive_depth known text place stage word.Irpc = omega arith
+directive_depth known text place stage word.Mexit =
     choice_depth (is_expanding stage.left) _ _ (depth stage.left + 1) (rw same_ends omega arith) (omega arith)
-directive_depth known text place stage word.ArgumentCount = omega arith
-directive_depth known text place stage word.CharacterCount = omega arith
+directive_depth known text place stage word.Narg = omega arith
+directive_depth known text place stage word.Nchr = omega arith
 directive_depth known text place stage word.End = omega arith
 
 operation_depth : (known : Known) (text : Bytes) (stage : Stage) (of : Operation)
@@ -95,7 +95,7 @@ operation_depth known text stage (Calls macro place) =
     let filling = filled macro.formals given.texts stage.created in
     opened_depth (Some (length given.texts)) 0 (map formal_name macro.formals) (filling.texts ∷ []) macro.body
     (record stage { created = filling.created })
-operation_depth known text stage (Directs of place) = directive_depth known text place stage of
+operation_depth known text stage (OwnDirective of place) = directive_depth known text place stage of
 
 -- an operator leaves at most one more to do
 pub acts_falling : (known : Known) (stage : Stage) (text : Bytes) → work_left (act known stage text).after ≤ work_left stage + 1
@@ -110,7 +110,7 @@ acts_falling known stage text =
 
 -- two less at a line that becomes live, and one less elsewhere
 abbrev Falls : ℕ → Move → Type 0
-Falls work Rests = Unit {0}
+Falls work NothingLeft = Unit {0}
 Falls work (Passes after) = work_left after < work
 Falls work (Gives live after) = work_left after + 1 < work
 
@@ -139,7 +139,7 @@ left_falls (Line line ∷ left) stage fits =
     line_falls stage.opening line left stage room
 
 move_falls : (has_ended : Bool) (stage : Stage) → (if has_ended then None else fault_from stage.left stage) ≡ None
-    → Falls (work_left stage) (if has_ended then Rests else move_from stage.left stage)
+    → Falls (work_left stage) (if has_ended then NothingLeft else move_from stage.left stage)
 move_falls true stage fits = tt
 move_falls false stage fits = left_falls stage.left stage fits
 
@@ -152,23 +152,23 @@ giving_falls stage after live fits moves = subst (Falls (work_left stage)) moves
 
 -- ---- nothing is taken where nothing is left, or `.END` came
 
-live_takes : (skipped : Option OpenConditions) (line : SourceLine) (stage : Stage) → live_or_skipped skipped line stage ≡ Rests → ⊥
+live_takes : (skipped : Option OpenConditions) (line : SourceLine) (stage : Stage) → live_or_skipped skipped line stage ≡ NothingLeft → ⊥
 live_takes (Some conditions) line stage rests = cc
 live_takes None line stage rests = cc
 
-line_takes : (opening : Option Opening) (line : SourceLine) (stage : Stage) → line_taken opening line stage ≡ Rests → ⊥
+line_takes : (opening : Option Opening) (line : SourceLine) (stage : Stage) → line_taken opening line stage ≡ NothingLeft → ⊥
 line_takes (Some opening) line stage rests = cc
 line_takes None line stage rests = live_takes (skipped stage.conditions line.text) line stage rests
 
-none_from : (left : List Left) (stage : Stage) → move_from left stage ≡ Rests → left ≡ []
+none_from : (left : List Left) (stage : Stage) → move_from left stage ≡ NothingLeft → left ≡ []
 none_from [] stage rests = refl
 none_from (End mark ∷ left) stage rests = absurd (cc)
 none_from (Line line ∷ left) stage rests = absurd (line_takes stage.opening line (one_taken left stage) rests)
 
-none_by : (has_ended : Bool) (stage : Stage) → has_ended ≡ false → (if has_ended then Rests else move_from stage.left stage) ≡ Rests
+none_by : (has_ended : Bool) (stage : Stage) → has_ended ≡ false → (if has_ended then NothingLeft else move_from stage.left stage) ≡ NothingLeft
     → stage.left ≡ []
 none_by true stage goes rests = absurd (cc)
 none_by false stage goes rests = none_from stage.left stage rests
 
-pub none_left : (stage : Stage) → stage.has_ended ≡ false → move stage ≡ Rests → stage.left ≡ []
+pub none_left : (stage : Stage) → stage.has_ended ≡ false → move stage ≡ NothingLeft → stage.left ≡ []
 none_left stage goes rests = none_by stage.has_ended stage goes rests

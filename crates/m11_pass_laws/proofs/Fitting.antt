@@ -10,12 +10,12 @@ use Rattle.m11_placing.specs.Counting.{names_counted, with_counted}
 use Rattle.m11_placing.specs.declared.counting.Counting.{Counting}
 use Rattle.m11_placing.specs.declared.counting.Counting.TheVariants.{Definitions}
 use Rattle.m11_passes.specs.Lines.{Numbered, givens, table_at}
-use Rattle.m11_passes.specs.Refusals.{act_refused, given_by, labels_fault, line_fault, mentions_of_labels, of_limit, placing_fault}
+use Rattle.m11_passes.specs.Refusals.{act_refused, given_by, labels_fault, line_fault, uses_of_labels, of_limit, placing_fault}
 use Rattle.m11_placement.specs.Definitions.{firm_parts}
 use Rattle.m11_placement.specs.Limits.{LimitFault, TooManySymbols, TooManySections, has_too_many, is_local, is_local_definition, limit_fault, local_count, most_defined_names, most_local_symbols, most_names, most_sections, name_count, names_defined, with_defined}
 use Rattle.m11_placement.specs.Lines.{after_line, stands}
 use Rattle.m11_placement.specs.Meanings.{Map}
-use Rattle.m11_placement.specs.Mentions.{mentions}
+use Rattle.m11_placement.specs.SymbolUses.{symbol_uses}
 use Rattle.m11_placement.specs.Tables.{Table, firm_table, first_table}
 use Rattle.m11_placement.specs.declared.definitions.Definition.{Definition}
 use Rattle.m11_unfolding.specs.Acting.{act_fault}
@@ -62,7 +62,7 @@ limits names table none =
 pub record Fits (map : Map) (table : Table) (counting : Counting) (live : Live) (stage : Stage) : Type 0 where
   labels : labels_fault counting table live.line.text ≡ None
   acts : act_refused (act_fault stage live.line.text) ≡ None
-  placed : limit_fault (names_counted (with_counted (mentions table (given_by table live stage)) counting))
+  placed : limit_fault (names_counted (with_counted (symbol_uses table (given_by table live stage)) counting))
       (after_line map table (given_by table live stage)) ≡ None
 
 pub fits : (map : Map) (table : Table) (counting : Counting) (live : Live) (stage : Stage) → line_fault map table counting live stage ≡ None
@@ -74,7 +74,7 @@ fits map table counting live stage none =
     let others : option_or acts placed ≡ None = second_none labels (option_or acts placed) none in record {
       labels = first_none labels (option_or acts placed) none;
       acts = first_none acts placed others;
-      placed = limit_none (limit_fault (names_counted (with_counted (mentions table (given_by table live stage)) counting))
+      placed = limit_none (limit_fault (names_counted (with_counted (symbol_uses table (given_by table live stage)) counting))
           (after_line map table (given_by table live stage))) (second_none acts placed others);
     }
 
@@ -123,14 +123,14 @@ module _ (alike : PlaceAlike) (one other : Map) (before : List Numbered) (live :
   module _ (counting : Counting) (fits_first : Fits one table counting live stage) where
     labels_fit : labels_fault Definitions later live.line.text ≡ None
     labels_fit =
-        let first = labels_by (nat_lt most_names (length (names_counted (with_counted (mentions_of_labels live.line.text) counting))))
+        let first = labels_by (nat_lt most_names (length (names_counted (with_counted (uses_of_labels live.line.text) counting))))
         (has_too_many (stands table given)) fits_first.labels in
         ap (λ (b : Bool). if b then Some fault.TooManySymbols else None)
         (sym (too_many_alike (stands table given) (stands later given) same_stands) ∙ first)
 
     placed_fits : limit_fault [] (after_line other later given) ≡ None
     placed_fits =
-        let first = limits (names_counted (with_counted (mentions table given) counting)) (after_line one table given) fits_first.placed in
+        let first = limits (names_counted (with_counted (symbol_uses table given) counting)) (after_line one table given) fits_first.placed in
         let after : Table = after_line other later given in
         let many : has_too_many after ≡ false
         = sym (too_many_alike (after_line one table given) after same_after) ∙ first.0 in

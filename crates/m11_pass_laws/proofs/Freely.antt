@@ -11,7 +11,7 @@ use Rattle.m11_placement.specs.Meanings.{Map}
 use Rattle.m11_unfolding.specs.Acting.{act}
 use Rattle.m11_unfolding.specs.Limits.{next_fault}
 use Rattle.m11_unfolding.specs.Stages.{Stage}
-use Rattle.m11_unfolding.specs.Taking.{Gives, Live, Move, Passes, Rests, move}
+use Rattle.m11_unfolding.specs.Taking.{Gives, Live, Move, Passes, NothingLeft, move}
 use Rattle.m11_unfolding.specs.Unfolding.{Given}
 use Rattle.m11_unfolding.specs.declared.fault.UnfoldFault.{UnfoldFault}
 use Rattle.m11_pass_laws.specs.Beginnings.{BeginWith}
@@ -31,7 +31,7 @@ placed_at map live after here = at here.source here.more
     (acted (table_at map here.lines) live after)
 
 abbrev freely_by : Map → Move → At → Option At
-freely_by map Rests here = reads here.stage.has_ended here.more here
+freely_by map NothingLeft here = reads here.stage.has_ended here.more here
 freely_by map (Passes after) here = Some (at here.source here.more here.lines after)
 freely_by map (Gives live after) here = Some (placed_at map live after here)
 
@@ -61,7 +61,7 @@ module _ (map : Map) (counting : Counting) where
   places_freely None live after here next goes = goes
 
   moves_freely : (by : Move) (here next : At) → moves_by map counting by here ≡ Some next → freely_by map by here ≡ Some next
-  moves_freely Rests here next goes = goes
+  moves_freely NothingLeft here next goes = goes
   moves_freely (Passes after) here next goes = goes
   moves_freely (Gives live after) here next goes =
       places_freely (line_fault map (table_at map here.lines) (counting_at map counting here.lines) live after) live after here next goes
@@ -84,7 +84,7 @@ module _ (alike : PlaceAlike) (one other : Map) where
       (act g.known after live.line.text).after) (given_alike alike one other here.lines live after)
 
   moved_alike : (by : Move) (here : At) → freely_by one by here ≡ freely_by other by here
-  moved_alike Rests here = refl
+  moved_alike NothingLeft here = refl
   moved_alike (Passes after) here = refl
   moved_alike (Gives live after) here = ap (λ (s : At). Some s) (placed_alike live after here)
 
@@ -106,17 +106,17 @@ module _ (alike : PlaceAlike) (one other : Map) where
 
 pub over_freely : (map : Map) (here : At) → IsOver here.more here.stage → freely map here ≡ None
 over_freely map here (inl ended) =
-    freely_moved map here Rests (ended_fits here.stage ended) (ended_rests here.stage ended)
+    freely_moved map here NothingLeft (ended_fits here.stage ended) (ended_rests here.stage ended)
     ∙ ap (λ (b : Bool). reads b here.more here) ended
 over_freely map here (inr (all, none, goes)) =
-    freely_moved map here Rests (none_fits here.stage none goes) (none_rests here.stage none goes)
+    freely_moved map here NothingLeft (none_fits here.stage none goes) (none_rests here.stage none goes)
     ∙ ap (λ (b : Bool). reads b here.more here) goes ∙ ap (λ (ls : List SourceLine). reads false ls here) all
 
 -- ---- of any two passes over beginnings of one source, one goes on from the lines of the other
 
 module _ (map : Map) where
   grows_moved : (by : Move) (here : At) → Grows here (freely_by map by here)
-  grows_moved Rests here = grows_read here.stage.has_ended here.more here
+  grows_moved NothingLeft here = grows_read here.stage.has_ended here.more here
   grows_moved (Passes after) here = ([], sym (append-nil here.lines))
   grows_moved (Gives live after) here = (numbered (length here.source) (given_by (table_at map here.lines) live after) ∷ [], refl)
 

@@ -9,7 +9,7 @@ use Rattle.m11_passes.specs.Refusals.{given_by, line_fault}
 use Rattle.m11_placement.specs.Meanings.{Map}
 use Rattle.m11_unfolding.specs.Limits.{next_fault}
 use Rattle.m11_unfolding.specs.Stages.{Stage}
-use Rattle.m11_unfolding.specs.Taking.{Gives, Live, Move, Passes, Rests, move}
+use Rattle.m11_unfolding.specs.Taking.{Gives, Live, Move, Passes, NothingLeft, move}
 use Rattle.m11_unfolding.specs.declared.fault.UnfoldFault.{UnfoldFault}
 use Rattle.m11_pass_laws.specs.Beginnings.{BeginWith}
 use Rattle.m11_pass_laws.proofs.Onward.{Onward, in_order}
@@ -45,7 +45,7 @@ module _ (map_ : Map) (counting : Counting) where
       (numbered (length here.source) (given_by (table_at map_ here.lines) live after) ∷ [], refl)
 
   grows_moved : (next : Move) (here : At) → Grows here (moves_by map_ counting next here)
-  grows_moved Rests here = grows_read here.stage.has_ended here.more here
+  grows_moved NothingLeft here = grows_read here.stage.has_ended here.more here
   grows_moved (Passes after) here = ([], sym (append-nil here.lines))
   grows_moved (Gives live after) here =
       grows_placed (line_fault map_ (table_at map_ here.lines) (counting_at map_ counting here.lines) live after) live after here

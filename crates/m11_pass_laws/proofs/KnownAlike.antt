@@ -8,7 +8,7 @@ use Rattle.m11_placement.specs.Meanings.{Map, empty_map, known_at}
 use Rattle.m11_placement.specs.Placements.{after_lines, table_after}
 use Rattle.m11_placement.specs.Tables.{Table, firm_table, first_table, place}
 use Rattle.m11_placement.specs.Unfolded.{known_after_labels}
-use Rattle.m11_placement.specs.declared.meanings.Context.TheVariants.{Knows}
+use Rattle.m11_placement.specs.declared.meanings.Context.TheVariants.{LocalOnly}
 use Rattle.m11_unfolding.specs.Stages.{Stage}
 use Rattle.m11_unfolding.specs.Taking.{Live}
 use Rattle.m11_unfolding.specs.Unfolding.{Given}
@@ -49,7 +49,7 @@ module _ (alike : PlaceAlike) (one other : Map) where
 
   pub told_alike : (lines : List Given) (given : Given)
       → known_after_labels (stands (table_after one lines) given) ≡ known_after_labels (stands (table_after other lines) given)
-  told_alike lines given = ap (λ (t : Table). known_at empty_map Knows t (place t)) (stands_alike lines given)
+  told_alike lines given = ap (λ (t : Table). known_at empty_map LocalOnly t (place t)) (stands_alike lines given)
 
   -- a line that becomes live is the same line
   pub given_alike : (lines : List Numbered) (live : Live) (stage : Stage)

@@ -9,7 +9,7 @@ use Rattle.m11_base.specs.Rad50.{Name}
 use Rattle.m11_placement.specs.Assignments.{assigned, with_assigned}
 use Rattle.m11_placement.specs.Changes.{Assigns, Change, Counts, Exports, Keeps, Numbers, Selects, Sets, becomes_global, changed, numbered}
 use Rattle.m11_placement.specs.Definitions.{is_defined, is_labelled, is_of_label, is_same, last_definition, later_or}
-use Rattle.m11_placement.specs.Labels.{global_if, label_name, labelled, with_block, with_definition, with_doubled, with_kind, with_label, with_labels, with_name}
+use Rattle.m11_placement.specs.Labels.{global_if, label_name, labelled, with_block, with_definition, with_doubly_defined, with_kind, with_label, with_labels, with_name}
 use Rattle.m11_placement.specs.Lines.{after_line, line_change, stands}
 use Rattle.m11_placement.specs.Meanings.{Map}
 use Rattle.m11_placement.specs.Placements.{after_lines}
@@ -106,7 +106,7 @@ module _ (key : Key) (label : Definition) (is_label : is_some label.label ≡ tr
   -- ---- labels
 
   name_stays_by : (is_there is_global : Bool) (table : Table) (name : Name) → is_defined (Named name) table.definitions ≡ is_there
-      → Stands table → Stands (if is_there then with_doubled (Named name) table
+      → Stands table → Stands (if is_there then with_doubly_defined (Named name) table
       else global_if is_global name (with_block (with_definition (labelled table (Named name)) table)))
   name_stays_by true is_global table name is stands = stands
   name_stays_by false true table name is stands = undefined_beside (labelled table (Named name)) table is stands
@@ -118,7 +118,7 @@ module _ (key : Key) (label : Definition) (is_label : is_some label.label ≡ tr
   name_stays is_global table None stands = stands
 
   key_stays_by : (is_there : Bool) (table : Table) (other : Key) → is_defined other table.definitions ≡ is_there → Stands table
-      → Stands (if is_there then with_doubled other table else with_definition (labelled table other) table)
+      → Stands (if is_there then with_doubly_defined other table else with_definition (labelled table other) table)
   key_stays_by true table other is stands = stands
   key_stays_by false table other is stands = undefined_beside (labelled table other) table is stands
 
@@ -126,7 +126,7 @@ module _ (key : Key) (label : Definition) (is_label : is_some label.label ≡ tr
   kind_stays table name kind.Ordinary stands = name_stays false table name stands
   kind_stays table name kind.Global stands = name_stays true table name stands
   kind_stays table name (kind.Local number) stands =
-      key_stays_by (is_defined (Numbered table.settings.block number) table.definitions) table (Numbered table.settings.block number) refl
+      key_stays_by (is_defined (Numbered table.modes.block number) table.definitions) table (Numbered table.modes.block number) refl
       stands
   kind_stays table name kind.Outside stands = stands
 
@@ -139,12 +139,12 @@ module _ (key : Key) (label : Definition) (is_label : is_some label.label ≡ tr
 
   assigned_stays_by : (is_there : Bool) (definition : Definition) (table : Table)
       → is_labelled definition.key table.definitions ≡ is_there → Stands table
-      → Stands (if is_there then with_doubled definition.key table else with_definition definition table)
+      → Stands (if is_there then with_doubly_defined definition.key table else with_definition definition table)
   assigned_stays_by true definition table is stands = stands
   assigned_stays_by false definition table is stands = unlabelled_beside definition table is stands
 
   assigned_stays : (definition : Definition) (table : Table) → Stands table
-      → Stands (if is_labelled definition.key table.definitions then with_doubled definition.key table
+      → Stands (if is_labelled definition.key table.definitions then with_doubly_defined definition.key table
       else with_definition definition table)
   assigned_stays definition table stands =
       assigned_stays_by (is_labelled definition.key table.definitions) definition table refl stands
@@ -162,7 +162,7 @@ module _ (key : Key) (label : Definition) (is_label : is_some label.label ≡ tr
       (assigned_stays (assigned map table (Named name) line start) table stands)
   change_stays map line (Numbers name number) table stands = assigned_stays (numbered name number) table stands
   change_stays map line (Exports start) table stands = stands
-  change_stays map line (Sets settings) table stands = stands
+  change_stays map line (Sets modes) table stands = stands
 
   -- ---- lines
 

@@ -7,7 +7,7 @@ use Rattle.m11_unfolding.specs.Taking.{Live}
 use Rattle.m11_unfolding.specs.Unfolding.{Given}
 use Rattle.m11_placement.specs.Lines.{after_line}
 use Rattle.m11_placement.specs.Meanings.{Map}
-use Rattle.m11_placement.specs.Mentions.{mentions}
+use Rattle.m11_placement.specs.SymbolUses.{symbol_uses}
 use Rattle.m11_placement.specs.Placements.{after_lines}
 use Rattle.m11_placement.specs.Tables.{Table, first_table}
 use Rattle.m11_placing.specs.Counting.{with_counted}
@@ -33,8 +33,8 @@ module _ (one other : Map) (same : MapsAgree one other) where
       → counting_after one table all counting ≡ counting_after other table all counting
   counting_after_same [] table counting = refl
   counting_after_same (given ∷ all) table counting =
-      ap (λ (t : Table). counting_after one t all (with_counted (mentions table given) counting)) (after_line_same one other same table given)
-      ∙ counting_after_same all (after_line other table given) (with_counted (mentions table given) counting)
+      ap (λ (t : Table). counting_after one t all (with_counted (symbol_uses table given) counting)) (after_line_same one other same table given)
+      ∙ counting_after_same all (after_line other table given) (with_counted (symbol_uses table given) counting)
 
   pub table_at_same : (all : List Numbered) → table_at one all ≡ table_at other all
   table_at_same all = after_lines_same (givens all) first_table

@@ -9,15 +9,15 @@ use Rattle.m11_base.specs.Rad50.{Name, is_same_name}
 use Rattle.m11_placement.specs.Alignment.{place_for}
 use Rattle.m11_placement.specs.Definitions.{is_defined, registers}
 use Rattle.m11_placement.specs.Fields.{fields_at}
-use Rattle.m11_placement.specs.Limits.{is_counted, names_after, with_mentions, with_symbol}
-use Rattle.m11_placement.specs.Lines.{Assigning, Deed, Operating, Rests, Setting, after_line, deed, stands}
+use Rattle.m11_placement.specs.Limits.{is_counted, names_after, with_uses, with_symbol}
+use Rattle.m11_placement.specs.Lines.{Assign, Action, Operate, NoAction, SetCounter, after_line, action, stands}
 use Rattle.m11_placement.specs.Meanings.{Map, empty_map, known_at}
-use Rattle.m11_placement.specs.Mentions.{Mention, deed_mentions, field_mentions, label_mentions, mention, mentions}
+use Rattle.m11_placement.specs.SymbolUses.{SymbolUse, action_uses, field_uses, label_uses, symbol_use, symbol_uses}
 use Rattle.m11_placement.specs.Placements.{table_after}
 use Rattle.m11_placement.specs.Tables.{Table, firm_table, first_table, place}
 use Rattle.m11_placement.specs.declared.definitions.Key.TheVariants.{Named}
-use Rattle.m11_placement.specs.declared.meanings.Context.TheVariants.{Knows}
-use Rattle.m11_placement.specs.declared.operators.Operator.TheVariants.{Instruction, Directs}
+use Rattle.m11_placement.specs.declared.meanings.Context.TheVariants.{LocalOnly}
+use Rattle.m11_placement.specs.declared.operators.Operator.TheVariants as operators
 use Rattle.m11_statements.specs.Labels.{labels_at}
 use Rattle.m11_unfolding.specs.Unfolding.{Given}
 use Rattle.m11_values.specs.declared.names.Symbol.{Symbol}
@@ -78,9 +78,9 @@ IsThere (Ordinary name) names = is_counted name names ≡ true
 IsThere (Local number) names = Unit {0}
 IsThere Counter names = Unit {0}
 
-abbrev pub AreThere : List Mention → List Name → Type 0
+abbrev pub AreThere : List SymbolUse → List Name → Type 0
 AreThere [] names = Unit {0}
-AreThere (mention ∷ mentions) names = IsThere mention.symbol names × AreThere mentions names
+AreThere (symbol_use ∷ symbol_uses) names = IsThere symbol_use.symbol names × AreThere symbol_uses names
 
 none_by : (symbol : Symbol) (names : List Name) → IsThere symbol names → with_symbol symbol names ≡ names
 none_by (Ordinary name) names there = ap (λ (b : Bool). if b then names else names ++ name ∷ []) there
@@ -88,10 +88,10 @@ none_by (Local number) names there = refl
 none_by Counter names there = refl
 
 -- they add none
-pub adds_none : (some : List Mention) (names : List Name) → AreThere some names → with_mentions some names ≡ names
+pub adds_none : (some : List SymbolUse) (names : List Name) → AreThere some names → with_uses some names ≡ names
 adds_none [] names there = refl
-adds_none (mention ∷ some) names there =
-    ap (with_mentions some) (none_by mention.symbol names there.0) ∙ adds_none some names there.1
+adds_none (symbol_use ∷ some) names there =
+    ap (with_uses some) (none_by symbol_use.symbol names there.0) ∙ adds_none some names there.1
 
 -- they are there after further mentions
 there_by : (symbol other : Symbol) (names : List Name) → IsThere symbol names → IsThere symbol (with_symbol other names)
@@ -99,23 +99,23 @@ there_by (Ordinary name) other names there = symbol_stays name other names there
 there_by (Local number) other names there = tt
 there_by Counter other names there = tt
 
-one_stays : (symbol : Symbol) (some : List Mention) (names : List Name) → IsThere symbol names
-    → IsThere symbol (with_mentions some names)
+one_stays : (symbol : Symbol) (some : List SymbolUse) (names : List Name) → IsThere symbol names
+    → IsThere symbol (with_uses some names)
 one_stays symbol [] names there = there
-one_stays symbol (mention ∷ some) names there =
-    one_stays symbol some (with_symbol mention.symbol names) (there_by symbol mention.symbol names there)
+one_stays symbol (symbol_use ∷ some) names there =
+    one_stays symbol some (with_symbol symbol_use.symbol names) (there_by symbol symbol_use.symbol names there)
 
-all_stay : (some others : List Mention) (names : List Name) → AreThere some names → AreThere some (with_mentions others names)
+all_stay : (some others : List SymbolUse) (names : List Name) → AreThere some names → AreThere some (with_uses others names)
 all_stay [] others names there = tt
-all_stay (mention ∷ some) others names there =
-    (one_stays mention.symbol others names there.0, all_stay some others names there.1)
+all_stay (symbol_use ∷ some) others names there =
+    (one_stays symbol_use.symbol others names there.0, all_stay some others names there.1)
 
-lines_keep : (map : Map) (table : Table) (lines : List Given) (some : List Mention) (names : List Name) → AreThere some names
+lines_keep : (map : Map) (table : Table) (lines : List Given) (some : List SymbolUse) (names : List Name) → AreThere some names
     → AreThere some (names_after map table lines names)
 lines_keep map table [] some names there = there
 lines_keep map table (given ∷ lines) some names there =
-    lines_keep map (after_line map table given) lines some (with_mentions (mentions table given) names)
-    (all_stay some (mentions table given) names there)
+    lines_keep map (after_line map table given) lines some (with_uses (symbol_uses table given) names)
+    (all_stay some (symbol_uses table given) names there)
 
 -- and after they were mentioned
 one_there : (symbol : Symbol) (names : List Name) → IsThere symbol (with_symbol symbol names)
@@ -123,11 +123,11 @@ one_there (Ordinary name) names = now_there name (is_counted name names) names r
 one_there (Local number) names = tt
 one_there Counter names = tt
 
-mentioned : (some : List Mention) (names : List Name) → AreThere some (with_mentions some names)
-mentioned [] names = tt
-mentioned (mention ∷ some) names = (
-  one_stays mention.symbol some (with_symbol mention.symbol names) (one_there mention.symbol names),
-  mentioned some (with_symbol mention.symbol names),
+used_symbols : (some : List SymbolUse) (names : List Name) → AreThere some (with_uses some names)
+used_symbols [] names = tt
+used_symbols (symbol_use ∷ some) names = (
+  one_stays symbol_use.symbol some (with_symbol symbol_use.symbol names) (one_there symbol_use.symbol names),
+  used_symbols some (with_symbol symbol_use.symbol names),
 )
 
 -- ---- lines whose names are all there
@@ -135,22 +135,22 @@ mentioned (mention ∷ some) names = (
 abbrev pub AllThere : Map → Table → List Given → List Name → Type 0
 AllThere map table [] names = Unit {0}
 AllThere map table (given ∷ lines) names =
-    AreThere (mentions table given) names × AllThere map (after_line map table given) lines names
+    AreThere (symbol_uses table given) names × AllThere map (after_line map table given) lines names
 
 pub lines_there : (map : Map) (table : Table) (lines : List Given) (names : List Name)
     → AllThere map table lines (names_after map table lines names)
 lines_there map table [] names = tt
 lines_there map table (given ∷ lines) names = (
-  lines_keep map (after_line map table given) lines (mentions table given) (with_mentions (mentions table given) names)
-      (mentioned (mentions table given) names),
-  lines_there map (after_line map table given) lines (with_mentions (mentions table given) names),
+  lines_keep map (after_line map table given) lines (symbol_uses table given) (with_uses (symbol_uses table given) names)
+      (used_symbols (symbol_uses table given) names),
+  lines_there map (after_line map table given) lines (with_uses (symbol_uses table given) names),
 )
 
 pub lines_add_none : (map : Map) (table : Table) (lines : List Given) (names : List Name) → AllThere map table lines names
     → names_after map table lines names ≡ names
 lines_add_none map table [] names there = refl
 lines_add_none map table (given ∷ lines) names there =
-    ap (names_after map (after_line map table given) lines) (adds_none (mentions table given) names there.0)
+    ap (names_after map (after_line map table given) lines) (adds_none (symbol_uses table given) names there.0)
     ∙ lines_add_none map (after_line map table given) lines names there.1
 
 pub lines_before : (map : Map) (table : Table) (first second : List Given) (names : List Name)
@@ -161,31 +161,31 @@ lines_before map table (given ∷ first) second names there =
 
 -- ---- the same under every map
 
-deeds_alike : (line : Bytes) (arguments : Option ℕ) (of : Deed) (first second : Table) → firm_table first ≡ firm_table second
-    → deed_mentions first line arguments of ≡ deed_mentions second line arguments of
-deeds_alike line arguments Rests first second same = refl
-deeds_alike line arguments (Assigning name is_global start) first second same = refl
-deeds_alike line arguments (Setting start) first second same = refl
-deeds_alike line arguments (Operating (Directs directive) start) first second same = refl
-deeds_alike line arguments (Operating (Instruction operation) start) first second same =
-    ap (λ (t : Table). flat_map (field_mentions line)
-    (fields_at (known_at empty_map Knows t (place_for true (place t))) line start operation).list) same
+actions_alike : (line : Bytes) (arguments : Option ℕ) (of : Action) (first second : Table) → firm_table first ≡ firm_table second
+    → action_uses first line arguments of ≡ action_uses second line arguments of
+actions_alike line arguments NoAction first second same = refl
+actions_alike line arguments (Assign name is_global start) first second same = refl
+actions_alike line arguments (SetCounter start) first second same = refl
+actions_alike line arguments (Operate (operators.Directive directive) start) first second same = refl
+actions_alike line arguments (Operate (operators.Instruction operation) start) first second same =
+    ap (λ (t : Table). flat_map (field_uses line)
+    (fields_at (known_at empty_map LocalOnly t (place_for true (place t))) line start operation).list) same
 
 module _ (alike : PlaceAlike) (one other : Map) where
-  mentions_alike : (done : List Given) (given : Given)
-      → mentions (table_after one done) given ≡ mentions (table_after other done) given
-  mentions_alike done given =
-      ap (λ (l : List Mention). flat_map (label_mentions given.live.line.text) (labels_at given.live.line.text)
-      ++ map (mention Knows) given.notes.symbols ++ l)
-      (deeds_alike given.live.line.text given.arguments (deed given.is_own given.live.line.text) (stands (table_after one done) given)
+  uses_alike : (done : List Given) (given : Given)
+      → symbol_uses (table_after one done) given ≡ symbol_uses (table_after other done) given
+  uses_alike done given =
+      ap (λ (l : List SymbolUse). flat_map (label_uses given.live.line.text) (labels_at given.live.line.text)
+      ++ map (symbol_use LocalOnly) given.notes.symbols ++ l)
+      (actions_alike given.live.line.text given.arguments (action given.is_own given.live.line.text) (stands (table_after one done) given)
       (stands (table_after other done) given) (stands_alike alike one other done given))
 
   there_after : (names : List Name) (lines done : List Given) (first second : Table) → first ≡ table_after one done
       → second ≡ table_after other done → AllThere one first lines names → AllThere other second lines names
   there_after names [] done first second is is' there = tt
   there_after names (given ∷ lines) done first second is is' there = (
-    subst (λ (l : List Mention). AreThere l names)
-        (ap (λ (t : Table). mentions t given) is ∙ mentions_alike done given ∙ ap (λ (t : Table). mentions t given) (sym is')) there.0,
+    subst (λ (l : List SymbolUse). AreThere l names)
+        (ap (λ (t : Table). symbol_uses t given) is ∙ uses_alike done given ∙ ap (λ (t : Table). symbol_uses t given) (sym is')) there.0,
     there_after names lines (done ++ given ∷ []) (after_line one first given) (after_line other second given)
         (ap (λ (t : Table). after_line one t given) is ∙ sym (after_both one done (given ∷ []) first_table))
         (ap (λ (t : Table). after_line other t given) is' ∙ sym (after_both other done (given ∷ []) first_table)) there.1,

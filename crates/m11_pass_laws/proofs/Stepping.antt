@@ -11,7 +11,7 @@ use Rattle.m11_passes.specs.Refusals.{given_by, line_fault}
 use Rattle.m11_placement.specs.Meanings.{Map}
 use Rattle.m11_unfolding.specs.Limits.{fault_from, next_fault}
 use Rattle.m11_unfolding.specs.Stages.{Stage, start}
-use Rattle.m11_unfolding.specs.Taking.{Gives, Live, Move, Passes, Rests, move, move_from}
+use Rattle.m11_unfolding.specs.Taking.{Gives, Live, Move, Passes, NothingLeft, move, move_from}
 use Rattle.m11_unfolding.specs.Unfolding.{Given, Leads}
 use Rattle.m11_unfolding.specs.Unfolding as steps
 use Rattle.m11_unfolding.specs.declared.fault.UnfoldFault.{UnfoldFault}
@@ -37,16 +37,16 @@ begin all = at [] all [] (start [])
 pub ended_fits : (stage : Stage) → stage.has_ended ≡ true → next_fault stage ≡ None
 ended_fits stage ended = ap (λ (b : Bool). if b then None else fault_from stage.left stage) ended
 
-pub ended_rests : (stage : Stage) → stage.has_ended ≡ true → move stage ≡ Rests
-ended_rests stage ended = ap (λ (b : Bool). if b then Rests else move_from stage.left stage) ended
+pub ended_rests : (stage : Stage) → stage.has_ended ≡ true → move stage ≡ NothingLeft
+ended_rests stage ended = ap (λ (b : Bool). if b then NothingLeft else move_from stage.left stage) ended
 
 pub none_fits : (stage : Stage) → stage.left ≡ [] → stage.has_ended ≡ false → next_fault stage ≡ None
 none_fits stage none goes =
     ap (λ (b : Bool). if b then None else fault_from stage.left stage) goes ∙ ap (λ (l : List Left). fault_from l stage) none
 
-pub none_rests : (stage : Stage) → stage.left ≡ [] → stage.has_ended ≡ false → move stage ≡ Rests
+pub none_rests : (stage : Stage) → stage.left ≡ [] → stage.has_ended ≡ false → move stage ≡ NothingLeft
 none_rests stage none goes =
-    ap (λ (b : Bool). if b then Rests else move_from stage.left stage) goes ∙ ap (λ (l : List Left). move_from l stage) none
+    ap (λ (b : Bool). if b then NothingLeft else move_from stage.left stage) goes ∙ ap (λ (l : List Left). move_from l stage) none
 
 -- one line more of the source, until `.END` came
 abbrev pub reads : Bool → List SourceLine → At → Option At
@@ -67,7 +67,7 @@ module _ (map_ : Map) (counting : Counting) where
 
   -- what the next move makes of it
   abbrev pub moves_by : Move → At → Option At
-  moves_by Rests here = reads here.stage.has_ended here.more here
+  moves_by NothingLeft here = reads here.stage.has_ended here.more here
   moves_by (Passes after) here = Some (at here.source here.more here.lines after)
   moves_by (Gives live after) here =
       places (line_fault map_ (table_at map_ here.lines) (counting_at map_ counting here.lines) live after) live after here
@@ -107,12 +107,12 @@ module _ (map_ : Map) (counting : Counting) where
 
   pub ended_stops : (here : At) → here.stage.has_ended ≡ true → step here ≡ None
   ended_stops here ended =
-      moved here Rests (ended_fits here.stage ended) (ended_rests here.stage ended)
+      moved here NothingLeft (ended_fits here.stage ended) (ended_rests here.stage ended)
       ∙ ap (λ (b : Bool). reads b here.more here) ended
 
   pub read_stops : (here : At) → here.more ≡ [] → here.stage.left ≡ [] → here.stage.has_ended ≡ false → step here ≡ None
   read_stops here all none goes =
-      moved here Rests (none_fits here.stage none goes) (none_rests here.stage none goes)
+      moved here NothingLeft (none_fits here.stage none goes) (none_rests here.stage none goes)
       ∙ ap (λ (b : Bool). reads b here.more here) goes ∙ ap (λ (ls : List SourceLine). reads false ls here) all
 
   line_read : (source more : List SourceLine) (all : List Numbered) (stage : Stage) (line : SourceLine) → stage.left ≡ []
@@ -120,7 +120,7 @@ module _ (map_ : Map) (counting : Counting) where
       → step (at source (line ∷ more) all stage) ≡ Some (at (source ++ line ∷ []) more all (with_line line stage))
   line_read source more all stage line none goes =
       let here : At = at source (line ∷ more) all stage in
-      moved here Rests (none_fits stage none goes) (none_rests stage none goes)
+      moved here NothingLeft (none_fits stage none goes) (none_rests stage none goes)
       ∙ ap (λ (b : Bool). reads b (line ∷ more) here) goes
 
   line_placed : (source more : List SourceLine) (all : List Numbered) (stage after : Stage) (live : Live) → next_fault stage ≡ None

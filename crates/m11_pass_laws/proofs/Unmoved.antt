@@ -14,7 +14,7 @@ use Rattle.m11_passes.specs.Lines.{Numbered, PassLines, givens}
 use Rattle.m11_passes.specs.Lines as lines
 use Rattle.m11_placement.specs.Definitions.{firm_part, firm_standing, is_defined, last_definition}
 use Rattle.m11_placement.specs.Equation.{Solves, is_label_or_firm, label_or_value, label_or_value_of}
-use Rattle.m11_placement.specs.Labels.{global_if, label_name, labelled, with_block, with_definition, with_doubled, with_kind, with_label, with_labels, with_name}
+use Rattle.m11_placement.specs.Labels.{global_if, label_name, labelled, with_block, with_definition, with_doubly_defined, with_kind, with_label, with_labels, with_name}
 use Rattle.m11_placement.specs.Lines.{after_line, line_change, stands}
 use Rattle.m11_placement.specs.Meanings.{Map}
 use Rattle.m11_placement.specs.Placements.{after_lines, program_map, table_after}
@@ -25,9 +25,9 @@ use Rattle.m11_placement.specs.declared.definitions.Key.TheVariants.{Named}
 use Rattle.m11_placement.specs.declared.definitions.Key.TheVariants as of_key
 use Rattle.m11_placement.specs.declared.definitions.Standing.{Standing}
 use Rattle.m11_placement.specs.declared.definitions.Standing.TheVariants.{Known}
-use Rattle.m11_placing.specs.Moved.{is_at, is_in, is_place_of, letter_P, moved_key, moved_kind, moved_letters, moved_name}
+use Rattle.m11_placing.specs.Moved.{is_at, is_in, is_place_of, flag_P, moved_key, moved_kind, moved_flags, moved_name}
 use Rattle.m11_statements.specs.Labels.{labels_at}
-use Rattle.m11_statements.specs.Statements.{letter_if}
+use Rattle.m11_statements.specs.Statements.{flag_if}
 use Rattle.m11_statements.specs.declared.labels.Label.{Label}
 use Rattle.m11_statements.specs.declared.labels.LabelKind.{LabelKind}
 use Rattle.m11_statements.specs.declared.labels.LabelKind.TheVariants as kind
@@ -77,7 +77,7 @@ found_place table key (Some definition) same =
 module _ (map : Map) (final : Table)
     (solves : (key : Key) → label_or_value_of key map.definitions ≡ label_or_value_of key final.definitions) where
   unmoved_by : (is_known is_place : Bool) → (is_known ≡ false → is_place ≡ true)
-      → letter_if (not is_known && not is_place) letter_P ≡ 0
+      → flag_if (not is_known && not is_place) flag_P ≡ 0
   unmoved_by true is_place found = refl
   unmoved_by false true found = refl
   unmoved_by false false found = absurd (let same = found refl in cc same)
@@ -90,14 +90,14 @@ module _ (map : Map) (final : Table)
 
   -- a label of a key that has no definition defines it
   name_by : (is_there is_global : Bool) (table : Table) (name : Name) → is_there ≡ false
-      → StandsIn (Named name) (labelled table (Named name)) (if is_there then with_doubled (Named name) table
+      → StandsIn (Named name) (labelled table (Named name)) (if is_there then with_doubly_defined (Named name) table
       else global_if is_global name (with_block (with_definition (labelled table (Named name)) table)))
   name_by true is_global table name none = absurd (cc)
   name_by false true table name none = stands_now (Named name) (labelled table (Named name)) table refl
   name_by false false table name none = stands_now (Named name) (labelled table (Named name)) table refl
 
   key_by : (is_there : Bool) (table : Table) (key : Key) → is_there ≡ false
-      → StandsIn key (labelled table key) (if is_there then with_doubled key table else with_definition (labelled table key) table)
+      → StandsIn key (labelled table key) (if is_there then with_doubly_defined key table else with_definition (labelled table key) table)
   key_by true table key none = absurd (cc)
   key_by false table key none = stands_now key (labelled table key) table refl
 
@@ -113,25 +113,25 @@ module _ (map : Map) (final : Table)
   kind_unmoved table name kind.Ordinary keeps = name_unmoved false table name keeps
   kind_unmoved table name kind.Global keeps = name_unmoved true table name keeps
   kind_unmoved table name (kind.Local number) keeps =
-      let key : Key = of_key.Numbered table.settings.block number in
+      let key : Key = of_key.Numbered table.modes.block number in
       key_unmoved table key (λ none. keeps key (labelled table key) refl
       (key_by (is_defined key table.definitions) table key none))
   kind_unmoved table name kind.Outside keeps = refl
 
   labels_unmoved : (line : Bytes) (table : Table) (labels : List Label) → Keeps (with_labels line table labels) final
-      → moved_letters map line table labels ≡ 0
+      → moved_flags map line table labels ≡ 0
   labels_unmoved line table [] keeps = refl
   labels_unmoved line table (named ∷ labels) keeps =
       let here : moved_kind map table (label_name line named) named.kind ≡ 0
       = kind_unmoved table (label_name line named) named.kind (λ key label is_label stood.
       keeps key label is_label (labels_stay key label is_label line (with_label line table named) labels stood)) in
-      ap (λ (n : ℕ). bit_or n (moved_letters map line (with_label line table named) labels)) here
+      ap (λ (n : ℕ). bit_or n (moved_flags map line (with_label line table named) labels)) here
       ∙ ap (bit_or 0) (labels_unmoved line (with_label line table named) labels keeps)
 
 -- ---- a line among others
 
 line_unmoved : (map : Map) (before more : List Given) (one : Given) → Solves map (before ++ one ∷ more)
-    → moved_letters map one.live.line.text (table_after map before) (labels_at one.live.line.text) ≡ 0
+    → moved_flags map one.live.line.text (table_after map before) (labels_at one.live.line.text) ≡ 0
 line_unmoved map before more one solves =
     let table : Table = table_after map before in
     let final : Table = table_after map (before ++ one ∷ more) in

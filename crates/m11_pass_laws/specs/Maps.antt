@@ -10,6 +10,6 @@ use Rattle.m11_placement.specs.declared.definitions.Key.{Key}
 pub record MapsAgree (one other : Map) : Type 0 where
   -- each key has the same last definition, and is doubled in both or in none; each name is global in both or in none
   pub definitions : (key : Key) → last_definition key one.definitions ≡ last_definition key other.definitions
-  pub doubled : (key : Key) → has_key key one.doubled ≡ has_key key other.doubled
+  pub doubly_defined : (key : Key) → has_key key one.doubly_defined ≡ has_key key other.doubly_defined
   pub globals : (name : Name) → list_any (λ global. is_same_name global name) one.globals
       ≡ list_any (λ global. is_same_name global name) other.globals

@@ -4,7 +4,7 @@ use Rattle.m11_statements.specs.Labels.{labels_at}
 use Rattle.m11_passes.specs.Lines.{Numbered, givens, table_at}
 use Rattle.m11_placement.specs.Meanings.{Map}
 use Rattle.m11_placement.specs.Placements.{program_map}
-use Rattle.m11_placing.specs.Moved.{moved_letters}
+use Rattle.m11_placing.specs.Moved.{moved_flags}
 
 -- the map that the lines of a first pass give
 abbrev pub map_from : List Numbered → Map
@@ -13,4 +13,4 @@ map_from lines = program_map (givens lines)
 -- P where a label of a line after others has another place than the map says
 abbrev pub moved_after : Map → List Numbered → Numbered → ℕ
 moved_after map before one =
-    moved_letters map one.given.live.line.text (table_at map before) (labels_at one.given.live.line.text)
+    moved_flags map one.given.live.line.text (table_at map before) (labels_at one.given.live.line.text)

@@ -8,14 +8,14 @@ ghost use Rattle.m11_statements.specs.declared.labels.Label.{Label};
 ghost use Rattle.m11_unfolding.specs.Stages.{Stage};
 ghost use Rattle.m11_unfolding.specs.Taking.{Live};
 ghost use Rattle.m11_unfolding.specs.Unfolding.{Given};
-ghost use Rattle.m11_placement.specs.Lines.{after_line, letters, line_put, pieces};
+ghost use Rattle.m11_placement.specs.Lines.{after_line, flags, line_put, pieces};
 ghost use Rattle.m11_placement.specs.Meanings.{Map, map_of};
 ghost use Rattle.m11_placement.specs.Tables.{Table};
 ghost use Rattle.m11_table.specs.Alike.{Alike};
-ghost use Rattle.m11_placing.specs.Moved.{moved_letters};
+ghost use Rattle.m11_placing.specs.Moved.{moved_flags};
 ghost use Rattle.m11_placing.specs.declared.counting.Counting.{Counting};
 ghost use Rattle.m11_passes.specs.Lines.{Numbered, PassLines, counting_at, table_at};
-ghost use Rattle.m11_passes.specs.Placed.{all_letters};
+ghost use Rattle.m11_passes.specs.Placed.{all_flags};
 ghost use Rattle.m11_passes.specs.Reaching.{Exceeds};
 ghost use Rattle.m11_passes.specs.Refusals.{line_fault};
 ghost use Rattle.m11_pass_laws.specs.Maps.{MapsAgree};
@@ -25,7 +25,7 @@ pub fn tables_alike_give_maps_that_agree()
     ensures { (one other : Table) → Alike one other → MapsAgree (map_of one) (map_of other) }
 {}
 
-/// Under maps that agree each line puts and changes the same after any table, and has the same pieces, the same letters and the
+/// Under maps that agree each line puts and changes the same after any table, and has the same pieces, the same flags and the
 /// same fault; after any lines the table is the same, and the names that count are.
 pub fn maps_that_agree_place_lines_alike()
     ensures puts { (one other : Map) → MapsAgree one other → (table : Table) (given : Given)
@@ -34,12 +34,12 @@ pub fn maps_that_agree_place_lines_alike()
         → after_line one table given ≡ after_line other table given }
     ensures pieces { (one other : Map) → MapsAgree one other → (table : Table) (given : Given)
         → pieces one table given ≡ pieces other table given }
-    ensures letters { (one other : Map) → MapsAgree one other → (table : Table) (given : Given)
-        → letters one table given ≡ letters other table given }
+    ensures flags { (one other : Map) → MapsAgree one other → (table : Table) (given : Given)
+        → flags one table given ≡ flags other table given }
     ensures moves { (one other : Map) → MapsAgree one other → (line : Bytes) (table : Table) (labels : List Label)
-        → moved_letters one line table labels ≡ moved_letters other line table labels }
-    ensures all_letters { (one other : Map) → MapsAgree one other → (table : Table) (given : Given)
-        → all_letters one table given ≡ all_letters other table given }
+        → moved_flags one line table labels ≡ moved_flags other line table labels }
+    ensures all_flags { (one other : Map) → MapsAgree one other → (table : Table) (given : Given)
+        → all_flags one table given ≡ all_flags other table given }
     ensures tables { (one other : Map) → MapsAgree one other → (lines : List Numbered) → table_at one lines ≡ table_at other lines }
     ensures names { (one other : Map) → MapsAgree one other → (counting : Counting) (lines : List Numbered)
         → counting_at one counting lines ≡ counting_at other counting lines }

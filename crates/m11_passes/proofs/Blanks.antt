@@ -6,13 +6,13 @@ use Rattle.std.specs.Int.RustNames.{bit_or}
 use Rattle.std.specs.List.{flat_map}
 use Rattle.std.specs.Option.{option_to_list}
 use Rattle.m11_arguments.specs.Directives.{operator_in}
-use Rattle.m11_arguments.specs.LeftOvers.{rest_letters, skip_letters}
+use Rattle.m11_arguments.specs.LeftOvers.{rest_flags, skip_flags}
 use Rattle.m11_asm_faults.specs.declared.fault.AsmFault.TheVariants.{TooManySymbols}
 use Rattle.m11_base.specs.Devices.{Bytes}
 use Rattle.m11_listing.specs.declared.items.Item.{Item}
 use Rattle.m11_scan.specs.Views.{bits_of}
 use Rattle.m11_statements.specs.Labels.{end_of, labels_at, labels_end}
-use Rattle.m11_statements.specs.Statements.{body_of, label_letters}
+use Rattle.m11_statements.specs.Statements.{body_of, label_flags}
 use Rattle.m11_statements.specs.declared.bodies.Body.{Body}
 use Rattle.m11_statements.specs.declared.labels.Label.{Label}
 use Rattle.m11_unfolding.specs.Acting.{Acted, Foreign, act, act_fault, acted_by, fault_by, foreign, operation, operation_in}
@@ -21,29 +21,29 @@ use Rattle.m11_unfolding.specs.Taking.{Live}
 use Rattle.m11_unfolding.specs.Unfolding.{Given}
 use Rattle.m11_placement.specs.Changes.{Change, Keeps, changed}
 use Rattle.m11_placement.specs.Contents.{Put, nothing}
-use Rattle.m11_placement.specs.Items.{deed_items, is_shown}
-use Rattle.m11_placement.specs.Labels.{labels_letters, with_labels}
+use Rattle.m11_placement.specs.Items.{action_items, is_shown}
+use Rattle.m11_placement.specs.Labels.{labels_flags, with_labels}
 use Rattle.m11_placement.specs.Limits.{has_too_many, limit_fault, most_defined_names, most_local_symbols, most_names, most_sections}
-use Rattle.m11_placement.specs.Lines.{Rests, after_line, change_of, deed, deed_of, known_end, line_change, line_put, put_by, put_place, stands}
+use Rattle.m11_placement.specs.Lines.{NoAction, after_line, change_of, action, action_of, known_end, line_change, line_put, put_by, put_place, stands}
 use Rattle.m11_placement.specs.Meanings.{Map}
-use Rattle.m11_placement.specs.declared.meanings.Context.TheVariants.{Knows}
-use Rattle.m11_placement.specs.Mentions.{Mention, deed_mentions, label_mentions, mention, mentions}
+use Rattle.m11_placement.specs.declared.meanings.Context.TheVariants.{LocalOnly}
+use Rattle.m11_placement.specs.SymbolUses.{SymbolUse, action_uses, label_uses, symbol_use, symbol_uses}
 use Rattle.m11_placement.specs.Tables.{Table, firm_table, place, section_name}
 use Rattle.m11_placement.specs.declared.sections.Section.{Section}
-use Rattle.m11_placement.specs.declared.settings.Settings.{Settings}
+use Rattle.m11_placement.specs.declared.modes.Modes.{Modes}
 use Rattle.m11_placing.proofs.Alike.{alike_place, alike_section}
-use Rattle.m11_placing.specs.Deeds.{deed_seen}
+use Rattle.m11_placing.specs.Actions.{action_seen}
 use Rattle.m11_placing.proofs.Room.{few_told}
 use Rattle.m11_placing.specs.Counting.{names_counted, with_counted}
 use Rattle.m11_placing.specs.declared.counting.Counting.{Counting}
-use Rattle.m11_placing.specs.declared.counting.Counting.TheVariants.{Mentions, Definitions}
-use Rattle.m11_placing.specs.Moved.{moved_letters}
+use Rattle.m11_placing.specs.declared.counting.Counting.TheVariants.{SymbolUses, Definitions}
+use Rattle.m11_placing.specs.Moved.{moved_flags}
 use Rattle.m11_placing.specs.Passes.{Kept, Matches}
-use Rattle.m11_placing.specs.declared.deeds.Deed.TheVariants as code
+use Rattle.m11_placing.specs.declared.actions.Action.TheVariants as code
 use Rattle.m11_passes.proofs.Placing.{fits_limits, within}
 use Rattle.m11_passes.specs.Blank.{IsBlank}
 use Rattle.m11_passes.specs.Lines.{acted}
-use Rattle.m11_passes.specs.Placed.{IsLive, IsPlaced, all_letters, live_in}
+use Rattle.m11_passes.specs.Placed.{IsLive, IsPlaced, all_flags, live_in}
 use Rattle.m11_passes.specs.Refusals.{given_by, labels_fault, line_fault, of_limit}
 use Rattle.m11_passes.specs.States.{Going}
 use Rattle.m11_passes.specs.Turns.{LeavesAfter, Places, Said}
@@ -51,7 +51,7 @@ use Rattle.m11_passes.specs.declared.placed.LiveLine.{LiveLine}
 use Rattle.m11_passes.specs.declared.placed.PlacedLine.{PlacedLine}
 
 counts_none : (counting : Counting) → with_counted [] counting ≡ counting
-counts_none (Mentions gathered) = refl
+counts_none (SymbolUses gathered) = refl
 counts_none Definitions = refl
 
 module _ (live : Live) (stage : Stage) (blank : IsBlank live.line.text) (table : Table) where
@@ -75,31 +75,31 @@ module _ (live : Live) (stage : Stage) (blank : IsBlank live.line.text) (table :
   stage_so : stage ≡ acted table live stage
   stage_so = sym (ap (λ (a : Acted). a.after) acts_so)
 
-  pub deed_so : deed line.is_own text ≡ Rests
-  deed_so = ap (λ (a : Acted). deed a.is_own text) acts_so ∙ ap (deed_of text) blank.bodiless
+  pub action_so : action line.is_own text ≡ NoAction
+  action_so = ap (λ (a : Acted). action a.is_own text) acts_so ∙ ap (action_of text) blank.bodiless
 
   change_so : line_change (firm_table (stands table line)) line ≡ Keeps
   unfolding line_change
-  change_so = ap (change_of (firm_table (stands table line)) text line.arguments) deed_so
+  change_so = ap (change_of (firm_table (stands table line)) text line.arguments) action_so
 
   after_so : (map_ : Map) → after_line map_ table line ≡ table
   after_so map_ = ap (λ (c : Change). changed map_ text c (stands table line)) change_so ∙ stands_so
 
   put_so : (map_ : Map) → line_put map_ (stands table line) line ≡ nothing 0
   unfolding line_put
-  put_so map_ = ap (put_by map_ (stands table line) text line.arguments) deed_so
+  put_so map_ = ap (put_by map_ (stands table line) text line.arguments) action_so
 
-  mentions_so : mentions table line ≡ []
-  mentions_so =
-      ap (λ (ls : List Label). flat_map (label_mentions text) ls
-      ++ map (mention Knows) line.notes.symbols ++ deed_mentions (stands table line) text line.arguments (deed line.is_own text))
+  uses_so : symbol_uses table line ≡ []
+  uses_so =
+      ap (λ (ls : List Label). flat_map (label_uses text) ls
+      ++ map (symbol_use LocalOnly) line.notes.symbols ++ action_uses (stands table line) text line.arguments (action line.is_own text))
       blank.unlabelled
-      ∙ ap (λ (a : Acted). map (mention Knows) a.notes.symbols
-      ++ deed_mentions (stands table line) text line.arguments (deed line.is_own text)) acts_so
-      ∙ ap (deed_mentions (stands table line) text line.arguments) deed_so
+      ∙ ap (λ (a : Acted). map (symbol_use LocalOnly) a.notes.symbols
+      ++ action_uses (stands table line) text line.arguments (action line.is_own text)) acts_so
+      ∙ ap (action_uses (stands table line) text line.arguments) action_so
 
-  counting_so : (counting : Counting) → counting ≡ with_counted (mentions table line) counting
-  counting_so counting = sym (ap (λ (ms : List Mention). with_counted ms counting) mentions_so ∙ counts_none counting)
+  counting_so : (counting : Counting) → counting ≡ with_counted (symbol_uses table line) counting
+  counting_so counting = sym (ap (λ (ms : List SymbolUse). with_counted ms counting) uses_so ∙ counts_none counting)
 
   -- ---- limits
 
@@ -107,7 +107,7 @@ module _ (live : Live) (stage : Stage) (blank : IsBlank live.line.text) (table :
       → labels_fault counting table text ≡ None
   labels_fit counting few room =
       ap (λ (ls : List Label).
-      if nat_lt most_names (length (names_counted (with_counted (flat_map (label_mentions text) ls) counting)))
+      if nat_lt most_names (length (names_counted (with_counted (flat_map (label_uses text) ls) counting)))
       || has_too_many (with_labels text table ls) then Some TooManySymbols else None) blank.unlabelled
       ∙ ap (λ (c : Counting). if nat_lt most_names (length (names_counted c)) || has_too_many table then Some TooManySymbols else None)
       (counts_none counting)
@@ -122,56 +122,56 @@ module _ (live : Live) (stage : Stage) (blank : IsBlank live.line.text) (table :
       → length table.sections ≤ most_sections → line_fault map_ table counting live stage ≡ None
   line_fits map_ counting few room sections =
       rw (labels_fit counting few room, act_fits)
-      (ap (λ (ms : List Mention). of_limit (limit_fault (names_counted (with_counted ms counting)) (after_line map_ table line))) mentions_so
+      (ap (λ (ms : List SymbolUse). of_limit (limit_fault (names_counted (with_counted ms counting)) (after_line map_ table line))) uses_so
       ∙ ap (λ (c : Counting). of_limit (limit_fault (names_counted c) (after_line map_ table line))) (counts_none counting)
       ∙ ap (λ (t : Table). of_limit (limit_fault (names_counted counting) t)) (after_so map_)
       ∙ ap of_limit (fits_limits (names_counted counting) table few room sections))
 
-  -- ---- letters
+  -- ---- flags
 
-  letters_so : (map_ : Map) → all_letters map_ table line ≡ bit_or (label_letters live.line) (rest_letters text 0)
-  letters_so map_ =
-      ap (λ (p : Put). bit_or (bit_or (bit_or (label_letters live.line) (labels_letters text table (labels_at text)))
-      (bit_or (skip_letters text (labels_end text) (known_end text (body_of text)))
-      (bit_or p.letters line.notes.letters))) (moved_letters map_ text table (labels_at text))) (put_so map_)
-      ∙ ap (λ (a : Acted). bit_or (bit_or (bit_or (label_letters live.line) (labels_letters text table (labels_at text)))
-      (bit_or (skip_letters text (labels_end text) (known_end text (body_of text)))
-      (bit_or 0 a.notes.letters))) (moved_letters map_ text table (labels_at text))) acts_so
-      ∙ ap (λ (b : Body). bit_or (bit_or (bit_or (label_letters live.line) (labels_letters text table (labels_at text)))
-      (bit_or (skip_letters text (labels_end text) (known_end text b))
-      (bit_or 0 0))) (moved_letters map_ text table (labels_at text))) blank.bodiless
-      ∙ ap (λ (ls : List Label). bit_or (bit_or (bit_or (label_letters live.line) (labels_letters text table ls))
-      (bit_or (skip_letters text (end_of 0 ls) (length text)) (bit_or 0 0))) (moved_letters map_ text table ls)) blank.unlabelled
-      ∙ or_zero_r (bit_or (bit_or (label_letters live.line) 0) (bit_or (rest_letters text 0) (bit_or 0 0)))
-      ∙ ap (λ (n : ℕ). bit_or n (bit_or (rest_letters text 0) (bit_or 0 0))) (or_zero_r (label_letters live.line))
-      ∙ ap (λ (n : ℕ). bit_or (label_letters live.line) (bit_or (rest_letters text 0) n)) (or_zero_r 0)
-      ∙ ap (bit_or (label_letters live.line)) (or_zero_r (rest_letters text 0))
+  flags_so : (map_ : Map) → all_flags map_ table line ≡ bit_or (label_flags live.line) (rest_flags text 0)
+  flags_so map_ =
+      ap (λ (p : Put). bit_or (bit_or (bit_or (label_flags live.line) (labels_flags text table (labels_at text)))
+      (bit_or (skip_flags text (labels_end text) (known_end text (body_of text)))
+      (bit_or p.flags line.notes.flags))) (moved_flags map_ text table (labels_at text))) (put_so map_)
+      ∙ ap (λ (a : Acted). bit_or (bit_or (bit_or (label_flags live.line) (labels_flags text table (labels_at text)))
+      (bit_or (skip_flags text (labels_end text) (known_end text (body_of text)))
+      (bit_or 0 a.notes.flags))) (moved_flags map_ text table (labels_at text))) acts_so
+      ∙ ap (λ (b : Body). bit_or (bit_or (bit_or (label_flags live.line) (labels_flags text table (labels_at text)))
+      (bit_or (skip_flags text (labels_end text) (known_end text b))
+      (bit_or 0 0))) (moved_flags map_ text table (labels_at text))) blank.bodiless
+      ∙ ap (λ (ls : List Label). bit_or (bit_or (bit_or (label_flags live.line) (labels_flags text table ls))
+      (bit_or (skip_flags text (end_of 0 ls) (length text)) (bit_or 0 0))) (moved_flags map_ text table ls)) blank.unlabelled
+      ∙ or_zero_r (bit_or (bit_or (label_flags live.line) 0) (bit_or (rest_flags text 0) (bit_or 0 0)))
+      ∙ ap (λ (n : ℕ). bit_or n (bit_or (rest_flags text 0) (bit_or 0 0))) (or_zero_r (label_flags live.line))
+      ∙ ap (λ (n : ℕ). bit_or (label_flags live.line) (bit_or (rest_flags text 0) n)) (or_zero_r 0)
+      ∙ ap (bit_or (label_flags live.line)) (or_zero_r (rest_flags text 0))
 
   -- ---- the line is placed
 
-  pub live_so : (here : LiveLine) → live_in here ≡ live → here.deed ≡ code.Rests → IsLive line here
-  live_so here same rests = record { live_is = same; deed_is = ap deed_seen rests ∙ sym deed_so }
+  pub live_so : (here : LiveLine) → live_in here ≡ live → here.action ≡ code.NoAction → IsLive line here
+  live_so here same rests = record { live_is = same; action_is = ap action_seen rests ∙ sym action_so }
 
   pub placed_so : (map_ : Map) (pass : Kept) (placed : PlacedLine) (put : Put) → Matches pass table → live_in placed.live ≡ live
-      → placed.live.deed ≡ code.Rests → put ≡ nothing 0
-      → bits_of placed.letters ≡ bit_or (label_letters live.line) (rest_letters text 0)
+      → placed.live.action ≡ code.NoAction → put ≡ nothing 0
+      → bits_of placed.flags ≡ bit_or (label_flags live.line) (rest_flags text 0)
       → placed.section ≡ section_name pass.table → placed.place ≡ place pass.table → placed.counter ≡ place pass.table
-      → placed.assigned ≡ None → placed.is_shown ≡ is_shown pass.table.settings live.is_expanded
+      → placed.assigned ≡ None → placed.is_shown ≡ is_shown pass.table.modes live.is_expanded
       → IsPlaced map_ table line placed put
-  placed_so map_ pass placed put matches same rests put_is letters_are section_is place_is counter_is assigned_is shown_is =
+  placed_so map_ pass placed put matches same rests put_is flags_are section_is place_is counter_is assigned_is shown_is =
       let there : place pass.table ≡ place (stands table line)
       = alike_place pass.table table matches.alike ∙ ap place (sym stands_so) in
       record {
         is_live = live_so placed.live same rests;
-        letters_are = letters_are ∙ sym (letters_so map_);
+        flags_are = flags_are ∙ sym (flags_so map_);
         section_is = section_is ∙ alike_section pass.table table matches.alike ∙ ap section_name (sym stands_so);
-        place_is = place_is ∙ there ∙ ap (put_place (stands table line)) (sym deed_so);
+        place_is = place_is ∙ there ∙ ap (put_place (stands table line)) (sym action_so);
         contents_are = ap (λ (p : Put). p.contents) (put_is ∙ sym (put_so map_));
         counter_is = counter_is ∙ there;
         assigned_is = ap (λ (item : Option Item). option_to_list item) assigned_is
-            ∙ sym (ap (deed_items map_ (stands table line) text (line_change (firm_table (stands table line)) line)) deed_so);
-        shown_is = shown_is ∙ ap (λ (s : Settings). is_shown s live.is_expanded) matches.alike.settings
-            ∙ ap (λ (t : Table). is_shown t.settings live.is_expanded) (sym (after_so map_));
+            ∙ sym (ap (action_items map_ (stands table line) text (line_change (firm_table (stands table line)) line)) action_so);
+        shown_is = shown_is ∙ ap (λ (s : Modes). is_shown s live.is_expanded) matches.alike.modes
+            ∙ ap (λ (t : Table). is_shown t.modes live.is_expanded) (sym (after_so map_));
       }
 
 -- ---- the pass after it

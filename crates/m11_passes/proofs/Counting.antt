@@ -10,17 +10,17 @@ use Rattle.m11_expansions.specs.Conditions.{OpenConditions, has_none}
 use Rattle.m11_expansions.specs.Left.{Left, Line, End, is_expanding}
 use Rattle.m11_unfold.specs.Unfolder.{Comes}
 use Rattle.m11_arguments.specs.Immediate as immediate
-use Rattle.m11_unfolding.specs.Acting.{Acted, Operation, Calls, Directs, Foreign, act, acted_by, operation, with_statement}
+use Rattle.m11_unfolding.specs.Acting.{Acted, Operation, Calls, OwnDirective, Foreign, act, acted_by, operation, with_statement}
 use Rattle.m11_unfolding.specs.Limits.{has_room}
 use Rattle.m11_unfolding.specs.Stages.{Opening, Purpose, Defines, Repeats, Drops, Stage}
-use Rattle.m11_unfolding.specs.Taking.{Live, Move, Rests, Passes, Gives, into_body, line_taken, live_or_skipped, move, move_from, nesting, one_taken, skipped}
+use Rattle.m11_unfolding.specs.Taking.{Live, Move, NothingLeft, Passes, Gives, into_body, line_taken, live_or_skipped, move, move_from, nesting, one_taken, skipped}
 use Rattle.m11_unfolding.specs.Unfolding.{Given, Leads}
 use Rattle.m11_unfolding.specs.Unfolding as steps
 
 -- ---- a move
 
 abbrev Takes : ℕ → Move → Type 0
-Takes taken Rests = Unit {0}
+Takes taken NothingLeft = Unit {0}
 Takes taken (Passes after) = taken ≤ after.taken
 Takes taken (Gives live after) = taken + 1 ≤ after.taken
 
@@ -50,7 +50,7 @@ left_takes (End mark ∷ left) stage = omega arith
 left_takes (Line line ∷ left) stage = line_takes stage.opening line left stage
 
 move_takes : (has_ended : Bool) (left : List Left) (stage : Stage)
-    → Takes stage.taken (if has_ended then Rests else move_from left stage)
+    → Takes stage.taken (if has_ended then NothingLeft else move_from left stage)
 move_takes true left stage = tt
 move_takes false left stage = left_takes left stage
 
@@ -76,30 +76,30 @@ choice_takes true one other taken first second = first
 choice_takes false one other taken first second = second
 
 directive_takes : (known : Known) (text : Bytes) (place : ℕ) (stage : Stage) (of : Directive)
-    → (acted_by known text stage (Directs of place)).after.taken ≡ stage.taken
+    → (acted_by known text stage (OwnDirective of place)).after.taken ≡ stage.taken
 directive_takes known text place stage word.If = choice_takes (has_room stage) _ _ stage.taken refl refl
-directive_takes known text place stage word.IfFalse = choice_takes (has_none stage.conditions) _ _ stage.taken refl refl
-directive_takes known text place stage word.IfTrue = choice_takes (has_none stage.conditions) _ _ stage.taken refl refl
-directive_takes known text place stage word.IfTrueFalse = choice_takes (has_none stage.conditions) _ _ stage.taken refl refl
-directive_takes known text place stage word.EndCondition = choice_takes (has_none stage.conditions) _ _ stage.taken refl refl
-directive_takes known text place stage word.ImmediateIf =
+directive_takes known text place stage word.Iff = choice_takes (has_none stage.conditions) _ _ stage.taken refl refl
+directive_takes known text place stage word.Ift = choice_takes (has_none stage.conditions) _ _ stage.taken refl refl
+directive_takes known text place stage word.Iftf = choice_takes (has_none stage.conditions) _ _ stage.taken refl refl
+directive_takes known text place stage word.Endc = choice_takes (has_none stage.conditions) _ _ stage.taken refl refl
+directive_takes known text place stage word.Iif =
     statement_takes text (immediate.immediate known text place).holds (immediate.immediate known text place).statement stage
 directive_takes known text place stage word.Macro = refl
-directive_takes known text place stage word.EndMacro = refl
-directive_takes known text place stage word.Repeat = refl
-directive_takes known text place stage word.EndRepeat = refl
-directive_takes known text place stage word.IndefiniteRepeat = refl
-directive_takes known text place stage word.CharacterRepeat = refl
-directive_takes known text place stage word.MacroExit = choice_takes (is_expanding stage.left) _ _ stage.taken refl refl
-directive_takes known text place stage word.ArgumentCount = refl
-directive_takes known text place stage word.CharacterCount = refl
+directive_takes known text place stage word.Endm = refl
+directive_takes known text place stage word.Rept = refl
+directive_takes known text place stage word.Endr = refl
+directive_takes known text place stage word.Irp = refl
+directive_takes known text place stage word.Irpc = refl
+directive_takes known text place stage word.Mexit = choice_takes (is_expanding stage.left) _ _ stage.taken refl refl
+directive_takes known text place stage word.Narg = refl
+directive_takes known text place stage word.Nchr = refl
 directive_takes known text place stage word.End = refl
 
 operation_takes : (known : Known) (text : Bytes) (stage : Stage) (of : Operation)
     → (acted_by known text stage of).after.taken ≡ stage.taken
 operation_takes known text stage Foreign = refl
 operation_takes known text stage (Calls macro place) = refl
-operation_takes known text stage (Directs of place) = directive_takes known text place stage of
+operation_takes known text stage (OwnDirective of place) = directive_takes known text place stage of
 
 pub act_takes : (known : Known) (stage : Stage) (text : Bytes) → (act known stage text).after.taken ≡ stage.taken
 act_takes known stage text = operation_takes known text stage (operation stage.conditions stage.macros text)

@@ -14,11 +14,11 @@ use Rattle.m11_placement.specs.Limits as limits
 use Rattle.m11_placement.specs.Limits.{LimitFault, has_too_many, limit_fault, most_names}
 use Rattle.m11_placement.specs.Lines.{after_line}
 use Rattle.m11_placement.specs.Meanings.{Map}
-use Rattle.m11_placement.specs.Mentions.{mentions}
+use Rattle.m11_placement.specs.SymbolUses.{symbol_uses}
 use Rattle.m11_placement.specs.Tables.{Table}
 use Rattle.m11_placing.specs.Counting.{names_counted, with_counted}
 use Rattle.m11_placing.specs.declared.counting.Counting.{Counting}
-use Rattle.m11_passes.specs.Refusals.{act_refused, given_by, labels_fault, line_fault, mentions_of_labels, of_limit, placing_fault}
+use Rattle.m11_passes.specs.Refusals.{act_refused, given_by, labels_fault, line_fault, uses_of_labels, of_limit, placing_fault}
 
 abbrev pub IsOfPass : AsmFault → Type 0
 IsOfPass Read = ⊥
@@ -55,8 +55,8 @@ line_fault_is_of_pass map_ table counting live stage fault is =
     let P : Option AsmFault → Type 0 = λ f. IfSome f IsOfPass in
     subst P is
     (first_or (labels_fault counting table live.line.text) (option_or acting placing)
-    (symbols_if (nat_lt most_names (length (names_counted (with_counted (mentions_of_labels live.line.text) counting)))
+    (symbols_if (nat_lt most_names (length (names_counted (with_counted (uses_of_labels live.line.text) counting)))
     || has_too_many (labels_stand table live.line.text)))
     (first_or acting placing (acts (act_fault stage live.line.text))
-    (places (limit_fault (names_counted (with_counted (mentions table (given_by table live stage)) counting))
+    (places (limit_fault (names_counted (with_counted (symbol_uses table (given_by table live stage)) counting))
     (after_line map_ table (given_by table live stage))))))

@@ -18,37 +18,37 @@ use Rattle.m11_placement.specs.Assignments.{assigned, with_assigned}
 use Rattle.m11_placement.specs.Changes.{Change, Keeps, Counts, Selects, Assigns, Numbers, Exports, Sets, becomes_global, changed, numbered}
 use Rattle.m11_placement.specs.Definitions.{is_labelled}
 use Rattle.m11_placement.specs.Contents.{Put}
-use Rattle.m11_placement.specs.Labels.{global_if, labels_stand, with_definition, with_doubled}
+use Rattle.m11_placement.specs.Labels.{global_if, labels_stand, with_definition, with_doubly_defined}
 use Rattle.m11_placement.specs.declared.definitions.Key.TheVariants.{Named}
 use Rattle.m11_placement.specs.Limits as limits
 use Rattle.m11_placement.specs.Limits.{has_too_many, limit_fault, most_defined_names, most_local_symbols, most_names, most_sections}
-use Rattle.m11_placement.specs.Lines.{after_line, deed, line_change, line_put, put_by, stands}
+use Rattle.m11_placement.specs.Lines.{after_line, action, line_change, line_put, put_by, stands}
 use Rattle.m11_placement.specs.Meanings.{Map, empty_map, firm_known}
-use Rattle.m11_placement.specs.declared.meanings.Context.TheVariants.{Knows}
-use Rattle.m11_placement.specs.Mentions.{Mention, deed_mentions, mention, mentions}
+use Rattle.m11_placement.specs.declared.meanings.Context.TheVariants.{LocalOnly}
+use Rattle.m11_placement.specs.SymbolUses.{SymbolUse, action_uses, symbol_use, symbol_uses}
 use Rattle.m11_placement.specs.Tables.{Table, firm_table, place}
 use Rattle.m11_placement.specs.declared.sections.Section.{Section}
 use Rattle.m11_placement.specs.Unfolded.{known_after_labels}
 use Rattle.m11_placing.proofs.Alike.{alike_known, alike_place}
 use Rattle.m11_placing.proofs.Gathering.{all_joined}
 use Rattle.m11_placing.proofs.LinesAlike.{firm_alike}
-use Rattle.m11_placing.proofs.LinesTaken.{changes_as, line_mentioned, line_written}
+use Rattle.m11_placing.proofs.LinesTaken.{changes_as, line_used, line_written}
 use Rattle.m11_placing.proofs.Room.{few_told}
-use Rattle.m11_placing.specs.Lines.{mentions_by}
+use Rattle.m11_placing.specs.Lines.{uses_by}
 use Rattle.m11_placing.specs.Counting.{names_counted, with_counted}
 use Rattle.m11_placing.specs.declared.counting.Counting.{Counting}
-use Rattle.m11_placing.specs.declared.counting.Counting.TheVariants.{Mentions, Definitions}
+use Rattle.m11_placing.specs.declared.counting.Counting.TheVariants.{SymbolUses, Definitions}
 use Rattle.m11_placing.specs.Passes.{Follows, Kept, Matches}
 use Rattle.m11_table.specs.Alike.{Alike}
 use Rattle.m11_passes.specs.Lines.{acted}
-use Rattle.m11_passes.specs.Operated.{change_after, mentions_after}
-use Rattle.m11_passes.specs.Refusals.{given_by, labels_fault, line_fault, mentions_of_labels, of_limit}
+use Rattle.m11_passes.specs.Operated.{change_after, uses_after}
+use Rattle.m11_passes.specs.Refusals.{given_by, labels_fault, line_fault, uses_of_labels, of_limit}
 
 -- ---- what unfolding is told
 
 told_alike : (one other : Table) → Alike one other → known_after_labels one ≡ known_after_labels other
 told_alike one other alike =
-    alike_known (firm_table one) (firm_table other) (firm_alike one other alike) empty_map Knows (place one)
+    alike_known (firm_table one) (firm_table other) (firm_alike one other alike) empty_map LocalOnly (place one)
     ∙ ap (λ (p : ℕ). firm_known other p) (alike_place one other alike)
 
 -- ---- limits
@@ -121,33 +121,33 @@ selects_only map_ line (Assigns name is_global start) table few many =
     let M : List Section → Type 0 = λ l. most_sections < length l in
     absurd (too_few (length table.sections) few
     (subst M (global_sections (becomes_global is_global name table) name (with_assigned map_ (Named name) line start table)
-    ∙ choice_sections (is_labelled (Named name) table.definitions) (with_doubled (Named name) table)
+    ∙ choice_sections (is_labelled (Named name) table.definitions) (with_doubly_defined (Named name) table)
     (with_definition (assigned map_ table (Named name) line start) table) table.sections refl refl) many))
 selects_only map_ line (Numbers name number) table few many =
     let M : List Section → Type 0 = λ l. most_sections < length l in
     absurd (too_few (length table.sections) few
-    (subst M (choice_sections (is_labelled (Named name) table.definitions) (with_doubled (Named name) table)
+    (subst M (choice_sections (is_labelled (Named name) table.definitions) (with_doubly_defined (Named name) table)
     (with_definition (numbered name number) table) table.sections refl refl) many))
 selects_only map_ line (Exports start) table few many = refl
-selects_only map_ line (Sets settings) table few many = refl
+selects_only map_ line (Sets modes) table few many = refl
 
 -- ---- mentions in two parts
 
-counted_joined : (first second : List Mention) (counting : Counting)
+counted_joined : (first second : List SymbolUse) (counting : Counting)
     → with_counted (first ++ second) counting ≡ with_counted second (with_counted first counting)
-counted_joined first second (Mentions gathered) = ap Mentions (all_joined first second gathered)
+counted_joined first second (SymbolUses gathered) = ap SymbolUses (all_joined first second gathered)
 counted_joined first second Definitions = refl
 
-mentioned_then : (table : Table) (given : Given) (counting : Counting)
-    → with_counted (mentions table given) counting
-    ≡ with_counted (map (mention Knows) given.notes.symbols ++ mentions_by (stands table given) given)
-    (with_counted (mentions_of_labels given.live.line.text) counting)
-mentioned_then table given counting =
-    ap (λ (ms : List Mention). with_counted ms counting)
-    (append_assoc (mentions_of_labels given.live.line.text) (map (mention Knows) given.notes.symbols)
-    (mentions_by (stands table given) given))
-    ∙ counted_joined (mentions_of_labels given.live.line.text)
-    (map (mention Knows) given.notes.symbols ++ mentions_by (stands table given) given) counting
+used_then : (table : Table) (given : Given) (counting : Counting)
+    → with_counted (symbol_uses table given) counting
+    ≡ with_counted (map (symbol_use LocalOnly) given.notes.symbols ++ uses_by (stands table given) given)
+    (with_counted (uses_of_labels given.live.line.text) counting)
+used_then table given counting =
+    ap (λ (ms : List SymbolUse). with_counted ms counting)
+    (append_assoc (uses_of_labels given.live.line.text) (map (symbol_use LocalOnly) given.notes.symbols)
+    (uses_by (stands table given) given))
+    ∙ counted_joined (uses_of_labels given.live.line.text)
+    (map (symbol_use LocalOnly) given.notes.symbols ++ uses_by (stands table given) given) counting
 
 -- ---- one line, by the table before it
 
@@ -185,42 +185,42 @@ module _ (map_ : Map) (table : Table) (live : Live) (before after : Stage) (done
   pub stage_so : after ≡ acted table live before
   stage_so = acts.stage_is ∙ ap (λ (k : Known). (act k before text).after) known_so
 
-  pub deed_so : deed done.is_own text ≡ deed line.is_own text
-  deed_so = ap (λ (b : Bool). deed b text) own_so
+  pub action_so : action done.is_own text ≡ action line.is_own text
+  action_so = ap (λ (b : Bool). action b text) own_so
 
-  put_so : put_by map_ stood.table text done.arguments (deed done.is_own text) ≡ line_put map_ (stands table line) line
+  put_so : put_by map_ stood.table text done.arguments (action done.is_own text) ≡ line_put map_ (stands table line) line
   put_so =
-      ap (λ (b : Bool). put_by map_ stood.table text done.arguments (deed b text)) own_so
-      ∙ ap (λ (n : Option ℕ). put_by map_ stood.table text n (deed line.is_own text)) acts.arguments_are
+      ap (λ (b : Bool). put_by map_ stood.table text done.arguments (action b text)) own_so
+      ∙ ap (λ (n : Option ℕ). put_by map_ stood.table text n (action line.is_own text)) acts.arguments_are
       ∙ line_written stood map_ table line stand
 
-  pub puts : (put : Put) → put ≡ put_by map_ stood.table text done.arguments (deed done.is_own text)
+  pub puts : (put : Put) → put ≡ put_by map_ stood.table text done.arguments (action done.is_own text)
       → put ≡ line_put map_ (stands table line) line
   puts put e = e ∙ put_so
 
-  operator_mentions_so : deed_mentions stood.table text done.arguments (deed done.is_own text) ≡ mentions_by (stands table line) line
-  operator_mentions_so =
-      ap (λ (b : Bool). deed_mentions stood.table text done.arguments (deed b text)) own_so
-      ∙ ap (λ (n : Option ℕ). deed_mentions stood.table text n (deed line.is_own text)) acts.arguments_are
-      ∙ line_mentioned stood table line stand
+  operator_uses_so : action_uses stood.table text done.arguments (action done.is_own text) ≡ uses_by (stands table line) line
+  operator_uses_so =
+      ap (λ (b : Bool). action_uses stood.table text done.arguments (action b text)) own_so
+      ∙ ap (λ (n : Option ℕ). action_uses stood.table text n (action line.is_own text)) acts.arguments_are
+      ∙ line_used stood table line stand
 
-  mentions_so : mentions_after stood.table text done.notes done.arguments (deed done.is_own text)
-      ≡ map (mention Knows) line.notes.symbols ++ mentions_by (stands table line) line
-  mentions_so =
-      ap (λ (n : Notes). map (mention Knows) n.symbols ++ deed_mentions stood.table text done.arguments (deed done.is_own text)) notes_so
-      ∙ ap (λ (ms : List Mention). map (mention Knows) line.notes.symbols ++ ms) operator_mentions_so
+  uses_so : uses_after stood.table text done.notes done.arguments (action done.is_own text)
+      ≡ map (symbol_use LocalOnly) line.notes.symbols ++ uses_by (stands table line) line
+  uses_so =
+      ap (λ (n : Notes). map (symbol_use LocalOnly) n.symbols ++ action_uses stood.table text done.arguments (action done.is_own text)) notes_so
+      ∙ ap (λ (ms : List SymbolUse). map (symbol_use LocalOnly) line.notes.symbols ++ ms) operator_uses_so
 
-  pub counting_so : with_counted (mentions_after stood.table text done.notes done.arguments (deed done.is_own text))
-      (with_counted (mentions_of_labels text) counting) ≡ with_counted (mentions table line) counting
+  pub counting_so : with_counted (uses_after stood.table text done.notes done.arguments (action done.is_own text))
+      (with_counted (uses_of_labels text) counting) ≡ with_counted (symbol_uses table line) counting
   counting_so =
-      ap (λ (ms : List Mention). with_counted ms (with_counted (mentions_of_labels text) counting)) mentions_so
-      ∙ sym (mentioned_then table line counting)
+      ap (λ (ms : List SymbolUse). with_counted ms (with_counted (uses_of_labels text) counting)) uses_so
+      ∙ sym (used_then table line counting)
 
-  change_so : change_after stood.table text done.arguments (deed done.is_own text)
-      ≡ change_after stood.table text line.arguments (deed line.is_own text)
+  change_so : change_after stood.table text done.arguments (action done.is_own text)
+      ≡ change_after stood.table text line.arguments (action line.is_own text)
   change_so =
-      ap (λ (b : Bool). change_after stood.table text done.arguments (deed b text)) own_so
-      ∙ ap (λ (n : Option ℕ). change_after stood.table text n (deed line.is_own text)) acts.arguments_are
+      ap (λ (b : Bool). change_after stood.table text done.arguments (action b text)) own_so
+      ∙ ap (λ (n : Option ℕ). change_after stood.table text n (action line.is_own text)) acts.arguments_are
 
   -- ---- a refusal
 
@@ -231,49 +231,49 @@ module _ (map_ : Map) (table : Table) (live : Live) (before after : Stage) (done
     acting_refused fault refused = rw (fits, refused) refl
 
     -- what is mentioned passes a limit
-    pub mentions_refused : most_names < length (names_counted (with_counted (mentions_after stood.table text done.notes done.arguments
-        (deed done.is_own text)) (with_counted (mentions_of_labels text) counting)))
+    pub uses_refused : most_names < length (names_counted (with_counted (uses_after stood.table text done.notes done.arguments
+        (action done.is_own text)) (with_counted (uses_of_labels text) counting)))
         → line_fault map_ table counting live before ≡ Some TooManySymbols
-    mentions_refused many =
+    uses_refused many =
         let P : Counting → Type 0 = λ g. most_names < length (names_counted g) in
         let there = subst P counting_so many in
         rw (fits, acts.fits)
-        (names_past (names_counted (with_counted (mentions table line) counting)) (after_line map_ table line) there)
+        (names_past (names_counted (with_counted (symbol_uses table line) counting)) (after_line map_ table line) there)
 
     -- ---- what is mentioned stays within its limit
 
-    module _ (named : Counting) (named_are : named ≡ with_counted (mentions_of_labels text) counting) (after_all : Counting)
-        (all_are : after_all ≡ with_counted (mentions_after stood.table text done.notes done.arguments (deed done.is_own text)) named)
+    module _ (named : Counting) (named_are : named ≡ with_counted (uses_of_labels text) counting) (after_all : Counting)
+        (all_are : after_all ≡ with_counted (uses_after stood.table text done.notes done.arguments (action done.is_own text)) named)
       where
-        pub all_so : after_all ≡ with_counted (mentions table line) counting
+        pub all_so : after_all ≡ with_counted (symbol_uses table line) counting
         all_so =
             all_are
-            ∙ ap (with_counted (mentions_after stood.table text done.notes done.arguments (deed done.is_own text))) named_are
+            ∙ ap (with_counted (uses_after stood.table text done.notes done.arguments (action done.is_own text))) named_are
             ∙ counting_so
 
         -- ---- what changes
 
-        pub change_is : change_after stood.table text done.arguments (deed done.is_own text) ≡ line_change (firm_table (stands table line)) line
+        pub change_is : change_after stood.table text done.arguments (action done.is_own text) ≡ line_change (firm_table (stands table line)) line
         change_is = change_so ∙ changes_as stood.table (stands table line) line stand.alike
 
         -- a name that the line defines is one too many
         pub defined_refused : has_too_many (changed map_ text
-            (change_after stood.table text done.arguments (deed done.is_own text)) (labels_stand table text)) ≡ true
+            (change_after stood.table text done.arguments (action done.is_own text)) (labels_stand table text)) ≡ true
             → line_fault map_ table counting live before ≡ Some TooManySymbols
         defined_refused many =
             let P : Change → Type 0 = λ c. has_too_many (changed map_ text c (labels_stand table text)) ≡ true in
             rw (fits, acts.fits)
-            (table_past (names_counted (with_counted (mentions table line) counting)) (after_line map_ table line) (subst P change_is many))
+            (table_past (names_counted (with_counted (symbol_uses table line) counting)) (after_line map_ table line) (subst P change_is many))
 
         module _ (few : length (names_counted after_all) ≤ most_names) where
-          few_mentioned : length (names_counted (with_counted (mentions table line) counting)) ≤ most_names
-          few_mentioned = let P : Counting → Type 0 = λ g. length (names_counted g) ≤ most_names in subst P all_so few
+          few_used : length (names_counted (with_counted (symbol_uses table line) counting)) ≤ most_names
+          few_used = let P : Counting → Type 0 = λ g. length (names_counted g) ≤ most_names in subst P all_so few
 
           -- its section is one too many
           pub sections_refused : stood.names ≤ most_defined_names → stood.local_symbols ≤ most_local_symbols
               → length stood.table.sections ≤ most_sections
               → most_sections < length (changed map_ text
-              (change_after stood.table text done.arguments (deed done.is_own text)) (labels_stand table text)).sections
+              (change_after stood.table text done.arguments (action done.is_own text)) (labels_stand table text)).sections
               → line_fault map_ table counting live before ≡ Some TooManySections
           sections_refused names symbols sections many =
               let P : Change → Type 0 = λ c. most_sections < length (changed map_ text c (labels_stand table text)).sections in
@@ -282,12 +282,12 @@ module _ (map_ : Map) (table : Table) (live : Live) (before after : Stage) (done
               let same = selects_only map_ text (line_change (firm_table (stands table line)) line) (labels_stand table text)
               (subst S stand.alike.sections sections) past in
               rw (fits, acts.fits)
-              (sections_past (names_counted (with_counted (mentions table line) counting)) (after_line map_ table line) few_mentioned
+              (sections_past (names_counted (with_counted (symbol_uses table line) counting)) (after_line map_ table line) few_used
               (same ∙ few_told stood (labels_stand table text) stand names symbols) past)
 
           module _ (new : Kept)
               (follows : Follows stood new
-              (λ t. changed map_ text (change_after stood.table text done.arguments (deed done.is_own text)) t)) where
+              (λ t. changed map_ text (change_after stood.table text done.arguments (action done.is_own text)) t)) where
             pub matches_so : Matches new (after_line map_ table line)
             matches_so =
                 let P : Change → Type 0 = λ c. Matches new (changed map_ text c (labels_stand table text)) in
@@ -300,5 +300,5 @@ module _ (map_ : Map) (table : Table) (live : Live) (before after : Stage) (done
                 let L : List Section → Type 0 = λ s. length s ≤ most_sections in
                 rw (fits, acts.fits)
                 (ap of_limit
-                (fits_limits (names_counted (with_counted (mentions table line) counting)) (after_line map_ table line) few_mentioned
+                (fits_limits (names_counted (with_counted (symbol_uses table line) counting)) (after_line map_ table line) few_used
                 (few_told new (after_line map_ table line) matches_so names symbols) (subst L matches_so.alike.sections sections)))

@@ -21,28 +21,28 @@ use Rattle.m11_placement.specs.declared.definitions.Key.TheVariants.{Named, Numb
 use Rattle.m11_placement.specs.Effects.{change_by, directive_change}
 use Rattle.m11_placement.specs.Elements.{names_at, texts_of}
 use Rattle.m11_placement.specs.Labels.{global_if, label_name, with_kind, with_label, with_labels, with_name}
-use Rattle.m11_placement.specs.Lines.{Deed, Rests, Assigning, Setting, Operating, change_of}
+use Rattle.m11_placement.specs.Lines.{Action, NoAction, Assign, SetCounter, Operate, change_of}
 use Rattle.m11_placement.specs.Meanings.{Map}
 use Rattle.m11_placement.specs.Operators.{is_even}
 use Rattle.m11_placement.specs.Places.{Goes}
-use Rattle.m11_placement.specs.ProgramSections as sections
+use Rattle.m11_placement.specs.Psects as sections
 use Rattle.m11_placement.specs.Relocations.{is_here}
 use Rattle.m11_placement.specs.Sections.{number_of, section}
 use Rattle.m11_placement.specs.declared.sections.Section.{Section}
 use Rattle.m11_placement.specs.Tables.{Table, place}
-use Rattle.m11_placement.specs.declared.settings.Settings.{Settings}
+use Rattle.m11_placement.specs.declared.modes.Modes.{Modes}
 use Rattle.m11_placement.specs.declared.operators.Directive.{Directive}
 use Rattle.m11_placement.specs.declared.operators.Directive.TheVariants as word
 use Rattle.m11_placement.specs.declared.operators.Operator.{Operator}
-use Rattle.m11_placement.specs.declared.operators.Operator.TheVariants.{Instruction, Directs}
+use Rattle.m11_placement.specs.declared.operators.Operator.TheVariants as operators
 
 -- ---- labels: one block for each at most; nothing else changes
 
 pub record Blocks (most : ℕ) (old new : Table) : Type 0 where
-  pub block : new.settings.block ≤ old.settings.block + most
-  pub listed : new.settings.listed ≡ old.settings.listed
-  pub unlisted : new.settings.unlisted ≡ old.settings.unlisted
-  pub section : new.settings.section ≡ old.settings.section
+  pub block : new.modes.block ≤ old.modes.block + most
+  pub listed : new.modes.listed ≡ old.modes.listed
+  pub unlisted : new.modes.unlisted ≡ old.modes.unlisted
+  pub section : new.modes.section ≡ old.modes.section
   pub sections : new.sections ≡ old.sections
 
 same_blocks : (most : ℕ) (table : Table) → Blocks most table table
@@ -77,7 +77,7 @@ kind_blocks : (table : Table) (name : Option Name) (kind : LabelKind) → Blocks
 kind_blocks table name label.Ordinary = name_blocks false table name
 kind_blocks table name label.Global = name_blocks true table name
 kind_blocks table name (label.Local number) =
-    choice_blocks (is_defined (Numbered table.settings.block number) table.definitions) 1 table _ _
+    choice_blocks (is_defined (Numbered table.modes.block number) table.definitions) 1 table _ _
     (record { block = omega arith; listed = refl; unlisted = refl; section = refl; sections = refl })
     (record { block = omega arith; listed = refl; unlisted = refl; section = refl; sections = refl })
 kind_blocks table name label.Outside = same_blocks 1 table
@@ -101,130 +101,130 @@ labels_blocks line table (named ∷ labels) =
 -- ---- a change: one block at most, and one level
 
 pub record Moves (old new : Table) : Type 0 where
-  pub block : new.settings.block ≤ old.settings.block + 1
-  pub listed : new.settings.listed ≤ old.settings.listed + 1
-  pub unlisted : new.settings.unlisted ≤ old.settings.unlisted + 1
-  pub section : old.settings.section < length old.sections → new.settings.section < length new.sections
+  pub block : new.modes.block ≤ old.modes.block + 1
+  pub listed : new.modes.listed ≤ old.modes.listed + 1
+  pub unlisted : new.modes.unlisted ≤ old.modes.unlisted + 1
+  pub section : old.modes.section < length old.sections → new.modes.section < length new.sections
 
 -- settings that a change may set
-pub record IsNear (old new : Settings) : Type 0 where
+pub record IsNear (old new : Modes) : Type 0 where
   pub block : new.block ≤ old.block + 1
   pub listed : new.listed ≤ old.listed + 1
   pub unlisted : new.unlisted ≤ old.unlisted + 1
   pub section : new.section ≡ old.section
 
-abbrev pub IsModest : Settings → Change → Type 0
-IsModest settings (Sets new) = IsNear settings new
-IsModest settings Keeps = Unit {0}
-IsModest settings (Counts move) = Unit {0}
-IsModest settings (Selects name attributes) = Unit {0}
-IsModest settings (Assigns name is_global start) = Unit {0}
-IsModest settings (Numbers name number) = Unit {0}
-IsModest settings (Exports start) = Unit {0}
+abbrev pub IsModest : Modes → Change → Type 0
+IsModest modes (Sets new) = IsNear modes new
+IsModest modes Keeps = Unit {0}
+IsModest modes (Counts move) = Unit {0}
+IsModest modes (Selects name attributes) = Unit {0}
+IsModest modes (Assigns name is_global start) = Unit {0}
+IsModest modes (Numbers name number) = Unit {0}
+IsModest modes (Exports start) = Unit {0}
 
-near : (settings : Settings) → IsNear settings settings
-near settings = record { block = omega arith; listed = omega arith; unlisted = omega arith; section = refl }
+near : (modes : Modes) → IsNear modes modes
+near modes = record { block = omega arith; listed = omega arith; unlisted = omega arith; section = refl }
 
-choice_modest : (choice : Bool) (settings : Settings) (one other : Change) → IsModest settings one → IsModest settings other
-    → IsModest settings (if choice then one else other)
-choice_modest true settings one other first second = first
-choice_modest false settings one other first second = second
+choice_modest : (choice : Bool) (modes : Modes) (one other : Change) → IsModest modes one → IsModest modes other
+    → IsModest modes (if choice then one else other)
+choice_modest true modes one other first second = first
+choice_modest false modes one other first second = second
 
-radix_modest : (settings : Settings) (radix : Option Radix) → IsModest settings (control.with_radix settings radix)
-radix_modest settings (Some radix) = record { block = omega arith; listed = omega arith; unlisted = omega arith; section = refl }
-radix_modest settings None = tt
+radix_modest : (modes : Modes) (radix : Option Radix) → IsModest modes (control.with_radix modes radix)
+radix_modest modes (Some radix) = record { block = omega arith; listed = omega arith; unlisted = omega arith; section = refl }
+radix_modest modes None = tt
 
-token_modest : (settings : Settings) (tokens : List Lexeme) → IsModest settings (control.radix_by settings tokens)
-token_modest settings [] = record { block = omega arith; listed = omega arith; unlisted = omega arith; section = refl }
-token_modest settings (token ∷ tokens) = radix_modest settings (control.radix_in token.sort token.text)
+token_modest : (modes : Modes) (tokens : List Lexeme) → IsModest modes (control.radix_by modes tokens)
+token_modest modes [] = record { block = omega arith; listed = omega arith; unlisted = omega arith; section = refl }
+token_modest modes (token ∷ tokens) = radix_modest modes (control.radix_in token.sort token.text)
 
-words_modest : (settings : Settings) (shows : Bool) (words : List Bytes) → IsModest settings (control.with_words settings shows words)
-words_modest settings shows words =
-    choice_modest (control.is_among words control.expansions_word) settings _ _
+words_modest : (modes : Modes) (shows : Bool) (words : List Bytes) → IsModest modes (control.with_words modes shows words)
+words_modest modes shows words =
+    choice_modest (control.is_among words control.expansions_word) modes _ _
     (record { block = omega arith; listed = omega arith; unlisted = omega arith; section = refl }) tt
 
-section_modest : (settings : Settings) (line : Bytes) (start : ℕ) (at : sections.SectionAt)
-    → IsModest settings (sections.program_section_of line start at)
-section_modest settings line start sections.Unnamed = tt
-section_modest settings line start (sections.NamedAt name end) = tt
-section_modest settings line start sections.Bad = tt
+section_modest : (modes : Modes) (line : Bytes) (start : ℕ) (at : sections.SectionAt)
+    → IsModest modes (sections.psect_of line start at)
+section_modest modes line start sections.Unnamed = tt
+section_modest modes line start (sections.NamedAt name end) = tt
+section_modest modes line start sections.Bad = tt
 
-control_modest : (settings : Settings) (at : sections.SectionAt) → IsModest settings (sections.control_section_of at)
-control_modest settings sections.Unnamed = tt
-control_modest settings (sections.NamedAt name end) = tt
-control_modest settings sections.Bad = tt
+control_modest : (modes : Modes) (at : sections.SectionAt) → IsModest modes (sections.csect_of at)
+control_modest modes sections.Unnamed = tt
+control_modest modes (sections.NamedAt name end) = tt
+control_modest modes sections.Bad = tt
 
-count_modest : (settings : Settings) (arguments : Option ℕ) (name : Option NameAt)
-    → IsModest settings (counts.argument_count_by arguments name)
-count_modest settings (Some count) (Some name) = tt
-count_modest settings (Some count) None = tt
-count_modest settings None name = tt
+count_modest : (modes : Modes) (arguments : Option ℕ) (name : Option NameAt)
+    → IsModest modes (counts.narg_by arguments name)
+count_modest modes (Some count) (Some name) = tt
+count_modest modes (Some count) None = tt
+count_modest modes None name = tt
 
-character_modest : (settings : Settings) (line : Bytes) (name : Option NameAt)
-    → IsModest settings (counts.character_count_by line name)
-character_modest settings line (Some name) = tt
-character_modest settings line None = tt
+character_modest : (modes : Modes) (line : Bytes) (name : Option NameAt)
+    → IsModest modes (counts.nchr_by line name)
+character_modest modes line (Some name) = tt
+character_modest modes line None = tt
 
 directive_modest : (table : Table) (passed here : ℕ) (line : Bytes) (start : ℕ) (arguments : Option ℕ) (of : Directive)
-    → IsModest table.settings (directive_change table passed here line start arguments of)
-directive_modest table passed here line start arguments word.Words = tt
-directive_modest table passed here line start arguments word.Bytewise = tt
+    → IsModest table.modes (directive_change table passed here line start arguments of)
+directive_modest table passed here line start arguments word.Word = tt
+directive_modest table passed here line start arguments word.Byte = tt
 directive_modest table passed here line start arguments word.Ascii = tt
 directive_modest table passed here line start arguments word.Asciz = tt
 directive_modest table passed here line start arguments word.Rad50 = tt
-directive_modest table passed here line start arguments word.ByteBlock = tt
-directive_modest table passed here line start arguments word.WordBlock = tt
+directive_modest table passed here line start arguments word.Blkb = tt
+directive_modest table passed here line start arguments word.Blkw = tt
 directive_modest table passed here line start arguments word.Even = tt
 directive_modest table passed here line start arguments word.Odd = tt
 directive_modest table passed here line start arguments word.Limit = tt
-directive_modest table passed here line start arguments word.InRadix = token_modest table.settings (tokens_from line start)
-directive_modest table passed here line start arguments word.AbsoluteSection = tt
-directive_modest table passed here line start arguments word.ControlSection =
-    control_modest table.settings (sections.section_at line start)
-directive_modest table passed here line start arguments word.ProgramSection =
-    section_modest table.settings line start (sections.section_at line start)
-directive_modest table passed here line start arguments word.Global = tt
+directive_modest table passed here line start arguments word.Radix = token_modest table.modes (tokens_from line start)
+directive_modest table passed here line start arguments word.Asect = tt
+directive_modest table passed here line start arguments word.Csect =
+    control_modest table.modes (sections.section_at line start)
+directive_modest table passed here line start arguments word.Psect =
+    section_modest table.modes line start (sections.section_at line start)
+directive_modest table passed here line start arguments word.Globl = tt
 directive_modest table passed here line start arguments word.Weak = tt
-directive_modest table passed here line start arguments word.Lists =
-    choice_modest (has_token (tokens_from line start)) table.settings _ _
-    (words_modest table.settings true (texts_of line (names_at line start).list))
+directive_modest table passed here line start arguments word.List =
+    choice_modest (has_token (tokens_from line start)) table.modes _ _
+    (words_modest table.modes true (texts_of line (names_at line start).list))
     (record { block = omega arith; listed = omega arith; unlisted = omega arith; section = refl })
-directive_modest table passed here line start arguments word.Unlists =
-    choice_modest (has_token (tokens_from line start)) table.settings _ _
-    (words_modest table.settings false (texts_of line (names_at line start).list))
+directive_modest table passed here line start arguments word.Nlist =
+    choice_modest (has_token (tokens_from line start)) table.modes _ _
+    (words_modest table.modes false (texts_of line (names_at line start).list))
     (record { block = omega arith; listed = omega arith; unlisted = omega arith; section = refl })
-directive_modest table passed here line start arguments word.ArgumentCount =
-    count_modest table.settings arguments (counts.name_in line start)
-directive_modest table passed here line start arguments word.CharacterCount =
-    character_modest table.settings line (counts.name_in line start)
+directive_modest table passed here line start arguments word.Narg =
+    count_modest table.modes arguments (counts.name_in line start)
+directive_modest table passed here line start arguments word.Nchr =
+    character_modest table.modes line (counts.name_in line start)
 directive_modest table passed here line start arguments word.Title = tt
-directive_modest table passed here line start arguments word.Identification = tt
-directive_modest table passed here line start arguments word.Subtitle = tt
+directive_modest table passed here line start arguments word.Ident = tt
+directive_modest table passed here line start arguments word.Sbttl = tt
 directive_modest table passed here line start arguments word.Page = tt
-directive_modest table passed here line start arguments word.Enable = tt
-directive_modest table passed here line start arguments word.Disable = tt
+directive_modest table passed here line start arguments word.Enabl = tt
+directive_modest table passed here line start arguments word.Dsabl = tt
 directive_modest table passed here line start arguments word.End = tt
 
 operator_modest : (table : Table) (passed here : ℕ) (line : Bytes) (start : ℕ) (arguments : Option ℕ) (operator : Operator)
-    → IsModest table.settings (change_by table passed here line start arguments operator)
-operator_modest table passed here line start arguments (Instruction operation) = tt
-operator_modest table passed here line start arguments (Directs of) =
+    → IsModest table.modes (change_by table passed here line start arguments operator)
+operator_modest table passed here line start arguments (operators.Instruction operation) = tt
+operator_modest table passed here line start arguments (operators.Directive of) =
     directive_modest table passed here line start arguments of
 
-target_modest : (settings : Settings) (is_global : Bool) (start : ℕ) (name : Option Name)
-    → IsModest settings (assigning.assignment_to is_global start name)
-target_modest settings is_global start (Some name) = tt
-target_modest settings is_global start None = tt
+target_modest : (modes : Modes) (is_global : Bool) (start : ℕ) (name : Option Name)
+    → IsModest modes (assigning.assignment_to is_global start name)
+target_modest modes is_global start (Some name) = tt
+target_modest modes is_global start None = tt
 
-pub change_modest : (table : Table) (line : Bytes) (arguments : Option ℕ) (deed : Deed)
-    → IsModest table.settings (change_of table line arguments deed)
-change_modest table line arguments Rests = tt
-change_modest table line arguments (Assigning name is_global start) =
-    target_modest table.settings is_global start (assigning.target line name)
-change_modest table line arguments (Setting start) =
+pub change_modest : (table : Table) (line : Bytes) (arguments : Option ℕ) (action : Action)
+    → IsModest table.modes (change_of table line arguments action)
+change_modest table line arguments NoAction = tt
+change_modest table line arguments (Assign name is_global start) =
+    target_modest table.modes is_global start (assigning.target line name)
+change_modest table line arguments (SetCounter start) =
     let value = assigning.counter_value table line start in
-    choice_modest (is_here table value.kind) table.settings (Counts (Goes value.number)) Keeps tt tt
-change_modest table line arguments (Operating operator start) =
+    choice_modest (is_here table value.kind) table.modes (Counts (Goes value.number)) Keeps tt tt
+change_modest table line arguments (Operate operator start) =
     operator_modest table (gap (is_even operator) (place table)) (place_for (is_even operator) (place table)) line start arguments
     operator
 
@@ -251,7 +251,7 @@ global_moves true name old new moves =
     record { block = moves.block; listed = moves.listed; unlisted = moves.unlisted; section = moves.section }
 global_moves false name old new moves = moves
 
-pub changed_moves : (map : Map) (line : Bytes) (change : Change) (table : Table) → IsModest table.settings change
+pub changed_moves : (map : Map) (line : Bytes) (change : Change) (table : Table) → IsModest table.modes change
     → Moves table (changed map line change table)
 changed_moves map line Keeps table modest =
     record { block = omega arith; listed = omega arith; unlisted = omega arith; section = λ within. within }
@@ -275,7 +275,7 @@ changed_moves map line (Numbers name number) table modest =
     (record { block = omega arith; listed = omega arith; unlisted = omega arith; section = λ within. within })
 changed_moves map line (Exports start) table modest =
     record { block = omega arith; listed = omega arith; unlisted = omega arith; section = λ within. within }
-changed_moves map line (Sets settings) table modest = record {
+changed_moves map line (Sets modes) table modest = record {
   block = modest.block;
   listed = modest.listed;
   unlisted = modest.unlisted;

@@ -14,7 +14,7 @@ use Rattle.m11_unfolding.specs.declared.fault.UnfoldFault.{UnfoldFault}
 use Rattle.m11_unfolding.specs.declared.fault.UnfoldFault.TheVariants as limit
 use Rattle.m11_placement.specs.Lines.{after_line}
 use Rattle.m11_placement.specs.Meanings.{Map, empty_map}
-use Rattle.m11_placement.specs.Mentions.{mentions}
+use Rattle.m11_placement.specs.SymbolUses.{symbol_uses}
 use Rattle.m11_placement.specs.Placements.{after_lines, table_after}
 use Rattle.m11_placement.specs.Tables.{Table, first_table}
 use Rattle.m11_placing.specs.Counting.{with_counted}
@@ -48,10 +48,10 @@ tables_more map_ table (given ∷ all) one = tables_more map_ (after_line map_ t
 
 counting_more : (map_ : Map) (table : Table) (all : List Given) (one : Given) (before : Counting)
     → counting_after map_ table (all ++ one ∷ []) before
-    ≡ with_counted (mentions (after_lines map_ table all) one) (counting_after map_ table all before)
+    ≡ with_counted (symbol_uses (after_lines map_ table all) one) (counting_after map_ table all before)
 counting_more map_ table [] one before = refl
 counting_more map_ table (given ∷ all) one before =
-    counting_more map_ (after_line map_ table given) all one (with_counted (mentions table given) before)
+    counting_more map_ (after_line map_ table given) all one (with_counted (symbol_uses table given) before)
 
 module _ (map_ : Map) (before : Counting) where
   table_more : (all : List Numbered) (one : Numbered) → table_at map_ (all ++ one ∷ []) ≡ after_line map_ (table_at map_ all) one.given
@@ -60,7 +60,7 @@ module _ (map_ : Map) (before : Counting) where
 
   all_more : (all : List Numbered) (one : Numbered)
       → counting_at map_ before (all ++ one ∷ [])
-      ≡ with_counted (mentions (table_at map_ all) one.given) (counting_at map_ before all)
+      ≡ with_counted (symbol_uses (table_at map_ all) one.given) (counting_at map_ before all)
   all_more all one =
       ap (λ (gs : List Given). counting_after map_ first_table gs before) (givens_more all one)
       ∙ counting_more map_ first_table (givens all) one.given before
@@ -128,7 +128,7 @@ module _ (map_ : Map) (before : Counting) where
           stands = record {
             lines_are = subst P (sym here.leaves.stage_is) (placing live next.stage next.comes here.leaves.fits);
             matches = subst Q (sym (table_more all (numbered (length source) one))) here.leaves.matches;
-            counting = here.leaves.counting ∙ ap (with_counted (mentions (table_at map_ all) one)) stands.counting
+            counting = here.leaves.counting ∙ ap (with_counted (symbol_uses (table_at map_ all) one)) stands.counting
                 ∙ sym (all_more all (numbered (length source) one));
           };
           is_said = here.is_said;

@@ -11,15 +11,15 @@ use Rattle.m11_unfolding.specs.Taking.{Live}
 use Rattle.m11_unfolding.specs.declared.fault.UnfoldFault.{UnfoldFault}
 use Rattle.m11_placement.specs.Limits.{most_names}
 use Rattle.m11_placement.specs.Meanings.{Map}
-use Rattle.m11_placement.specs.Mentions.{Mention, mentions}
+use Rattle.m11_placement.specs.SymbolUses.{SymbolUse, symbol_uses}
 use Rattle.m11_placement.specs.Tables.{Table, first_table}
 use Rattle.m11_placement.specs.declared.sections.Section.{Section}
-use Rattle.m11_placement.specs.declared.settings.Settings.{Settings}
+use Rattle.m11_placement.specs.declared.modes.Modes.{Modes}
 use Rattle.m11_placing.proofs.Gathering.{added_then, failed_first}
 use Rattle.m11_placing.proofs.Refusals.{handed_on}
 use Rattle.m11_placing.specs.Faults.{Refuses}
 use Rattle.m11_placing.specs.Counting.{with_counted}
-use Rattle.m11_placing.specs.Mentioned.{Gathered, with_all}
+use Rattle.m11_placing.specs.UsedSymbols.{Gathered, with_all}
 use Rattle.m11_placing.specs.declared.counting.Counting.{Counting}
 use Rattle.m11_placing.specs.Passes.{Kept, Matches}
 use Rattle.m11_passes.proofs.Counting.{leads_takes}
@@ -33,7 +33,7 @@ use Rattle.m11_passes.specs.declared.turns.Turn.{Turn}
 
 -- ---- mentions
 
-module _ {A : Type 0} (first second : List Mention) (old : Gathered) (fault : AsmFault) (result : Result A AsmFault)
+module _ {A : Type 0} (first second : List SymbolUse) (old : Gathered) (fault : AsmFault) (result : Result A AsmFault)
     (is : IsErrAnd result (λ f. f ≡ fault)) where
   abbrev Past : AsmFault → Type 0
   Past f = Refuses f (most_names < length (with_all (first ++ second) old).names) ⊥
@@ -74,12 +74,12 @@ sound_more table before after more room =
 
 pub first_sound : (kept : Kept) → Matches kept first_table → HasRoom 0 0 0 kept.table
 first_sound kept matches =
-    let B : Settings → Type 0 = λ s. s.block + 0 ≤ 67 * 0 in
-    let L : Settings → Type 0 = λ s. s.listed + 0 ≤ 0 in
-    let U : Settings → Type 0 = λ s. s.unlisted + 0 ≤ 0 in
-    let same = sym matches.alike.settings in
-    let S : List Section → Type 0 = λ l. kept.table.settings.section < length l in
-    let N : Settings → Type 0 = λ s. s.section < length first_table.sections in
+    let B : Modes → Type 0 = λ s. s.block + 0 ≤ 67 * 0 in
+    let L : Modes → Type 0 = λ s. s.listed + 0 ≤ 0 in
+    let U : Modes → Type 0 = λ s. s.unlisted + 0 ≤ 0 in
+    let same = sym matches.alike.modes in
+    let S : List Section → Type 0 = λ l. kept.table.modes.section < length l in
+    let N : Modes → Type 0 = λ s. s.section < length first_table.sections in
     record {
       block = subst B same (omega arith);
       listed = subst L same (omega arith);
@@ -139,7 +139,7 @@ module _ (map_ : Map) (old new : Going) (said : Said) where
                 fits = ap (λ (c : Counting). line_fault map_ table c live stage) (sym counting) ∙ after.leaves.fits;
                 stage_is = after.leaves.stage_is;
                 matches = after.leaves.matches;
-                counting = after.leaves.counting ∙ ap (with_counted (mentions table (given_by table live stage))) counting;
+                counting = after.leaves.counting ∙ ap (with_counted (symbol_uses table (given_by table live stage))) counting;
               };
               is_said = after.is_said;
             };

@@ -6,23 +6,23 @@ use Rattle.m11_fields.specs.Reads.{fields_seen}
 use Rattle.m11_listing.specs.declared.items.Item.{Item}
 use Rattle.m11_scan.specs.Views.{bits_of}
 use Rattle.m11_statements.specs.Labels.{labels_end}
-use Rattle.m11_statements.specs.Statements.{body_of, label_letters}
+use Rattle.m11_statements.specs.Statements.{body_of, label_flags}
 use Rattle.m11_statements.specs.declared.statements.Statement.{Statement}
 use Rattle.m11_unfold.specs.Unfolder.{Acts}
 use Rattle.m11_unfolding.specs.Stages.{Stage}
 use Rattle.m11_unfolding.specs.Taking.{Live}
 use Rattle.m11_placement.specs.Items.{assigned_items}
-use Rattle.m11_placement.specs.Lines.{deed}
+use Rattle.m11_placement.specs.Lines.{action}
 use Rattle.m11_placement.specs.Meanings.{Map}
 use Rattle.m11_placement.specs.Tables.{Table}
 use Rattle.m11_placement.specs.Unfolded.{known_after_labels}
-use Rattle.m11_placing.specs.Deeds.{deed_fields, deed_seen}
+use Rattle.m11_placing.specs.Actions.{action_fields, action_seen}
 use Rattle.m11_placing.specs.Counting.{with_counted}
 use Rattle.m11_placing.specs.Passes.{Matches}
-use Rattle.m11_placing.specs.declared.deeds.Deed.{Deed}
+use Rattle.m11_placing.specs.declared.actions.Action.{Action}
 use Rattle.m11_passes.specs.Faults.{Fails}
 use Rattle.m11_passes.specs.Labelled.{Labels}
-use Rattle.m11_passes.specs.Refusals.{given_by, line_fault, mentions_of_labels}
+use Rattle.m11_passes.specs.Refusals.{given_by, line_fault, uses_of_labels}
 use Rattle.m11_passes.specs.States.{Going}
 use Rattle.m11_passes.specs.Turns.{LeavesAfter}
 use Rattle.m11_passes.specs.declared.begun.Begun.{Begun}
@@ -31,15 +31,15 @@ use Rattle.m11_passes.specs.declared.begun.Begun.{Begun}
 pub record States (live : Live) (statement : Statement) : Type 0 where
   pub labels_end_is : statement.labels_end ≡ labels_end live.line.text
   pub body_is : statement.body ≡ body_of live.line.text
-  pub letters_are : bits_of statement.label_letters ≡ label_letters live.line
+  pub flags_are : bits_of statement.label_flags ≡ label_flags live.line
 
 -- from before the line to where its labels stand and unfolding has done its operator
-pub record Begins (map : Map) (live : Live) (old new : Going) (does : Deed) (begun : Begun) : Type 0 where
+pub record Begins (map : Map) (live : Live) (old new : Going) (does : Action) (begun : Begun) : Type 0 where
   pub labels : Labels map old.counting live.line.text old.kept new.kept begun.found
-  pub named : new.counting ≡ with_counted (mentions_of_labels live.line.text) old.counting
+  pub named : new.counting ≡ with_counted (uses_of_labels live.line.text) old.counting
   pub acts : Acts (known_after_labels new.kept.table) live.line.text old.unfolder.stage new.unfolder.stage (Ok begun.act)
-  pub deed_is : deed_seen does ≡ deed begun.act.is_own live.line.text
-  pub fields_are : fields_seen begun.fields ≡ deed_fields new.kept.table live.line.text does
+  pub action_is : action_seen does ≡ action begun.act.is_own live.line.text
+  pub fields_are : fields_seen begun.fields ≡ action_fields new.kept.table live.line.text does
 
 -- from there to the end of the line, with what a listing shows of what it assigns; or the line passes a limit
 abbrev pub Finishes : Map → Live → Stage → Going → Going → Result (Option Item) AsmFault → Type 0

@@ -10,10 +10,10 @@ blocks_of_line = 67
 -- after `taken` lines there is room for `blocks` more blocks, and for `levels` more levels of listing; the section is one of
 -- those that there are
 pub record HasRoom (taken blocks levels : ℕ) (table : Table) : Type 0 where
-  pub block : table.settings.block + blocks ≤ blocks_of_line * taken
-  pub listed : table.settings.listed + levels ≤ taken
-  pub unlisted : table.settings.unlisted + levels ≤ taken
-  pub section : table.settings.section < length table.sections
+  pub block : table.modes.block + blocks ≤ blocks_of_line * taken
+  pub listed : table.modes.listed + levels ≤ taken
+  pub unlisted : table.modes.unlisted + levels ≤ taken
+  pub section : table.modes.section < length table.sections
 
 -- until a fault comes
 abbrev pub IsSoundUntil : Option AsmFault → ℕ → Table → Type 0

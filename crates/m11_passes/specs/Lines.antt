@@ -11,7 +11,7 @@ use Rattle.m11_unfolding.specs.Taking.{Gives, Live, move}
 use Rattle.m11_unfolding.specs.Unfolding.{Given, Leads}
 use Rattle.m11_placement.specs.Lines.{after_line}
 use Rattle.m11_placement.specs.Meanings.{Map}
-use Rattle.m11_placement.specs.Mentions.{mentions}
+use Rattle.m11_placement.specs.SymbolUses.{symbol_uses}
 use Rattle.m11_placement.specs.Placements.{table_after}
 use Rattle.m11_placement.specs.Tables.{Table, first_table}
 use Rattle.m11_placing.specs.Counting.{with_counted}
@@ -39,7 +39,7 @@ table_at map lines = table_after map (givens lines)
 abbrev pub counting_after : Map → Table → List Given → Counting → Counting
 counting_after map table [] counting = counting
 counting_after map table (given ∷ lines) counting =
-    counting_after map (after_line map table given) lines (with_counted (mentions table given) counting)
+    counting_after map (after_line map table given) lines (with_counted (symbol_uses table given) counting)
 
 abbrev pub counting_at : Map → Counting → List Numbered → Counting
 counting_at map counting lines = counting_after map first_table (givens lines) counting

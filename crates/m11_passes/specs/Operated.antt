@@ -4,14 +4,14 @@ use Rattle.std.specs.Prelude.{ℕ, List, ◌++◌, map, Option}
 use Rattle.m11_base.specs.Devices.{Bytes}
 use Rattle.m11_arguments.specs.Notes.{Notes}
 use Rattle.m11_placement.specs.Changes.{Change}
-use Rattle.m11_placement.specs.Lines.{Deed, change_of}
-use Rattle.m11_placement.specs.declared.meanings.Context.TheVariants.{Knows}
-use Rattle.m11_placement.specs.Mentions.{Mention, deed_mentions, mention}
+use Rattle.m11_placement.specs.Lines.{Action, change_of}
+use Rattle.m11_placement.specs.declared.meanings.Context.TheVariants.{LocalOnly}
+use Rattle.m11_placement.specs.SymbolUses.{SymbolUse, action_uses, symbol_use}
 use Rattle.m11_placement.specs.Tables.{Table, firm_table}
 
 -- what unfolding read, and what the operator mentions
-abbrev pub mentions_after : Table → Bytes → Notes → Option ℕ → Deed → List Mention
-mentions_after table line notes arguments deed = map (mention Knows) notes.symbols ++ deed_mentions table line arguments deed
+abbrev pub uses_after : Table → Bytes → Notes → Option ℕ → Action → List SymbolUse
+uses_after table line notes arguments does = map (symbol_use LocalOnly) notes.symbols ++ action_uses table line arguments does
 
-abbrev pub change_after : Table → Bytes → Option ℕ → Deed → Change
-change_after table line arguments deed = change_of (firm_table table) line arguments deed
+abbrev pub change_after : Table → Bytes → Option ℕ → Action → Change
+change_after table line arguments does = change_of (firm_table table) line arguments does

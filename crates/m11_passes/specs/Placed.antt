@@ -8,11 +8,11 @@ use Rattle.m11_unfolding.specs.Taking.{Live}
 use Rattle.m11_unfolding.specs.Unfolding.{Given}
 use Rattle.m11_placement.specs.Contents.{Put}
 use Rattle.m11_placement.specs.Items.{assigned_items, is_shown}
-use Rattle.m11_placement.specs.Lines.{after_line, deed, letters, line_put, put_place, stands}
+use Rattle.m11_placement.specs.Lines.{after_line, action, flags, line_put, put_place, stands}
 use Rattle.m11_placement.specs.Meanings.{Map}
 use Rattle.m11_placement.specs.Tables.{Table, place, section_name}
-use Rattle.m11_placing.specs.Deeds.{deed_seen}
-use Rattle.m11_placing.specs.Moved.{moved_letters}
+use Rattle.m11_placing.specs.Actions.{action_seen}
+use Rattle.m11_placing.specs.Moved.{moved_flags}
 use Rattle.m11_passes.specs.declared.placed.LiveLine.{LiveLine}
 use Rattle.m11_passes.specs.declared.placed.PlacedLine.{PlacedLine}
 
@@ -22,21 +22,21 @@ live_in live = record { line = live.line; is_expanded = live.is_expanded }
 -- it is this line, and this is what stands after its labels
 pub record IsLive (given : Given) (live : LiveLine) : Type 0 where
   pub live_is : live_in live ≡ given.live
-  pub deed_is : deed_seen live.deed ≡ deed given.is_own given.live.line.text
+  pub action_is : action_seen live.action ≡ action given.is_own given.live.line.text
 
--- the letters of a line, and P where a label of it has another place than the map says
-abbrev pub all_letters : Map → Table → Given → ℕ
-all_letters map table given =
-    bit_or (letters map table given) (moved_letters map given.live.line.text table (labels_at given.live.line.text))
+-- the flags of a line, and P where a label of it has another place than the map says
+abbrev pub all_flags : Map → Table → Given → ℕ
+all_flags map table given =
+    bit_or (flags map table given) (moved_flags map given.live.line.text table (labels_at given.live.line.text))
 
 -- it is this line after a table, and this is what it put
 pub record IsPlaced (map : Map) (table : Table) (given : Given) (placed : PlacedLine) (put : Put) : Type 0 where
   pub is_live : IsLive given placed.live
-  pub letters_are : bits_of placed.letters ≡ all_letters map table given
+  pub flags_are : bits_of placed.flags ≡ all_flags map table given
   pub section_is : placed.section ≡ section_name (stands table given)
-  pub place_is : placed.place ≡ put_place (stands table given) (deed given.is_own given.live.line.text)
+  pub place_is : placed.place ≡ put_place (stands table given) (action given.is_own given.live.line.text)
   pub contents_are : put.contents ≡ (line_put map (stands table given) given).contents
   -- what a listing shows of it
   pub counter_is : placed.counter ≡ place (stands table given)
   pub assigned_is : option_to_list placed.assigned ≡ assigned_items map table given
-  pub shown_is : placed.is_shown ≡ is_shown (after_line map table given).settings given.live.is_expanded
+  pub shown_is : placed.is_shown ≡ is_shown (after_line map table given).modes given.live.is_expanded

@@ -19,7 +19,7 @@ use Rattle.m11_placement.specs.Limits as limits
 use Rattle.m11_placement.specs.Limits.{LimitFault, has_too_many, limit_fault, most_names}
 use Rattle.m11_placement.specs.Lines.{after_line}
 use Rattle.m11_placement.specs.Meanings.{Map}
-use Rattle.m11_placement.specs.Mentions.{Mention, label_mentions, mentions}
+use Rattle.m11_placement.specs.SymbolUses.{SymbolUse, label_uses, symbol_uses}
 use Rattle.m11_placement.specs.Tables.{Table}
 use Rattle.m11_placement.specs.Unfolded.{known_after_labels}
 use Rattle.m11_placing.specs.Counting.{names_counted, with_counted}
@@ -36,12 +36,12 @@ of_limit None = None
 
 -- ---- labels
 
-abbrev pub mentions_of_labels : Bytes → List Mention
-mentions_of_labels line = flat_map (label_mentions line) (labels_at line)
+abbrev pub uses_of_labels : Bytes → List SymbolUse
+uses_of_labels line = flat_map (label_uses line) (labels_at line)
 
 abbrev pub labels_fault : Counting → Table → Bytes → Option AsmFault
 labels_fault counting table line =
-    if nat_lt most_names (length (names_counted (with_counted (mentions_of_labels line) counting)))
+    if nat_lt most_names (length (names_counted (with_counted (uses_of_labels line) counting)))
     || has_too_many (labels_stand table line) then Some TooManySymbols else None
 
 -- ---- a line
@@ -52,7 +52,7 @@ given_by table live stage = given (known_after_labels (labels_stand table live.l
 
 abbrev pub placing_fault : Map → Table → Counting → Given → Option AsmFault
 placing_fault map table counting given =
-    of_limit (limit_fault (names_counted (with_counted (mentions table given) counting)) (after_line map table given))
+    of_limit (limit_fault (names_counted (with_counted (symbol_uses table given) counting)) (after_line map table given))
 
 -- of a line that became live, after a table, by which names count
 abbrev pub line_fault : Map → Table → Counting → Live → Stage → Option AsmFault

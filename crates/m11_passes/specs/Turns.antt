@@ -12,7 +12,7 @@ use Rattle.m11_unfolding.specs.declared.fault.UnfoldFault.{UnfoldFault}
 use Rattle.m11_placement.specs.Contents.{Put}
 use Rattle.m11_placement.specs.Lines.{after_line}
 use Rattle.m11_placement.specs.Meanings.{Map}
-use Rattle.m11_placement.specs.Mentions.{mentions}
+use Rattle.m11_placement.specs.SymbolUses.{symbol_uses}
 use Rattle.m11_placement.specs.Tables.{Table}
 use Rattle.m11_placing.specs.Counting.{with_counted}
 use Rattle.m11_placing.specs.Passes.{Matches}
@@ -31,7 +31,7 @@ pub record LeavesAfter (map : Map) (table : Table) (live : Live) (stage : Stage)
   pub fits : line_fault map table old.counting live stage ≡ None
   pub stage_is : new.unfolder.stage ≡ acted table live stage
   pub matches : Matches new.kept (after_line map table (given_by table live stage))
-  pub counting : new.counting ≡ with_counted (mentions table (given_by table live stage)) old.counting
+  pub counting : new.counting ≡ with_counted (symbol_uses table (given_by table live stage)) old.counting
 
 -- what a call says of a line, by the table before it: that it is placed so, or what stands after its labels alone
 abbrev pub Said : Type 1

@@ -5,7 +5,7 @@ ghost use Rattle.std.specs.Prelude.{◌≡◌, ◌≤◌, ◌∷◌, [], IfOk, I
 ghost use Rattle.m11_arguments.specs.Directives.{operator as line_operator};
 ghost use Rattle.m11_placement.specs.Tables.{Table as LineTable};
 ghost use Rattle.m11_placement.specs.Unfolded.{known_after_labels};
-ghost use Rattle.m11_placing.specs.Deeds.{AreDeedTerms, IsWithin, is_listed};
+ghost use Rattle.m11_placing.specs.Actions.{AreActionTerms, IsWithin, is_listed};
 ghost use Rattle.m11_placing.specs.Passes.{Matches};
 ghost use Rattle.m11_statements.specs.Labels.{labels_at};
 ghost use Rattle.m11_unfold.specs.Unfolder as steps;
@@ -22,7 +22,7 @@ use crate::state::State;
 use m11_arguments::operator_in;
 use m11_asm_faults::AsmFault;
 use m11_fields::Fields;
-use m11_placing::{LabelLetters, Pass, deed_after_labels, deed_fields};
+use m11_placing::{LabelFlags, Pass, action_after_labels, action_fields};
 use m11_scan::Line;
 use m11_statements::{Span, Statement};
 use m11_table::{FirmNames, Map, Table};
@@ -32,8 +32,8 @@ use m11_unfolding::UnfoldFault;
 // What was found of a line whose labels stand and whose operator unfolding has done.
 #[derive(Drop)]
 pub struct Begun {
-    // The letters of its labels.
-    pub(crate) found: LabelLetters,
+    // The flags of its labels.
+    pub(crate) found: LabelFlags,
     pub(crate) act: Act,
     // The fields of what stands after its labels, or the term of what it assigns.
     pub(crate) fields: Fields,
@@ -48,19 +48,19 @@ impl State {
         statement: &Statement,
     ) -> Result<Begun, AsmFault>
         requires unlabelled { statement.now.labels_end ≡ 0 → labels_at live.old.line.text ≡ [] }
-        requires lone { IfSome statement.now.lone_label (λ label. labels_at live.old.line.text ≡ label ∷ []) }
+        requires single { IfSome statement.now.only_label (λ label. labels_at live.old.line.text ≡ label ∷ []) }
         requires states { States (live_in live.old) statement.now }
         requires goes_on { self.old.unfolder.fault ≡ None }
         requires free { self.old.unfolder.has_statement ≡ false }
         requires room { HasRoom self.old.unfolder.stage.taken 67 1 self.old.pass.table }
         ensures same { live_in live.new ≡ live_in live.old }
-        ensures begins { IfOk result (λ begun. Begins map.now (live_in live.new) (going_of self.old) (going_of self.new) live.new.deed begun) }
+        ensures begins { IfOk result (λ begun. Begins map.now (live_in live.new) (going_of self.old) (going_of self.new) live.new.action begun) }
         ensures fails { IfErr result (λ fault. (table : LineTable) → Matches self.old.pass table
             → Fails (line_fault map.now table self.old.counting (live_in live.old) self.old.unfolder.stage) fault) }
-        ensures within { IfOk result (λ _. IsWithin (length live.old.line.text) live.new.deed) }
+        ensures within { IfOk result (λ _. IsWithin (length live.old.line.text) live.new.action) }
         ensures ends { IfOk result (λ begun. begun.fields.end ≤ length live.old.line.text) }
-        ensures terms { IfOk result (λ begun. AreDeedTerms live.old.line.text live.new.deed begun.fields.list.items begun.fields.terms) }
-        ensures listed { IfOk result (λ _. IsTrue (is_listed live.new.deed)) }
+        ensures terms { IfOk result (λ begun. AreActionTerms live.old.line.text live.new.action begun.fields.list.items begun.fields.terms) }
+        ensures listed { IfOk result (λ _. IsTrue (is_listed live.new.action)) }
         ensures room { IfOk result (λ _. HasRoom self.old.unfolder.stage.taken 1 1 self.new.pass.table) }
         ensures taken { IfOk result (λ _. self.new.unfolder.stage.taken ≡ self.old.unfolder.stage.taken) }
         ensures goes_on { IfOk result (λ _. self.new.unfolder.fault ≡ None) }
@@ -73,15 +73,15 @@ impl State {
             map,
             line,
             statement.labels_end,
-            statement.lone_label,
+            statement.only_label,
         )?;
         let operator = operator_in(statement.body);
         let act = act_on(&mut self.unfolder, line, operator, &self.pass)?;
-        live.deed = deed_after_labels(act.is_own, &live.line, statement.body);
+        live.action = action_after_labels(act.is_own, &live.line, statement.body);
         Ok(Begun {
             found,
             act,
-            fields: deed_fields(self.pass.table(), &live.line, &live.deed),
+            fields: action_fields(self.pass.table(), &live.line, &live.action),
         })
     }
 }

@@ -14,9 +14,9 @@ ghost use Rattle.m11_passes.specs.Refusals.{given_by};
 
 use crate::operating::{counter, is_shown, section_name};
 use crate::placed::PlacedLine;
-use m11_arguments::rest_letters;
+use m11_arguments::rest_flags;
 use m11_operators::Put;
-use m11_placing::{Deed, Pass};
+use m11_placing::{Action, Pass};
 use m11_statements::{Body, Statement};
 
 // Whether a statement has neither a label nor anything after its labels.
@@ -42,10 +42,8 @@ pub(crate) fn place_blank(
         → IsPlaced whole table (given_by table (live_in placed.old.live) stage) placed.new put.new }
 {
     put.clear();
-    placed.live.deed = Deed::Rests;
-    placed.letters = statement
-        .label_letters
-        .with(rest_letters(&placed.live.line, 0));
+    placed.live.action = Action::NoAction;
+    placed.flags = statement.label_flags.with(rest_flags(&placed.live.line, 0));
     placed.section = section_name(pass);
     placed.counter = counter(pass);
     placed.place = placed.counter;

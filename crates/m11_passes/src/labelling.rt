@@ -9,11 +9,11 @@ ghost use Rattle.m11_statements.specs.Labels.{labels_at};
 ghost use Rattle.m11_table.specs.Alike as tables;
 ghost use Rattle.m11_passes.specs.Faults.{Fails};
 ghost use Rattle.m11_passes.specs.Labelled.{FitUpToOne, Labels};
-ghost use Rattle.m11_passes.specs.Refusals.{labels_fault, mentions_of_labels};
+ghost use Rattle.m11_passes.specs.Refusals.{labels_fault, uses_of_labels};
 ghost use Rattle.m11_asm_faults.specs.declared.fault.AsmFault.TheVariants.{NoMemory};
 
 use m11_asm_faults::AsmFault;
-use m11_placing::{Counting, LabelLetters, Pass};
+use m11_placing::{Counting, LabelFlags, Pass};
 use m11_scan::Line;
 use m11_statements::{Label, labels_of};
 use m11_table::Map;
@@ -25,13 +25,13 @@ pub(crate) fn define_labels(
     map: &Map<'_>,
     line: &Line,
     labels_end: u8,
-    lone_label: Option<Label>,
-) -> Result<LabelLetters, AsmFault>
+    only_label: Option<Label>,
+) -> Result<LabelFlags, AsmFault>
     requires unlabelled { labels_end ≡ 0 → labels_at line.now.text ≡ [] }
-    requires lone { IfSome lone_label (λ label. labels_at line.now.text ≡ label ∷ []) }
-    requires blocks { pass.old.table.settings.block + 66 < 2 ^ 64 }
-    ensures stand { IfOk result (λ letters. Labels map.now counting.old line.now.text pass.old pass.new letters) }
-    ensures counts { IfOk result (λ _. counting.new ≡ with_counted (mentions_of_labels line.now.text) counting.old) }
+    requires single { IfSome only_label (λ label. labels_at line.now.text ≡ label ∷ []) }
+    requires blocks { pass.old.table.modes.block + 66 < 2 ^ 64 }
+    ensures stand { IfOk result (λ flags. Labels map.now counting.old line.now.text pass.old pass.new flags) }
+    ensures counts { IfOk result (λ _. counting.new ≡ with_counted (uses_of_labels line.now.text) counting.old) }
     ensures tables { IfOk result (λ _. tables.Follows pass.old.table pass.new.table (λ before. labels_stand before line.now.text)) }
     ensures refuses { IfErr result (λ fault. (before : LineTable) → Matches pass.old before
         → Fails (labels_fault counting.old before line.now.text) fault) }
@@ -43,7 +43,7 @@ pub(crate) fn define_labels(
     if labels_end == 0 {
         return define_all(pass, counting, map, line, &[]);
     }
-    match lone_label {
+    match only_label {
         Some(label) => define_all(pass, counting, map, line, &[label]),
         None => define_listed(pass, counting, map, line),
     }
@@ -57,10 +57,10 @@ fn define_listed(
     counting: &mut Counting,
     map: &Map<'_>,
     line: &Line,
-) -> Result<LabelLetters, AsmFault>
-    requires { pass.old.table.settings.block + 66 < 2 ^ 64 }
-    ensures stand { IfOk result (λ letters. Labels map.now counting.old line.now.text pass.old pass.new letters) }
-    ensures counts { IfOk result (λ _. counting.new ≡ with_counted (mentions_of_labels line.now.text) counting.old) }
+) -> Result<LabelFlags, AsmFault>
+    requires { pass.old.table.modes.block + 66 < 2 ^ 64 }
+    ensures stand { IfOk result (λ flags. Labels map.now counting.old line.now.text pass.old pass.new flags) }
+    ensures counts { IfOk result (λ _. counting.new ≡ with_counted (uses_of_labels line.now.text) counting.old) }
     ensures tables { IfOk result (λ _. tables.Follows pass.old.table pass.new.table (λ before. labels_stand before line.now.text)) }
     ensures refuses { IfErr result (λ fault. (before : LineTable) → Matches pass.old before
         → Fails (labels_fault counting.old before line.now.text) fault) }
@@ -79,11 +79,11 @@ fn define_all(
     map: &Map<'_>,
     line: &Line,
     labels: &[Label],
-) -> Result<LabelLetters, AsmFault>
+) -> Result<LabelFlags, AsmFault>
     requires are { labels.now ≡ labels_at line.now.text }
-    requires blocks { pass.old.table.settings.block + length labels.now < 2 ^ 64 }
-    ensures stand { IfOk result (λ letters. Labels map.now counting.old line.now.text pass.old pass.new letters) }
-    ensures counts { IfOk result (λ _. counting.new ≡ with_counted (mentions_of_labels line.now.text) counting.old) }
+    requires blocks { pass.old.table.modes.block + length labels.now < 2 ^ 64 }
+    ensures stand { IfOk result (λ flags. Labels map.now counting.old line.now.text pass.old pass.new flags) }
+    ensures counts { IfOk result (λ _. counting.new ≡ with_counted (uses_of_labels line.now.text) counting.old) }
     ensures tables { IfOk result (λ _. tables.Follows pass.old.table pass.new.table (λ before. labels_stand before line.now.text)) }
     ensures refuses { IfErr result (λ fault. (before : LineTable) → Matches pass.old before
         → Fails (labels_fault counting.old before line.now.text) fault) }
@@ -93,7 +93,7 @@ fn define_all(
     // the names are counted before any label is defined, so that want of memory for a label hides no limit on names that are mentioned
     counting.add_labels(line, labels)?;
     counting.names_are_within_the_limit();
-    let letters = pass.define_labels(map, line, labels)?;
+    let flags = pass.define_labels(map, line, labels)?;
     pass.counts_are_within_the_limits();
-    Ok(letters)
+    Ok(flags)
 }

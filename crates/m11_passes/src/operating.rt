@@ -7,19 +7,19 @@ ghost use Rattle.m11_fields.specs.Reads.{fields_seen};
 ghost use Rattle.m11_fields.specs.Terms.{AreTerms};
 ghost use Rattle.m11_operators.specs.Reading.{operator_fields};
 ghost use Rattle.m11_placement.specs.Effects.{operator_change};
-ghost use Rattle.m11_placement.specs.Items.{deed_items, is_shown, number_items};
+ghost use Rattle.m11_placement.specs.Items.{action_items, is_shown, number_items};
 ghost use Rattle.m11_placement.specs.Limits.{most_defined_names, most_names, most_sections};
 ghost use Rattle.m11_placement.specs.Lines.{put_by, put_place};
 ghost use Rattle.m11_placement.specs.Tables.{Table as LineTable, firm_table, place, section_name};
 ghost use Rattle.m11_placing.specs.Counting.{names_counted, with_counted};
-ghost use Rattle.m11_placing.specs.Deeds.{AreDeedTerms, IsWithin, deed_fields, deed_seen, is_listed};
-ghost use Rattle.m11_placement.specs.Mentions.{mention};
-ghost use Rattle.m11_placement.specs.declared.meanings.Context.TheVariants.{Knows};
-ghost use Rattle.m11_placing.specs.Mentioned.{Adds, with_all};
+ghost use Rattle.m11_placing.specs.Actions.{AreActionTerms, IsWithin, action_fields, action_seen, is_listed};
+ghost use Rattle.m11_placement.specs.SymbolUses.{symbol_use};
+ghost use Rattle.m11_placement.specs.declared.meanings.Context.TheVariants.{LocalOnly};
+ghost use Rattle.m11_placing.specs.UsedSymbols.{Adds, with_all};
 ghost use Rattle.m11_placing.specs.Passes.{Follows, Matches};
 ghost use Rattle.m11_table.specs.Alike as tables;
 ghost use Rattle.m11_placing.specs.Faults.{Overfills, Refuses};
-ghost use Rattle.m11_passes.specs.Operated.{change_after, mentions_after};
+ghost use Rattle.m11_passes.specs.Operated.{change_after, uses_after};
 
 use m11_arguments::Notes;
 use m11_asm_faults::AsmFault;
@@ -28,7 +28,7 @@ use m11_fields::{Fields, is_even};
 use m11_listing::Item;
 use m11_operators::{Put, place_for};
 use m11_placement::{Context, Operator};
-use m11_placing::{Counting, Deed, Mentioned, Pass, put_deed};
+use m11_placing::{Action, Counting, Pass, UsedSymbols, put_action};
 use m11_scan::Line;
 use m11_table::Map;
 
@@ -39,54 +39,54 @@ pub(crate) fn put_line(
     pass: &Pass,
     line: &Line,
     arguments: Option<u16>,
-    deed: &Deed,
+    action: &Action,
     fields: &Fields,
 ) -> Result<(), AsmFault>
-    requires within { IsWithin (length line.now.text) deed.now }
-    requires listed { IsTrue (is_listed deed.now) }
-    requires fields { fields_seen fields.now ≡ deed_fields pass.now.table line.now.text deed.now }
+    requires within { IsWithin (length line.now.text) action.now }
+    requires listed { IsTrue (is_listed action.now) }
+    requires fields { fields_seen fields.now ≡ action_fields pass.now.table line.now.text action.now }
     requires ends { fields.now.end ≤ length line.now.text }
-    requires terms { AreDeedTerms line.now.text deed.now fields.now.list.items fields.now.terms }
-    ensures puts { IfOk result (λ _. put.new ≡ put_by map.now pass.now.table line.now.text arguments (deed_seen deed.now)) }
+    requires terms { AreActionTerms line.now.text action.now fields.now.list.items fields.now.terms }
+    ensures puts { IfOk result (λ _. put.new ≡ put_by map.now pass.now.table line.now.text arguments (action_seen action.now)) }
     ensures refuses { IfErr result (λ fault. Refuses fault ⊥ ⊥) }
 {
     put.clear();
-    put_deed(put, map, pass.table(), line, arguments, deed, fields)?;
+    put_action(put, map, pass.table(), line, arguments, action, fields)?;
     Ok(())
 }
 
 // The symbols that unfolding read.
-fn mention_read(mentioned: &mut Mentioned, notes: &Notes) -> Result<(), AsmFault>
-    ensures { Adds (map (mention Knows) notes.now.symbols) mentioned.old mentioned.new result }
+fn use_read(used_symbols: &mut UsedSymbols, notes: &Notes) -> Result<(), AsmFault>
+    ensures { Adds (map (symbol_use LocalOnly) notes.now.symbols) used_symbols.old used_symbols.new result }
 {
     match notes.symbols() {
         // most lines have none
         [] => Ok(()),
-        symbols => mentioned.add_all(symbols, Context::Knows),
+        symbols => used_symbols.add_all(symbols, Context::LocalOnly),
     }
 }
 
 // The symbols that unfolding read, and those that the operator mentions, with the fields that it has by a table.
 // Inline: most lines mention nothing, or the fields of an instruction alone.
 #[inline(always)]
-fn mention_line(
-    mentioned: &mut Mentioned,
+fn use_line(
+    used_symbols: &mut UsedSymbols,
     line: &Line,
     notes: &Notes,
     arguments: Option<u16>,
-    deed: &Deed,
+    action: &Action,
     fields: &Fields,
 ) -> Result<(), AsmFault>
-    requires within { IsWithin (length line.now.text) deed.now }
-    requires terms { AreDeedTerms line.now.text deed.now fields.now.list.items fields.now.terms }
-    ensures mentions { (table : LineTable) → fields_seen fields.now ≡ deed_fields table line.now.text deed.now → IfOk result
-        (λ _. mentioned.new ≡ with_all (mentions_after table line.now.text notes.now arguments (deed_seen deed.now)) mentioned.old) }
-    ensures refuses { (table : LineTable) → fields_seen fields.now ≡ deed_fields table line.now.text deed.now → IfErr result
+    requires within { IsWithin (length line.now.text) action.now }
+    requires terms { AreActionTerms line.now.text action.now fields.now.list.items fields.now.terms }
+    ensures symbol_uses { (table : LineTable) → fields_seen fields.now ≡ action_fields table line.now.text action.now → IfOk result
+        (λ _. used_symbols.new ≡ with_all (uses_after table line.now.text notes.now arguments (action_seen action.now)) used_symbols.old) }
+    ensures refuses { (table : LineTable) → fields_seen fields.now ≡ action_fields table line.now.text action.now → IfErr result
         (λ fault. Refuses fault (most_names < length
-        (with_all (mentions_after table line.now.text notes.now arguments (deed_seen deed.now)) mentioned.old).names) ⊥) }
+        (with_all (uses_after table line.now.text notes.now arguments (action_seen action.now)) used_symbols.old).names) ⊥) }
 {
-    mention_read(mentioned, notes)?;
-    mentioned.add_deed(line, arguments, deed, fields)?;
+    use_read(used_symbols, notes)?;
+    used_symbols.add_action(line, arguments, action, fields)?;
     Ok(())
 }
 
@@ -97,20 +97,20 @@ pub(crate) fn count_line(
     line: &Line,
     notes: &Notes,
     arguments: Option<u16>,
-    deed: &Deed,
+    action: &Action,
     fields: &Fields,
 ) -> Result<(), AsmFault>
-    requires within { IsWithin (length line.now.text) deed.now }
-    requires terms { AreDeedTerms line.now.text deed.now fields.now.list.items fields.now.terms }
-    ensures counts { (table : LineTable) → fields_seen fields.now ≡ deed_fields table line.now.text deed.now → IfOk result
-        (λ _. counting.new ≡ with_counted (mentions_after table line.now.text notes.now arguments (deed_seen deed.now)) counting.old) }
-    ensures refuses { (table : LineTable) → fields_seen fields.now ≡ deed_fields table line.now.text deed.now → IfErr result
+    requires within { IsWithin (length line.now.text) action.now }
+    requires terms { AreActionTerms line.now.text action.now fields.now.list.items fields.now.terms }
+    ensures counts { (table : LineTable) → fields_seen fields.now ≡ action_fields table line.now.text action.now → IfOk result
+        (λ _. counting.new ≡ with_counted (uses_after table line.now.text notes.now arguments (action_seen action.now)) counting.old) }
+    ensures refuses { (table : LineTable) → fields_seen fields.now ≡ action_fields table line.now.text action.now → IfErr result
         (λ fault. Refuses fault (most_names < length (names_counted
-        (with_counted (mentions_after table line.now.text notes.now arguments (deed_seen deed.now)) counting.old))) ⊥) }
+        (with_counted (uses_after table line.now.text notes.now arguments (action_seen action.now)) counting.old))) ⊥) }
 {
     match counting {
-        Counting::Mentions(mentioned) => {
-            mention_line(mentioned, line, notes, arguments, deed, fields)
+        Counting::SymbolUses(used_symbols) => {
+            use_line(used_symbols, line, notes, arguments, action, fields)
         }
         Counting::Definitions => Ok(()),
     }
@@ -123,39 +123,39 @@ pub(crate) fn change_line(
     map: &Map<'_>,
     line: &Line,
     arguments: Option<u16>,
-    deed: &Deed,
+    action: &Action,
     fields: &Fields,
 ) -> Result<Option<Item>, AsmFault>
-    requires within { IsWithin (length line.now.text) deed.now }
-    requires fields { fields_seen fields.now ≡ deed_fields pass.old.table line.now.text deed.now }
-    requires terms { AreDeedTerms line.now.text deed.now fields.now.list.items fields.now.terms }
-    requires listed { pass.old.table.settings.listed + 1 < 2 ^ 64 }
-    requires unlisted { pass.old.table.settings.unlisted + 1 < 2 ^ 64 }
-    requires block { pass.old.table.settings.block + 1 < 2 ^ 64 }
-    requires section { pass.old.table.settings.section < 64 }
+    requires within { IsWithin (length line.now.text) action.now }
+    requires fields { fields_seen fields.now ≡ action_fields pass.old.table line.now.text action.now }
+    requires terms { AreActionTerms line.now.text action.now fields.now.list.items fields.now.terms }
+    requires listed { pass.old.table.modes.listed + 1 < 2 ^ 64 }
+    requires unlisted { pass.old.table.modes.unlisted + 1 < 2 ^ 64 }
+    requires block { pass.old.table.modes.block + 1 < 2 ^ 64 }
+    requires section { pass.old.table.modes.section < 64 }
     ensures changes { IfOk result (λ _. Follows pass.old pass.new (λ before. changed map.now line.now.text
-        (change_after pass.old.table line.now.text arguments (deed_seen deed.now)) before)) }
+        (change_after pass.old.table line.now.text arguments (action_seen action.now)) before)) }
     ensures tables { IfOk result (λ _. tables.Follows pass.old.table pass.new.table (λ before. changed map.now line.now.text
-        (change_after pass.old.table line.now.text arguments (deed_seen deed.now)) before)) }
+        (change_after pass.old.table line.now.text arguments (action_seen action.now)) before)) }
     ensures symbols { IfOk result (λ _. pass.new.local_symbols ≡ pass.old.local_symbols) }
     ensures names { IfOk result (λ _. pass.new.names ≤ most_defined_names) }
     ensures sections { IfOk result (λ _. length pass.new.table.sections ≤ most_sections) }
-    ensures shows { IfOk result (λ item. option_to_list item ≡ deed_items map.now pass.old.table line.now.text
-        (change_after pass.old.table line.now.text arguments (deed_seen deed.now)) (deed_seen deed.now)) }
+    ensures shows { IfOk result (λ item. option_to_list item ≡ action_items map.now pass.old.table line.now.text
+        (change_after pass.old.table line.now.text arguments (action_seen action.now)) (action_seen action.now)) }
     ensures refuses { IfErr result (λ fault. (before : LineTable) → Matches pass.old before
         → Overfills fault (changed map.now line.now.text
-        (change_after pass.old.table line.now.text arguments (deed_seen deed.now)) before)) }
+        (change_after pass.old.table line.now.text arguments (action_seen action.now)) before)) }
 {
     // most lines change nothing
-    match *deed {
-        Deed::Rests => {
+    match *action {
+        Action::NoAction => {
             pass.counts_are_within_the_limits();
             Ok(None)
         }
-        Deed::Operates(operator, start) => {
+        Action::Operate(operator, start) => {
             operate_line(pass, map, line, arguments, operator, start, fields)
         }
-        _ => change_any(pass, map, line, arguments, deed, fields),
+        _ => change_any(pass, map, line, arguments, action, fields),
     }
 }
 
@@ -173,10 +173,10 @@ fn operate_line(
     requires within { start ≤ length line.now.text }
     requires fields { fields_seen fields.now ≡ operator_fields pass.old.table line.now.text start operator }
     requires terms { AreTerms line.now.text fields.now.list.items fields.now.terms }
-    requires listed { pass.old.table.settings.listed + 1 < 2 ^ 64 }
-    requires unlisted { pass.old.table.settings.unlisted + 1 < 2 ^ 64 }
-    requires block { pass.old.table.settings.block + 1 < 2 ^ 64 }
-    requires section { pass.old.table.settings.section < 64 }
+    requires listed { pass.old.table.modes.listed + 1 < 2 ^ 64 }
+    requires unlisted { pass.old.table.modes.unlisted + 1 < 2 ^ 64 }
+    requires block { pass.old.table.modes.block + 1 < 2 ^ 64 }
+    requires section { pass.old.table.modes.section < 64 }
     ensures changes { IfOk result (λ _. Follows pass.old pass.new (λ before. changed map.now line.now.text
         (operator_change (firm_table pass.old.table) line.now.text start arguments operator) before)) }
     ensures tables { IfOk result (λ _. tables.Follows pass.old.table pass.new.table (λ before. changed map.now line.now.text
@@ -196,9 +196,9 @@ fn operate_line(
             pass.counts_are_within_the_limits();
             Ok(None)
         }
-        Operator::Directs(_) => {
-            let deed = Deed::Operates(operator, start);
-            change_any(pass, map, line, arguments, &deed, fields)
+        Operator::Directive(_) => {
+            let action = Action::Operate(operator, start);
+            change_any(pass, map, line, arguments, &action, fields)
         }
     }
 }
@@ -210,30 +210,30 @@ fn change_any(
     map: &Map<'_>,
     line: &Line,
     arguments: Option<u16>,
-    deed: &Deed,
+    action: &Action,
     fields: &Fields,
 ) -> Result<Option<Item>, AsmFault>
-    requires within { IsWithin (length line.now.text) deed.now }
-    requires fields { fields_seen fields.now ≡ deed_fields pass.old.table line.now.text deed.now }
-    requires terms { AreDeedTerms line.now.text deed.now fields.now.list.items fields.now.terms }
-    requires listed { pass.old.table.settings.listed + 1 < 2 ^ 64 }
-    requires unlisted { pass.old.table.settings.unlisted + 1 < 2 ^ 64 }
-    requires block { pass.old.table.settings.block + 1 < 2 ^ 64 }
-    requires section { pass.old.table.settings.section < 64 }
+    requires within { IsWithin (length line.now.text) action.now }
+    requires fields { fields_seen fields.now ≡ action_fields pass.old.table line.now.text action.now }
+    requires terms { AreActionTerms line.now.text action.now fields.now.list.items fields.now.terms }
+    requires listed { pass.old.table.modes.listed + 1 < 2 ^ 64 }
+    requires unlisted { pass.old.table.modes.unlisted + 1 < 2 ^ 64 }
+    requires block { pass.old.table.modes.block + 1 < 2 ^ 64 }
+    requires section { pass.old.table.modes.section < 64 }
     ensures changes { IfOk result (λ _. Follows pass.old pass.new (λ before. changed map.now line.now.text
-        (change_after pass.old.table line.now.text arguments (deed_seen deed.now)) before)) }
+        (change_after pass.old.table line.now.text arguments (action_seen action.now)) before)) }
     ensures tables { IfOk result (λ _. tables.Follows pass.old.table pass.new.table (λ before. changed map.now line.now.text
-        (change_after pass.old.table line.now.text arguments (deed_seen deed.now)) before)) }
+        (change_after pass.old.table line.now.text arguments (action_seen action.now)) before)) }
     ensures symbols { IfOk result (λ _. pass.new.local_symbols ≡ pass.old.local_symbols) }
     ensures names { IfOk result (λ _. pass.new.names ≤ most_defined_names) }
     ensures sections { IfOk result (λ _. length pass.new.table.sections ≤ most_sections) }
-    ensures shows { IfOk result (λ item. option_to_list item ≡ deed_items map.now pass.old.table line.now.text
-        (change_after pass.old.table line.now.text arguments (deed_seen deed.now)) (deed_seen deed.now)) }
+    ensures shows { IfOk result (λ item. option_to_list item ≡ action_items map.now pass.old.table line.now.text
+        (change_after pass.old.table line.now.text arguments (action_seen action.now)) (action_seen action.now)) }
     ensures refuses { IfErr result (λ fault. (before : LineTable) → Matches pass.old before
         → Overfills fault (changed map.now line.now.text
-        (change_after pass.old.table line.now.text arguments (deed_seen deed.now)) before)) }
+        (change_after pass.old.table line.now.text arguments (action_seen action.now)) before)) }
 {
-    let item = pass.take_deed(map, line, arguments, deed, fields)?;
+    let item = pass.take_action(map, line, arguments, action, fields)?;
     pass.counts_are_within_the_limits();
     Ok(item)
 }
@@ -243,7 +243,7 @@ pub(crate) fn section_name(pass: &Pass) -> Name
     ensures { result ≡ section_name pass.now.table }
 {
     let table = pass.table();
-    table.section(table.settings().section).name
+    table.section(table.modes().section).name
 }
 
 // Where the counter of the section that lines go into stands.
@@ -255,18 +255,18 @@ pub(crate) fn counter(pass: &Pass) -> u16
 
 // Whether the levels of listing show a line.
 pub(crate) fn is_shown(pass: &Pass, is_expanded: bool) -> bool
-    ensures { result ≡ is_shown pass.now.table.settings is_expanded }
+    ensures { result ≡ is_shown pass.now.table.modes is_expanded }
 {
-    m11_placing::is_shown(&pass.table().settings(), is_expanded)
+    m11_placing::is_shown(&pass.table().modes(), is_expanded)
 }
 
 // Where the operator of a line puts what it puts.
-pub(crate) fn put_place(pass: &Pass, deed: &Deed) -> u16
-    ensures { result ≡ put_place pass.now.table (deed_seen deed.now) }
+pub(crate) fn put_place(pass: &Pass, action: &Action) -> u16
+    ensures { result ≡ put_place pass.now.table (action_seen action.now) }
 {
     let place = pass.table().place();
-    match *deed {
-        Deed::Operates(operator, _) => place_for(is_even(operator), place),
+    match *action {
+        Action::Operate(operator, _) => place_for(is_even(operator), place),
         _ => place,
     }
 }

@@ -5,8 +5,8 @@ ghost use Rattle.m11_lines.specs.Line.{no_line};
 
 use m11_base::Name;
 use m11_listing::Item;
-use m11_placing::Deed;
-use m11_scan::{Letters, Line};
+use m11_placing::Action;
+use m11_scan::{ErrorFlags, Line};
 
 /// A live line, and what stands after its labels. One stands where the lines of a pass are put, one after the other, since moving a line
 /// takes longer than reading it.
@@ -17,7 +17,7 @@ pub struct LiveLine {
     /// Whether an expansion gave it.
     pub is_expanded: bool,
     /// What stands after its labels.
-    pub deed: Deed,
+    pub action: Action,
 }
 
 impl LiveLine {
@@ -28,7 +28,7 @@ impl LiveLine {
         LiveLine {
             line: Line::new(),
             is_expanded: false,
-            deed: Deed::Rests,
+            action: Action::NoAction,
         }
     }
 }
@@ -38,8 +38,8 @@ impl LiveLine {
 pub struct PlacedLine {
     /// The line, and what stands after its labels.
     pub live: LiveLine,
-    /// Its letters, with P where a label of it has another place than the map says.
-    pub letters: Letters,
+    /// Its flags, with P where a label of it has another place than the map says.
+    pub flags: ErrorFlags,
     /// The section that it stands in.
     pub section: Name,
     /// The place in that section where it puts what it puts.
@@ -59,7 +59,7 @@ impl PlacedLine {
     {
         PlacedLine {
             live: LiveLine::new(),
-            letters: Letters::none(),
+            flags: ErrorFlags::none(),
             section,
             place: 0,
             counter: 0,

@@ -19,7 +19,7 @@ use crate::turns::Turn;
 use m11_asm_faults::AsmFault;
 use m11_base::Latch;
 use m11_object_text::PieceContent;
-use m11_placing::{Counting, Mentioned, Pass};
+use m11_placing::{Counting, Pass, UsedSymbols};
 use m11_scan::Line;
 use m11_table::{Map, Table};
 use std::alloc::{AllocError, Global};
@@ -131,12 +131,12 @@ impl SourcePass {
     }
 
     /// What the pass leaves: its table with the sizes of sections, and the names that its lines mention, none where they don't count.
-    pub fn end(self) -> (Pass, Mentioned)
+    pub fn end(self) -> (Pass, UsedSymbols)
         ensures pass { result.0 ≡ self.going.kept }
-        ensures mentioned { result.1 ≡ gathered_in self.going.counting }
+        ensures used_symbols { result.1 ≡ gathered_in self.going.counting }
     {
         let state = self.state;
-        (state.pass, state.counting.into_mentioned(self.alloc))
+        (state.pass, state.counting.into_used(self.alloc))
     }
 
     /// What the last placed line puts.

@@ -7,8 +7,8 @@ ghost use Rattle.m11_placement.specs.Meanings.{empty_map};
 ghost use Rattle.m11_placement.specs.Tables.{first_table};
 ghost use Rattle.m11_fields.specs.Reads.{fields_seen};
 ghost use Rattle.m11_placing.specs.Counting.{names_counted};
-ghost use Rattle.m11_placing.specs.Deeds.{AreDeedTerms, IsWithin, deed_fields};
-ghost use Rattle.m11_placing.specs.Lines.{letters_from};
+ghost use Rattle.m11_placing.specs.Actions.{AreActionTerms, IsWithin, action_fields};
+ghost use Rattle.m11_placing.specs.Lines.{flags_from};
 ghost use Rattle.m11_placing.specs.Passes.{Matches};
 ghost use Rattle.m11_scan.specs.Views.{bits_of};
 ghost use Rattle.m11_unfold.specs.Kept.{IsKept};
@@ -29,8 +29,8 @@ use crate::turns::Turn;
 use m11_asm_faults::AsmFault;
 use m11_listing::Item;
 use m11_operators::Put;
-use m11_placing::{Counting, Deed, Pass, line_letters};
-use m11_scan::{Letters, Line};
+use m11_placing::{Action, Counting, Pass, line_flags};
+use m11_scan::{ErrorFlags, Line};
 use m11_statements::{Statement, statement};
 use m11_table::Map;
 use m11_unfold::{Step, Unfolder};
@@ -132,7 +132,7 @@ impl State {
         }
         let begun = self.begin(map, &mut placed.live, &statement)?;
         placed.section = section_name(&self.pass);
-        placed.place = put_place(&self.pass, &placed.live.deed);
+        placed.place = put_place(&self.pass, &placed.live.action);
         placed.counter = counter(&self.pass);
         put_line(
             &mut self.put,
@@ -140,10 +140,10 @@ impl State {
             &self.pass,
             &placed.live.line,
             begun.act.arguments,
-            &placed.live.deed,
+            &placed.live.action,
             &begun.fields,
         )?;
-        placed.letters = all_letters(&placed.live.line, &statement, &begun, &self.put);
+        placed.flags = all_flags(&placed.live.line, &statement, &begun, &self.put);
         placed.assigned = self.finish(map, &placed.live, &begun)?;
         placed.is_shown = is_shown(&self.pass, placed.live.is_expanded);
         Ok(())
@@ -164,7 +164,7 @@ impl State {
         self.counts_are_within_the_limits();
         let statement = statement(&live.line);
         if is_blank(&statement) {
-            live.deed = Deed::Rests;
+            live.action = Action::NoAction;
             return Ok(());
         }
         let map = Map::none();
@@ -182,11 +182,11 @@ impl State {
         live: &LiveLine,
         begun: &Begun,
     ) -> Result<Option<Item>, AsmFault>
-        requires within { IsWithin (length live.now.line.text) live.now.deed }
-        requires fields { fields_seen begun.now.fields ≡ deed_fields self.old.pass.table live.now.line.text live.now.deed }
-        requires terms { AreDeedTerms live.now.line.text live.now.deed begun.now.fields.list.items begun.now.fields.terms }
+        requires within { IsWithin (length live.now.line.text) live.now.action }
+        requires fields { fields_seen begun.now.fields ≡ action_fields self.old.pass.table live.now.line.text live.now.action }
+        requires terms { AreActionTerms live.now.line.text live.now.action begun.now.fields.list.items begun.now.fields.terms }
         requires room { HasRoom self.old.unfolder.stage.taken 1 1 self.old.pass.table }
-        ensures finishes { (old : Going) → Begins map.now (live_in live.now) old (going_of self.old) live.now.deed begun.now
+        ensures finishes { (old : Going) → Begins map.now (live_in live.now) old (going_of self.old) live.now.action begun.now
             → Finishes map.now (live_in live.now) old.unfolder.stage old (going_of self.new) result }
         ensures unfolder { self.new.unfolder ≡ self.old.unfolder }
         ensures put { self.new.put ≡ self.old.put }
@@ -199,7 +199,7 @@ impl State {
             line,
             &begun.act.notes,
             arguments,
-            &live.deed,
+            &live.action,
             &begun.fields,
         )?;
         self.counts_are_within_the_limits();
@@ -208,7 +208,7 @@ impl State {
             map,
             line,
             arguments,
-            &live.deed,
+            &live.action,
             &begun.fields,
         )
     }
@@ -228,20 +228,20 @@ impl State {
     }
 }
 
-// The letters of a line: those that the line's definition has, and P where a label of it has moved.
-fn all_letters(line: &Line, statement: &Statement, begun: &Begun, put: &Put) -> Letters
-    ensures { bits_of result ≡ bit_or (letters_from line.now.text statement.now.labels_end statement.now.body
-        (bits_of statement.now.label_letters) (bits_of begun.now.found.doubled) put.now.letters begun.now.act.notes.letters)
+// The flags of a line: those that the line's definition has, and P where a label of it has moved.
+fn all_flags(line: &Line, statement: &Statement, begun: &Begun, put: &Put) -> ErrorFlags
+    ensures { bits_of result ≡ bit_or (flags_from line.now.text statement.now.labels_end statement.now.body
+        (bits_of statement.now.label_flags) (bits_of begun.now.found.doubly_defined) put.now.flags begun.now.act.notes.flags)
         (bits_of begun.now.found.moved) }
 {
-    let letters = line_letters(
+    let flags = line_flags(
         line,
         usize::from(statement.labels_end),
         statement.body,
-        statement.label_letters,
-        begun.found.doubled,
-        put.letters(),
-        begun.act.notes.letters(),
+        statement.label_flags,
+        begun.found.doubly_defined,
+        put.flags(),
+        begun.act.notes.flags(),
     );
-    letters.with(begun.found.moved)
+    flags.with(begun.found.moved)
 }

@@ -6,7 +6,7 @@ use Rattle.m11_object_text.specs.declared.pieces.PieceContent.{PieceContent}
 use Rattle.m11_statements.specs.declared.parts.Part.{Part}
 use Rattle.m11_statements.specs.declared.parts.PartKind.{PartKind}
 use Rattle.m11_statements.specs.declared.parts.PartKind.TheVariants.{Text, Expression}
-use Rattle.m11_placement.specs.Codes.{Setting, form_words, words_from}
+use Rattle.m11_placement.specs.Codes.{LineContext, form_words, words_from}
 use Rattle.m11_placement.specs.Contents.{contents_size, fixed_byte, further}
 use Rattle.m11_placement.specs.Definitions.{Definition, Standing, firm_part, firm_parts, firm_standing}
 use Rattle.m11_placement.specs.Meanings.{Map}
@@ -103,26 +103,26 @@ packed_fill (first ∷ (second ∷ (third ∷ codes))) =
 
 -- ---- instructions
 
-form_fills : (setting : Setting) (place : ℕ) (form : Form)
-    → contents_size (form_words setting place form).contents ≡ words_of form * 2
-form_fills setting place Absent = refl
-form_fills setting place (InRegister kind register) = refl
-form_fills setting place (Indexed kind register index) = refl
-form_fills setting place (Unindexed register) = refl
-form_fills setting place (AfterCounter kind start) = refl
+form_fills : (line_context : LineContext) (place : ℕ) (form : Form)
+    → contents_size (form_words line_context place form).contents ≡ words_of form * 2
+form_fills line_context place Absent = refl
+form_fills line_context place (InRegister kind register) = refl
+form_fills line_context place (Indexed kind register index) = refl
+form_fills line_context place (Unindexed register) = refl
+form_fills line_context place (AfterCounter kind start) = refl
 
-pub forms_fill : (setting : Setting) (place : ℕ) (forms : List Form)
-    → 2 + contents_size (words_from setting place forms).contents ≡ instruction_size forms
-forms_fill setting place [] = refl
-forms_fill setting place (form ∷ forms) =
-    let both : contents_size (words_from setting place (form ∷ forms)).contents
-    ≡ contents_size (form_words setting place form).contents
-    + contents_size (words_from setting (further place (words_of form * 2)) forms).contents
-    = sizes_add (form_words setting place form).contents
-    (words_from setting (further place (words_of form * 2)) forms).contents in
-    let first : contents_size (form_words setting place form).contents ≡ words_of form * 2 = form_fills setting place form in
-    let rest : 2 + contents_size (words_from setting (further place (words_of form * 2)) forms).contents ≡ instruction_size forms
-    = forms_fill setting (further place (words_of form * 2)) forms in
+pub forms_fill : (line_context : LineContext) (place : ℕ) (forms : List Form)
+    → 2 + contents_size (words_from line_context place forms).contents ≡ instruction_size forms
+forms_fill line_context place [] = refl
+forms_fill line_context place (form ∷ forms) =
+    let both : contents_size (words_from line_context place (form ∷ forms)).contents
+    ≡ contents_size (form_words line_context place form).contents
+    + contents_size (words_from line_context (further place (words_of form * 2)) forms).contents
+    = sizes_add (form_words line_context place form).contents
+    (words_from line_context (further place (words_of form * 2)) forms).contents in
+    let first : contents_size (form_words line_context place form).contents ≡ words_of form * 2 = form_fills line_context place form in
+    let rest : 2 + contents_size (words_from line_context (further place (words_of form * 2)) forms).contents ≡ instruction_size forms
+    = forms_fill line_context (further place (words_of form * 2)) forms in
     omega (arith, both, first, rest)
 
 -- ---- firm parts

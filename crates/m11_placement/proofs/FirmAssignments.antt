@@ -8,7 +8,7 @@ use Rattle.m11_values.specs.Quantities.{Quantity}
 use Rattle.m11_placement.proofs.FirmNames.{firm_option, last_firm, value_alike}
 use Rattle.m11_placement.specs.Assignments.{all_firm, assigned, standing_of}
 use Rattle.m11_placement.specs.Definitions.{Definition, Key, Named, Numbered, Standing, Unknown, firm_part, firm_standing, last_definition}
-use Rattle.m11_placement.specs.Meanings.{AreFirm, Knows, Map, empty_map, firm_known, is_firm, is_firm_in, known_at}
+use Rattle.m11_placement.specs.Meanings.{AreFirm, LocalOnly, Map, empty_map, firm_known, is_firm, is_firm_in, known_at}
 use Rattle.m11_placement.specs.Tables.{Table, firm_table, place}
 
 found_firm : (found : Option Definition) → is_firm_in (firm_option found) ≡ is_firm_in found
@@ -19,8 +19,8 @@ symbol_firm : (table : Table) (symbol : Symbol) → is_firm (firm_table table) s
 symbol_firm table (Ordinary name) =
     ap is_firm_in (last_firm (Named name) table.definitions) ∙ found_firm (last_definition (Named name) table.definitions)
 symbol_firm table (Local number) =
-    ap is_firm_in (last_firm (Numbered table.settings.block number) table.definitions)
-    ∙ found_firm (last_definition (Numbered table.settings.block number) table.definitions)
+    ap is_firm_in (last_firm (Numbered table.modes.block number) table.definitions)
+    ∙ found_firm (last_definition (Numbered table.modes.block number) table.definitions)
 symbol_firm table Counter = refl
 
 all_alike : (table : Table) (symbols : List Symbol) → all_firm (firm_table table) symbols ≡ all_firm table symbols
@@ -61,8 +61,8 @@ from_firm table key line start =
     kept (all_firm table (symbols_at line start)) key (value_at (firm_known table (place table)) line start)
 
 twice_firm : (table : Table) (line : List ℕ) (start : ℕ) → AreFirm (firm_table table) (symbols_at line start)
-    → value_at (known_at empty_map Knows (firm_table table) (place table)) line start ≡ value_at (firm_known (firm_table table) (place table)) line start
-twice_firm table line start firm = value_alike empty_map Knows (firm_table table) (place table) line start firm
+    → value_at (known_at empty_map LocalOnly (firm_table table) (place table)) line start ≡ value_at (firm_known (firm_table table) (place table)) line start
+twice_firm table line start firm = value_alike empty_map LocalOnly (firm_table table) (place table) line start firm
 
 part_by_firm : (map : Map) (table : Table) (key : Key) (line : List ℕ) (start : ℕ)
     → firm_part (assigned map table key line start) ≡ from_firm (firm_table table) key line start
@@ -70,11 +70,11 @@ part_by_firm map table key line start =
     let symbols : List Symbol = symbols_at line start in
     let same : all_firm (firm_table table) symbols ≡ all_firm table symbols = all_alike table symbols in
     let value : all_firm table symbols ≡ true
-    → value_at (known_at map Knows table (place table)) line start
+    → value_at (known_at map LocalOnly table (place table)) line start
     ≡ value_at (firm_known (firm_table table) (place table)) line start
-    = λ all. value_alike map Knows table (place table) line start (are_firm table symbols all)
+    = λ all. value_alike map LocalOnly table (place table) line start (are_firm table symbols all)
     ∙ twice_firm table line start (are_firm (firm_table table) symbols (same ∙ all)) in
-    kept_alike (all_firm table symbols) key (value_at (known_at map Knows table (place table)) line start)
+    kept_alike (all_firm table symbols) key (value_at (known_at map LocalOnly table (place table)) line start)
     (value_at (firm_known (firm_table table) (place table)) line start) value
     ∙ ap (λ (b : Bool). kept b key (value_at (firm_known (firm_table table) (place table)) line start)) (sym same)
 

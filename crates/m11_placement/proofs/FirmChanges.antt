@@ -5,16 +5,16 @@ use Rattle.m11_base.specs.Rad50.{Name}
 use Rattle.m11_placement.proofs.FirmAssignments.{part_alike}
 use Rattle.m11_placement.proofs.FirmLabels.{definition_firm, labelled_firm}
 use Rattle.m11_placement.specs.Assignments.{assigned}
-use Rattle.m11_placement.specs.Changes.{Change, Keeps, Counts, Selects, Assigns, Numbers, Exports, Sets, changed, numbered, with_globals, with_move, with_number, with_section, with_settings, with_value}
+use Rattle.m11_placement.specs.Changes.{Change, Keeps, Counts, Selects, Assigns, Numbers, Exports, Sets, changed, numbered, with_globals, with_move, with_number, with_section, with_modes, with_value}
 use Rattle.m11_placement.specs.Definitions.{Definition, Named, firm_part, is_labelled}
 use Rattle.m11_placement.specs.Elements.{listed_names}
-use Rattle.m11_placement.specs.Labels.{global_if, with_definition, with_doubled, with_global}
+use Rattle.m11_placement.specs.Labels.{global_if, with_definition, with_doubly_defined, with_global}
 use Rattle.m11_placement.specs.Meanings.{Map}
 use Rattle.m11_placement.specs.Tables.{Table, firm_table}
 
 number_by : (is_there : Bool) (name : Name) (number : ℕ) (table : Table)
-    → firm_table (if is_there then with_doubled (Named name) table else with_definition (numbered name number) table)
-    ≡ (if is_there then with_doubled (Named name) (firm_table table) else with_definition (numbered name number) (firm_table table))
+    → firm_table (if is_there then with_doubly_defined (Named name) table else with_definition (numbered name number) table)
+    ≡ (if is_there then with_doubly_defined (Named name) (firm_table table) else with_definition (numbered name number) (firm_table table))
 number_by true name number table = refl
 number_by false name number table = definition_firm (numbered name number) table
 
@@ -28,7 +28,7 @@ number_firm name number table =
 abbrev written : Bool → Bool → Name → Definition → Table → Table
 written is_label is_global name definition table =
     global_if (is_global && not is_label) name
-    (if is_label then with_doubled (Named name) table else with_definition definition table)
+    (if is_label then with_doubly_defined (Named name) table else with_definition definition table)
 
 written_firm : (is_label is_global : Bool) (name : Name) (definition : Definition) (table : Table)
     → firm_table (written is_label is_global name definition table)
@@ -72,4 +72,4 @@ change_alike one other line (Numbers name number) first second same =
     number_firm name number first ∙ ap (λ (t : Table). with_number name number t) same ∙ sym (number_firm name number second)
 change_alike one other line (Exports start) first second same =
     ap (λ (t : Table). with_globals (listed_names line start) t) same
-change_alike one other line (Sets settings) first second same = ap (λ (t : Table). with_settings settings t) same
+change_alike one other line (Sets modes) first second same = ap (λ (t : Table). with_modes modes t) same

@@ -9,7 +9,7 @@ use Rattle.m11_statements.specs.declared.labels.LabelKind.{LabelKind}
 use Rattle.m11_statements.specs.declared.labels.LabelKind.TheVariants as label
 use Rattle.m11_placement.proofs.FirmNames.{firm_option, last_firm}
 use Rattle.m11_placement.specs.Definitions.{Definition, Key, Named, Numbered, firm_part, firm_parts, is_defined, is_labelled, is_of_label, is_same, last_definition}
-use Rattle.m11_placement.specs.Labels.{global_if, label_name, labelled, labels_stand, with_block, with_definition, with_doubled, with_global, with_key, with_kind, with_label, with_labels, with_name}
+use Rattle.m11_placement.specs.Labels.{global_if, label_name, labelled, labels_stand, with_block, with_definition, with_doubly_defined, with_global, with_key, with_kind, with_label, with_labels, with_name}
 use Rattle.m11_placement.specs.Tables.{Table, firm_table}
 
 pub defined_firm : (key : Key) (definitions : List Definition)
@@ -37,9 +37,9 @@ definition_firm definition table =
     (map-append firm_part table.definitions (definition ∷ []))
 
 name_by : (is_there is_global : Bool) (table : Table) (name : Name)
-    → firm_table (if is_there then with_doubled (Named name) table
+    → firm_table (if is_there then with_doubly_defined (Named name) table
     else global_if is_global name (with_block (with_definition (labelled table (Named name)) table)))
-    ≡ (if is_there then with_doubled (Named name) (firm_table table)
+    ≡ (if is_there then with_doubly_defined (Named name) (firm_table table)
     else global_if is_global name (with_block (with_definition (labelled (firm_table table) (Named name)) (firm_table table))))
 name_by true is_global table name = refl
 name_by false true table name =
@@ -53,8 +53,8 @@ name_firm is_global table (Some name) =
 name_firm is_global table None = refl
 
 key_by : (is_there : Bool) (table : Table) (key : Key)
-    → firm_table (if is_there then with_doubled key table else with_definition (labelled table key) table)
-    ≡ (if is_there then with_doubled key (firm_table table) else with_definition (labelled (firm_table table) key) (firm_table table))
+    → firm_table (if is_there then with_doubly_defined key table else with_definition (labelled table key) table)
+    ≡ (if is_there then with_doubly_defined key (firm_table table) else with_definition (labelled (firm_table table) key) (firm_table table))
 key_by true table key = refl
 key_by false table key = definition_firm (labelled table key) table
 
@@ -66,7 +66,7 @@ kind_firm : (table : Table) (name : Option Name) (kind : LabelKind)
     → firm_table (with_kind table name kind) ≡ with_kind (firm_table table) name kind
 kind_firm table name label.Ordinary = name_firm false table name
 kind_firm table name label.Global = name_firm true table name
-kind_firm table name (label.Local number) = key_firm table (Numbered table.settings.block number)
+kind_firm table name (label.Local number) = key_firm table (Numbered table.modes.block number)
 kind_firm table name label.Outside = refl
 
 all_firm : (line : List ℕ) (table : Table) (labels : List Label)

@@ -11,7 +11,7 @@ use Rattle.m11_values.specs.Symbols.{AgreeOn}
 use Rattle.m11_values.specs.Terms.{Atom, Item, atom_of, item, symbol_in}
 use Rattle.m11_values.specs.Values.{value_of}
 use Rattle.m11_placement.specs.Definitions.{Definition, Key, Named, Numbered, firm_part, firm_parts, is_same, last_definition, later_or}
-use Rattle.m11_placement.specs.Meanings.{AreFirm, Context, Knows, Map, defined_or, empty_map, firm_known, is_firm, is_firm_in, known_at, stands_for, undefined}
+use Rattle.m11_placement.specs.Meanings.{AreFirm, Context, LocalOnly, Map, defined_or, empty_map, firm_known, is_firm, is_firm_in, known_at, stands_for, undefined}
 use Rattle.m11_placement.specs.Tables.{Table, firm_table}
 
 -- ---- symbols
@@ -33,33 +33,33 @@ last_firm key (definition ∷ definitions) =
     rw (last_firm key definitions)
     (later_firm (last_definition key definitions) (is_same definition.key key) definition)
 
-firm_alike : (key : Key) (doubled : List Key) (one other : Quantity) (found : Option Definition) → is_firm_in found ≡ true
-    → defined_or key doubled one found ≡ defined_or key doubled other (firm_option found)
-firm_alike key doubled one other (Some definition) firm = rw firm refl
-firm_alike key doubled one other None firm = absurd (true≢false (sym firm))
+firm_alike : (key : Key) (doubly_defined : List Key) (one other : Quantity) (found : Option Definition) → is_firm_in found ≡ true
+    → defined_or key doubly_defined one found ≡ defined_or key doubly_defined other (firm_option found)
+firm_alike key doubly_defined one other (Some definition) firm = rw firm refl
+firm_alike key doubly_defined one other None firm = absurd (true≢false (sym firm))
 
-meaning_alike : (key : Key) (doubled : List Key) (definitions : List Definition) (one other : Quantity)
+meaning_alike : (key : Key) (doubly_defined : List Key) (definitions : List Definition) (one other : Quantity)
     → is_firm_in (last_definition key definitions) ≡ true
-    → defined_or key doubled one (last_definition key definitions)
-    ≡ defined_or key doubled other (last_definition key (firm_parts definitions))
-meaning_alike key doubled definitions one other firm =
-    rw (last_firm key definitions) (firm_alike key doubled one other (last_definition key definitions) firm)
+    → defined_or key doubly_defined one (last_definition key definitions)
+    ≡ defined_or key doubly_defined other (last_definition key (firm_parts definitions))
+meaning_alike key doubly_defined definitions one other firm =
+    rw (last_firm key definitions) (firm_alike key doubly_defined one other (last_definition key definitions) firm)
 
 pub symbol_alike : (map : Map) (context : Context) (table : Table) (place : ℕ) (symbol : Symbol) → is_firm table symbol ≡ true
-    → stands_for map context table place symbol ≡ stands_for empty_map Knows (firm_table table) place symbol
+    → stands_for map context table place symbol ≡ stands_for empty_map LocalOnly (firm_table table) place symbol
 symbol_alike map context table place (Ordinary name) firm =
-    meaning_alike (Named name) table.doubled table.definitions
-    (defined_or (Named name) map.doubled (undefined context (Ordinary name)) (last_definition (Named name) map.definitions))
-    (undefined Knows (Ordinary name)) firm
+    meaning_alike (Named name) table.doubly_defined table.definitions
+    (defined_or (Named name) map.doubly_defined (undefined context (Ordinary name)) (last_definition (Named name) map.definitions))
+    (undefined LocalOnly (Ordinary name)) firm
 symbol_alike map context table place (Local number) firm =
-    meaning_alike (Numbered table.settings.block number) table.doubled table.definitions
-    (defined_or (Numbered table.settings.block number) map.doubled (undefined context (Local number))
-    (last_definition (Numbered table.settings.block number) map.definitions))
-    (undefined Knows (Local number)) firm
+    meaning_alike (Numbered table.modes.block number) table.doubly_defined table.definitions
+    (defined_or (Numbered table.modes.block number) map.doubly_defined (undefined context (Local number))
+    (last_definition (Numbered table.modes.block number) map.definitions))
+    (undefined LocalOnly (Local number)) firm
 symbol_alike map context table place Counter firm = refl
 
 symbols_alike : (map : Map) (context : Context) (table : Table) (place : ℕ) (symbols : List Symbol) → AreFirm table symbols
-    → AgreeOn symbols (stands_for map context table place) (stands_for empty_map Knows (firm_table table) place)
+    → AgreeOn symbols (stands_for map context table place) (stands_for empty_map LocalOnly (firm_table table) place)
 symbols_alike map context table place [] firm = tt
 symbols_alike map context table place (symbol ∷ symbols) firm =
     (symbol_alike map context table place symbol firm.0, symbols_alike map context table place symbols firm.1)
@@ -81,7 +81,7 @@ pub value_alike : (map : Map) (context : Context) (table : Table) (place : ℕ) 
     → AreFirm table (expressions.symbols_at line start)
     → expressions.value_at (known_at map context table place) line start ≡ expressions.value_at (firm_known table place) line start
 value_alike map context table place line start firm =
-    ap (λ (l : List Item). value_of table.settings.radix l)
-    (items_agree (stands_for map context table place) (stands_for empty_map Knows (firm_table table) place)
+    ap (λ (l : List Item). value_of table.modes.radix l)
+    (items_agree (stands_for map context table place) (stands_for empty_map LocalOnly (firm_table table) place)
     (expressions.expression_in (tokens_from line start))
     (symbols_alike map context table place (expressions.symbols_at line start) firm))

@@ -7,7 +7,7 @@ use Rattle.m11_statements.specs.declared.labels.Label.{Label}
 use Rattle.m11_statements.specs.declared.labels.LabelKind.{LabelKind}
 use Rattle.m11_statements.specs.declared.labels.LabelKind.TheVariants as label
 use Rattle.m11_placement.specs.Definitions.{Key, Named, Numbered, is_defined}
-use Rattle.m11_placement.specs.Labels.{global_if, label_name, labelled, labels_stand, with_block, with_definition, with_doubled, with_key, with_kind, with_label, with_labels, with_name}
+use Rattle.m11_placement.specs.Labels.{global_if, label_name, labelled, labels_stand, with_block, with_definition, with_doubly_defined, with_key, with_kind, with_label, with_labels, with_name}
 use Rattle.m11_placement.specs.Places.{Moved, place_in}
 use Rattle.m11_placement.specs.Tables.{Table, place}
 
@@ -16,10 +16,10 @@ abbrev pub Standing : Type 0
 Standing = List Moved × ℕ
 
 abbrev pub standing : Table → Standing
-standing table = (table.moves, table.settings.section)
+standing table = (table.moves, table.modes.section)
 
 name_by : (is_there is_global : Bool) (table : Table) (name : Name)
-    → standing (if is_there then with_doubled (Named name) table
+    → standing (if is_there then with_doubly_defined (Named name) table
     else global_if is_global name (with_block (with_definition (labelled table (Named name)) table))) ≡ standing table
 name_by true is_global table name = refl
 name_by false true table name = refl
@@ -30,7 +30,7 @@ name_keeps is_global table (Some name) = name_by (is_defined (Named name) table.
 name_keeps is_global table None = refl
 
 key_by : (is_there : Bool) (table : Table) (key : Key)
-    → standing (if is_there then with_doubled key table else with_definition (labelled table key) table) ≡ standing table
+    → standing (if is_there then with_doubly_defined key table else with_definition (labelled table key) table) ≡ standing table
 key_by true table key = refl
 key_by false table key = refl
 
@@ -38,7 +38,7 @@ kind_keeps : (table : Table) (name : Option Name) (kind : LabelKind) → standin
 kind_keeps table name label.Ordinary = name_keeps false table name
 kind_keeps table name label.Global = name_keeps true table name
 kind_keeps table name (label.Local number) =
-    key_by (is_defined (Numbered table.settings.block number) table.definitions) table (Numbered table.settings.block number)
+    key_by (is_defined (Numbered table.modes.block number) table.definitions) table (Numbered table.modes.block number)
 kind_keeps table name label.Outside = refl
 
 all_keep : (line : List ℕ) (table : Table) (labels : List Label) → standing (with_labels line table labels) ≡ standing table

@@ -17,14 +17,14 @@ use Rattle.m11_placement.specs.Effects.{directive_put, operator_put}
 use Rattle.m11_placement.specs.Elements.{elements_at}
 use Rattle.m11_placement.specs.Fields.{fields_at, forms_of}
 use Rattle.m11_placement.specs.Instructions as instructions
-use Rattle.m11_placement.specs.Lines.{Assigning, Deed, Operating, Rests, Setting, after_line, deed, line_put, pieces, put_by, put_place, stands}
-use Rattle.m11_placement.specs.Meanings.{Knows, Map, empty_map, known_at}
+use Rattle.m11_placement.specs.Lines.{Assign, Action, Operate, NoAction, SetCounter, after_line, action, line_put, pieces, put_by, put_place, stands}
+use Rattle.m11_placement.specs.Meanings.{LocalOnly, Map, empty_map, known_at}
 use Rattle.m11_placement.specs.declared.operands.Form.{Form}
 use Rattle.m11_placement.specs.declared.operands.Form.TheVariants.{Absent, InRegister, Indexed, Unindexed, AfterCounter}
 use Rattle.m11_placement.specs.Operands.{words_of}
 use Rattle.m11_placement.specs.declared.operators.Directive.{Directive}
 use Rattle.m11_placement.specs.declared.operators.Operator.{Operator}
-use Rattle.m11_placement.specs.declared.operators.Operator.TheVariants.{Instruction, Directs}
+use Rattle.m11_placement.specs.declared.operators.Operator.TheVariants as operators
 use Rattle.m11_placement.specs.Operators.{is_even}
 use Rattle.m11_placement.specs.declared.operators.Directive.TheVariants as word
 use Rattle.m11_placement.specs.Placements.{placed_from, placement}
@@ -130,29 +130,29 @@ abbrev forms_twos : List Form → List ℕ
 forms_twos [] = []
 forms_twos (form ∷ forms) = form_twos form ++ forms_twos forms
 
-form_sized : (setting : codes.Setting) (here : ℕ) (form : Form)
-    → sizes (codes.form_words setting here form).contents ≡ form_twos form
-form_sized setting here Absent = refl
-form_sized setting here (InRegister kind register) = refl
-form_sized setting here (Indexed kind register index) = refl
-form_sized setting here (Unindexed register) = refl
-form_sized setting here (AfterCounter kind start) = refl
+form_sized : (line_context : codes.LineContext) (here : ℕ) (form : Form)
+    → sizes (codes.form_words line_context here form).contents ≡ form_twos form
+form_sized line_context here Absent = refl
+form_sized line_context here (InRegister kind register) = refl
+form_sized line_context here (Indexed kind register index) = refl
+form_sized line_context here (Unindexed register) = refl
+form_sized line_context here (AfterCounter kind start) = refl
 
-forms_sized : (setting : codes.Setting) (here : ℕ) (forms : List Form)
-    → sizes (codes.words_from setting here forms).contents ≡ forms_twos forms
-forms_sized setting here [] = refl
-forms_sized setting here (form ∷ forms) =
-    map-append content_size (codes.form_words setting here form).contents
-    (codes.words_from setting (further here (words_of form * 2)) forms).contents
-    ∙ ap (λ (l : List ℕ). l ++ sizes (codes.words_from setting (further here (words_of form * 2)) forms).contents)
-    (form_sized setting here form)
-    ∙ ap (λ (l : List ℕ). form_twos form ++ l) (forms_sized setting (further here (words_of form * 2)) forms)
+forms_sized : (line_context : codes.LineContext) (here : ℕ) (forms : List Form)
+    → sizes (codes.words_from line_context here forms).contents ≡ forms_twos forms
+forms_sized line_context here [] = refl
+forms_sized line_context here (form ∷ forms) =
+    map-append content_size (codes.form_words line_context here form).contents
+    (codes.words_from line_context (further here (words_of form * 2)) forms).contents
+    ∙ ap (λ (l : List ℕ). l ++ sizes (codes.words_from line_context (further here (words_of form * 2)) forms).contents)
+    (form_sized line_context here form)
+    ∙ ap (λ (l : List ℕ). form_twos form ++ l) (forms_sized line_context (further here (words_of form * 2)) forms)
 
 -- ---- by the firm table alone
 
 abbrev directive_sizes : Bytes → ℕ → Directive → List ℕ
-directive_sizes line start word.Words = twos (elements_at line start).places
-directive_sizes line start word.Bytewise = ones (elements_at line start).places
+directive_sizes line start word.Word = twos (elements_at line start).places
+directive_sizes line start word.Byte = ones (elements_at line start).places
 directive_sizes line start word.Ascii = parts_ones line (strings.parts_at line start).list
 directive_sizes line start word.Asciz = parts_ones line (strings.parts_at line start).list ++ 1 ∷ []
 directive_sizes line start word.Rad50 = triples (parts_ones line (strings.parts_at line start).list)
@@ -161,74 +161,74 @@ directive_sizes line start other = []
 
 directive_sized : (known : Map) (table : Table) (here : ℕ) (line : Bytes) (start : ℕ) (arguments : Option ℕ) (directive : Directive)
     → sizes (directive_put known table here line start arguments directive).contents ≡ directive_sizes line start directive
-directive_sized known table here line start arguments word.Words = words_sized known table line here (elements_at line start).places
-directive_sized known table here line start arguments word.Bytewise = bytes_sized known table line here (elements_at line start).places
+directive_sized known table here line start arguments word.Word = words_sized known table line here (elements_at line start).places
+directive_sized known table here line start arguments word.Byte = bytes_sized known table line here (elements_at line start).places
 directive_sized known table here line start arguments word.Ascii =
     parts_sized known table here line (strings.parts_at line start).list
 directive_sized known table here line start arguments word.Asciz =
     map-append content_size (strings.ascii known table here line start).contents (fixed_byte 0 ∷ [])
     ∙ ap (λ (l : List ℕ). l ++ 1 ∷ []) (parts_sized known table here line (strings.parts_at line start).list)
 directive_sized known table here line start arguments word.Rad50 =
-    packed_sized (strings.parts_codes (known_at known Knows table here) line (strings.parts_at line start).list).codes
-    ∙ ap triples (parts_coded (known_at known Knows table here) line (strings.parts_at line start).list)
+    packed_sized (strings.parts_codes (known_at known LocalOnly table here) line (strings.parts_at line start).list).codes
+    ∙ ap triples (parts_coded (known_at known LocalOnly table here) line (strings.parts_at line start).list)
 directive_sized known table here line start arguments word.Limit = refl
-directive_sized known table here line start arguments word.ByteBlock = refl
-directive_sized known table here line start arguments word.WordBlock = refl
+directive_sized known table here line start arguments word.Blkb = refl
+directive_sized known table here line start arguments word.Blkw = refl
 directive_sized known table here line start arguments word.Even = refl
 directive_sized known table here line start arguments word.Odd = refl
-directive_sized known table here line start arguments word.InRadix = refl
-directive_sized known table here line start arguments word.AbsoluteSection = refl
-directive_sized known table here line start arguments word.ControlSection = refl
-directive_sized known table here line start arguments word.ProgramSection = refl
-directive_sized known table here line start arguments word.Global = refl
+directive_sized known table here line start arguments word.Radix = refl
+directive_sized known table here line start arguments word.Asect = refl
+directive_sized known table here line start arguments word.Csect = refl
+directive_sized known table here line start arguments word.Psect = refl
+directive_sized known table here line start arguments word.Globl = refl
 directive_sized known table here line start arguments word.Weak = refl
 directive_sized known table here line start arguments word.Title = refl
-directive_sized known table here line start arguments word.Identification = refl
-directive_sized known table here line start arguments word.Subtitle = refl
+directive_sized known table here line start arguments word.Ident = refl
+directive_sized known table here line start arguments word.Sbttl = refl
 directive_sized known table here line start arguments word.Page = refl
-directive_sized known table here line start arguments word.Lists = refl
-directive_sized known table here line start arguments word.Unlists = refl
-directive_sized known table here line start arguments word.Enable = refl
-directive_sized known table here line start arguments word.Disable = refl
-directive_sized known table here line start arguments word.ArgumentCount = refl
-directive_sized known table here line start arguments word.CharacterCount = refl
+directive_sized known table here line start arguments word.List = refl
+directive_sized known table here line start arguments word.Nlist = refl
+directive_sized known table here line start arguments word.Enabl = refl
+directive_sized known table here line start arguments word.Dsabl = refl
+directive_sized known table here line start arguments word.Narg = refl
+directive_sized known table here line start arguments word.Nchr = refl
 directive_sized known table here line start arguments word.End = refl
 
 abbrev operator_sizes : Table → ℕ → Bytes → ℕ → Operator → List ℕ
-operator_sizes firm here line start (Instruction operation) =
-    2 ∷ forms_twos (forms_of (fields_at (known_at empty_map Knows firm here) line start operation).list)
-operator_sizes firm here line start (Directs directive) = directive_sizes line start directive
+operator_sizes firm here line start (operators.Instruction operation) =
+    2 ∷ forms_twos (forms_of (fields_at (known_at empty_map LocalOnly firm here) line start operation).list)
+operator_sizes firm here line start (operators.Directive directive) = directive_sizes line start directive
 
 operator_sized : (known : Map) (table : Table) (here : ℕ) (line : Bytes) (start : ℕ) (arguments : Option ℕ) (operator : Operator)
     → sizes (operator_put known table here line start arguments operator).contents
     ≡ operator_sizes (firm_table table) here line start operator
-operator_sized known table here line start arguments (Instruction operation) =
-    ap (λ (l : List ℕ). 2 ∷ l) (forms_sized (instructions.setting known table here line) (further here 2)
+operator_sized known table here line start arguments (operators.Instruction operation) =
+    ap (λ (l : List ℕ). 2 ∷ l) (forms_sized (instructions.line_context known table here line) (further here 2)
     (forms_of (instructions.fields table here line start operation).list))
-operator_sized known table here line start arguments (Directs directive) =
+operator_sized known table here line start arguments (operators.Directive directive) =
     directive_sized known table here line start arguments directive
 
-abbrev deed_sizes : Table → Bytes → Deed → List ℕ
-deed_sizes firm line Rests = []
-deed_sizes firm line (Assigning name is_global start) = []
-deed_sizes firm line (Setting start) = []
-deed_sizes firm line (Operating operator start) =
+abbrev action_sizes : Table → Bytes → Action → List ℕ
+action_sizes firm line NoAction = []
+action_sizes firm line (Assign name is_global start) = []
+action_sizes firm line (SetCounter start) = []
+action_sizes firm line (Operate operator start) =
     operator_sizes firm (place_for (is_even operator) (place firm)) line start operator
 
-deed_sized : (known : Map) (table : Table) (line : Bytes) (arguments : Option ℕ) (does : Deed)
-    → sizes (put_by known table line arguments does).contents ≡ deed_sizes (firm_table table) line does
-deed_sized known table line arguments Rests = refl
-deed_sized known table line arguments (Assigning name is_global start) = refl
-deed_sized known table line arguments (Setting start) = refl
-deed_sized known table line arguments (Operating operator start) =
+action_sized : (known : Map) (table : Table) (line : Bytes) (arguments : Option ℕ) (does : Action)
+    → sizes (put_by known table line arguments does).contents ≡ action_sizes (firm_table table) line does
+action_sized known table line arguments NoAction = refl
+action_sized known table line arguments (Assign name is_global start) = refl
+action_sized known table line arguments (SetCounter start) = refl
+action_sized known table line arguments (Operate operator start) =
     operator_sized known table (place_for (is_even operator) (place table)) line start arguments operator
 
 line_sized : (known : Map) (stood : Table) (given : Given)
     → sizes (line_put known stood given).contents
-    ≡ deed_sizes (firm_table stood) given.live.line.text (deed given.is_own given.live.line.text)
+    ≡ action_sizes (firm_table stood) given.live.line.text (action given.is_own given.live.line.text)
 unfolding line_put
 line_sized known stood given =
-    deed_sized known stood given.live.line.text given.arguments (deed given.is_own given.live.line.text)
+    action_sized known stood given.live.line.text given.arguments (action given.is_own given.live.line.text)
 
 -- ---- shapes
 
@@ -246,27 +246,27 @@ shaped section here (content ∷ contents) =
     ap (λ (l : List Shape). shape section here (content_size content) ∷ l)
     (shaped section (further here (content_size content)) contents)
 
-abbrev firm_shapes : Table → Bytes → Deed → List Shape
-firm_shapes firm line does = shapes (section_name firm) (put_place firm does) (deed_sizes firm line does)
+abbrev firm_shapes : Table → Bytes → Action → List Shape
+firm_shapes firm line does = shapes (section_name firm) (put_place firm does) (action_sizes firm line does)
 
-start_firm : (table : Table) (does : Deed) → put_place table does ≡ put_place (firm_table table) does
-start_firm table Rests = refl
-start_firm table (Assigning name is_global start) = refl
-start_firm table (Setting start) = refl
-start_firm table (Operating operator start) = refl
+start_firm : (table : Table) (does : Action) → put_place table does ≡ put_place (firm_table table) does
+start_firm table NoAction = refl
+start_firm table (Assign name is_global start) = refl
+start_firm table (SetCounter start) = refl
+start_firm table (Operate operator start) = refl
 
 line_shaped : (known : Map) (table : Table) (given : Given)
     → map shape_of (pieces known table given)
-    ≡ firm_shapes (firm_table (stands table given)) given.live.line.text (deed given.is_own given.live.line.text)
+    ≡ firm_shapes (firm_table (stands table given)) given.live.line.text (action given.is_own given.live.line.text)
 line_shaped known table given =
-    shaped (section_name (stands table given)) (put_place (stands table given) (deed given.is_own given.live.line.text))
+    shaped (section_name (stands table given)) (put_place (stands table given) (action given.is_own given.live.line.text))
     (line_put known (stands table given) given).contents
     ∙ ap (λ (l : List ℕ). shapes (section_name (stands table given))
-    (put_place (stands table given) (deed given.is_own given.live.line.text)) l)
+    (put_place (stands table given) (action given.is_own given.live.line.text)) l)
     (line_sized known (stands table given) given)
     ∙ ap (λ (n : ℕ). shapes (section_name (stands table given)) n
-    (deed_sizes (firm_table (stands table given)) given.live.line.text (deed given.is_own given.live.line.text)))
-    (start_firm (stands table given) (deed given.is_own given.live.line.text))
+    (action_sizes (firm_table (stands table given)) given.live.line.text (action given.is_own given.live.line.text)))
+    (start_firm (stands table given) (action given.is_own given.live.line.text))
 
 lines_shaped : (one other : Map) (lines : List Given) (first second : Table) → firm_table first ≡ firm_table second
     → map shapes_in (placed_from one first lines) ≡ map shapes_in (placed_from other second lines)
@@ -274,7 +274,7 @@ lines_shaped one other [] first second same = refl
 lines_shaped one other (given ∷ lines) first second same =
     ap (λ (l : List Shape). l ∷ map shapes_in (placed_from one (after_line one first given) lines))
     (line_shaped one first given
-    ∙ ap (λ (t : Table). firm_shapes t given.live.line.text (deed given.is_own given.live.line.text))
+    ∙ ap (λ (t : Table). firm_shapes t given.live.line.text (action given.is_own given.live.line.text))
     (stands_alike given first second same)
     ∙ sym (line_shaped other second given))
     ∙ ap (λ (l : List (List Shape)). map shape_of (pieces other second given) ∷ l)

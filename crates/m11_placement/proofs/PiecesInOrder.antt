@@ -15,8 +15,8 @@ use Rattle.m11_placement.specs.Changes.{Change, Keeps, Counts, Selects, Assigns,
 use Rattle.m11_placement.specs.Contents.{content_size, contents_size, further, pieces_from}
 use Rattle.m11_placement.specs.Definitions.{Definition, Named, is_labelled}
 use Rattle.m11_placement.specs.Filling.{Fills, gap_before}
-use Rattle.m11_placement.specs.Labels.{global_if, with_definition, with_doubled}
-use Rattle.m11_placement.specs.Lines.{Assigning, Deed, Operating, Rests, Setting, after_line, deed, line_change, line_put, pieces, put_place, stands}
+use Rattle.m11_placement.specs.Labels.{global_if, with_definition, with_doubly_defined}
+use Rattle.m11_placement.specs.Lines.{Assign, Action, Operate, NoAction, SetCounter, after_line, action, line_change, line_put, pieces, put_place, stands}
 use Rattle.m11_placement.specs.Meanings.{Map}
 use Rattle.m11_placement.specs.Order.{LieFrom, pieces_if, pieces_in}
 use Rattle.m11_placement.specs.Placements.{after_lines}
@@ -93,19 +93,19 @@ moved_by section other = []
 
 value_by : (is_label is_global : Bool) (name : Name) (definition : Definition) (table : Table)
     → (global_if (is_global && not is_label) name
-    (if is_label then with_doubled (Named name) table else with_definition definition table)).moves ≡ table.moves
+    (if is_label then with_doubly_defined (Named name) table else with_definition definition table)).moves ≡ table.moves
 value_by true true name definition table = refl
 value_by true false name definition table = refl
 value_by false true name definition table = refl
 value_by false false name definition table = refl
 
 number_by : (is_label : Bool) (name : Name) (number : ℕ) (table : Table)
-    → (if is_label then with_doubled (Named name) table else with_definition (numbered name number) table).moves ≡ table.moves
+    → (if is_label then with_doubly_defined (Named name) table else with_definition (numbered name number) table).moves ≡ table.moves
 number_by true name number table = refl
 number_by false name number table = refl
 
 change_moves : (map : Map) (line : List ℕ) (change : Change) (table : Table)
-    → (changed map line change table).moves ≡ table.moves ++ moved_by table.settings.section change
+    → (changed map line change table).moves ≡ table.moves ++ moved_by table.modes.section change
 change_moves map line Keeps table = sym (append-nil table.moves)
 change_moves map line (Counts move) table = refl
 change_moves map line (Selects name attributes) table = sym (append-nil table.moves)
@@ -115,7 +115,7 @@ change_moves map line (Assigns name is_global start) table =
 change_moves map line (Numbers name number) table =
     number_by (is_labelled (Named name) table.definitions) name number table ∙ sym (append-nil table.moves)
 change_moves map line (Exports start) table = sym (append-nil table.moves)
-change_moves map line (Sets settings) table = sym (append-nil table.moves)
+change_moves map line (Sets modes) table = sym (append-nil table.moves)
 
 -- ---- the pieces of one line
 
@@ -166,11 +166,11 @@ pieces_lie section place (content ∷ contents) fits =
     (omega arith, subst Q (sym next) (subst P sum rest))
 
 -- where a line puts what it puts
-start_is : (table : Table) (does : Deed) → put_place table does ≡ (place table + gap_before table does) % 65536
-start_is table Rests = omega arith
-start_is table (Assigning name is_global start) = omega arith
-start_is table (Setting start) = omega arith
-start_is table (Operating operator start) = refl
+start_is : (table : Table) (does : Action) → put_place table does ≡ (place table + gap_before table does) % 65536
+start_is table NoAction = omega arith
+start_is table (Assign name is_global start) = omega arith
+start_is table (SetCounter start) = omega arith
+start_is table (Operate operator start) = refl
 
 -- ---- a line
 
@@ -186,7 +186,7 @@ record Lies (section end : ℕ) (before : Table) (found : List Piece) : Type 0 w
   within : LieWithin (sizes section before) end found
 
 -- the place of a section that was never set
-place_is : (section : ℕ) (table : Table) → table.settings.section ≡ section → IsUnset section table → sizes section table ≤ 65535
+place_is : (section : ℕ) (table : Table) → table.modes.section ≡ section → IsUnset section table → sizes section table ≤ 65535
     → place table ≡ sizes section table
 place_is section table here unset fits =
     let P : ℕ → Type 0 = λ n. (last_set (moves_in n table.moves) + sizes_since (moves_in n table.moves)) % 65536 ≡ sizes section table in
@@ -210,14 +210,14 @@ grown section other moves (Selects name attributes) = stays section moves
 grown section other moves (Assigns name is_global start) = stays section moves
 grown section other moves (Numbers name number) = stays section moves
 grown section other moves (Exports start) = stays section moves
-grown section other moves (Sets settings) = stays section moves
+grown section other moves (Sets modes) = stays section moves
 
 line_grows : (map : Map) (line : List ℕ) (change : Change) (section : ℕ) (stood : Table)
     → moves_in section (changed map line change stood).moves
-    ≡ moves_in section stood.moves ++ added (stood.settings.section == section) change
+    ≡ moves_in section stood.moves ++ added (stood.modes.section == section) change
 line_grows map line change section stood =
     ap (λ (l : List Moved). moves_in section l) (change_moves map line change stood)
-    ∙ grown section stood.settings.section stood.moves change
+    ∙ grown section stood.modes.section stood.moves change
 
 -- a line that puts nothing in a section
 empty_lies : (section : ℕ) (before after : Table) (more : List Move)
@@ -235,7 +235,7 @@ empty_lies section before after more grows unset =
 -- a line that puts something, after some bytes that are passed over
 filled_lies : (section gap start : ℕ) (name : Name) (contents : List PieceContent) (before after : Table)
     → moves_in section after.moves ≡ moves_in section before.moves ++ Steps (gap + contents_size contents) ∷ []
-    → before.settings.section ≡ section → IsUnset section after → sizes section after ≤ 65535
+    → before.modes.section ≡ section → IsUnset section after → sizes section after ≤ 65535
     → start ≡ (place before + gap) % 65536
     → Lies section (sizes section after) before (pieces_from name start contents)
 filled_lies section gap start name contents before after grows here unset fits begins =
@@ -268,7 +268,7 @@ none_of false = refl
 
 -- a line in a section or in another one
 line_by : (is_here : Bool) (section gap start : ℕ) (name : Name) (contents : List PieceContent) (change : Change) (before after : Table)
-    → (before.settings.section == section) ≡ is_here
+    → (before.modes.section == section) ≡ is_here
     → moves_in section after.moves ≡ moves_in section before.moves ++ added is_here change
     → IsUnset section after → sizes section after ≤ 65535 → start ≡ (place before + gap) % 65536 → Fills gap contents change
     → Lies section (sizes section after) before (pieces_if is_here (pieces_from name start contents))
@@ -280,22 +280,22 @@ line_by is_here section gap start name contents change before after where_it_is 
 line_by true section gap start name contents change before after where_it_is grows unset fits begins (inr steps) =
     let step : moves_in section after.moves ≡ moves_in section before.moves ++ Steps (gap + contents_size contents) ∷ []
     = grows ∙ ap (λ (c : Change). moves_in section before.moves ++ added true c) steps in
-    filled_lies section gap start name contents before after step (is_here before.settings.section section where_it_is) unset fits begins
+    filled_lies section gap start name contents before after step (is_here before.modes.section section where_it_is) unset fits begins
 line_by false section gap start name contents change before after where_it_is grows unset fits begins (inr steps) =
     empty_lies section before after (added false change) grows unset
 
 line_lies : (map : Map) (section : ℕ) (table : Table) (given : Given) → IsUnset section (after_line map table given)
     → sizes section (after_line map table given) ≤ 65535
     → Lies section (sizes section (after_line map table given)) (stands table given)
-    (pieces_if ((stands table given).settings.section == section) (pieces map table given))
+    (pieces_if ((stands table given).modes.section == section) (pieces map table given))
 line_lies map section table given unset fits =
-    line_by ((stands table given).settings.section == section) section
-    (gap_before (stands table given) (deed given.is_own given.live.line.text))
-    (put_place (stands table given) (deed given.is_own given.live.line.text)) (section_name (stands table given))
+    line_by ((stands table given).modes.section == section) section
+    (gap_before (stands table given) (action given.is_own given.live.line.text))
+    (put_place (stands table given) (action given.is_own given.live.line.text)) (section_name (stands table given))
     (line_put map (stands table given) given).contents (line_change (firm_table (stands table given)) given) (stands table given)
     (after_line map table given) refl
     (line_grows map given.live.line.text (line_change (firm_table (stands table given)) given) section (stands table given))
-    unset fits (start_is (stands table given) (deed given.is_own given.live.line.text)) (lines_fill map (stands table given) given)
+    unset fits (start_is (stands table given) (action given.is_own given.live.line.text)) (lines_fill map (stands table given) given)
 
 -- ---- all lines
 
@@ -332,7 +332,7 @@ all_lie map section (given ∷ lines) table unset fits =
     let rest : AllLie section (after_line map table given) (pieces_in section map (after_line map table given) lines)
     = all_lie map section lines (after_line map table given) unset fits in
     one_more section (sizes section (after_line map table given)) table (stands table given)
-    (pieces_if ((stands table given).settings.section == section) (pieces map table given))
+    (pieces_if ((stands table given).modes.section == section) (pieces map table given))
     (pieces_in section map (after_line map table given) lines) (stood_moves table given)
     (line_lies map section table given rest.unset rest.fits) rest.fits rest.lie
 

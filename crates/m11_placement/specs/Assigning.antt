@@ -3,7 +3,7 @@
 use Rattle.std.specs.Prelude.{ℕ, ◌&&◌, Bool, true, false, if◌then◌else◌, Option, Some, None}
 use Rattle.std.specs.List.{list_any}
 use Rattle.std.specs.Int.RustNames.{bit_or}
-use Rattle.m11_arguments.specs.Definedness.{letter_U}
+use Rattle.m11_arguments.specs.Definedness.{flag_U}
 use Rattle.m11_arguments.specs.Expressions.{value_at}
 use Rattle.m11_arguments.specs.LeftOvers.{has_token}
 use Rattle.m11_base.specs.Devices.{Bytes}
@@ -11,22 +11,22 @@ use Rattle.m11_base.specs.Mnemonics.{six_of}
 use Rattle.m11_base.specs.Rad50.{Name, is_same_name, name_of}
 use Rattle.m11_scan.specs.Cutting.{text_between, tokens_from}
 use Rattle.m11_scan.specs.Ends.{expression_end}
-use Rattle.m11_scan.specs.Letters.{letter_A, letter_Q}
-use Rattle.m11_statements.specs.Statements.{letter_if}
+use Rattle.m11_scan.specs.ErrorFlags.{flag_A, flag_Q}
+use Rattle.m11_statements.specs.Statements.{flag_if}
 use Rattle.m11_statements.specs.declared.spans.Span.{Span}
 use Rattle.m11_values.specs.Quantities.{Quantity}
 use Rattle.m11_placement.specs.Changes.{Assigns, Change, Counts, Keeps, Numbers}
-use Rattle.m11_placement.specs.Contents.{register_letters}
+use Rattle.m11_placement.specs.Contents.{register_flags}
 use Rattle.m11_placement.specs.Definitions.{Definition, Named, Standing, Known, Unknown, is_labelled, last_definition}
-use Rattle.m11_placement.specs.Labels.{letter_M}
-use Rattle.m11_placement.specs.Meanings.{Knows, Map, firm_known, known_at}
+use Rattle.m11_placement.specs.Labels.{flag_M}
+use Rattle.m11_placement.specs.Meanings.{LocalOnly, Map, firm_known, known_at}
 use Rattle.m11_placement.specs.Places.{Goes}
 use Rattle.m11_placement.specs.Relocations.{is_here}
 use Rattle.m11_placement.specs.Tables.{Table, place}
 
 -- Q for what stands after the expression at a place
 abbrev pub after_expression : Bytes → ℕ → ℕ
-after_expression line start = letter_if (has_token (tokens_from line (expression_end line start))) letter_Q
+after_expression line start = flag_if (has_token (tokens_from line (expression_end line start))) flag_Q
 
 -- ---- name=e, name==e
 
@@ -41,8 +41,8 @@ abbrev pub assignment : Bytes → Span → Bool → ℕ → Change
 assignment line name is_global start = assignment_to is_global start (target line name)
 
 -- M for a label's name
-abbrev pub label_letters : Table → Name → ℕ
-label_letters table name = letter_if (is_labelled (Named name) table.definitions) letter_M
+abbrev pub label_flags : Table → Name → ℕ
+label_flags table name = flag_if (is_labelled (Named name) table.definitions) flag_M
 
 -- a standing that isn't known
 abbrev pub is_unknown_as : Standing → Bool
@@ -57,27 +57,27 @@ abbrev pub is_exported : Name → Map → Bool
 is_exported name map = list_any (λ other. is_same_name other name) map.globals
 
 -- U for a name that is global, and whose value isn't known when the whole source was read
-abbrev pub global_letters : Map → Name → ℕ
-global_letters map name =
-    letter_if (is_exported name map && is_unknown (last_definition (Named name) map.definitions)) letter_U
+abbrev pub globl_flags : Map → Name → ℕ
+globl_flags map name =
+    flag_if (is_exported name map && is_unknown (last_definition (Named name) map.definitions)) flag_U
 
--- letters of any definition of a name that isn't a label's
-abbrev pub definition_letters : Map → Table → Name → ℕ
-definition_letters map table name = bit_or (label_letters table name) (global_letters map name)
+-- flags of any definition of a name that isn't a label's
+abbrev pub definition_flags : Map → Table → Name → ℕ
+definition_flags map table name = bit_or (label_flags table name) (globl_flags map name)
 
 -- of a change that assigns a number
-abbrev pub number_letters : Map → Table → Change → ℕ
-number_letters map table (Numbers name number) = definition_letters map table name
-number_letters map table other = 0
+abbrev pub number_flags : Map → Table → Change → ℕ
+number_flags map table (Numbers name number) = definition_flags map table name
+number_flags map table other = 0
 
-abbrev pub target_letters : Map → Table → Option Name → ℕ
-target_letters map table (Some name) = definition_letters map table name
-target_letters map table None = 0
+abbrev pub target_flags : Map → Table → Option Name → ℕ
+target_flags map table (Some name) = definition_flags map table name
+target_flags map table None = 0
 
-abbrev pub assignment_letters : Map → Table → Bytes → Span → ℕ → ℕ
-assignment_letters map table line name start =
-    bit_or (target_letters map table (target line name))
-    (bit_or (value_at (known_at map Knows table (place table)) line start).letters (after_expression line start))
+abbrev pub assignment_flags : Map → Table → Bytes → Span → ℕ → ℕ
+assignment_flags map table line name start =
+    bit_or (target_flags map table (target line name))
+    (bit_or (value_at (known_at map LocalOnly table (place table)) line start).flags (after_expression line start))
 
 -- ---- .=e: asked of firm names
 
@@ -90,13 +90,13 @@ counter_to table value = if is_here table value.kind then Counts (Goes value.num
 abbrev pub counter_change : Table → Bytes → ℕ → Change
 counter_change table line start = counter_to table (counter_value table line start)
 
-abbrev pub outside_letters : Table → Quantity → ℕ
-outside_letters table value = if is_here table value.kind then 0 else letter_A
+abbrev pub outside_flags : Table → Quantity → ℕ
+outside_flags table value = if is_here table value.kind then 0 else flag_A
 
-abbrev pub counter_letters_of : Table → Quantity → ℕ
-counter_letters_of table value =
-    bit_or value.letters (bit_or (register_letters value.kind) (outside_letters table value))
+abbrev pub counter_flags_of : Table → Quantity → ℕ
+counter_flags_of table value =
+    bit_or value.flags (bit_or (register_flags value.kind) (outside_flags table value))
 
-abbrev pub counter_letters : Table → Bytes → ℕ → ℕ
-counter_letters table line start =
-    bit_or (counter_letters_of table (counter_value table line start)) (after_expression line start)
+abbrev pub counter_flags : Table → Bytes → ℕ → ℕ
+counter_flags table line start =
+    bit_or (counter_flags_of table (counter_value table line start)) (after_expression line start)

@@ -7,8 +7,8 @@ use Rattle.m11_base.specs.Devices.{Bytes}
 use Rattle.m11_values.specs.declared.names.Symbol.{Symbol}
 use Rattle.m11_values.specs.Quantities.{Quantity}
 use Rattle.m11_placement.specs.Definitions.{Definition, Key, Standing, Known, Unknown, is_labelled}
-use Rattle.m11_placement.specs.Labels.{with_definition, with_doubled}
-use Rattle.m11_placement.specs.Meanings.{Knows, Map, is_firm, known_at}
+use Rattle.m11_placement.specs.Labels.{with_definition, with_doubly_defined}
+use Rattle.m11_placement.specs.Meanings.{LocalOnly, Map, is_firm, known_at}
 use Rattle.m11_placement.specs.Tables.{Table, place}
 
 -- a value with an unknown name is unknown
@@ -23,7 +23,7 @@ all_firm table (symbol ∷ symbols) = is_firm table symbol && all_firm table sym
 abbrev pub assigned : Map → Table → Key → Bytes → ℕ → Definition
 assigned map table key line start = record {
   key = key;
-  standing = standing_of (value_at (known_at map Knows table (place table)) line start);
+  standing = standing_of (value_at (known_at map LocalOnly table (place table)) line start);
   is_firm = all_firm table (symbols_at line start);
   label = None;
 }
@@ -31,5 +31,5 @@ assigned map table key line start = record {
 -- the table after an assignment: a label's name becomes doubled
 abbrev pub with_assigned : Map → Key → Bytes → ℕ → Table → Table
 with_assigned map key line start table =
-    if is_labelled key table.definitions then with_doubled key table
+    if is_labelled key table.definitions then with_doubly_defined key table
     else with_definition (assigned map table key line start) table

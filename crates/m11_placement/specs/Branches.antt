@@ -3,8 +3,8 @@
 -- 65536, is this project's own.)
 use Rattle.std.specs.Prelude.{ℕ, ◌-◌, ◌/◌, ◌%◌, ◌==◌, ◌&&◌, ◌||◌, not, nat_le, Bool, if◌then◌else◌}
 use Rattle.m11_values.specs.Quantities.{Quantity}
-use Rattle.m11_scan.specs.Letters.{letter_A}
-use Rattle.m11_statements.specs.Statements.{letter_if}
+use Rattle.m11_scan.specs.ErrorFlags.{flag_A}
+use Rattle.m11_statements.specs.Statements.{flag_if}
 use Rattle.m11_placement.specs.Relocations.{distance, is_here}
 use Rattle.m11_placement.specs.Tables.{Table}
 
@@ -36,5 +36,5 @@ loop_offset table place target =
     if loop_reaches table place target then back place target.number / 2 else 0
 
 -- A for a target that isn't reached
-abbrev pub target_letters : Bool → ℕ
-target_letters reaches = letter_if (not reaches) letter_A
+abbrev pub target_flags : Bool → ℕ
+target_flags reaches = flag_if (not reaches) flag_A

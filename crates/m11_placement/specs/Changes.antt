@@ -7,11 +7,11 @@ use Rattle.m11_values.specs.declared.kinds.Kind.TheVariants.{Absolute}
 use Rattle.m11_placement.specs.Assignments.{with_assigned}
 use Rattle.m11_placement.specs.Definitions.{Definition, Known, Named, is_labelled}
 use Rattle.m11_placement.specs.Elements.{listed_names}
-use Rattle.m11_placement.specs.Labels.{global_if, with_definition, with_doubled}
+use Rattle.m11_placement.specs.Labels.{global_if, with_definition, with_doubly_defined}
 use Rattle.m11_placement.specs.Meanings.{Map}
 use Rattle.m11_placement.specs.Places.{Move, in_section}
 use Rattle.m11_placement.specs.Sections.{Section, number_of, section}
-use Rattle.m11_placement.specs.Tables.{Settings, Table}
+use Rattle.m11_placement.specs.Tables.{Modes, Table}
 
 pub data Change : Type 0 where
   -- nothing
@@ -27,12 +27,12 @@ pub data Change : Type 0 where
   -- the names of the list at a place become global
   Exports : ℕ → Change
   -- the radix, or what is listed
-  Sets : Settings → Change
+  Sets : Modes → Change
 
 -- ---- the counter
 
 abbrev pub with_move : Move → Table → Table
-with_move move table = record table { moves = table.moves ++ in_section table.settings.section move ∷ [] }
+with_move move table = record table { moves = table.moves ++ in_section table.modes.section move ∷ [] }
 
 -- ---- sections
 
@@ -46,13 +46,13 @@ with_new (Some number) new sections = sections
 with_new None new sections = sections ++ new ∷ []
 
 -- in a section that is selected a new block of local symbols begins
-abbrev pub in_number : ℕ → Settings → Settings
-in_number number settings = record settings { section = number; block = settings.block + 1 }
+abbrev pub in_number : ℕ → Modes → Modes
+in_number number modes = record modes { section = number; block = modes.block + 1 }
 
 abbrev pub with_section : Name → ℕ → Table → Table
 with_section name attributes table = record table {
   sections = with_new (number_of name table.sections) (section name attributes) table.sections;
-  settings = in_number (number_or_next (number_of name table.sections) table.sections) table.settings;
+  modes = in_number (number_or_next (number_of name table.sections) table.sections) table.modes;
 }
 
 -- ---- assignments
@@ -76,7 +76,7 @@ numbered name number = record {
 
 abbrev pub with_number : Name → ℕ → Table → Table
 with_number name number table =
-    if is_labelled (Named name) table.definitions then with_doubled (Named name) table
+    if is_labelled (Named name) table.definitions then with_doubly_defined (Named name) table
     else with_definition (numbered name number) table
 
 -- ---- the table after a change of a line
@@ -84,8 +84,8 @@ with_number name number table =
 abbrev pub with_globals : List Name → Table → Table
 with_globals names table = record table { globals = table.globals ++ names }
 
-abbrev pub with_settings : Settings → Table → Table
-with_settings settings table = record table { settings = settings }
+abbrev pub with_modes : Modes → Table → Table
+with_modes modes table = record table { modes = modes }
 
 abbrev pub changed : Map → Bytes → Change → Table → Table
 changed map line Keeps table = table
@@ -94,4 +94,4 @@ changed map line (Selects name attributes) table = with_section name attributes 
 changed map line (Assigns name is_global start) table = with_value map name is_global line start table
 changed map line (Numbers name number) table = with_number name number table
 changed map line (Exports start) table = with_globals (listed_names line start) table
-changed map line (Sets settings) table = with_settings settings table
+changed map line (Sets modes) table = with_modes modes table

@@ -1,4 +1,4 @@
--- What a line puts at its places, one after the other, with its letters. (MACRO-11 Language Reference Manual, "Expressions" and
+-- What a line puts at its places, one after the other, with its flags. (MACRO-11 Language Reference Manual, "Expressions" and
 -- "Diagnostic error message summary", R and T.)
 use Rattle.std.specs.Prelude.{ℕ, ◌+◌, ◌/◌, ◌%◌, ◌==◌, ◌||◌, not, Bool, false, if◌then◌else◌, List, [], ◌∷◌, ◌++◌, length}
 use Rattle.std.specs.Int.RustNames.{bit_or}
@@ -9,32 +9,32 @@ use Rattle.m11_object_text.specs.declared.pieces.Piece.{Piece}
 use Rattle.m11_object_text.specs.declared.pieces.PieceContent.{PieceContent}
 use Rattle.m11_object_text.specs.declared.pieces.PieceContent.TheVariants.{Byte, Word}
 use Rattle.m11_object_text.specs.Pieces.{content_bytes}
-use Rattle.m11_scan.specs.Letters.{letter_T}
-use Rattle.m11_statements.specs.Statements.{letter_if}
+use Rattle.m11_scan.specs.ErrorFlags.{flag_T}
+use Rattle.m11_statements.specs.Statements.{flag_if}
 use Rattle.m11_values.specs.declared.kinds.Kind.{Kind}
-use Rattle.m11_values.specs.Kinds.{is_register, letter_R}
+use Rattle.m11_values.specs.Kinds.{is_register, flag_R}
 use Rattle.m11_values.specs.Quantities.{Quantity, absolute}
 use Rattle.m11_placement.specs.Relocations.{fixed, stored}
 use Rattle.m11_placement.specs.Tables.{Table}
 
--- what is put, and letters
+-- what is put, and flags
 pub record Put : Type 0 where
   pub contents : List PieceContent
-  pub letters : ℕ
+  pub flags : ℕ
 
 abbrev pub put : List PieceContent → ℕ → Put
-put contents letters = record { contents = contents; letters = letters }
+put contents flags = record { contents = contents; flags = flags }
 
--- nothing, with letters
+-- nothing, with flags
 abbrev pub nothing : ℕ → Put
-nothing letters = put [] letters
+nothing flags = put [] flags
 
 -- one thing put after another
 abbrev pub followed_by : Put → Put → Put
-followed_by first next = put (first.contents ++ next.contents) (bit_or first.letters next.letters)
+followed_by first next = put (first.contents ++ next.contents) (bit_or first.flags next.flags)
 
-abbrev pub with_letters : ℕ → Put → Put
-with_letters letters what = put what.contents (bit_or letters what.letters)
+abbrev pub with_flags : ℕ → Put → Put
+with_flags flags what = put what.contents (bit_or flags what.flags)
 
 -- ---- sizes and places
 
@@ -65,27 +65,27 @@ abbrev pub element_value : Known → Bytes → ℕ → Quantity
 element_value known line place = if has_expression line place then value_at known line place else absolute 0 0
 
 -- R for a register where none may be
-abbrev pub register_letters : Kind → ℕ
-register_letters kind = letter_if (is_register kind) letter_R
+abbrev pub register_flags : Kind → ℕ
+register_flags kind = flag_if (is_register kind) flag_R
 
 -- a high byte that is 000 or 377
 abbrev pub is_byte_high : ℕ → Bool
 is_byte_high number = number == 0 || number == 0o377
 
 -- T for a byte whose high byte is neither
-abbrev pub byte_letters : ℕ → ℕ
-byte_letters number = letter_if (not (is_byte_high (number / 256))) letter_T
+abbrev pub byte_flags : ℕ → ℕ
+byte_flags number = flag_if (not (is_byte_high (number / 256))) flag_T
 
 -- a value as a word, relative to the place after it or not
 abbrev pub word : Table → Bool → ℕ → Quantity → Put
 word table is_relative place value =
-    put (Word (stored table is_relative place value) ∷ []) (bit_or value.letters (register_letters value.kind))
+    put (Word (stored table is_relative place value) ∷ []) (bit_or value.flags (register_flags value.kind))
 
 -- a value as a byte: its number is asked, whatever it counts from
 abbrev pub byte : Table → ℕ → Quantity → Put
 byte table place value =
     put (Byte (stored table false place value) ∷ [])
-    (bit_or (bit_or value.letters (register_letters value.kind)) (byte_letters value.number))
+    (bit_or (bit_or value.flags (register_flags value.kind)) (byte_flags value.number))
 
 abbrev pub fixed_word : ℕ → PieceContent
 fixed_word number = Word (fixed number)

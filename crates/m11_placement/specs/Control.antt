@@ -5,20 +5,20 @@ use Rattle.std.specs.Prelude.{ℕ, ◌+◌, ◌==◌, not, Bool, true, false, if
 use Rattle.std.specs.List.{list_any}
 use Rattle.std.specs.Int.RustNames.{bit_or}
 use Rattle.std.specs.Str.{bytes_eq}
-use Rattle.m11_arguments.specs.LeftOvers.{has_token, left_over, letters_before, rest_letters, skip_letters}
+use Rattle.m11_arguments.specs.LeftOvers.{has_token, left_over, flags_before, rest_flags, skip_flags}
 use Rattle.m11_base.specs.Devices.{Bytes}
 use Rattle.m11_scan.specs.Cutting.{Lexeme, tokens_from}
-use Rattle.m11_scan.specs.Letters.{letter_A}
+use Rattle.m11_scan.specs.ErrorFlags.{flag_A}
 use Rattle.m11_scan.specs.Numbers.{number_of}
 use Rattle.m11_scan.specs.declared.radix.Radix.{Radix}
 use Rattle.m11_scan.specs.declared.radix.Radix.TheVariants.{Binary, Octal, Decimal}
 use Rattle.m11_scan.specs.declared.sort.Sort.{Sort}
 use Rattle.m11_scan.specs.declared.sort.Sort.TheVariants as sorts
-use Rattle.m11_statements.specs.Statements.{letter_if}
+use Rattle.m11_statements.specs.Statements.{flag_if}
 use Rattle.m11_values.specs.Terms.{front_of}
 use Rattle.m11_placement.specs.Changes.{Change, Keeps, Sets}
-use Rattle.m11_placement.specs.Elements.{Names, bad_letters, names_at, texts_of}
-use Rattle.m11_placement.specs.Tables.{Settings}
+use Rattle.m11_placement.specs.Elements.{Names, bad_flags, names_at, texts_of}
+use Rattle.m11_placement.specs.Tables.{Modes}
 
 -- ---- .RADIX n: decimal digits, with a point or without; 8 where nothing stands
 
@@ -31,29 +31,29 @@ radix_in sorts.Number text = radix_of (number_of Decimal text)
 radix_in sorts.DecimalNumber text = radix_of (number_of Decimal (front_of text))
 radix_in sort text = None
 
-abbrev pub with_radix : Settings → Option Radix → Change
-with_radix settings (Some radix) = Sets (record settings { radix = radix })
-with_radix settings None = Keeps
+abbrev pub with_radix : Modes → Option Radix → Change
+with_radix modes (Some radix) = Sets (record modes { radix = radix })
+with_radix modes None = Keeps
 
-abbrev pub radix_by : Settings → List Lexeme → Change
-radix_by settings [] = Sets (record settings { radix = Octal })
-radix_by settings (token ∷ tokens) = with_radix settings (radix_in token.sort token.text)
+abbrev pub radix_by : Modes → List Lexeme → Change
+radix_by modes [] = Sets (record modes { radix = Octal })
+radix_by modes (token ∷ tokens) = with_radix modes (radix_in token.sort token.text)
 
-abbrev pub radix : Settings → Bytes → ℕ → Change
-radix settings line start = radix_by settings (tokens_from line start)
+abbrev pub radix : Modes → Bytes → ℕ → Change
+radix modes line start = radix_by modes (tokens_from line start)
 
 -- after a bad argument nothing more is looked at, but for I
-abbrev pub radix_letters_of : Bytes → ℕ → ℕ → Option Radix → ℕ
-radix_letters_of line start end (Some radix) = bit_or (letters_before line start) (left_over line end)
-radix_letters_of line start end None = bit_or letter_A (rest_letters line start)
+abbrev pub radix_flags_of : Bytes → ℕ → ℕ → Option Radix → ℕ
+radix_flags_of line start end (Some radix) = bit_or (flags_before line start) (left_over line end)
+radix_flags_of line start end None = bit_or flag_A (rest_flags line start)
 
-abbrev pub radix_letters_by : Bytes → ℕ → List Lexeme → ℕ
-radix_letters_by line start [] = left_over line start
-radix_letters_by line start (token ∷ tokens) =
-    radix_letters_of line start token.end (radix_in token.sort token.text)
+abbrev pub radix_flags_by : Bytes → ℕ → List Lexeme → ℕ
+radix_flags_by line start [] = left_over line start
+radix_flags_by line start (token ∷ tokens) =
+    radix_flags_of line start token.end (radix_in token.sort token.text)
 
-abbrev pub radix_letters : Bytes → ℕ → ℕ
-radix_letters line start = radix_letters_by line start (tokens_from line start)
+abbrev pub radix_flags : Bytes → ℕ → ℕ
+radix_flags line start = radix_flags_by line start (tokens_from line start)
 
 -- ---- lists of words
 
@@ -61,13 +61,13 @@ abbrev pub is_among : List Bytes → Bytes → Bool
 is_among words word = list_any (λ other. bytes_eq other word) words
 
 -- A for a word that is none of some
-abbrev pub unknown_letters : List Bytes → List Bytes → ℕ
-unknown_letters known words = letter_if (list_any (λ word. not (is_among known word)) words) letter_A
+abbrev pub unknown_flags : List Bytes → List Bytes → ℕ
+unknown_flags known words = flag_if (list_any (λ word. not (is_among known word)) words) flag_A
 
-abbrev pub words_letters : List Bytes → Bytes → ℕ → Names → ℕ
-words_letters known line start names =
-    bit_or (bit_or (bad_letters names.list) (unknown_letters known (texts_of line names.list)))
-    (bit_or (skip_letters line start names.end) (left_over line names.end))
+abbrev pub words_flags : List Bytes → Bytes → ℕ → Names → ℕ
+words_flags known line start names =
+    bit_or (bit_or (bad_flags names.list) (unknown_flags known (texts_of line names.list)))
+    (bit_or (skip_flags line start names.end) (left_over line names.end))
 
 -- ---- .LIST and .NLIST: the level, or with arguments what is listed
 
@@ -81,42 +81,42 @@ listing_words =
     ∷ codes "MC    " ∷ expansions_word ∷ codes "MEB   " ∷ codes "CND   " ∷ codes "LD    " ∷ codes "TOC   " ∷ codes "SYM   "
     ∷ codes "TTM   " ∷ []
 
-abbrev pub with_words : Settings → Bool → List Bytes → Change
-with_words settings shows words =
-    if is_among words expansions_word then Sets (record settings { shows_expansions = shows }) else Keeps
+abbrev pub with_words : Modes → Bool → List Bytes → Change
+with_words modes shows words =
+    if is_among words expansions_word then Sets (record modes { shows_expansions = shows }) else Keeps
 
 -- the level goes up where nothing stands
-abbrev pub list : Settings → Bytes → ℕ → Change
-list settings line start =
-    if has_token (tokens_from line start) then with_words settings true (texts_of line (names_at line start).list)
-    else Sets (record settings { listed = settings.listed + 1 })
+abbrev pub list : Modes → Bytes → ℕ → Change
+list modes line start =
+    if has_token (tokens_from line start) then with_words modes true (texts_of line (names_at line start).list)
+    else Sets (record modes { listed = modes.listed + 1 })
 
 -- and down
-abbrev pub unlist : Settings → Bytes → ℕ → Change
-unlist settings line start =
-    if has_token (tokens_from line start) then with_words settings false (texts_of line (names_at line start).list)
-    else Sets (record settings { unlisted = settings.unlisted + 1 })
+abbrev pub nlist : Modes → Bytes → ℕ → Change
+nlist modes line start =
+    if has_token (tokens_from line start) then with_words modes false (texts_of line (names_at line start).list)
+    else Sets (record modes { unlisted = modes.unlisted + 1 })
 
-abbrev pub list_letters : Bytes → ℕ → ℕ
-list_letters line start =
-    if has_token (tokens_from line start) then words_letters listing_words line start (names_at line start)
-    else rest_letters line start
+abbrev pub list_flags : Bytes → ℕ → ℕ
+list_flags line start =
+    if has_token (tokens_from line start) then words_flags listing_words line start (names_at line start)
+    else rest_flags line start
 
 -- ---- .ENABL and .DSABL: LC and GBL are always in force
 
 abbrev pub enabled_words : List Bytes
 enabled_words = codes "LC    " ∷ codes "GBL   " ∷ []
 
-abbrev pub enable_letters : Bytes → ℕ → ℕ
-enable_letters line start = words_letters enabled_words line start (names_at line start)
+abbrev pub enabl_flags : Bytes → ℕ → ℕ
+enabl_flags line start = words_flags enabled_words line start (names_at line start)
 
-abbrev pub disable_letters : Bytes → ℕ → ℕ
-disable_letters line start = words_letters [] line start (names_at line start)
+abbrev pub dsabl_flags : Bytes → ℕ → ℕ
+dsabl_flags line start = words_flags [] line start (names_at line start)
 
 -- ---- .PAGE takes nothing; .SBTTL takes any text
 
-abbrev pub page_letters : Bytes → ℕ → ℕ
-page_letters line start = left_over line start
+abbrev pub page_flags : Bytes → ℕ → ℕ
+page_flags line start = left_over line start
 
-abbrev pub subtitle_letters : Bytes → ℕ → ℕ
-subtitle_letters line start = 0
+abbrev pub sbttl_flags : Bytes → ℕ → ℕ
+sbttl_flags line start = 0

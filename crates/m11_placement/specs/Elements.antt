@@ -7,7 +7,7 @@ use Rattle.m11_base.specs.Mnemonics.{six_of}
 use Rattle.m11_base.specs.Rad50.{Name, name_of}
 use Rattle.m11_scan.specs.Cutting.{text_between, tokens_from}
 use Rattle.m11_scan.specs.Ends.{expression_end}
-use Rattle.m11_scan.specs.Letters.{letter_A}
+use Rattle.m11_scan.specs.ErrorFlags.{flag_A}
 use Rattle.m11_statements.specs.Listed.{listed_name}
 use Rattle.m11_statements.specs.declared.listed.ListedName.{ListedName}
 use Rattle.m11_statements.specs.declared.spans.Span.{Span}
@@ -92,7 +92,7 @@ abbrev pub listed_names : Bytes → ℕ → List Name
 listed_names line start = names_of (texts_of line (names_at line start).list)
 
 -- A for an element that is no name
-abbrev pub bad_letters : List (Option Span) → ℕ
-bad_letters [] = 0
-bad_letters (Some name ∷ names) = bad_letters names
-bad_letters (None ∷ names) = letter_A
+abbrev pub bad_flags : List (Option Span) → ℕ
+bad_flags [] = 0
+bad_flags (Some name ∷ names) = bad_flags names
+bad_flags (None ∷ names) = flag_A

@@ -8,7 +8,7 @@ use Rattle.m11_base.specs.Devices.{Bytes}
 use Rattle.m11_base.specs.declared.instruction.Op.{Op}
 use Rattle.m11_base.specs.declared.instruction.Op.TheVariants as op
 use Rattle.m11_scan.specs.Ends.{expression_end}
-use Rattle.m11_scan.specs.Letters.{letter_A}
+use Rattle.m11_scan.specs.ErrorFlags.{flag_A}
 use Rattle.m11_placement.specs.Elements.{next_element}
 use Rattle.m11_placement.specs.declared.fields.Field.{Field}
 use Rattle.m11_placement.specs.declared.fields.Field.TheVariants.{Formed, Registered, Targeted, Numbered, Missing}
@@ -37,48 +37,48 @@ places_of (op.Codes operation codes) = []
 
 -- ---- what stands in them
 
--- a field, the place after it, and its letters
+-- a field, the place after it, and its flags
 pub record FieldRead : Type 0 where
   pub field : Field
   pub end : ℕ
-  pub letters : ℕ
+  pub flags : ℕ
 
 abbrev pub field_read : Field → ℕ → ℕ → FieldRead
-field_read field end letters = record { field = field; end = end; letters = letters }
+field_read field end flags = record { field = field; end = end; flags = flags }
 
 abbrev pub operand_read : Read → FieldRead
-operand_read read = field_read (Formed read.form) read.end read.letters
+operand_read read = field_read (Formed read.form) read.end read.flags
 
--- an expression, or none with letters
+-- an expression, or none with flags
 abbrev pub expression_read : Field → ℕ → Bytes → ℕ → FieldRead
-expression_read field letters line start =
-    if has_expression line start then field_read field (expression_end line start) 0 else field_read Missing start letters
+expression_read field flags line start =
+    if has_expression line start then field_read field (expression_end line start) 0 else field_read Missing start flags
 
 abbrev pub field_at : Known → Bytes → ℕ → FieldPlace → FieldRead
 field_at firm line start Operand = operand_read (operand_at firm line start)
-field_at firm line start Register = expression_read (Registered start) letter_A line start
-field_at firm line start Target = expression_read (Targeted start) letter_A line start
+field_at firm line start Register = expression_read (Registered start) flag_A line start
+field_at firm line start Target = expression_read (Targeted start) flag_A line start
 field_at firm line start Number = expression_read (Numbered start) 0 line start
 
 -- a field before which its comma is missing
 abbrev pub missing_field : FieldPlace → FieldRead
-missing_field Operand = field_read (Formed Absent) 0 letter_A
-missing_field Register = field_read Missing 0 letter_A
-missing_field Target = field_read Missing 0 letter_A
+missing_field Operand = field_read (Formed Absent) 0 flag_A
+missing_field Register = field_read Missing 0 flag_A
+missing_field Target = field_read Missing 0 flag_A
 missing_field Number = field_read Missing 0 0
 
--- fields, the place after them, and their letters
+-- fields, the place after them, and their flags
 pub record Fields : Type 0 where
   pub list : List Field
   pub end : ℕ
-  pub letters : ℕ
+  pub flags : ℕ
 
 abbrev pub no_fields : ℕ → Fields
-no_fields place = record { list = []; end = place; letters = 0 }
+no_fields place = record { list = []; end = place; flags = 0 }
 
 abbrev pub before : FieldRead → Fields → Fields
 before first more =
-    record { list = first.field ∷ more.list; end = more.end; letters = bit_or first.letters more.letters }
+    record { list = first.field ∷ more.list; end = more.end; flags = bit_or first.flags more.flags }
 
 -- fields without their commas
 abbrev pub missing_fields : ℕ → List FieldPlace → Fields

@@ -4,17 +4,17 @@ use Rattle.m11_object_text.specs.declared.pieces.PieceContent.{PieceContent}
 use Rattle.m11_placement.specs.Alignment.{gap}
 use Rattle.m11_placement.specs.Changes.{Change, Counts}
 use Rattle.m11_placement.specs.Contents.{contents_size}
-use Rattle.m11_placement.specs.Lines.{Deed, Rests, Assigning, Setting, Operating}
+use Rattle.m11_placement.specs.Lines.{Action, NoAction, Assign, SetCounter, Operate}
 use Rattle.m11_placement.specs.Operators.{is_even}
 use Rattle.m11_placement.specs.Places.{Steps}
 use Rattle.m11_placement.specs.Tables.{Table, place}
 
 -- the bytes that are passed over before what a line puts
-abbrev pub gap_before : Table → Deed → ℕ
-gap_before table Rests = 0
-gap_before table (Assigning name is_global start) = 0
-gap_before table (Setting start) = 0
-gap_before table (Operating operator start) = gap (is_even operator) (place table)
+abbrev pub gap_before : Table → Action → ℕ
+gap_before table NoAction = 0
+gap_before table (Assign name is_global start) = 0
+gap_before table (SetCounter start) = 0
+gap_before table (Operate operator start) = gap (is_even operator) (place table)
 
 -- nothing is put, or the counter goes on by the gap and by as many bytes as are put
 abbrev pub Fills : ℕ → List PieceContent → Change → Type 0

@@ -2,13 +2,13 @@
 -- set" and "Addressing modes"; MACRO-11 Language Reference Manual, "Operand field".)
 use Rattle.std.specs.Prelude.{ℕ}
 use Rattle.std.specs.Int.RustNames.{bit_or}
-use Rattle.m11_arguments.specs.LeftOvers.{left_over, skip_letters}
+use Rattle.m11_arguments.specs.LeftOvers.{left_over, skip_flags}
 use Rattle.m11_base.specs.Devices.{Bytes}
 use Rattle.m11_base.specs.declared.instruction.Op.{Op}
-use Rattle.m11_placement.specs.Codes.{Setting, code, words_from}
-use Rattle.m11_placement.specs.Contents.{Put, followed_by, further, with_letters}
+use Rattle.m11_placement.specs.Codes.{LineContext, code, words_from}
+use Rattle.m11_placement.specs.Contents.{Put, followed_by, further, with_flags}
 use Rattle.m11_placement.specs.Fields.{Fields, fields_at, forms_of}
-use Rattle.m11_placement.specs.Meanings.{Knows, Map, Refers, firm_known, known_at}
+use Rattle.m11_placement.specs.Meanings.{LocalOnly, Map, MayBeGlobal, firm_known, known_at}
 use Rattle.m11_placement.specs.Operands.{instruction_size}
 use Rattle.m11_placement.specs.Tables.{Table}
 
@@ -19,26 +19,26 @@ fields table place line start operation = fields_at (firm_known table place) lin
 abbrev pub size : Table → ℕ → Bytes → ℕ → Op → ℕ
 size table place line start operation = instruction_size (forms_of (fields table place line start operation).list)
 
-abbrev pub setting : Map → Table → ℕ → Bytes → Setting
-setting map table place line = record {
+abbrev pub line_context : Map → Table → ℕ → Bytes → LineContext
+line_context map table place line = record {
   table = table;
   place = place;
-  known = known_at map Knows table place;
-  refers = known_at map Refers table place;
+  known = known_at map LocalOnly table place;
+  refers = known_at map MayBeGlobal table place;
   line = line;
 }
 
--- letters of the line itself: what is missing, skipped or left over
-abbrev pub line_letters : Bytes → ℕ → Fields → ℕ
-line_letters line start fields =
-    bit_or fields.letters (bit_or (skip_letters line start fields.end) (left_over line fields.end))
+-- flags of the line itself: what is missing, skipped or left over
+abbrev pub line_flags : Bytes → ℕ → Fields → ℕ
+line_flags line start fields =
+    bit_or fields.flags (bit_or (skip_flags line start fields.end) (left_over line fields.end))
 
-abbrev pub assembled : Setting → ℕ → Op → Fields → Put
-assembled setting start operation fields =
-    with_letters (line_letters setting.line start fields)
-    (followed_by (code setting operation fields.list) (words_from setting (further setting.place 2) (forms_of fields.list)))
+abbrev pub assembled : LineContext → ℕ → Op → Fields → Put
+assembled line_context start operation fields =
+    with_flags (line_flags line_context.line start fields)
+    (followed_by (code line_context operation fields.list) (words_from line_context (further line_context.place 2) (forms_of fields.list)))
 
 -- the words of an instruction
 abbrev pub words : Map → Table → ℕ → Bytes → ℕ → Op → Put
 words map table place line start operation =
-    assembled (setting map table place line) start operation (fields table place line start operation)
+    assembled (line_context map table place line) start operation (fields table place line start operation)

@@ -18,9 +18,9 @@ use Rattle.m11_values.specs.declared.kinds.Kind.{Kind}
 use Rattle.m11_values.specs.declared.kinds.Kind.TheVariants as kind
 use Rattle.m11_values.specs.Quantities.{Quantity}
 use Rattle.m11_placement.specs.Changes.{Change, Numbers}
-use Rattle.m11_placement.specs.Lines.{Assigning, Deed, Operating, Rests, Setting, deed, line_change, line_put, stands}
-use Rattle.m11_placement.specs.Meanings.{Knows, Map, known_at}
-use Rattle.m11_placement.specs.Tables.{Settings, Table, firm_table, place}
+use Rattle.m11_placement.specs.Lines.{Assign, Action, Operate, NoAction, SetCounter, action, line_change, line_put, stands}
+use Rattle.m11_placement.specs.Meanings.{LocalOnly, Map, known_at}
+use Rattle.m11_placement.specs.Tables.{Modes, Table, firm_table, place}
 
 -- ---- what is put: the constant, by what the place is relocated by
 
@@ -56,17 +56,17 @@ number_items (Numbers name number) = InWord number Unmarked ∷ []
 number_items other = []
 
 -- whether its name takes it or not; `.=` is no assignment
-abbrev pub deed_items : Map → Table → Bytes → Change → Deed → List Item
-deed_items map table line change Rests = []
-deed_items map table line change (Assigning name is_global start) =
-    value_items (value_at (known_at map Knows table (place table)) line start)
-deed_items map table line change (Setting start) = []
-deed_items map table line change (Operating operator start) = number_items change
+abbrev pub action_items : Map → Table → Bytes → Change → Action → List Item
+action_items map table line change NoAction = []
+action_items map table line change (Assign name is_global start) =
+    value_items (value_at (known_at map LocalOnly table (place table)) line start)
+action_items map table line change (SetCounter start) = []
+action_items map table line change (Operate operator start) = number_items change
 
 abbrev pub assigned_items : Map → Table → Given → List Item
 assigned_items map table given =
-    deed_items map (stands table given) given.live.line.text (line_change (firm_table (stands table given)) given)
-    (deed given.is_own given.live.line.text)
+    action_items map (stands table given) given.live.line.text (line_change (firm_table (stands table given)) given)
+    (action given.is_own given.live.line.text)
 
 -- ---- a line: what it puts, and what it assigns. No line does both
 
@@ -78,9 +78,9 @@ items map table given = items_of (line_put map (stands table given) given).conte
 
 -- ---- which lines stand in a listing: flagged ones; others where the level after them isn't below 0, and those of expansions by `.LIST ME`
 
-abbrev pub is_shown : Settings → Bool → Bool
-is_shown settings is_expanded =
-    nat_le settings.unlisted settings.listed && (not is_expanded || settings.shows_expansions)
+abbrev pub is_shown : Modes → Bool → Bool
+is_shown modes is_expanded =
+    nat_le modes.unlisted modes.listed && (not is_expanded || modes.shows_expansions)
 
 abbrev pub is_listed : Table → Given → ℕ → Bool
-is_listed after given letters = not (letters == 0) || is_shown after.settings given.live.is_expanded
+is_listed after given flags = not (flags == 0) || is_shown after.modes given.live.is_expanded

@@ -9,7 +9,7 @@ use Rattle.m11_values.specs.declared.names.Symbol.TheVariants.{Ordinary, Local, 
 use Rattle.m11_placement.specs.Definitions.{Definition, Key, Named, Numbered, is_defined, registers}
 use Rattle.m11_placement.specs.Lines.{after_line}
 use Rattle.m11_placement.specs.Meanings.{Map}
-use Rattle.m11_placement.specs.Mentions.{Mention, mentions}
+use Rattle.m11_placement.specs.SymbolUses.{SymbolUse, symbol_uses}
 use Rattle.m11_placement.specs.Tables.{Table}
 
 -- the names of the registers don't count
@@ -41,14 +41,14 @@ with_symbol (Ordinary name) names = if is_counted name names then names else nam
 with_symbol (Local number) names = names
 with_symbol Counter names = names
 
-abbrev pub with_mentions : List Mention → List Name → List Name
-with_mentions [] names = names
-with_mentions (mention ∷ mentions) names = with_mentions mentions (with_symbol mention.symbol names)
+abbrev pub with_uses : List SymbolUse → List Name → List Name
+with_uses [] names = names
+with_uses (symbol_use ∷ symbol_uses) names = with_uses symbol_uses (with_symbol symbol_use.symbol names)
 
 abbrev pub names_after : Map → Table → List Given → List Name → List Name
 names_after map table [] names = names
 names_after map table (given ∷ lines) names =
-    names_after map (after_line map table given) lines (with_mentions (mentions table given) names)
+    names_after map (after_line map table given) lines (with_uses (symbol_uses table given) names)
 
 -- ---- names that a table defines, by labels and assignments, each once, in the order of their first definitions
 

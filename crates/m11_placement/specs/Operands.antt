@@ -13,7 +13,7 @@ use Rattle.m11_base.specs.declared.operand.Mode.{Mode}
 use Rattle.m11_base.specs.declared.operand.Mode.TheVariants as mode
 use Rattle.m11_scan.specs.Cutting.{Lexeme, tokens_from}
 use Rattle.m11_scan.specs.Ends.{expression_end}
-use Rattle.m11_scan.specs.Letters.{letter_A}
+use Rattle.m11_scan.specs.ErrorFlags.{flag_A}
 use Rattle.m11_scan.specs.Skipped.{skipped_between}
 use Rattle.m11_scan.specs.declared.sort.Sort.{Sort}
 use Rattle.m11_scan.specs.declared.sort.Sort.TheVariants as sorts
@@ -29,14 +29,14 @@ words_of (Indexed kind register index) = 1
 words_of (Unindexed register) = 1
 words_of (AfterCounter kind start) = 1
 
--- a form, the place after it, and its letters
+-- a form, the place after it, and its flags
 pub record Read : Type 0 where
   pub form : Form
   pub end : ℕ
-  pub letters : ℕ
+  pub flags : ℕ
 
 abbrev pub read : Form → ℕ → ℕ → Read
-read form end letters = record { form = form; end = end; letters = letters }
+read form end flags = record { form = form; end = end; flags = flags }
 
 -- the modes without and with `@`
 abbrev pub autoincrement : Bool → Mode
@@ -70,8 +70,8 @@ is_close sort = false
 
 -- after `(` and a register: `)`, or A
 abbrev pub closed_by : Form → ℕ → List Lexeme → Read
-closed_by form end [] = read form end letter_A
-closed_by form end (token ∷ tokens) = if is_close token.sort then read form token.end 0 else read form end letter_A
+closed_by form end [] = read form end flag_A
+closed_by form end (token ∷ tokens) = if is_close token.sort then read form token.end 0 else read form end flag_A
 
 abbrev pub closed : Form → Bytes → ℕ → Read
 closed form line register = closed_by form (expression_end line register) (tokens_from line (expression_end line register))
@@ -85,10 +85,10 @@ stepped_by is_deferred register end (token ∷ tokens) =
 
 -- `(`, and what stands in it and after it
 abbrev pub bracketed_by : Bool → ℕ → ℕ → List Lexeme → Read
-bracketed_by is_deferred register end [] = read (pointed is_deferred register) end letter_A
+bracketed_by is_deferred register end [] = read (pointed is_deferred register) end flag_A
 bracketed_by is_deferred register end (token ∷ tokens) =
     if is_close token.sort then stepped_by is_deferred register token.end tokens
-    else read (pointed is_deferred register) end letter_A
+    else read (pointed is_deferred register) end flag_A
 
 abbrev pub bracketed : Bool → Bytes → ℕ → Read
 bracketed is_deferred line register =
@@ -134,11 +134,11 @@ deferred_by firm line start (token ∷ tokens) = begun_by firm true line start t
 
 abbrev pub operand_by : Known → Bytes → ℕ → Sort → ℕ → List Lexeme → Read
 operand_by firm line start sorts.At end tokens = deferred_by firm line end tokens
-operand_by firm line start sorts.Comma end tokens = read Absent start letter_A
+operand_by firm line start sorts.Comma end tokens = read Absent start flag_A
 operand_by firm line start sort end tokens = begun_by firm false line start sort end tokens
 
 abbrev pub operand_in : Known → Bytes → ℕ → List Lexeme → Read
-operand_in firm line start [] = read Absent start letter_A
+operand_in firm line start [] = read Absent start flag_A
 operand_in firm line start (token ∷ tokens) = operand_by firm line start token.sort token.end tokens
 
 -- the operand at a place of a line. Whether it is a register is asked of firm names: others count as 0

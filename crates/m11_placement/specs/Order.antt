@@ -20,5 +20,5 @@ pieces_if false pieces = []
 abbrev pub pieces_in : ℕ → Map → Table → List Given → List Piece
 pieces_in section map table [] = []
 pieces_in section map table (given ∷ lines) =
-    pieces_if ((stands table given).settings.section == section) (pieces map table given)
+    pieces_if ((stands table given).modes.section == section) (pieces map table given)
     ++ pieces_in section map (after_line map table given) lines

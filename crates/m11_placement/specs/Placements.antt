@@ -4,7 +4,7 @@
 use Rattle.std.specs.Prelude.{ℕ, List, [], ◌∷◌}
 use Rattle.m11_object_text.specs.declared.pieces.Piece.{Piece}
 use Rattle.m11_unfolding.specs.Unfolding.{Given}
-use Rattle.m11_placement.specs.Lines.{after_line, letters, pieces}
+use Rattle.m11_placement.specs.Lines.{after_line, flags, pieces}
 use Rattle.m11_placement.specs.Meanings.{Map, empty_map, map_of}
 use Rattle.m11_placement.specs.Tables.{Table, first_table}
 
@@ -23,15 +23,15 @@ program_map lines = map_of (table_after empty_map lines)
 
 -- ---- what each line gives
 
--- a placed line: the table before it, its pieces and its letters
+-- a placed line: the table before it, its pieces and its flags
 pub record Placed : Type 0 where
   pub before : Table
   pub pieces : List Piece
-  pub letters : ℕ
+  pub flags : ℕ
 
 abbrev pub placed : Map → Table → Given → Placed
 placed map table given =
-    record { before = table; pieces = pieces map table given; letters = letters map table given }
+    record { before = table; pieces = pieces map table given; flags = flags map table given }
 
 abbrev pub placed_from : Map → Table → List Given → List Placed
 placed_from map table [] = []

@@ -48,7 +48,7 @@ row_of (InSection name) =
 row_of (InObject name) = row (relocation.Global name) (relocation.GlobalDisplaced name) (relocation.GlobalDisplaced name)
 
 abbrev pub is_moved : Table → Bool
-is_moved table = is_relocatable (numbered table.settings.section table.sections)
+is_moved table = is_relocatable (numbered table.modes.section table.sections)
 
 abbrev pub relocation_by : Bool → Bool → Row → RelocationKind
 relocation_by is_relative is_moved row =

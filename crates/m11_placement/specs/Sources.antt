@@ -1,6 +1,6 @@
--- What a source gives beside its pieces: title, identification, weak names, and where its program begins.
+-- What a source gives beside its pieces: title, ident, weak names, and where its program begins.
 -- (MACRO-11 Language Reference Manual, ".TITLE directive", ".IDENT directive", ".WEAK directive" and ".END directive". That the last title
--- and the last identification hold, and that the address is the first pass's, is this project's own.)
+-- and the last ident hold, and that the address is the first pass's, is this project's own.)
 use Rattle.std.specs.Prelude.{ℕ, List, [], ◌∷◌, map, Option, Some, None}
 use Rattle.std.specs.List.{flat_map}
 use Rattle.m11_base.specs.Devices.{Bytes}
@@ -8,12 +8,12 @@ use Rattle.m11_base.specs.Rad50.{Name}
 use Rattle.m11_unfolding.specs.Unfolding.{Given}
 use Rattle.m11_values.specs.Quantities.{Quantity}
 use Rattle.m11_placement.specs.Elements.{listed_names}
-use Rattle.m11_placement.specs.Exports.{identification, title, transfer}
-use Rattle.m11_placement.specs.Lines.{Deed, Operating, after_line, deed, stands}
+use Rattle.m11_placement.specs.Exports.{ident, title, transfer}
+use Rattle.m11_placement.specs.Lines.{Action, Operate, after_line, action, stands}
 use Rattle.m11_placement.specs.Meanings.{Map, empty_map}
 use Rattle.m11_placement.specs.declared.operators.Directive.{Directive}
 use Rattle.m11_placement.specs.declared.operators.Operator.{Operator}
-use Rattle.m11_placement.specs.declared.operators.Operator.TheVariants.{Instruction, Directs}
+use Rattle.m11_placement.specs.declared.operators.Operator.TheVariants as operators
 use Rattle.m11_placement.specs.declared.operators.Directive.TheVariants as word
 use Rattle.m11_placement.specs.Tables.{Table, first_table}
 
@@ -23,16 +23,16 @@ pub record Directed : Type 0 where
   pub start : ℕ
 
 abbrev pub directed_by : Operator → ℕ → Option Directed
-directed_by (Directs directive) start = Some (record { directive = directive; start = start })
-directed_by (Instruction operation) start = None
+directed_by (operators.Directive directive) start = Some (record { directive = directive; start = start })
+directed_by (operators.Instruction operation) start = None
 
-abbrev pub directed_in : Deed → Option Directed
-directed_in (Operating operator start) = directed_by operator start
+abbrev pub directed_in : Action → Option Directed
+directed_in (Operate operator start) = directed_by operator start
 directed_in other = None
 
 -- the directive of a line, if it has one
 abbrev pub directed : Given → Option Directed
-directed given = directed_in (deed given.is_own given.live.line.text)
+directed given = directed_in (action given.is_own given.live.line.text)
 
 -- the last of some lines that gives something
 abbrev pub last_or : {A : Type 0} → Option A → Option A → Option A
@@ -43,7 +43,7 @@ abbrev pub last_of : {A : Type 0} → List (Option A) → Option A
 last_of [] = None
 last_of (found ∷ more) = last_or (last_of more) found
 
--- ---- title and identification
+-- ---- title and ident
 
 abbrev pub title_by : Bytes → Directive → ℕ → Option Name
 title_by line word.Title start = title line start
@@ -59,16 +59,16 @@ line_title given = title_in given.live.line.text (directed given)
 abbrev pub source_title : List Given → Option Name
 source_title lines = last_of (map line_title lines)
 
-abbrev pub identification_by : Bytes → Directive → ℕ → Option Name
-identification_by line word.Identification start = identification line start
-identification_by line other start = None
+abbrev pub ident_by : Bytes → Directive → ℕ → Option Name
+ident_by line word.Ident start = ident line start
+ident_by line other start = None
 
-abbrev pub identification_in : Bytes → Option Directed → Option Name
-identification_in line (Some found) = identification_by line found.directive found.start
-identification_in line None = None
+abbrev pub ident_in : Bytes → Option Directed → Option Name
+ident_in line (Some found) = ident_by line found.directive found.start
+ident_in line None = None
 
 abbrev pub line_identification : Given → Option Name
-line_identification given = identification_in given.live.line.text (directed given)
+line_identification given = ident_in given.live.line.text (directed given)
 
 abbrev pub source_identification : List Given → Option Name
 source_identification lines = last_of (map line_identification lines)
@@ -110,12 +110,12 @@ transfer_after map table (given ∷ lines) =
 abbrev pub source_transfer : List Given → Option Quantity
 source_transfer lines = transfer_after empty_map first_table lines
 
--- ---- letters of an address that names decide, which are the first pass's, at the line of `.END`
+-- ---- flags of an address that names decide, which are the first pass's, at the line of `.END`
 
 abbrev pub end_by : ℕ → Directive → ℕ
-end_by letters word.End = letters
-end_by letters other = 0
+end_by flags word.End = flags
+end_by flags other = 0
 
 abbrev pub end_in : ℕ → Option Directed → ℕ
-end_in letters (Some found) = end_by letters found.directive
-end_in letters None = 0
+end_in flags (Some found) = end_by flags found.directive
+end_in flags None = 0

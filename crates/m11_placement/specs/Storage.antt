@@ -3,19 +3,19 @@
 -- follows an element without a comma is left over, is this project's own.)
 use Rattle.std.specs.Prelude.{ℕ, ◌*◌, false, if◌then◌else◌, List, [], ◌∷◌, length}
 use Rattle.std.specs.Int.RustNames.{bit_or}
-use Rattle.m11_arguments.specs.Expressions.{has_expression, number_at, number_letters}
-use Rattle.m11_arguments.specs.LeftOvers.{left_over, skip_letters}
+use Rattle.m11_arguments.specs.Expressions.{has_expression, number_at, number_flags}
+use Rattle.m11_arguments.specs.LeftOvers.{left_over, skip_flags}
 use Rattle.m11_base.specs.Devices.{Bytes}
 use Rattle.m11_object_text.specs.declared.pieces.PieceContent.TheVariants.{Limits}
 use Rattle.m11_scan.specs.Ends.{expression_end}
-use Rattle.m11_placement.specs.Contents.{Put, byte, element_value, followed_by, further, nothing, put, with_letters, word}
+use Rattle.m11_placement.specs.Contents.{Put, byte, element_value, followed_by, further, nothing, put, with_flags, word}
 use Rattle.m11_placement.specs.Elements.{Elements, elements_at}
-use Rattle.m11_placement.specs.Meanings.{Map, Refers, firm_known, known_at}
+use Rattle.m11_placement.specs.Meanings.{Map, MayBeGlobal, firm_known, known_at}
 use Rattle.m11_placement.specs.Tables.{Table}
 
 -- what is skipped up to the end of arguments, and what is left over after it
-abbrev pub end_letters : Bytes → ℕ → ℕ → ℕ
-end_letters line start end = bit_or (skip_letters line start end) (left_over line end)
+abbrev pub end_flags : Bytes → ℕ → ℕ → ℕ
+end_flags line start end = bit_or (skip_flags line start end) (left_over line end)
 
 -- ---- .WORD e,..
 
@@ -26,12 +26,12 @@ word_size line start = length (elements_at line start).places * 2
 abbrev pub words_from : Map → Table → Bytes → ℕ → List ℕ → Put
 words_from map table line place [] = nothing 0
 words_from map table line place (start ∷ starts) =
-    followed_by (word table false place (element_value (known_at map Refers table place) line start))
+    followed_by (word table false place (element_value (known_at map MayBeGlobal table place) line start))
     (words_from map table line (further place 2) starts)
 
 abbrev pub words_of : Map → Table → ℕ → Bytes → ℕ → Elements → Put
 words_of map table place line start elements =
-    with_letters (end_letters line start elements.end) (words_from map table line place elements.places)
+    with_flags (end_flags line start elements.end) (words_from map table line place elements.places)
 
 abbrev pub words : Map → Table → ℕ → Bytes → ℕ → Put
 words map table place line start = words_of map table place line start (elements_at line start)
@@ -44,12 +44,12 @@ byte_size line start = length (elements_at line start).places
 abbrev pub bytes_from : Map → Table → Bytes → ℕ → List ℕ → Put
 bytes_from map table line place [] = nothing 0
 bytes_from map table line place (start ∷ starts) =
-    followed_by (byte table place (element_value (known_at map Refers table place) line start))
+    followed_by (byte table place (element_value (known_at map MayBeGlobal table place) line start))
     (bytes_from map table line (further place 1) starts)
 
 abbrev pub bytes_of : Map → Table → ℕ → Bytes → ℕ → Elements → Put
 bytes_of map table place line start elements =
-    with_letters (end_letters line start elements.end) (bytes_from map table line place elements.places)
+    with_flags (end_flags line start elements.end) (bytes_from map table line place elements.places)
 
 abbrev pub bytes : Map → Table → ℕ → Bytes → ℕ → Put
 bytes map table place line start = bytes_of map table place line start (elements_at line start)
@@ -68,14 +68,14 @@ abbrev pub block_count : Table → ℕ → Bytes → ℕ → ℕ
 block_count table place line start =
     if has_expression line start then number_at (firm_known table place) line start else 1
 
-abbrev pub block_letters : Table → ℕ → Bytes → ℕ → ℕ
-block_letters table place line start =
+abbrev pub block_flags : Table → ℕ → Bytes → ℕ → ℕ
+block_flags table place line start =
     if has_expression line start then
-    bit_or (number_letters (firm_known table place) line start) (left_over line (expression_end line start))
+    bit_or (number_flags (firm_known table place) line start) (left_over line (expression_end line start))
     else left_over line start
 
-abbrev pub byte_block_size : Table → ℕ → Bytes → ℕ → ℕ
-byte_block_size table place line start = block_count table place line start
+abbrev pub blkb_size : Table → ℕ → Bytes → ℕ → ℕ
+blkb_size table place line start = block_count table place line start
 
-abbrev pub word_block_size : Table → ℕ → Bytes → ℕ → ℕ
-word_block_size table place line start = block_count table place line start * 2
+abbrev pub blkw_size : Table → ℕ → Bytes → ℕ → ℕ
+blkw_size table place line start = block_count table place line start * 2

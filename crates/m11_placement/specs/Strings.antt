@@ -5,21 +5,21 @@ use Rattle.std.specs.Prelude.{ℕ, zero, suc, ◌+◌, ◌-◌, ◌*◌, ◌/◌
 use Rattle.std.specs.List.{list_any}
 use Rattle.std.specs.Int.RustNames.{bit_or}
 use Rattle.m11_arguments.specs.Expressions.{Known, value_at}
-use Rattle.m11_arguments.specs.LeftOvers.{left_over, skip_letters}
+use Rattle.m11_arguments.specs.LeftOvers.{left_over, skip_flags}
 use Rattle.m11_base.specs.Devices.{Bytes}
 use Rattle.m11_base.specs.Rad50.{code_of}
 use Rattle.m11_object_text.specs.declared.pieces.PieceContent.{PieceContent}
 use Rattle.m11_scan.specs.Cutting.{text_between}
-use Rattle.m11_scan.specs.Letters.{letter_A, letter_T}
-use Rattle.m11_statements.specs.Parts.{next_part, part_letters}
-use Rattle.m11_statements.specs.Statements.{letter_if}
+use Rattle.m11_scan.specs.ErrorFlags.{flag_A, flag_T}
+use Rattle.m11_statements.specs.Parts.{next_part, part_flags}
+use Rattle.m11_statements.specs.Statements.{flag_if}
 use Rattle.m11_statements.specs.declared.parts.Part.{Part}
 use Rattle.m11_statements.specs.declared.parts.PartKind.{PartKind}
 use Rattle.m11_statements.specs.declared.parts.PartKind.TheVariants.{Text, Expression}
 use Rattle.m11_values.specs.Operations.{absence}
 use Rattle.m11_values.specs.Quantities.{Quantity}
-use Rattle.m11_placement.specs.Contents.{Put, byte, fixed_byte, fixed_word, followed_by, further, nothing, put, with_letters}
-use Rattle.m11_placement.specs.Meanings.{Knows, Map, Refers, known_at}
+use Rattle.m11_placement.specs.Contents.{Put, byte, fixed_byte, fixed_word, followed_by, further, nothing, put, with_flags}
+use Rattle.m11_placement.specs.Meanings.{LocalOnly, Map, MayBeGlobal, known_at}
 use Rattle.m11_placement.specs.Tables.{Table}
 
 -- ---- the parts of a text
@@ -52,28 +52,28 @@ abbrev pub part_text : Bytes → Part → Bytes
 part_text line part = text_between line part.inside.start part.inside.end
 
 -- I for a character that is skipped before a part, or in its expression
-abbrev pub inside_letters : Bytes → Part → PartKind → ℕ
-inside_letters line part Text = 0
-inside_letters line part Expression = skip_letters line part.inside.start part.end
+abbrev pub inside_flags : Bytes → Part → PartKind → ℕ
+inside_flags line part Text = 0
+inside_flags line part Expression = skip_flags line part.inside.start part.end
 
-abbrev pub skipped_letters : Bytes → ℕ → Part → ℕ
-skipped_letters line place part =
-    bit_or (skip_letters line place (part.inside.start - 1)) (inside_letters line part part.kind)
+abbrev pub skipped_flags : Bytes → ℕ → Part → ℕ
+skipped_flags line place part =
+    bit_or (skip_flags line place (part.inside.start - 1)) (inside_flags line part part.kind)
 
--- letters of parts that begin after a place: what is skipped, and missing ends
-abbrev pub parts_letters : Bytes → ℕ → List Part → ℕ
-parts_letters line place [] = 0
-parts_letters line place (part ∷ parts) =
-    bit_or (bit_or (skipped_letters line place part) (part_letters part)) (parts_letters line part.end parts)
+-- flags of parts that begin after a place: what is skipped, and missing ends
+abbrev pub parts_flags : Bytes → ℕ → List Part → ℕ
+parts_flags line place [] = 0
+parts_flags line place (part ∷ parts) =
+    bit_or (bit_or (skipped_flags line place part) (part_flags part)) (parts_flags line part.end parts)
 
 abbrev pub is_empty : List Part → Bool
 is_empty [] = true
 is_empty (part ∷ parts) = false
 
--- letters of a text: A where it has no part; what is left over
-abbrev pub text_letters : Bytes → ℕ → Parts → ℕ
-text_letters line start parts =
-    bit_or (bit_or (letter_if (is_empty parts.list) letter_A) (parts_letters line start parts.list))
+-- flags of a text: A where it has no part; what is left over
+abbrev pub text_flags : Bytes → ℕ → Parts → ℕ
+text_flags line start parts =
+    bit_or (bit_or (flag_if (is_empty parts.list) flag_A) (parts_flags line start parts.list))
     (left_over line parts.end)
 
 -- ---- .ASCII, .ASCIZ
@@ -97,7 +97,7 @@ asciz_size line start = ascii_size line start + 1
 abbrev pub part_bytes : Map → Table → ℕ → Bytes → Part → PartKind → Put
 part_bytes known table place line part Text = put (map fixed_byte (part_text line part)) 0
 part_bytes known table place line part Expression =
-    byte table place (value_at (known_at known Refers table place) line part.inside.start)
+    byte table place (value_at (known_at known MayBeGlobal table place) line part.inside.start)
 
 abbrev pub parts_bytes : Map → Table → ℕ → Bytes → List Part → Put
 parts_bytes known table place line [] = nothing 0
@@ -107,7 +107,7 @@ parts_bytes known table place line (part ∷ parts) =
 
 abbrev pub ascii : Map → Table → ℕ → Bytes → ℕ → Put
 ascii known table place line start =
-    with_letters (text_letters line start (parts_at line start))
+    with_flags (text_flags line start (parts_at line start))
     (parts_bytes known table place line (parts_at line start).list)
 
 abbrev pub asciz : Map → Table → ℕ → Bytes → ℕ → Put
@@ -115,38 +115,38 @@ asciz known table place line start = followed_by (ascii known table place line s
 
 -- ---- .RAD50
 
--- codes, and letters
+-- codes, and flags
 pub record Codes : Type 0 where
   pub codes : List ℕ
-  pub letters : ℕ
+  pub flags : ℕ
 
 abbrev pub character_code : ℕ → ℕ
 character_code character = unwrap_or (code_of character) 0
 
 -- A for a character without a code
-abbrev pub character_letters : Bytes → ℕ
-character_letters text = letter_if (list_any (λ character. is_none (code_of character)) text) letter_A
+abbrev pub character_flags : Bytes → ℕ
+character_flags text = flag_if (list_any (λ character. is_none (code_of character)) text) flag_A
 
 -- an expression is a code by its low six bits, with T for one over 47
-abbrev pub code_letters : ℕ → ℕ
-code_letters number = letter_if (nat_lt 0o47 number) letter_T
+abbrev pub code_flags : ℕ → ℕ
+code_flags number = flag_if (nat_lt 0o47 number) flag_T
 
 abbrev pub value_codes : Quantity → Codes
 value_codes value = record {
   codes = value.number % 0o100 ∷ [];
-  letters = bit_or (bit_or value.letters (absence value.kind)) (code_letters value.number);
+  flags = bit_or (bit_or value.flags (absence value.kind)) (code_flags value.number);
 }
 
 abbrev pub part_codes : Known → Bytes → Part → PartKind → Codes
 part_codes known line part Text =
-    record { codes = map character_code (part_text line part); letters = character_letters (part_text line part) }
+    record { codes = map character_code (part_text line part); flags = character_flags (part_text line part) }
 part_codes known line part Expression = value_codes (value_at known line part.inside.start)
 
 abbrev pub codes_then : Codes → Codes → Codes
-codes_then first next = record { codes = first.codes ++ next.codes; letters = bit_or first.letters next.letters }
+codes_then first next = record { codes = first.codes ++ next.codes; flags = bit_or first.flags next.flags }
 
 abbrev pub parts_codes : Known → Bytes → List Part → Codes
-parts_codes known line [] = record { codes = []; letters = 0 }
+parts_codes known line [] = record { codes = []; flags = 0 }
 parts_codes known line (part ∷ parts) =
     codes_then (part_codes known line part part.kind) (parts_codes known line parts)
 
@@ -166,12 +166,12 @@ abbrev pub rad50_size : Bytes → ℕ → ℕ
 rad50_size line start = (parts_size line (parts_at line start).list + 2) / 3 * 2
 
 abbrev pub rad50_words : ℕ → Codes → Put
-rad50_words letters found = put (packed_words found.codes) (bit_or letters found.letters)
+rad50_words flags found = put (packed_words found.codes) (bit_or flags found.flags)
 
 abbrev pub rad50 : Map → Table → ℕ → Bytes → ℕ → Put
 rad50 known table place line start =
-    rad50_words (text_letters line start (parts_at line start))
-    (parts_codes (known_at known Knows table place) line (parts_at line start).list)
+    rad50_words (text_flags line start (parts_at line start))
+    (parts_codes (known_at known LocalOnly table place) line (parts_at line start).list)
 
 -- ---- .IDENT /text/: six characters of one text, filled with blanks
 

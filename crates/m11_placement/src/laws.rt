@@ -9,7 +9,7 @@ ghost use Rattle.m11_placement.specs.Definitions.{Key, firm_part};
 ghost use Rattle.m11_placement.specs.Equation.{AreAlike, Solves};
 ghost use Rattle.m11_placement.specs.Filling.{Fills, gap_before};
 ghost use Rattle.m11_placement.specs.Labels.{labels_stand};
-ghost use Rattle.m11_placement.specs.Lines.{deed, line_change, line_put};
+ghost use Rattle.m11_placement.specs.Lines.{action, line_change, line_put};
 ghost use Rattle.m11_placement.specs.Meanings.{AreFirm, Context, Map, firm_known, known_at};
 ghost use Rattle.m11_placement.specs.Operands.{words_of};
 ghost use Rattle.m11_placement.specs.declared.operands.Form.{Form};
@@ -81,7 +81,7 @@ pub fn placements_are_the_same_under_every_map()
 /// puts nothing.
 pub fn a_line_fills_what_it_steps_by()
     ensures { (map : Map) (table : Table) (given : Given)
-        → Fills (gap_before table (deed given.is_own given.live.line.text)) (line_put map table given).contents
+        → Fills (gap_before table (action given.is_own given.live.line.text)) (line_put map table given).contents
         (line_change (firm_table table) given) }
 {}
 

@@ -7,10 +7,10 @@ mod definitions;
 mod fields;
 mod laws;
 mod meanings;
+mod modes;
 mod operands;
 mod operators;
 mod sections;
-mod settings;
 
 pub use definitions::{Definition, Key, Standing};
 pub use fields::{Field, FieldPlace};
@@ -24,7 +24,7 @@ pub use laws::{
     the_parts_of_a_text_stand_one_after_the_other,
 };
 pub use meanings::Context;
+pub use modes::Modes;
 pub use operands::Form;
 pub use operators::{Directive, DirectiveRow, Operator};
 pub use sections::Section;
-pub use settings::Settings;

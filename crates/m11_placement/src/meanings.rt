@@ -4,7 +4,7 @@
 #[derive(Clone, Copy)]
 pub enum Context {
     /// In a word, a byte or the word after an instruction: a name that no line defines is a reference to another object.
-    Refers,
+    MayBeGlobal,
     /// Anywhere else.
-    Knows,
+    LocalOnly,
 }

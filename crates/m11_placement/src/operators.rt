@@ -6,9 +6,9 @@ use m11_base::Op;
 #[derive(Clone, Copy)]
 pub enum Directive {
     /// `.WORD`
-    Words,
+    Word,
     /// `.BYTE`
-    Bytewise,
+    Byte,
     /// `.ASCII`
     Ascii,
     /// `.ASCIZ`
@@ -16,9 +16,9 @@ pub enum Directive {
     /// `.RAD50`
     Rad50,
     /// `.BLKB`
-    ByteBlock,
+    Blkb,
     /// `.BLKW`
-    WordBlock,
+    Blkw,
     /// `.EVEN`
     Even,
     /// `.ODD`
@@ -26,37 +26,37 @@ pub enum Directive {
     /// `.LIMIT`
     Limit,
     /// `.RADIX`
-    InRadix,
+    Radix,
     /// `.ASECT`
-    AbsoluteSection,
+    Asect,
     /// `.CSECT`
-    ControlSection,
+    Csect,
     /// `.PSECT`
-    ProgramSection,
+    Psect,
     /// `.GLOBL`
-    Global,
+    Globl,
     /// `.WEAK`
     Weak,
     /// `.TITLE`
     Title,
     /// `.IDENT`
-    Identification,
+    Ident,
     /// `.SBTTL`
-    Subtitle,
+    Sbttl,
     /// `.PAGE`
     Page,
     /// `.LIST`
-    Lists,
+    List,
     /// `.NLIST`
-    Unlists,
+    Nlist,
     /// `.ENABL`
-    Enable,
+    Enabl,
     /// `.DSABL`
-    Disable,
+    Dsabl,
     /// `.NARG`
-    ArgumentCount,
+    Narg,
     /// `.NCHR`
-    CharacterCount,
+    Nchr,
     /// `.END`
     End,
 }
@@ -76,5 +76,5 @@ pub enum Operator {
     /// An instruction. It stands at an even place.
     Instruction(Op),
     /// A directive.
-    Directs(Directive),
+    Directive(Directive),
 }

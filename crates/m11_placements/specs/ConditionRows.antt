@@ -8,14 +8,14 @@ use Rattle.m11_placement.specs.Meanings.{empty_map}
 use Rattle.m11_placement.specs.Placements.{table_after}
 use Rattle.m11_placement.specs.Unfolded.{known_after_labels}
 use Rattle.m11_placements.specs.Worked.{plain}
-use Rattle.m11_scan.specs.Letters.{letters_text}
+use Rattle.m11_scan.specs.ErrorFlags.{flags_text}
 use Rattle.m11_unfolding.specs.Acting.{Acted, act}
 use Rattle.m11_unfolding.specs.Stages.{start}
 
--- whether a condition holds, and its letters
+-- whether a condition holds, and its flags
 pub record Verdict : Type 0 where
   pub holds : Bool
-  pub letters : Bytes
+  pub flags : Bytes
 
 -- some lines, the line of a condition after them, and what it gives
 pub record ConditionRow : Type 0 where
@@ -26,7 +26,7 @@ pub record ConditionRow : Type 0 where
 abbrev pub verdict_of : Acted → Verdict
 verdict_of acted = record {
   holds = not (is_skipping acted.after.conditions);
-  letters = letters_text acted.notes.letters;
+  flags = flags_text acted.notes.flags;
 }
 
 -- the operator of a line, by what the lines before it and its own labels say
@@ -41,8 +41,8 @@ abbrev pub expected_verdict : ConditionRow → Verdict
 expected_verdict row = row.verdict
 
 abbrev pub row : List Bytes → Bytes → Bool → Bytes → ConditionRow
-row before line holds letters =
-    record { before = before; line = line; verdict = record { holds = holds; letters = letters } }
+row before line holds flags =
+    record { before = before; line = line; verdict = record { holds = holds; flags = flags } }
 
 -- a label of the condition's own line counts, but for one on a name that has a definition
 abbrev pub label_rows : List ConditionRow

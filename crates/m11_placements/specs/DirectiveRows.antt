@@ -49,8 +49,8 @@ text_rows =
     ∷ []
 
 -- the radix, labels and assignments
-abbrev pub setting_rows : List Row
-setting_rows =
+abbrev pub mode_rows : List Row
+mode_rows =
     row (codes ".RADIX 10." ∷ codes ".WORD 12" ∷ codes ".RADIX 16 ?" ∷ codes ".WORD 12" ∷ codes ".RADIX" ∷ codes ".WORD 12" ∷ [])
     (codes "" ∷ codes "" ∷ codes "AI" ∷ codes "" ∷ codes "" ∷ codes "" ∷ []) (word 0 0o14 ∷ word 2 0o14 ∷ word 4 0o12 ∷ [])
     ∷ row (codes "X=1" ∷ codes "X:" ∷ codes "X=2" ∷ codes ".WORD X" ∷ []) (codes "" ∷ codes "M" ∷ codes "" ∷ codes "D" ∷ [])

@@ -50,10 +50,10 @@ abbrev pub expanded : Bytes → Given
 expanded text = record (plain text) { live = record { line = line_of text; is_expanded = true } }
 
 abbrev pub listed_from : Map → Table → List Given → List ℕ → List Bool
-listed_from known table [] letters = []
+listed_from known table [] flags = []
 listed_from known table (given ∷ lines) [] = []
-listed_from known table (given ∷ lines) (letters ∷ others) =
-    is_listed (after_line known table given) given letters ∷ listed_from known (after_line known table given) lines others
+listed_from known table (given ∷ lines) (flags ∷ others) =
+    is_listed (after_line known table given) given flags ∷ listed_from known (after_line known table given) lines others
 
 abbrev pub listed_of : List Given → List Bool
 listed_of lines = listed_from (program_map lines) first_table lines (reported lines)

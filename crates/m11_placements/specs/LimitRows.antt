@@ -8,7 +8,7 @@ use Rattle.m11_passes.specs.Refusals.{placing_fault}
 use Rattle.m11_placement.specs.Meanings.{Map, empty_map}
 use Rattle.m11_placement.specs.Placements.{program_map, table_after}
 use Rattle.m11_placement.specs.Tables.{first_table}
-use Rattle.m11_placing.specs.Counting.{none_mentioned}
+use Rattle.m11_placing.specs.Counting.{none_used}
 use Rattle.m11_placing.specs.declared.counting.Counting.{Counting}
 use Rattle.m11_placing.specs.declared.counting.Counting.TheVariants.{Definitions}
 use Rattle.m11_placements.specs.Worked.{plain}
@@ -29,7 +29,7 @@ fault_after map counting lines line = placing_fault map (table_after map lines) 
 
 -- in the first pass, and in the second
 abbrev pub first_fault : List Bytes → Bytes → Option AsmFault
-first_fault lines line = fault_after empty_map none_mentioned (map plain lines) (plain line)
+first_fault lines line = fault_after empty_map none_used (map plain lines) (plain line)
 
 abbrev pub second_fault : List Bytes → Bytes → Option AsmFault
 second_fault lines line = fault_after (program_map (map plain (line ∷ lines))) Definitions (map plain lines) (plain line)

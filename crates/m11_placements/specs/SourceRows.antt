@@ -4,7 +4,7 @@ use Rattle.std.specs.Prelude.{ℕ, List, [], ◌∷◌, ◌++◌, codes, map, op
 use Rattle.std.specs.List.{flat_map}
 use Rattle.m11_base.specs.Devices.{Bytes}
 use Rattle.m11_base.specs.Rad50.{Name}
-use Rattle.m11_asm.specs.Program.{directory_facts_of, mentioned_in}
+use Rattle.m11_asm.specs.Program.{directory_facts_of, used_in}
 use Rattle.m11_directory.specs.References.{references}
 use Rattle.m11_first.specs.Facts.{facts_of}
 use Rattle.m11_placements.specs.RelocationRows.{named}
@@ -40,8 +40,8 @@ gives_of lines = record {
   identification = (facts_of lines).identification;
   weak = (facts_of lines).weak;
   transfer = option_map number_of (facts_of lines).transfer;
-  names = (mentioned_in lines).names;
-  registers = (mentioned_in lines).registers;
+  names = (used_in lines).names;
+  registers = (used_in lines).registers;
   references = references (directory_facts_of lines);
 }
 

@@ -13,9 +13,9 @@ use Rattle.m11_placement.specs.Meanings.{firm_known}
 use Rattle.m11_placement.specs.Placements.{Placed, placement, program_map}
 use Rattle.m11_placement.specs.Tables.{first_table}
 use Rattle.m11_asm.specs.Program.{program_of}
-use Rattle.m11_asm.specs.Written.{letters_after}
+use Rattle.m11_asm.specs.Written.{flags_after}
 use Rattle.m11_passes.specs.Lines.{Numbered, numbered}
-use Rattle.m11_scan.specs.Letters.{letters_text}
+use Rattle.m11_scan.specs.ErrorFlags.{flags_text}
 use Rattle.m11_unfolding.specs.Unfolding.{Given}
 
 -- a line of the source itself that unfolding leaves alone
@@ -28,43 +28,43 @@ plain text = record {
   arguments = None;
 }
 
--- the letters of each line, and the pieces of all
+-- the flags of each line, and the pieces of all
 pub record Shown : Type 0 where
-  pub letters : List Bytes
+  pub flags : List Bytes
   pub pieces : List Piece
 
 abbrev pub pieces_of : List Placed → List Piece
 pieces_of lines = flat_map (λ line. line.pieces) lines
 
--- what number a line has decides none of its letters
+-- what number a line has decides none of its flags
 abbrev pub unnumbered : Given → Numbered
 unnumbered given = numbered 0 given
 
--- the letters that an assembly reports of each line
+-- the flags that an assembly reports of each line
 abbrev pub reported : List Given → List ℕ
-reported lines = letters_after (program_of lines) [] (map unnumbered lines)
+reported lines = flags_after (program_of lines) [] (map unnumbered lines)
 
 -- what the second pass of a source gives, under the map of the first
 abbrev pub assembled : List Given → Shown
 assembled lines = record {
-  letters = map letters_text (reported lines);
+  flags = map flags_text (reported lines);
   pieces = pieces_of (placement (program_map lines) lines);
 }
 
 -- a source, and what it gives
 pub record Row : Type 0 where
   pub source : List Bytes
-  pub letters : List Bytes
+  pub flags : List Bytes
   pub pieces : List Piece
 
 abbrev pub row : List Bytes → List Bytes → List Piece → Row
-row source letters pieces = record { source = source; letters = letters; pieces = pieces }
+row source flags pieces = record { source = source; flags = flags; pieces = pieces }
 
 abbrev pub found : Row → Shown
 found row = assembled (map plain row.source)
 
 abbrev pub expected : Row → Shown
-expected row = record { letters = row.letters; pieces = row.pieces }
+expected row = record { flags = row.flags; pieces = row.pieces }
 
 -- ---- pieces of the blank section
 

@@ -1,7 +1,7 @@
 //! Directives as they were worked by hand. (MACRO-11 Language Reference Manual, "General assembler directives".)
 
 ghost use Rattle.std.specs.Prelude.{◌≡◌, map};
-ghost use Rattle.m11_placements.specs.DirectiveRows.{place_rows, setting_rows, text_rows, word_rows};
+ghost use Rattle.m11_placements.specs.DirectiveRows.{place_rows, mode_rows, text_rows, word_rows};
 ghost use Rattle.m11_placements.specs.ItemRows.{found_items, found_listed, worked_items, worked_listed};
 ghost use Rattle.m11_placements.specs.Worked.{found, expected};
 
@@ -21,8 +21,8 @@ pub fn texts_are_as_worked()
 {}
 
 /// The radix, labels, assignments, and directives that place nothing.
-pub fn settings_are_as_worked()
-    ensures { map found setting_rows ≡ map expected setting_rows }
+pub fn modes_are_as_worked()
+    ensures { map found mode_rows ≡ map expected mode_rows }
 {}
 
 /// What a listing shows of assignments, of what is put, and of lines that show nothing.

@@ -1,4 +1,4 @@
-//! Lines of sources worked by hand: what they put and their letters, what conditions find, what a listing shows, titles, names and limits;
+//! Lines of sources worked by hand: what they put and their flags, what conditions find, what a listing shows, titles, names and limits;
 //! the definitions of m11_placement give just that. Each law is the contract of a function that does nothing; no other crate names them.
 #![tactic(auto)]
 
@@ -9,7 +9,7 @@ mod relocations;
 
 pub use conditions::conditions_are_as_worked;
 pub use directives::{
-    items_are_as_worked, listings_are_as_worked, places_are_as_worked, settings_are_as_worked,
+    items_are_as_worked, listings_are_as_worked, modes_are_as_worked, places_are_as_worked,
     texts_are_as_worked, words_are_as_worked,
 };
 pub use instructions::{

@@ -9,7 +9,7 @@ use Rattle.m11_base.specs.Rad50.{Name}
 use Rattle.m11_placement.specs.Assignments.{all_firm, assigned, standing_of}
 use Rattle.m11_placement.specs.Definitions.{has_key, is_defined, is_labelled, is_of_label, last_definition}
 use Rattle.m11_placement.specs.Labels.{labelled}
-use Rattle.m11_placement.specs.Meanings.{Map, defined_or, is_firm, is_firm_in, known_at, letter_D, meaning_of, quantity_of, stands_for, undefined}
+use Rattle.m11_placement.specs.Meanings.{Map, defined_or, is_firm, is_firm_in, known_at, flag_D, meaning_of, quantity_of, stands_for, undefined}
 use Rattle.m11_placement.specs.Places.{place_in}
 use Rattle.m11_placement.specs.Sections.{numbered, place_kind}
 use Rattle.m11_placement.specs.Tables.{Table, kind_here, place, section_name}
@@ -18,10 +18,10 @@ use Rattle.m11_placement.specs.declared.definitions.Key.{Key}
 use Rattle.m11_placement.specs.declared.definitions.Key.TheVariants.{Named, Numbered}
 use Rattle.m11_placement.specs.declared.definitions.Standing.TheVariants.{Known}
 use Rattle.m11_placement.specs.declared.meanings.Context.{Context}
-use Rattle.m11_placement.specs.declared.meanings.Context.TheVariants.{Knows}
+use Rattle.m11_placement.specs.declared.meanings.Context.TheVariants.{LocalOnly}
 use Rattle.m11_placement.specs.declared.sections.Section.{Section}
-use Rattle.m11_placement.specs.declared.settings.Settings.{Settings}
-use Rattle.m11_statements.specs.Statements.{letter_if}
+use Rattle.m11_placement.specs.declared.modes.Modes.{Modes}
+use Rattle.m11_statements.specs.Statements.{flag_if}
 use Rattle.m11_table.specs.Alike.{Alike}
 use Rattle.m11_table.proofs.Defined.{is_some_last}
 use Rattle.m11_values.specs.declared.kinds.Kind.{Kind}
@@ -32,38 +32,38 @@ use Rattle.m11_values.specs.Quantities.{Quantity}
 pub alike_itself : (table : Table) → Alike table table
 alike_itself table = record {
   definitions = λ key. refl;
-  doubled = λ key. refl;
+  doubly_defined = λ key. refl;
   globals = λ name. refl;
   sections = refl;
   counters = λ number. refl;
-  settings = refl;
+  modes = refl;
 }
 
 -- what a definition gives, with D where its key is doubled; without one there is something else
 abbrev defined_by : Bool → Quantity → Option Definition → Quantity
-defined_by is_doubled other (Some definition) = quantity_of (letter_if is_doubled letter_D) definition.standing
-defined_by is_doubled other None = other
+defined_by is_doubly_defined other (Some definition) = quantity_of (flag_if is_doubly_defined flag_D) definition.standing
+defined_by is_doubly_defined other None = other
 
-asked_by : (key : Key) (doubled : List Key) (other : Quantity) (found : Option Definition)
-    → defined_or key doubled other found ≡ defined_by (has_key key doubled) other found
-asked_by key doubled other (Some definition) = refl
-asked_by key doubled other None = refl
+asked_by : (key : Key) (doubly_defined : List Key) (other : Quantity) (found : Option Definition)
+    → defined_or key doubly_defined other found ≡ defined_by (has_key key doubly_defined) other found
+asked_by key doubly_defined other (Some definition) = refl
+asked_by key doubly_defined other None = refl
 
 module _ (one other : Table) (alike : Alike one other) where
   -- ---- places and kinds
 
   pub alike_place : place one ≡ place other
-  alike_place = alike.counters one.settings.section ∙ ap (λ (s : Settings). place_in s.section other.moves) alike.settings
+  alike_place = alike.counters one.modes.section ∙ ap (λ (s : Modes). place_in s.section other.moves) alike.modes
 
   pub alike_kind : kind_here one ≡ kind_here other
   alike_kind =
-      ap (λ (s : Settings). place_kind s.section one.sections) alike.settings
-      ∙ ap (place_kind other.settings.section) alike.sections
+      ap (λ (s : Modes). place_kind s.section one.sections) alike.modes
+      ∙ ap (place_kind other.modes.section) alike.sections
 
   pub alike_section : section_name one ≡ section_name other
   alike_section =
-      ap (λ (s : Settings). (numbered s.section one.sections).name) alike.settings
-      ∙ ap (λ (l : List Section). (numbered other.settings.section l).name) alike.sections
+      ap (λ (s : Modes). (numbered s.section one.sections).name) alike.modes
+      ∙ ap (λ (l : List Section). (numbered other.modes.section l).name) alike.sections
 
   -- ---- keys
 
@@ -86,33 +86,33 @@ module _ (one other : Table) (alike : Alike one other) where
 
   meaning_alike : (map : Map) (unknown : Quantity) (key : Key) → meaning_of map unknown one key ≡ meaning_of map unknown other key
   meaning_alike map unknown key =
-      let in_map : Quantity = defined_or key map.doubled unknown (last_definition key map.definitions) in
-      asked_by key one.doubled in_map (last_definition key one.definitions)
-      ∙ ap (λ (b : Bool). defined_by b in_map (last_definition key one.definitions)) (alike.doubled key)
-      ∙ ap (defined_by (has_key key other.doubled) in_map) (alike.definitions key)
-      ∙ sym (asked_by key other.doubled in_map (last_definition key other.definitions))
+      let in_map : Quantity = defined_or key map.doubly_defined unknown (last_definition key map.definitions) in
+      asked_by key one.doubly_defined in_map (last_definition key one.definitions)
+      ∙ ap (λ (b : Bool). defined_by b in_map (last_definition key one.definitions)) (alike.doubly_defined key)
+      ∙ ap (defined_by (has_key key other.doubly_defined) in_map) (alike.definitions key)
+      ∙ sym (asked_by key other.doubly_defined in_map (last_definition key other.definitions))
 
   symbol_alike : (map : Map) (context : Context) (place : ℕ) (symbol : Symbol)
       → stands_for map context one place symbol ≡ stands_for map context other place symbol
   symbol_alike map context place (Ordinary name) = meaning_alike map (undefined context (Ordinary name)) (Named name)
   symbol_alike map context place (Local number) =
-      ap (λ (s : Settings). meaning_of map (undefined context (Local number)) one (Numbered s.block number)) alike.settings
-      ∙ meaning_alike map (undefined context (Local number)) (Numbered other.settings.block number)
+      ap (λ (s : Modes). meaning_of map (undefined context (Local number)) one (Numbered s.block number)) alike.modes
+      ∙ meaning_alike map (undefined context (Local number)) (Numbered other.modes.block number)
   symbol_alike map context place Counter =
-      ap (λ (k : Kind). record { number = place; kind = k; letters = 0 }) alike_kind
+      ap (λ (k : Kind). record { number = place; kind = k; flags = 0 }) alike_kind
 
   pub alike_known : (map : Map) (context : Context) (place : ℕ) → known_at map context one place ≡ known_at map context other place
   alike_known map context place =
-      ap (λ (s : Settings). known_by s.radix (stands_for map context one place)) alike.settings
-      ∙ ap (known_by other.settings.radix) (fun_ext (λ symbol. symbol_alike map context place symbol))
+      ap (λ (s : Modes). known_by s.radix (stands_for map context one place)) alike.modes
+      ∙ ap (known_by other.modes.radix) (fun_ext (λ symbol. symbol_alike map context place symbol))
 
   -- ---- assignments
 
   firm_alike : (symbol : Symbol) → is_firm one symbol ≡ is_firm other symbol
   firm_alike (Ordinary name) = ap is_firm_in (alike.definitions (Named name))
   firm_alike (Local number) =
-      ap (λ (s : Settings). is_firm_in (last_definition (Numbered s.block number) one.definitions)) alike.settings
-      ∙ ap is_firm_in (alike.definitions (Numbered other.settings.block number))
+      ap (λ (s : Modes). is_firm_in (last_definition (Numbered s.block number) one.definitions)) alike.modes
+      ∙ ap is_firm_in (alike.definitions (Numbered other.modes.block number))
   firm_alike Counter = refl
 
   all_alike : (symbols : List Symbol) → all_firm one symbols ≡ all_firm other symbols
@@ -120,10 +120,10 @@ module _ (one other : Table) (alike : Alike one other) where
   all_alike (symbol ∷ symbols) = rw (firm_alike symbol, all_alike symbols) refl
 
   pub alike_value : (map : Map) (line : Bytes) (start : ℕ)
-      → value_at (known_at map Knows one (place one)) line start ≡ value_at (known_at map Knows other (place other)) line start
+      → value_at (known_at map LocalOnly one (place one)) line start ≡ value_at (known_at map LocalOnly other (place other)) line start
   alike_value map line start =
-      ap (λ (p : ℕ). value_at (known_at map Knows one p) line start) alike_place
-      ∙ ap (λ (k : expressions.Known). value_at k line start) (alike_known map Knows (place other))
+      ap (λ (p : ℕ). value_at (known_at map LocalOnly one p) line start) alike_place
+      ∙ ap (λ (k : expressions.Known). value_at k line start) (alike_known map LocalOnly (place other))
 
   pub alike_assigned : (map : Map) (key : Key) (line : Bytes) (start : ℕ)
       → assigned map one key line start ≡ assigned map other key line start
@@ -131,4 +131,4 @@ module _ (one other : Table) (alike : Alike one other) where
       let of : Quantity → Bool → Definition = λ value firm.
       record { key = key; standing = standing_of value; is_firm = firm; label = None } in
       ap (λ (v : Quantity). of v (all_firm one (symbols_at line start))) (alike_value map line start)
-      ∙ ap (of (value_at (known_at map Knows other (place other)) line start)) (all_alike (symbols_at line start))
+      ∙ ap (of (value_at (known_at map LocalOnly other (place other)) line start)) (all_alike (symbols_at line start))

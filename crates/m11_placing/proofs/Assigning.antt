@@ -10,7 +10,7 @@ use Rattle.m11_operators.specs.Changes.{names_among}
 use Rattle.m11_placement.specs.Assignments.{all_firm, assigned, standing_of}
 use Rattle.m11_placement.specs.Changes.{numbered, with_globals, with_number, with_value}
 use Rattle.m11_placement.specs.Definitions.{is_labelled}
-use Rattle.m11_placement.specs.Labels.{global_if, with_definition, with_doubled, with_global}
+use Rattle.m11_placement.specs.Labels.{global_if, with_definition, with_doubly_defined, with_global}
 use Rattle.m11_placement.proofs.NamesDefined.{one_more}
 use Rattle.m11_placement.specs.Limits.{has_too_many, is_local, local_count, most_defined_names, most_local_symbols, name_count, names_defined, with_defined}
 use Rattle.m11_placement.specs.Meanings.{Map, known_at}
@@ -18,7 +18,7 @@ use Rattle.m11_placement.specs.Tables.{Table, place}
 use Rattle.m11_placement.specs.declared.definitions.Definition.{Definition}
 use Rattle.m11_placement.specs.declared.definitions.Key.{Key}
 use Rattle.m11_placement.specs.declared.definitions.Key.TheVariants.{Named}
-use Rattle.m11_placement.specs.declared.meanings.Context.TheVariants.{Knows}
+use Rattle.m11_placement.specs.declared.meanings.Context.TheVariants.{LocalOnly}
 use Rattle.m11_table.specs.Alike as tables
 use Rattle.m11_table.specs.Alike.{Alike}
 use Rattle.m11_values.specs.Quantities.{Quantity}
@@ -36,11 +36,11 @@ given name value firm = record { key = Named name; standing = standing_of value;
 -- a value that is found, and whether its symbols are firm, are those of the definition
 pub gives : (map : Map) (name : Name) (line : Bytes) (start : ℕ) (table : Table) (value : Quantity) (firm : Bool)
     (definition : Definition) → definition ≡ given name value firm
-    → value ≡ value_at (known_at map Knows table (place table)) line start → firm ≡ all_firm table (symbols_at line start)
+    → value ≡ value_at (known_at map LocalOnly table (place table)) line start → firm ≡ all_firm table (symbols_at line start)
     → definition ≡ assigned map table (Named name) line start
 gives map name line start table value firm definition is value_is firm_is =
     is ∙ ap (λ (v : Quantity). given name v firm) value_is
-    ∙ ap (given name (value_at (known_at map Knows table (place table)) line start)) firm_is
+    ∙ ap (given name (value_at (known_at map LocalOnly table (place table)) line start)) firm_is
 
 pub assigns : {A : Type 0} (map : Map) (key : Key) (line : Bytes) (start : ℕ) (old new : Kept) (definition : Definition)
     (result : Result A AsmFault) → definition ≡ assigned map old.table key line start
@@ -108,16 +108,16 @@ overfills_value map name line start is_global fault old told is matches refuses 
 numbers_so : {A : Type 0} (name : Name) (number : ℕ) (is_known : Bool) (old new : Table) (result : Result A AsmFault)
     → is_labelled (Named name) old.definitions ≡ is_known
     → IfOk result (λ _. tables.Follows old new
-    (λ told. if is_known then with_doubled (Named name) told else with_definition (numbered name number) told))
+    (λ told. if is_known then with_doubly_defined (Named name) told else with_definition (numbered name number) told))
     → IfOk result (λ _. tables.Follows old new (with_number name number))
 numbers_so name number is_known old new (Ok value) is follows = λ told alike.
     let P : Bool → Type 0 = λ b.
-    Alike new (if b then with_doubled (Named name) told else with_definition (numbered name number) told) in
+    Alike new (if b then with_doubly_defined (Named name) told else with_definition (numbered name number) told) in
     subst P (sym is ∙ alike_labelled old told alike (Named name)) (follows told alike)
 numbers_so name number is_known old new (Err fault) is follows = tt
 
 pub number_doubles : {A : Type 0} (name : Name) (number : ℕ) (old new : Table) (result : Result A AsmFault)
-    → is_labelled (Named name) old.definitions ≡ true → IfOk result (λ _. tables.Follows old new (with_doubled (Named name)))
+    → is_labelled (Named name) old.definitions ≡ true → IfOk result (λ _. tables.Follows old new (with_doubly_defined (Named name)))
     → IfOk result (λ _. tables.Follows old new (with_number name number))
 number_doubles name number old new result is follows = numbers_so name number true old new result is follows
 
@@ -131,7 +131,7 @@ number_defines name number old new result is follows = numbers_so name number fa
 abbrev valued : Map → Name → Bytes → ℕ → Bool → Bool → Table → Table
 valued map name line start is_global is_known told =
     global_if (is_global && not is_known) name
-    (if is_known then with_doubled (Named name) told else with_definition (assigned map told (Named name) line start) told)
+    (if is_known then with_doubly_defined (Named name) told else with_definition (assigned map told (Named name) line start) told)
 
 module _ (map : Map) (name : Name) (line : Bytes) (start : ℕ) (old new : Table) where
   values_so : (is_global is_known : Bool) → is_labelled (Named name) old.definitions ≡ is_known
@@ -141,13 +141,13 @@ module _ (map : Map) (name : Name) (line : Bytes) (start : ℕ) (old new : Table
       let P : Bool → Type 0 = λ b. Alike new (valued map name line start is_global b told) in
       subst P (sym is ∙ alike_labelled old told alike (Named name)) (follows told alike)
 
-  doubles_only : (is_global : Bool) → tables.Follows old new (with_doubled (Named name))
+  doubles_only : (is_global : Bool) → tables.Follows old new (with_doubly_defined (Named name))
       → tables.Follows old new (valued map name line start is_global true)
   doubles_only true follows = follows
   doubles_only false follows = follows
 
   pub value_doubles : {A : Type 0} (is_global : Bool) (result : Result A AsmFault)
-      → is_labelled (Named name) old.definitions ≡ true → IfOk result (λ _. tables.Follows old new (with_doubled (Named name)))
+      → is_labelled (Named name) old.definitions ≡ true → IfOk result (λ _. tables.Follows old new (with_doubly_defined (Named name)))
       → IfOk result (λ _. tables.Follows old new (with_value map name is_global line start))
   value_doubles is_global (Ok value) is follows = values_so is_global true is (doubles_only is_global follows)
   value_doubles is_global (Err fault) is follows = tt

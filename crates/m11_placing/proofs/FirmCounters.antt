@@ -5,9 +5,9 @@ use Rattle.m11_placement.proofs.FilledSizes.{table_twice}
 use Rattle.m11_placement.specs.Assigning.{counter_change, counter_to}
 use Rattle.m11_placement.specs.Meanings.{empty_map, known_at}
 use Rattle.m11_placement.specs.Tables.{Table, firm_table, place}
-use Rattle.m11_placement.specs.declared.meanings.Context.TheVariants.{Knows}
+use Rattle.m11_placement.specs.declared.meanings.Context.TheVariants.{LocalOnly}
 
 pub counter_firm : (table : Table) (line : List ℕ) (start : ℕ)
     → counter_change (firm_table table) line start ≡ counter_change table line start
 counter_firm table line start =
-    ap (λ (t : Table). counter_to table (value_at (known_at empty_map Knows t (place table)) line start)) (table_twice table)
+    ap (λ (t : Table). counter_to table (value_at (known_at empty_map LocalOnly t (place table)) line start)) (table_twice table)

@@ -6,14 +6,14 @@ use Rattle.m11_asm_faults.specs.declared.fault.AsmFault.{AsmFault}
 use Rattle.m11_base.specs.Devices.{Bytes}
 use Rattle.m11_base.specs.Rad50.{Name}
 use Rattle.m11_placement.specs.Definitions.{is_defined}
-use Rattle.m11_placement.specs.Labels.{global_if, key_letters, kind_letters, label_name, labelled, labels_letters, name_letters, with_block, with_definition, with_doubled, with_key, with_kind, with_label, with_labels, with_name}
+use Rattle.m11_placement.specs.Labels.{global_if, key_flags, kind_flags, label_name, labelled, labels_flags, name_flags, with_block, with_definition, with_doubly_defined, with_key, with_kind, with_label, with_labels, with_name}
 use Rattle.m11_placement.proofs.NamesDefined.{none_fewer}
 use Rattle.m11_placement.specs.Limits.{has_too_many, is_local, local_count, most_defined_names, most_local_symbols}
 use Rattle.m11_placement.specs.Tables.{Table}
 use Rattle.m11_placement.specs.declared.definitions.Definition.{Definition}
 use Rattle.m11_placement.specs.declared.definitions.Key.{Key}
 use Rattle.m11_placement.specs.declared.definitions.Key.TheVariants.{Named, Numbered}
-use Rattle.m11_placement.specs.declared.settings.Settings.{Settings}
+use Rattle.m11_placement.specs.declared.modes.Modes.{Modes}
 use Rattle.m11_statements.specs.declared.labels.Label.{Label}
 use Rattle.m11_statements.specs.declared.labels.LabelKind.{LabelKind}
 use Rattle.m11_statements.specs.declared.labels.LabelKind.TheVariants as kind
@@ -42,82 +42,82 @@ labels_here old new key definition e follows told matches =
 
 module _ (old new : Kept) where
   pub names_double : (name : Name) (is_global : Bool) → is_defined (Named name) old.table.definitions ≡ true
-      → Follows old new (with_doubled (Named name))
-      → Defines old new 64 (λ told. with_name is_global told (Some name)) (λ told. name_letters told (Some name))
+      → Follows old new (with_doubly_defined (Named name))
+      → Defines old new 64 (λ told. with_name is_global told (Some name)) (λ told. name_flags told (Some name))
   names_double name is_global defined follows told matches =
       let there : is_defined (Named name) told.definitions ≡ true = sym (defined_there old told (Named name) matches) ∙ defined in
       rw there (follows told matches, refl)
 
-  pub names_open : (name : Name) (is_global : Bool) (letters : ℕ) → is_defined (Named name) old.table.definitions ≡ false
-      → letters ≡ 0
+  pub names_open : (name : Name) (is_global : Bool) (flags : ℕ) → is_defined (Named name) old.table.definitions ≡ false
+      → flags ≡ 0
       → Follows old new (λ told. global_if is_global name (with_block (with_definition (labelled told (Named name)) told)))
-      → Defines old new letters (λ told. with_name is_global told (Some name)) (λ told. name_letters told (Some name))
-  names_open name is_global letters defined none follows told matches =
+      → Defines old new flags (λ told. with_name is_global told (Some name)) (λ told. name_flags told (Some name))
+  names_open name is_global flags defined none follows told matches =
       let there : is_defined (Named name) told.definitions ≡ false = sym (defined_there old told (Named name) matches) ∙ defined in
       rw there (follows told matches, none)
 
   key_of : (told : Table) (number : ℕ) → Matches old told
-      → Numbered old.table.settings.block number ≡ Numbered told.settings.block number
-  key_of told number matches = ap (λ (s : Settings). Numbered s.block number) matches.alike.settings
+      → Numbered old.table.modes.block number ≡ Numbered told.modes.block number
+  key_of told number matches = ap (λ (s : Modes). Numbered s.block number) matches.alike.modes
 
-  pub symbols_double : (number : ℕ) → is_defined (Numbered old.table.settings.block number) old.table.definitions ≡ true
-      → Follows old new (with_doubled (Numbered old.table.settings.block number))
-      → Defines old new 64 (λ told. with_key (Numbered told.settings.block number) told)
-      (λ told. key_letters told (Numbered told.settings.block number))
+  pub symbols_double : (number : ℕ) → is_defined (Numbered old.table.modes.block number) old.table.definitions ≡ true
+      → Follows old new (with_doubly_defined (Numbered old.table.modes.block number))
+      → Defines old new 64 (λ told. with_key (Numbered told.modes.block number) told)
+      (λ told. key_flags told (Numbered told.modes.block number))
   symbols_double number defined follows told matches =
-      let P : Key → Type 0 = λ k. Matches new (with_key k told) × (64 ≡ key_letters told k) in
-      let there : is_defined (Numbered old.table.settings.block number) told.definitions ≡ true
-      = sym (defined_there old told (Numbered old.table.settings.block number) matches) ∙ defined in
+      let P : Key → Type 0 = λ k. Matches new (with_key k told) × (64 ≡ key_flags told k) in
+      let there : is_defined (Numbered old.table.modes.block number) told.definitions ≡ true
+      = sym (defined_there old told (Numbered old.table.modes.block number) matches) ∙ defined in
       subst P (key_of told number matches) (rw there (follows told matches, refl))
 
-  pub symbols_begin : (number letters : ℕ) → is_defined (Numbered old.table.settings.block number) old.table.definitions ≡ false
-      → letters ≡ 0
-      → Follows old new (λ told. with_definition (labelled told (Numbered old.table.settings.block number)) told)
-      → Defines old new letters (λ told. with_key (Numbered told.settings.block number) told)
-      (λ told. key_letters told (Numbered told.settings.block number))
-  symbols_begin number letters defined none follows told matches =
-      let P : Key → Type 0 = λ k. Matches new (with_key k told) × (letters ≡ key_letters told k) in
-      let there : is_defined (Numbered old.table.settings.block number) told.definitions ≡ false
-      = sym (defined_there old told (Numbered old.table.settings.block number) matches) ∙ defined in
+  pub symbols_begin : (number flags : ℕ) → is_defined (Numbered old.table.modes.block number) old.table.definitions ≡ false
+      → flags ≡ 0
+      → Follows old new (λ told. with_definition (labelled told (Numbered old.table.modes.block number)) told)
+      → Defines old new flags (λ told. with_key (Numbered told.modes.block number) told)
+      (λ told. key_flags told (Numbered told.modes.block number))
+  symbols_begin number flags defined none follows told matches =
+      let P : Key → Type 0 = λ k. Matches new (with_key k told) × (flags ≡ key_flags told k) in
+      let there : is_defined (Numbered old.table.modes.block number) told.definitions ≡ false
+      = sym (defined_there old told (Numbered old.table.modes.block number) matches) ∙ defined in
       subst P (key_of told number matches) (rw there (follows told matches, none))
 
   -- the table with the definition is that with the label
   pub symbol_stands : (number : ℕ) (told : Table) → Matches old told
-      → is_defined (Numbered old.table.settings.block number) old.table.definitions ≡ false
-      → with_definition (labelled told (Numbered old.table.settings.block number)) told
-      ≡ with_key (Numbered told.settings.block number) told
+      → is_defined (Numbered old.table.modes.block number) old.table.definitions ≡ false
+      → with_definition (labelled told (Numbered old.table.modes.block number)) told
+      ≡ with_key (Numbered told.modes.block number) told
   symbol_stands number told matches defined =
-      let P : Key → Type 0 = λ k. with_definition (labelled told (Numbered old.table.settings.block number)) told
+      let P : Key → Type 0 = λ k. with_definition (labelled told (Numbered old.table.modes.block number)) told
       ≡ with_key k told in
-      let there : is_defined (Numbered old.table.settings.block number) told.definitions ≡ false
-      = sym (defined_there old told (Numbered old.table.settings.block number) matches) ∙ defined in
+      let there : is_defined (Numbered old.table.modes.block number) told.definitions ≡ false
+      = sym (defined_there old told (Numbered old.table.modes.block number) matches) ∙ defined in
       subst P (key_of told number matches) (rw there refl)
 
 -- the block is read before
-module _ (old new : Kept) (block number : ℕ) (is : block ≡ old.table.settings.block) where
-  pub blocks_double : is_defined (Numbered block number) old.table.definitions ≡ true → Follows old new (with_doubled (Numbered block number))
-      → Defines old new 64 (λ told. with_key (Numbered told.settings.block number) told)
-      (λ told. key_letters told (Numbered told.settings.block number))
+module _ (old new : Kept) (block number : ℕ) (is : block ≡ old.table.modes.block) where
+  pub blocks_double : is_defined (Numbered block number) old.table.definitions ≡ true → Follows old new (with_doubly_defined (Numbered block number))
+      → Defines old new 64 (λ told. with_key (Numbered told.modes.block number) told)
+      (λ told. key_flags told (Numbered told.modes.block number))
   blocks_double defined follows =
       let P : ℕ → Type 0 = λ b. is_defined (Numbered b number) old.table.definitions ≡ true in
-      let Q : ℕ → Type 0 = λ b. Follows old new (with_doubled (Numbered b number)) in
+      let Q : ℕ → Type 0 = λ b. Follows old new (with_doubly_defined (Numbered b number)) in
       symbols_double old new number (subst P is defined) (subst Q is follows)
 
-  pub blocks_begin : (letters : ℕ) (definition : Definition) → is_defined (Numbered block number) old.table.definitions ≡ false → letters ≡ 0
+  pub blocks_begin : (flags : ℕ) (definition : Definition) → is_defined (Numbered block number) old.table.definitions ≡ false → flags ≡ 0
       → definition ≡ labelled old.table (Numbered block number) → Follows old new (with_definition definition)
-      → Defines old new letters (λ told. with_key (Numbered told.settings.block number) told)
-      (λ told. key_letters told (Numbered told.settings.block number))
-  blocks_begin letters definition defined none e follows =
+      → Defines old new flags (λ told. with_key (Numbered told.modes.block number) told)
+      (λ told. key_flags told (Numbered told.modes.block number))
+  blocks_begin flags definition defined none e follows =
       let P : ℕ → Type 0 = λ b. is_defined (Numbered b number) old.table.definitions ≡ false in
       let Q : ℕ → Type 0 = λ b. Follows old new (λ told. with_definition (labelled told (Numbered b number)) told) in
-      symbols_begin old new number letters (subst P is defined) none
+      symbols_begin old new number flags (subst P is defined) none
       (subst Q is (labels_here old new (Numbered block number) definition e follows))
 
   -- what is said of the table with the definition, is said of that with the label
   pub blocks_said : (Said : Table → Type 0) (definition : Definition) → is_defined (Numbered block number) old.table.definitions ≡ false
       → definition ≡ labelled old.table (Numbered block number)
       → ((told : Table) → Matches old told → Said (with_definition definition told))
-      → (told : Table) → Matches old told → Said (with_key (Numbered told.settings.block number) told)
+      → (told : Table) → Matches old told → Said (with_key (Numbered told.modes.block number) told)
   blocks_said Said definition defined e says told matches =
       let P : ℕ → Type 0 = λ b. is_defined (Numbered b number) old.table.definitions ≡ false in
       subst Said
@@ -130,11 +130,11 @@ module _ (old new : Kept) (block number : ℕ) (is : block ≡ old.table.setting
   -- a local symbol that is defined before is none more
   pub blocks_known : is_defined (Numbered block number) old.table.definitions ≡ true → old.names ≤ most_defined_names
       → old.local_symbols ≤ most_local_symbols → (told : Table) → Matches old told
-      → has_too_many (with_key (Numbered told.settings.block number) told) ≡ false
+      → has_too_many (with_key (Numbered told.modes.block number) told) ≡ false
   blocks_known defined few symbols told matches =
       let P : ℕ → Type 0 = λ b. is_defined (Numbered b number) told.definitions ≡ true in
-      let there : is_defined (Numbered told.settings.block number) told.definitions ≡ true
-      = subst P (is ∙ ap (λ (s : Settings). s.block) matches.alike.settings)
+      let there : is_defined (Numbered told.modes.block number) told.definitions ≡ true
+      = subst P (is ∙ ap (λ (s : Modes). s.block) matches.alike.modes)
       (sym (defined_there old told (Numbered block number) matches) ∙ defined) in
       rw there (few_told old told matches few symbols)
 
@@ -161,10 +161,10 @@ module _ (old : Kept) (name : Name) (is_global : Bool) where
       rw there (subst Said (sym (opened_too_many is_global name told)) (says told matches))
 
   -- a name that is defined before is none more
-  pub doubled_fits : is_defined (Named name) old.table.definitions ≡ true → old.names ≤ most_defined_names
+  pub doubly_defined_fits : is_defined (Named name) old.table.definitions ≡ true → old.names ≤ most_defined_names
       → old.local_symbols ≤ most_local_symbols → (told : Table) → Matches old told
       → has_too_many (with_name is_global told (Some name)) ≡ false
-  doubled_fits defined few symbols told matches =
+  doubly_defined_fits defined few symbols told matches =
       let there : is_defined (Named name) told.definitions ≡ true = sym (defined_there old told (Named name) matches) ∙ defined in
       rw there (few_told old told matches few symbols)
 
@@ -177,7 +177,7 @@ counts_more definition told =
     record { names = none_fewer definition told; symbols = omega (arith, more) }
 
 name_counts : (is_known is_global : Bool) (name : Name) (told : Table) → AtLeast told
-    (if is_known then with_doubled (Named name) told
+    (if is_known then with_doubly_defined (Named name) told
     else global_if is_global name (with_block (with_definition (labelled told (Named name)) told)))
 name_counts true is_global name told = record { names = omega arith; symbols = omega arith }
 name_counts false true name told =
@@ -190,7 +190,7 @@ named_counts is_global told (Some name) = name_counts (is_defined (Named name) t
 named_counts is_global told None = as_many told
 
 key_counts : (is_known : Bool) (key : Key) (told : Table)
-    → AtLeast told (if is_known then with_doubled key told else with_definition (labelled told key) told)
+    → AtLeast told (if is_known then with_doubly_defined key told else with_definition (labelled told key) told)
 key_counts true key told = record { names = omega arith; symbols = omega arith }
 key_counts false key told = counts_more (labelled told key) told
 
@@ -198,7 +198,7 @@ kind_counts : (told : Table) (name : Option Name) (of : LabelKind) → AtLeast t
 kind_counts told name kind.Ordinary = named_counts false told name
 kind_counts told name kind.Global = named_counts true told name
 kind_counts told name (kind.Local number) =
-    key_counts (is_defined (Numbered told.settings.block number) told.definitions) (Numbered told.settings.block number) told
+    key_counts (is_defined (Numbered told.modes.block number) told.definitions) (Numbered told.modes.block number) told
 kind_counts told name kind.Outside = as_many told
 
 pub labels_count : (line : Bytes) (told : Table) (labels : List Label) → AtLeast told (with_labels line told labels)
@@ -212,19 +212,19 @@ labels_count line told (label ∷ labels) =
     let symbols_then = more.symbols in
     record { names = omega (arith, names, names_then); symbols = omega (arith, symbols, symbols_then) }
 
-pub labels_defined : (line : Bytes) (label : Label) (others : List Label) (old middle new : Kept) (letters more : ℕ)
-    → Defines old middle letters (λ told. with_label line told label)
-    (λ told. kind_letters told (label_name line label) label.kind)
+pub labels_defined : (line : Bytes) (label : Label) (others : List Label) (old middle new : Kept) (flags more : ℕ)
+    → Defines old middle flags (λ told. with_label line told label)
+    (λ told. kind_flags told (label_name line label) label.kind)
     → DefinesAll line others middle new more
-    → DefinesAll line (label ∷ others) old new (bit_or letters more)
-labels_defined line label others old middle new letters more first rest told matches =
-    let one : Matches middle (with_label line told label) × (letters ≡ kind_letters told (label_name line label) label.kind)
+    → DefinesAll line (label ∷ others) old new (bit_or flags more)
+labels_defined line label others old middle new flags more first rest told matches =
+    let one : Matches middle (with_label line told label) × (flags ≡ kind_flags told (label_name line label) label.kind)
     = first told matches in
     let all : Matches new (with_labels line (with_label line told label) others)
-    × (more ≡ labels_letters line (with_label line told label) others) = rest (with_label line told label) one.0 in (
+    × (more ≡ labels_flags line (with_label line told label) others) = rest (with_label line told label) one.0 in (
       all.0,
       ap (λ (n : ℕ). bit_or n more) one.1
-          ∙ ap (bit_or (kind_letters told (label_name line label) label.kind)) all.1,
+          ∙ ap (bit_or (kind_flags told (label_name line label) label.kind)) all.1,
     )
 
 -- ---- labels as a slice has them: the first one, and those after it
@@ -235,15 +235,15 @@ others_all label others = take_all (length (label ∷ others) - 1) others (omega
 none_first : 1 ≤ 0 → ⊥
 none_first e = omega (arith, e)
 
-pub first_defined : (line : Bytes) (labels : List Label) (other : Label) (old middle new : Kept) (letters more : ℕ) → 1 ≤ length labels
-    → Defines old middle letters (λ told. with_label line told (get_or labels 0 other))
-    (λ told. kind_letters told (label_name line (get_or labels 0 other)) (get_or labels 0 other).kind)
+pub first_defined : (line : Bytes) (labels : List Label) (other : Label) (old middle new : Kept) (flags more : ℕ) → 1 ≤ length labels
+    → Defines old middle flags (λ told. with_label line told (get_or labels 0 other))
+    (λ told. kind_flags told (label_name line (get_or labels 0 other)) (get_or labels 0 other).kind)
     → DefinesAll line (take (length labels - 1) (drop 1 labels)) middle new more
-    → DefinesAll line labels old new (bit_or letters more)
-first_defined line [] other old middle new letters more some first rest = absurd (none_first some)
-first_defined line (label ∷ others) other old middle new letters more some first rest =
+    → DefinesAll line labels old new (bit_or flags more)
+first_defined line [] other old middle new flags more some first rest = absurd (none_first some)
+first_defined line (label ∷ others) other old middle new flags more some first rest =
     let P : List Label → Type 0 = λ ls. DefinesAll line ls middle new more in
-    labels_defined line label others old middle new letters more first (subst P (others_all label others) rest)
+    labels_defined line label others old middle new flags more first (subst P (others_all label others) rest)
 
 pub first_refused : (line : Bytes) (labels : List Label) (other : Label) (fault : AsmFault) (old : Kept) → 1 ≤ length labels
     → ((told : Table) → Matches old told

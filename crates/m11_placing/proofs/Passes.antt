@@ -8,14 +8,14 @@ use Rattle.m11_base.specs.Rad50.{Name, alphabet, code_of}
 use Rattle.m11_placement.specs.Changes.{with_move}
 use Rattle.m11_placement.proofs.NamesDefined.{known_counts, new_counts, symbol_counts}
 use Rattle.m11_placement.specs.Definitions.{is_defined}
-use Rattle.m11_placement.specs.Labels.{with_definition, with_doubled, with_global}
+use Rattle.m11_placement.specs.Labels.{with_definition, with_doubly_defined, with_global}
 use Rattle.m11_placement.specs.Limits.{has_too_many, is_local, is_local_definition, local_count, name_count}
 use Rattle.m11_placement.specs.Places.{Move, in_section, place_in, size_in}
 use Rattle.m11_placement.specs.Tables.{Table, first_table, place}
 use Rattle.m11_placement.specs.declared.definitions.Definition.{Definition}
 use Rattle.m11_placement.specs.declared.definitions.Key.{Key}
 use Rattle.m11_placement.specs.declared.definitions.Key.TheVariants.{Named, Numbered}
-use Rattle.m11_placement.specs.declared.settings.Settings.{Settings}
+use Rattle.m11_placement.specs.declared.modes.Modes.{Modes}
 use Rattle.m11_table.specs.Alike as tables
 use Rattle.m11_table.specs.Alike.{Alike}
 use Rattle.m11_placing.proofs.Alike.{alike_defined, alike_itself, alike_place}
@@ -28,9 +28,9 @@ keeping table names local_symbols sizes = record { table = table; names = names;
 
 -- ---- what the same change leaves of a table itself
 
-pub settings_stay : (old new : Table) (change : Table → Table) → tables.Follows old new change → (change old).settings ≡ old.settings
-    → new.settings ≡ old.settings
-settings_stay old new change follows same = (follows old (alike_itself old)).settings ∙ same
+pub modes_stay : (old new : Table) (change : Table → Table) → tables.Follows old new change → (change old).modes ≡ old.modes
+    → new.modes ≡ old.modes
+modes_stay old new change follows same = (follows old (alike_itself old)).modes ∙ same
 
 -- ---- local symbols are counted
 
@@ -81,8 +81,8 @@ names_more old count is_new name definition e counted new told matches =
 
 -- ---- what leaves definitions and counters as they are
 
-doubles : (old : Kept) (new : Table) (key : Key) → tables.Follows old.table new (with_doubled key)
-    → Follows old (keeping new old.names old.local_symbols old.sizes) (with_doubled key)
+doubles : (old : Kept) (new : Table) (key : Key) → tables.Follows old.table new (with_doubly_defined key)
+    → Follows old (keeping new old.names old.local_symbols old.sizes) (with_doubly_defined key)
 doubles old new key follows told matches = record {
   alike = follows told matches.alike;
   names = matches.names;
@@ -128,7 +128,7 @@ size_by sizes section number place_now told move false e within same there =
     differs section number e = grind (arith, nat_tests)
 
 counts : (old : Kept) (table : Table) (new : Kept) (move : Move) → tables.Follows old.table table (with_move move)
-    → new ≡ with_size (keeping table old.names old.local_symbols old.sizes) → old.table.settings.section < length old.sizes
+    → new ≡ with_size (keeping table old.names old.local_symbols old.sizes) → old.table.modes.section < length old.sizes
     → Follows old new (with_move move)
 counts old table new move follows e within told matches =
     let went : Alike table (with_move move told) = follows told matches.alike in
@@ -141,20 +141,20 @@ counts old table new move follows e within told matches =
       alike = went;
       names = matches.names;
       local_symbols = matches.local_symbols;
-      sizes = subst T (sym (ap (λ (s : Settings). s.section) went.settings))
-          (λ number below. size_by old.sizes told.settings.section number (place table) told move
-          (told.settings.section == number) refl
-          (subst S (ap (λ (s : Settings). s.section) matches.alike.settings) within)
+      sizes = subst T (sym (ap (λ (s : Modes). s.section) went.modes))
+          (λ number below. size_by old.sizes told.modes.section number (place table) told move
+          (told.modes.section == number) refl
+          (subst S (ap (λ (s : Modes). s.section) matches.alike.modes) within)
           (matches.sizes number below) (alike_place table (with_move move told) went));
     })
 
 -- ---- what is kept, by its parts
 
 module _ (table : Table) (names locals : ℕ) (sizes : List ℕ) (old : Kept) (is : keeping table names locals sizes ≡ old) where
-  pub settings_kept : (new : Table) (change : Table → Table) → tables.Follows table new change
-      → (change table).settings ≡ table.settings → new.settings ≡ old.table.settings
-  settings_kept new change follows same =
-      settings_stay table new change follows same ∙ ap (λ (k : Kept). k.table.settings) is
+  pub modes_kept : (new : Table) (change : Table → Table) → tables.Follows table new change
+      → (change table).modes ≡ table.modes → new.modes ≡ old.table.modes
+  modes_kept new change follows same =
+      modes_stay table new change follows same ∙ ap (λ (k : Kept). k.table.modes) is
 
   pub table_kept : (new : Table) (change : Table → Table) → tables.Follows table new change → tables.Follows old.table new change
   table_kept new change follows =
@@ -255,10 +255,10 @@ module _ (table : Table) (names locals : ℕ) (sizes : List ℕ) (old : Kept) (i
       (subst F (names_are told matches ∙ sym (symbol_counts block number definition told e)) few)
       (omega (arith, count, more, room))
 
-  pub key_doubled : (key : Key) (new : Table) → tables.Follows table new (with_doubled key)
-      → Follows old (keeping new names locals sizes) (with_doubled key)
-  key_doubled key new follows =
-      let P : Kept → Type 0 = λ k. Follows k (keeping new names locals sizes) (with_doubled key) in
+  pub key_doubly_defined : (key : Key) (new : Table) → tables.Follows table new (with_doubly_defined key)
+      → Follows old (keeping new names locals sizes) (with_doubly_defined key)
+  key_doubly_defined key new follows =
+      let P : Kept → Type 0 = λ k. Follows k (keeping new names locals sizes) (with_doubly_defined key) in
       subst P is (doubles (keeping table names locals sizes) new key follows)
 
   pub name_exported : (name : Name) (new : Table) → tables.Follows table new (with_global name)
@@ -268,7 +268,7 @@ module _ (table : Table) (names locals : ℕ) (sizes : List ℕ) (old : Kept) (i
       subst P is (exports (keeping table names locals sizes) new name follows)
 
   pub counter_moved : (move : Move) (moved : Table) (new : Kept) → tables.Follows table moved (with_move move)
-      → new ≡ with_size (keeping moved names locals sizes) → table.settings.section < length sizes
+      → new ≡ with_size (keeping moved names locals sizes) → table.modes.section < length sizes
       → Follows old new (with_move move)
   counter_moved move moved new follows e within =
       let P : Kept → Type 0 = λ k. Follows k new (with_move move) in
@@ -280,18 +280,18 @@ module _ (table : Table) (names locals : ℕ) (sizes : List ℕ) (old : Kept) (i
       let P : Table → Type 0 = λ t. tables.Follows old.table t (with_move move) in
       subst P (sym (ap (λ (k : Kept). k.table) e)) (table_kept moved (with_move move) follows)
 
-  pub section_stays : (move : Move) (moved : Table) → tables.Follows table moved (with_move move) → old.table.settings.section < 64
-      → moved.settings.section < 64
+  pub section_stays : (move : Move) (moved : Table) → tables.Follows table moved (with_move move) → old.table.modes.section < 64
+      → moved.modes.section < 64
   section_stays move moved follows below =
-      let same : moved.settings ≡ old.table.settings = settings_kept moved (with_move move) follows refl in
-      let P : Settings → Type 0 = λ s. s.section < 64 in
+      let same : moved.modes ≡ old.table.modes = modes_kept moved (with_move move) follows refl in
+      let P : Modes → Type 0 = λ s. s.section < 64 in
       subst P (sym same) below
 
   -- the array of sizes has one for each section
-  pub section_within : old.table.settings.section < 64 → length sizes ≡ 64 → table.settings.section < length sizes
+  pub section_within : old.table.modes.section < 64 → length sizes ≡ 64 → table.modes.section < length sizes
   section_within below all =
-      let P : Kept → Type 0 = λ k. k.table.settings.section < 64 in
-      let Q : ℕ → Type 0 = λ n. table.settings.section < n in
+      let P : Kept → Type 0 = λ k. k.table.modes.section < 64 in
+      let Q : ℕ → Type 0 = λ n. table.modes.section < n in
       subst Q (sym all) (subst P (sym is) below)
 
 -- ---- before the first line

@@ -1,19 +1,19 @@
 -- What the labels of a line do to what a pass keeps. (MACRO-11 Language Reference Manual, "Label field".)
 use Rattle.std.specs.Prelude.{◌≡◌, ℕ, List, [], ◌∷◌, ◌++◌}
 use Rattle.m11_base.specs.Devices.{Bytes}
-use Rattle.m11_placement.specs.Labels.{labels_letters, with_labels}
+use Rattle.m11_placement.specs.Labels.{labels_flags, with_labels}
 use Rattle.m11_placement.specs.Tables.{Table}
 use Rattle.m11_placing.specs.Passes.{Kept, Matches}
 use Rattle.m11_statements.specs.declared.labels.Label.{Label}
 
--- the table is changed, and there are letters
+-- the table is changed, and there are flags
 abbrev pub Defines : Kept → Kept → ℕ → (Table → Table) → (Table → ℕ) → Type 0
-Defines old new letters change letters_of =
-    (table : Table) → Matches old table → Matches new (change table) × (letters ≡ letters_of table)
+Defines old new flags change flags_of =
+    (table : Table) → Matches old table → Matches new (change table) × (flags ≡ flags_of table)
 
 abbrev pub DefinesAll : Bytes → List Label → Kept → Kept → ℕ → Type 0
-DefinesAll line labels old new letters =
-    Defines old new letters (λ table. with_labels line table labels) (λ table. labels_letters line table labels)
+DefinesAll line labels old new flags =
+    Defines old new flags (λ table. with_labels line table labels) (λ table. labels_flags line table labels)
 
 -- labels are taken one after the other, and up to one of them all fits
 pub record FitsUpToLabel (labels : List Label) (Fits : List Label → Type 0) : Type 0 where

@@ -1,8 +1,8 @@
 pub mod Counting
-pub mod Deeds
+pub mod Actions
 pub mod Faults
 pub mod Labels
 pub mod Lines
-pub mod Mentioned
+pub mod UsedSymbols
 pub mod Moved
 pub mod Passes

@@ -2,27 +2,27 @@
 -- Manual, "Source program format".)
 use Rattle.std.specs.Prelude.{ℕ, List}
 use Rattle.std.specs.Int.RustNames.{bit_or}
-use Rattle.m11_arguments.specs.LeftOvers.{skip_letters}
+use Rattle.m11_arguments.specs.LeftOvers.{skip_flags}
 use Rattle.m11_base.specs.Devices.{Bytes}
 use Rattle.m11_statements.specs.declared.bodies.Body.{Body}
 use Rattle.m11_unfolding.specs.Unfolding.{Given}
 use Rattle.m11_placement.specs.Changes.{Change}
 use Rattle.m11_placement.specs.Contents.{Put}
-use Rattle.m11_placement.specs.Lines.{change_of, deed, known_end, put_by}
+use Rattle.m11_placement.specs.Lines.{change_of, action, known_end, put_by}
 use Rattle.m11_placement.specs.Meanings.{Map}
-use Rattle.m11_placement.specs.Mentions.{Mention, deed_mentions}
+use Rattle.m11_placement.specs.SymbolUses.{SymbolUse, action_uses}
 use Rattle.m11_placement.specs.Tables.{Table, firm_table}
 
 abbrev pub change_by : Table → Given → Change
-change_by table given = change_of (firm_table table) given.live.line.text given.arguments (deed given.is_own given.live.line.text)
+change_by table given = change_of (firm_table table) given.live.line.text given.arguments (action given.is_own given.live.line.text)
 
 abbrev pub written_by : Map → Table → Given → Put
-written_by map table given = put_by map table given.live.line.text given.arguments (deed given.is_own given.live.line.text)
+written_by map table given = put_by map table given.live.line.text given.arguments (action given.is_own given.live.line.text)
 
-abbrev pub mentions_by : Table → Given → List Mention
-mentions_by table given = deed_mentions table given.live.line.text given.arguments (deed given.is_own given.live.line.text)
+abbrev pub uses_by : Table → Given → List SymbolUse
+uses_by table given = action_uses table given.live.line.text given.arguments (action given.is_own given.live.line.text)
 
--- letters of a line itself, of labels that are defined again, of what it puts, and those that unfolding found
-abbrev pub letters_from : Bytes → ℕ → Body → ℕ → ℕ → ℕ → ℕ → ℕ
-letters_from line labels_end body own labels put noted =
-    bit_or (bit_or own labels) (bit_or (skip_letters line labels_end (known_end line body)) (bit_or put noted))
+-- flags of a line itself, of labels that are defined again, of what it puts, and those that unfolding found
+abbrev pub flags_from : Bytes → ℕ → Body → ℕ → ℕ → ℕ → ℕ → ℕ
+flags_from line labels_end body own labels put noted =
+    bit_or (bit_or own labels) (bit_or (skip_flags line labels_end (known_end line body)) (bit_or put noted))

@@ -5,7 +5,7 @@ use Rattle.std.specs.Prelude.{ℕ, ◌==◌, ◌&&◌, not, Bool, false, true, L
 use Rattle.std.specs.Int.RustNames.{bit_or}
 use Rattle.m11_base.specs.Devices.{Bytes}
 use Rattle.m11_base.specs.Rad50.{Name, is_same_name}
-use Rattle.m11_statements.specs.Statements.{letter_if}
+use Rattle.m11_statements.specs.Statements.{flag_if}
 use Rattle.m11_statements.specs.declared.labels.Label.{Label}
 use Rattle.m11_statements.specs.declared.labels.LabelKind.{LabelKind}
 use Rattle.m11_statements.specs.declared.labels.LabelKind.TheVariants as label
@@ -19,9 +19,9 @@ use Rattle.m11_placement.specs.declared.definitions.Key.TheVariants.{Named, Numb
 use Rattle.m11_placement.specs.declared.definitions.Standing.{Standing}
 use Rattle.m11_placement.specs.declared.definitions.Standing.TheVariants.{Known, Unknown}
 
--- the set of the letter P
-abbrev pub letter_P : ℕ
-letter_P = 0o1000
+-- the set of the flag P
+abbrev pub flag_P : ℕ
+flag_P = 0o1000
 
 -- a label stands in a section; what is assigned stands in none
 abbrev pub is_in : Name → Option Name → Bool
@@ -41,7 +41,7 @@ is_place_of table None = false
 -- P where the map doesn't have the place of a label. A key that is defined before has no place of its own
 abbrev pub moved_key : Map → Table → Key → ℕ
 moved_key map table key =
-    letter_if (not (is_defined key table.definitions) && not (is_place_of table (last_definition key map.definitions))) letter_P
+    flag_if (not (is_defined key table.definitions) && not (is_place_of table (last_definition key map.definitions))) flag_P
 
 abbrev pub moved_name : Map → Table → Option Name → ℕ
 moved_name map table (Some name) = moved_key map table (Named name)
@@ -50,11 +50,11 @@ moved_name map table None = 0
 abbrev pub moved_kind : Map → Table → Option Name → LabelKind → ℕ
 moved_kind map table name label.Ordinary = moved_name map table name
 moved_kind map table name label.Global = moved_name map table name
-moved_kind map table name (label.Local number) = moved_key map table (Numbered table.settings.block number)
+moved_kind map table name (label.Local number) = moved_key map table (Numbered table.modes.block number)
 moved_kind map table name label.Outside = 0
 
 -- those of the labels of a line, each asked of the table before it
-abbrev pub moved_letters : Map → Bytes → Table → List Label → ℕ
-moved_letters map line table [] = 0
-moved_letters map line table (named ∷ labels) =
-    bit_or (moved_kind map table (label_name line named) named.kind) (moved_letters map line (with_label line table named) labels)
+abbrev pub moved_flags : Map → Bytes → Table → List Label → ℕ
+moved_flags map line table [] = 0
+moved_flags map line table (named ∷ labels) =
+    bit_or (moved_kind map table (label_name line named) named.kind) (moved_flags map line (with_label line table named) labels)

@@ -34,5 +34,5 @@ no_sizes = replicate 64 0
 -- the size of the section is the greatest place of its counter
 abbrev pub with_size : Kept → Kept
 with_size kept = record kept {
-  sizes = slice_set kept.sizes kept.table.settings.section (max (size_at kept.sizes kept.table.settings.section) (place kept.table));
+  sizes = slice_set kept.sizes kept.table.modes.section (max (size_at kept.sizes kept.table.modes.section) (place kept.table));
 }

@@ -11,7 +11,7 @@ ghost use Rattle.m11_placement.specs.Labels.{with_definition};
 ghost use Rattle.m11_placement.specs.Meanings.{Map as LineMap, known_at};
 ghost use Rattle.m11_placement.specs.Tables.{Table as LineTable, place};
 ghost use Rattle.m11_placement.specs.declared.definitions.Key.TheVariants.{Named};
-ghost use Rattle.m11_placement.specs.declared.meanings.Context.TheVariants.{Knows};
+ghost use Rattle.m11_placement.specs.declared.meanings.Context.TheVariants.{LocalOnly};
 ghost use Rattle.m11_placing.specs.Faults.{Overfills};
 ghost use Rattle.m11_placing.specs.Passes.{Follows, Matches};
 ghost use Rattle.m11_scan.specs.Views.{lexeme};
@@ -27,7 +27,7 @@ use m11_base::Name;
 use m11_listing::Item;
 use m11_operators::{known_value_by, target};
 use m11_placement::{Definition, Key, Standing};
-use m11_scan::{Letters, Line, Token};
+use m11_scan::{ErrorFlags, Line, Token};
 use m11_statements::{Assignment, Span};
 use m11_table::{Map, Table};
 use m11_values::{Symbol, Value, symbol_of};
@@ -50,7 +50,7 @@ impl Pass {
             (assignment line.now.text made.name made.is_global made.value) before)) }
         ensures symbols { IfOk result (λ _. self.new.local_symbols ≡ self.old.local_symbols) }
         ensures shows { IfOk result (λ item. option_to_list item
-            ≡ value_items (value_at (known_at map.now Knows self.old.table (place self.old.table)) line.now.text made.value)) }
+            ≡ value_items (value_at (known_at map.now LocalOnly self.old.table (place self.old.table)) line.now.text made.value)) }
         ensures refuses { IfErr result (λ fault. (before : LineTable) → Matches self.old before
             → Overfills fault (changed map.now line.now.text
             (assignment line.now.text made.name made.is_global made.value) before)) }
@@ -74,11 +74,11 @@ impl Pass {
         requires within { start ≤ length line.now.text }
         requires term { IfSome term (λ term. IsAlone line.now.text start term) }
         ensures takes { (map : LineMap)
-            → quantity value.now ≡ value_at (known_at map Knows self.old.table (place self.old.table)) line.now.text start
+            → quantity value.now ≡ value_at (known_at map LocalOnly self.old.table (place self.old.table)) line.now.text start
             → IfOk result (λ _. Follows self.old self.new (λ before. changed map line.now.text
             (assignment line.now.text name is_global start) before)) }
         ensures tables { (map : LineMap)
-            → quantity value.now ≡ value_at (known_at map Knows self.old.table (place self.old.table)) line.now.text start
+            → quantity value.now ≡ value_at (known_at map LocalOnly self.old.table (place self.old.table)) line.now.text start
             → IfOk result (λ _. tables.Follows self.old.table self.new.table (λ before. changed map line.now.text
             (assignment line.now.text name is_global start) before)) }
         ensures symbols { IfOk result (λ _. self.new.local_symbols ≡ self.old.local_symbols) }
@@ -105,10 +105,10 @@ impl Pass {
         requires within { start ≤ length line.now.text }
         requires term { IfSome term (λ term. IsAlone line.now.text start term) }
         ensures assigns { (map : LineMap)
-            → quantity value.now ≡ value_at (known_at map Knows self.old.table (place self.old.table)) line.now.text start
+            → quantity value.now ≡ value_at (known_at map LocalOnly self.old.table (place self.old.table)) line.now.text start
             → IfOk result (λ _. Follows self.old self.new (with_value map name is_global line.now.text start)) }
         ensures tables { (map : LineMap)
-            → quantity value.now ≡ value_at (known_at map Knows self.old.table (place self.old.table)) line.now.text start
+            → quantity value.now ≡ value_at (known_at map LocalOnly self.old.table (place self.old.table)) line.now.text start
             → IfOk result (λ _. tables.Follows self.old.table self.new.table (with_value map name is_global line.now.text start)) }
         ensures symbols { IfOk result (λ _. self.new.local_symbols ≡ self.old.local_symbols) }
         ensures refuses { (map : LineMap) → IfErr result (λ fault. (before : LineTable) → Matches self.old before
@@ -136,11 +136,11 @@ impl Pass {
         requires within { start ≤ length line.now.text }
         requires term { IfSome term (λ term. IsAlone line.now.text start term) }
         ensures defines { (map : LineMap)
-            → quantity value.now ≡ value_at (known_at map Knows self.old.table (place self.old.table)) line.now.text start
+            → quantity value.now ≡ value_at (known_at map LocalOnly self.old.table (place self.old.table)) line.now.text start
             → IfOk result (λ _. Follows self.old self.new
             (λ before. with_definition (assignments.assigned map before (Named name) line.now.text start) before)) }
         ensures tables { (map : LineMap)
-            → quantity value.now ≡ value_at (known_at map Knows self.old.table (place self.old.table)) line.now.text start
+            → quantity value.now ≡ value_at (known_at map LocalOnly self.old.table (place self.old.table)) line.now.text start
             → IfOk result (λ _. tables.Follows self.old.table self.new.table
             (λ before. with_definition (assignments.assigned map before (Named name) line.now.text start) before)) }
         ensures symbols { IfOk result (λ _. self.new.local_symbols ≡ self.old.local_symbols) }
@@ -211,7 +211,7 @@ fn is_firm_at(alloc: Global, table: &Table, line: &Line, start: usize) -> Result
 fn standing_of(value: &Value) -> Standing
     ensures { result ≡ assignments.standing_of (quantity value.now) }
 {
-    if value.letters.bits() & Letters::U.bits() == 0 {
+    if value.flags.bits() & ErrorFlags::U.bits() == 0 {
         Standing::Known(value.number, value.kind)
     } else {
         Standing::Unknown

@@ -11,18 +11,18 @@ ghost use Rattle.m11_placement.specs.Assigning as assigning;
 ghost use Rattle.m11_placement.specs.Changes.{changed, numbered, with_globals, with_number};
 ghost use Rattle.m11_placement.specs.Effects.{operator_change};
 ghost use Rattle.m11_placement.specs.Elements.{listed_names};
-ghost use Rattle.m11_placement.specs.Items.{deed_items, number_items};
+ghost use Rattle.m11_placement.specs.Items.{action_items, number_items};
 ghost use Rattle.m11_placement.specs.Lines.{change_of};
 ghost use Rattle.m11_placement.specs.Meanings.{Map as LineMap};
 ghost use Rattle.m11_placement.specs.Tables.{Table as LineTable, firm_table};
 ghost use Rattle.m11_placement.specs.declared.operators.Operator.TheVariants.{Instruction};
-ghost use Rattle.m11_placing.specs.Deeds.{AreDeedTerms, IsWithin, deed_fields, deed_seen};
+ghost use Rattle.m11_placing.specs.Actions.{AreActionTerms, IsWithin, action_fields, action_seen};
 ghost use Rattle.m11_placing.specs.Faults.{Overfills};
 ghost use Rattle.m11_placing.specs.Passes.{Follows, Matches};
 ghost use Rattle.m11_scan.specs.Cutting.{tokens_from};
 ghost use Rattle.m11_table.specs.Alike as tables;
 
-use crate::deeds::Deed;
+use crate::actions::Action;
 use crate::items::number_item;
 use crate::pass::Pass;
 use m11_asm_faults::AsmFault;
@@ -44,40 +44,40 @@ impl Pass {
     ///
     /// Errors: `TooManySymbols` where more than 4,096 names besides those of the registers would be defined, `TooManySections` where a 65th
     /// section would be selected, and `NoMemory`.
-    pub fn take_deed(
+    pub fn take_action(
         &mut self,
         map: &Map<'_>,
         line: &Line,
         arguments: Option<u16>,
-        deed: &Deed,
+        action: &Action,
         fields: &Fields,
     ) -> Result<Option<Item>, AsmFault>
-        requires within { IsWithin (length line.now.text) deed.now }
-        requires fields { fields_seen fields.now ≡ deed_fields self.old.table line.now.text deed.now }
-        requires terms { AreDeedTerms line.now.text deed.now fields.now.list.items fields.now.terms }
-        requires listed { self.old.table.settings.listed + 1 < 2 ^ 64 }
-        requires unlisted { self.old.table.settings.unlisted + 1 < 2 ^ 64 }
-        requires block { self.old.table.settings.block + 1 < 2 ^ 64 }
-        requires section { self.old.table.settings.section < 64 }
+        requires within { IsWithin (length line.now.text) action.now }
+        requires fields { fields_seen fields.now ≡ action_fields self.old.table line.now.text action.now }
+        requires terms { AreActionTerms line.now.text action.now fields.now.list.items fields.now.terms }
+        requires listed { self.old.table.modes.listed + 1 < 2 ^ 64 }
+        requires unlisted { self.old.table.modes.unlisted + 1 < 2 ^ 64 }
+        requires block { self.old.table.modes.block + 1 < 2 ^ 64 }
+        requires section { self.old.table.modes.section < 64 }
         ensures takes { IfOk result (λ _. Follows self.old self.new (λ before. changed map.now line.now.text
-            (change_of (firm_table self.old.table) line.now.text arguments (deed_seen deed.now)) before)) }
+            (change_of (firm_table self.old.table) line.now.text arguments (action_seen action.now)) before)) }
         ensures tables { IfOk result (λ _. tables.Follows self.old.table self.new.table (λ before. changed map.now line.now.text
-            (change_of (firm_table self.old.table) line.now.text arguments (deed_seen deed.now)) before)) }
+            (change_of (firm_table self.old.table) line.now.text arguments (action_seen action.now)) before)) }
         ensures symbols { IfOk result (λ _. self.new.local_symbols ≡ self.old.local_symbols) }
-        ensures shows { IfOk result (λ item. option_to_list item ≡ deed_items map.now self.old.table line.now.text
-            (change_of (firm_table self.old.table) line.now.text arguments (deed_seen deed.now)) (deed_seen deed.now)) }
+        ensures shows { IfOk result (λ item. option_to_list item ≡ action_items map.now self.old.table line.now.text
+            (change_of (firm_table self.old.table) line.now.text arguments (action_seen action.now)) (action_seen action.now)) }
         ensures refuses { IfErr result (λ fault. (before : LineTable) → Matches self.old before
             → Overfills fault (changed map.now line.now.text
-            (change_of (firm_table self.old.table) line.now.text arguments (deed_seen deed.now)) before)) }
+            (change_of (firm_table self.old.table) line.now.text arguments (action_seen action.now)) before)) }
     {
-        match *deed {
-            Deed::Rests => Ok(None),
-            Deed::Assigns(made) => self.take_assignment(map, line, made, fields.terms.first),
-            Deed::Sets(start) => {
+        match *action {
+            Action::NoAction => Ok(None),
+            Action::Assign(made) => self.take_assignment(map, line, made, fields.terms.first),
+            Action::SetCounter(start) => {
                 self.take_counter(line, start)?;
                 Ok(None)
             }
-            Deed::Operates(operator, start) => {
+            Action::Operate(operator, start) => {
                 self.take_operator(line, start, arguments, operator, fields)
             }
         }
@@ -86,8 +86,8 @@ impl Pass {
     // Does what `.=` changes.
     fn take_counter(&mut self, line: &Line, start: u8) -> Result<(), AsmFault>
         requires within { start ≤ length line.now.text }
-        requires block { self.old.table.settings.block + 1 < 2 ^ 64 }
-        requires section { self.old.table.settings.section < 64 }
+        requires block { self.old.table.modes.block + 1 < 2 ^ 64 }
+        requires section { self.old.table.modes.section < 64 }
         ensures takes { (map : LineMap) → IfOk result (λ _. Follows self.old self.new (λ before. changed map line.now.text
             (assigning.counter_change (firm_table self.old.table) line.now.text start) before)) }
         ensures tables { (map : LineMap) → IfOk result (λ _. tables.Follows self.old.table self.new.table (λ before. changed map
@@ -112,10 +112,10 @@ impl Pass {
     ) -> Result<Option<Item>, AsmFault>
         requires within { start ≤ length line.now.text }
         requires fields { fields_seen fields.now ≡ operator_fields self.old.table line.now.text start operator }
-        requires listed { self.old.table.settings.listed + 1 < 2 ^ 64 }
-        requires unlisted { self.old.table.settings.unlisted + 1 < 2 ^ 64 }
-        requires block { self.old.table.settings.block + 1 < 2 ^ 64 }
-        requires section { self.old.table.settings.section < 64 }
+        requires listed { self.old.table.modes.listed + 1 < 2 ^ 64 }
+        requires unlisted { self.old.table.modes.unlisted + 1 < 2 ^ 64 }
+        requires block { self.old.table.modes.block + 1 < 2 ^ 64 }
+        requires section { self.old.table.modes.section < 64 }
         ensures takes { (map : LineMap) → IfOk result (λ _. Follows self.old self.new (λ before. changed map line.now.text
             (operator_change (firm_table self.old.table) line.now.text start arguments operator) before)) }
         ensures tables { (map : LineMap) → IfOk result (λ _. tables.Follows self.old.table self.new.table (λ before. changed map
@@ -135,8 +135,8 @@ impl Pass {
 
     // Does what a line changes that assigns no expression, once its labels stand.
     fn take(&mut self, line: &Line, change: &Change) -> Result<(), AsmFault>
-        requires block { self.old.table.settings.block + 1 < 2 ^ 64 }
-        requires section { self.old.table.settings.section < 64 }
+        requires block { self.old.table.modes.block + 1 < 2 ^ 64 }
+        requires section { self.old.table.modes.section < 64 }
         ensures takes { (map : LineMap)
             → IfOk result (λ _. Follows self.old self.new (λ before. changed map line.now.text (change_seen change.now) before)) }
         ensures tables { (map : LineMap) → IfOk result (λ _. tables.Follows self.old.table self.new.table
@@ -154,8 +154,8 @@ impl Pass {
             Change::Selects(name, attributes) => self.select(*name, *attributes),
             Change::Numbers(name, number) => self.number(*name, *number),
             Change::Exports(start) => self.export_list(line, *start),
-            Change::Sets(settings) => {
-                self.set(*settings);
+            Change::Sets(modes) => {
+                self.set(*modes);
                 Ok(())
             }
         }
@@ -165,7 +165,7 @@ impl Pass {
     /// operators a change is handed on by memory.
     pub fn step_over(&mut self, line: &Line, start: u8, operation: Op, fields: &Fields)
         requires fields { fields_seen fields.now ≡ operator_fields self.old.table line.now.text start (Instruction operation) }
-        requires section { self.old.table.settings.section < 64 }
+        requires section { self.old.table.modes.section < 64 }
         ensures takes { (map : LineMap) (arguments : Option ℕ) → Follows self.old self.new (λ before. changed map line.now.text
             (operator_change (firm_table self.old.table) line.now.text start arguments (Instruction operation)) before) }
         ensures tables { (map : LineMap) (arguments : Option ℕ) → tables.Follows self.old.table self.new.table (λ before. changed map

@@ -10,8 +10,8 @@ use bitflags::Flags;
 use m11_listing::{Item, Mark};
 use m11_object_text::{PieceContent, RelocationKind};
 use m11_operators::Change;
-use m11_placement::Settings;
-use m11_scan::Letters;
+use m11_placement::Modes;
+use m11_scan::ErrorFlags;
 use m11_values::{Kind, Value};
 use std::alloc::AllocError;
 
@@ -42,18 +42,18 @@ fn add_item(items: &mut Vec<Item>, item: Item) -> Result<(), AllocError>
     Ok(())
 }
 
-/// Whether the levels of listing show a line that has no letters: one of an expansion by `.LIST ME` only.
-pub fn is_shown(settings: &Settings, is_expanded: bool) -> bool
-    ensures { result ≡ spec.is_shown settings.now is_expanded }
+/// Whether the levels of listing show a line that has no flags: one of an expansion by `.LIST ME` only.
+pub fn is_shown(modes: &Modes, is_expanded: bool) -> bool
+    ensures { result ≡ spec.is_shown modes.now is_expanded }
 {
-    settings.unlisted <= settings.listed && (!is_expanded || settings.shows_expansions)
+    modes.unlisted <= modes.listed && (!is_expanded || modes.shows_expansions)
 }
 
 // What is shown of a value that is assigned. One that isn't known isn't shown.
 pub(crate) fn value_item(value: Value) -> Option<Item>
     ensures { option_to_list result ≡ spec.value_items (quantity value) }
 {
-    if value.letters.bits() & Letters::U.bits() == 0 {
+    if value.flags.bits() & ErrorFlags::U.bits() == 0 {
         Some(Item::InWord(value.number, mark_by(value.kind)))
     } else {
         None

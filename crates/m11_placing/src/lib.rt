@@ -2,24 +2,24 @@
 //! mention, and the limits of all of them. (MACRO-11 Language Reference Manual, "Source program format" and "Symbols and expressions".)
 #![tactic(auto)]
 
+mod actions;
 mod assigned;
 mod changing;
 mod counting;
-mod deeds;
 mod items;
 mod labels;
 mod laws;
 mod lines;
-mod mentioned;
-mod mentions;
 mod moved;
 mod pass;
+mod symbol_uses;
+mod used_symbols;
 
+pub use actions::{Action, action_after_labels, action_fields};
 pub use counting::Counting;
-pub use deeds::{Deed, deed_after_labels, deed_fields};
 pub use items::{add_content_items, is_shown};
-pub use labels::LabelLetters;
+pub use labels::LabelFlags;
 pub use laws::a_line_goes_through_a_pass;
-pub use lines::{line_letters, put_deed};
-pub use mentioned::Mentioned;
+pub use lines::{line_flags, put_action};
 pub use pass::Pass;
+pub use used_symbols::UsedSymbols;

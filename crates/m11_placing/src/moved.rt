@@ -8,15 +8,15 @@ ghost use Rattle.m11_scan.specs.Views.{bits_of};
 use bitflags::Flags;
 use m11_base::Name;
 use m11_placement::{Definition, Key, Standing};
-use m11_scan::Letters;
+use m11_scan::ErrorFlags;
 use m11_table::{Map, Table};
 
-// The letter of a label whose key no line before it defines.
-pub(crate) fn moved_letter(map: &Map<'_>, table: &Table, key: &Key) -> Letters
+// The flag of a label whose key no line before it defines.
+pub(crate) fn moved_flag(map: &Map<'_>, table: &Table, key: &Key) -> ErrorFlags
     requires { is_defined key.now table.now.definitions ≡ false }
     ensures { bits_of result ≡ spec.moved_key map.now table.now key.now }
 {
-    Letters::P.when(!is_place_of(table, map.definition(key)))
+    ErrorFlags::P.when(!is_place_of(table, map.definition(key)))
 }
 
 // Whether a definition is that of a label which stands where the counter does.

@@ -4,8 +4,8 @@
 ghost use Rattle.std.specs.Prelude.{◌≡◌, ◌<◌, ◌≤◌, ◌+◌, ◌^◌, IfOk, IfErr, false, length, true};
 ghost use Rattle.m11_asm_faults.specs.declared.fault.AsmFault.TheVariants.{NoMemory};
 ghost use Rattle.m11_operators.specs.Changes.{move_seen};
-ghost use Rattle.m11_placement.specs.Changes.{with_move, with_section, with_settings};
-ghost use Rattle.m11_placement.specs.Labels.{new_block, with_block, with_definition, with_doubled, with_global};
+ghost use Rattle.m11_placement.specs.Changes.{with_move, with_section, with_modes};
+ghost use Rattle.m11_placement.specs.Labels.{new_block, with_block, with_definition, with_doubly_defined, with_global};
 ghost use Rattle.m11_placement.specs.Limits.{has_too_many, most_defined_names, most_local_symbols, most_sections};
 ghost use Rattle.m11_placement.specs.Tables.{Table as LineTable, first_table};
 ghost use Rattle.m11_placing.specs.Faults.{Overfills, Refuses};
@@ -16,7 +16,7 @@ ghost use Rattle.m11_placement.specs.declared.definitions.Key.TheVariants.{Named
 use m11_asm_faults::AsmFault;
 use m11_base::Name;
 use m11_operators::Move;
-use m11_placement::{Definition, Key, Settings};
+use m11_placement::{Definition, Key, Modes};
 use m11_table::Table;
 use std::alloc::{AllocError, Global};
 use std::marker::Model;
@@ -112,7 +112,7 @@ impl Pass {
         ensures defines { IfOk result (λ _. Follows self.old self.new (with_definition definition.now)) }
         ensures tables { IfOk result (λ _. tables.Follows self.old.table self.new.table (with_definition definition.now)) }
         ensures symbols { IfOk result (λ _. self.new.local_symbols ≡ self.old.local_symbols) }
-        ensures settings { IfOk result (λ _. self.new.table.settings ≡ self.old.table.settings) }
+        ensures modes { IfOk result (λ _. self.new.table.modes ≡ self.old.table.modes) }
         ensures refuses { IfErr result (λ fault. (before : LineTable) → Matches self.old before
             → Refuses fault (has_too_many (with_definition definition.now before) ≡ true) ⊥) }
         ensures limit_first { IfErr result (λ fault. fault ≡ NoMemory → (before : LineTable) → Matches self.old before
@@ -137,7 +137,7 @@ impl Pass {
         requires { definition.now.key ≡ Numbered block number }
         ensures defines { IfOk result (λ _. Follows self.old self.new (with_definition definition.now)) }
         ensures tables { IfOk result (λ _. tables.Follows self.old.table self.new.table (with_definition definition.now)) }
-        ensures settings { IfOk result (λ _. self.new.table.settings ≡ self.old.table.settings) }
+        ensures modes { IfOk result (λ _. self.new.table.modes ≡ self.old.table.modes) }
         ensures refuses { IfErr result (λ fault. (before : LineTable) → Matches self.old before
             → Refuses fault (has_too_many (with_definition definition.now before) ≡ true) ⊥) }
         ensures limit_first { IfErr result (λ fault. fault ≡ NoMemory → (before : LineTable) → Matches self.old before
@@ -153,10 +153,10 @@ impl Pass {
 
     // A key is doubled from here on.
     pub(crate) fn double(&mut self, key: &Key) -> Result<(), AsmFault>
-        ensures doubles { IfOk result (λ _. Follows self.old self.new (with_doubled key.now)) }
-        ensures tables { IfOk result (λ _. tables.Follows self.old.table self.new.table (with_doubled key.now)) }
+        ensures doubles { IfOk result (λ _. Follows self.old self.new (with_doubly_defined key.now)) }
+        ensures tables { IfOk result (λ _. tables.Follows self.old.table self.new.table (with_doubly_defined key.now)) }
         ensures symbols { IfOk result (λ _. self.new.local_symbols ≡ self.old.local_symbols) }
-        ensures settings { IfOk result (λ _. self.new.table.settings ≡ self.old.table.settings) }
+        ensures modes { IfOk result (λ _. self.new.table.modes ≡ self.old.table.modes) }
         ensures refuses { IfErr result (λ fault. fault ≡ NoMemory) }
     {
         self.table.double(key)?;
@@ -168,7 +168,7 @@ impl Pass {
         ensures exports { IfOk result (λ _. Follows self.old self.new (with_global name)) }
         ensures tables { IfOk result (λ _. tables.Follows self.old.table self.new.table (with_global name)) }
         ensures symbols { IfOk result (λ _. self.new.local_symbols ≡ self.old.local_symbols) }
-        ensures settings { IfOk result (λ _. self.new.table.settings ≡ self.old.table.settings) }
+        ensures modes { IfOk result (λ _. self.new.table.modes ≡ self.old.table.modes) }
         ensures refuses { IfErr result (λ fault. fault ≡ NoMemory) }
     {
         self.table.export(name)?;
@@ -177,28 +177,28 @@ impl Pass {
 
     // A new block of local symbols begins.
     pub(crate) fn open_block(&mut self)
-        requires { self.old.table.settings.block + 1 < 2 ^ 64 }
+        requires { self.old.table.modes.block + 1 < 2 ^ 64 }
         ensures opens { Follows self.old self.new with_block }
         ensures tables { tables.Follows self.old.table self.new.table with_block }
         ensures symbols { self.new.local_symbols ≡ self.old.local_symbols }
-        ensures settings { self.new.table.settings ≡ new_block self.old.table.settings }
+        ensures modes { self.new.table.modes ≡ new_block self.old.table.modes }
     {
         self.table.open_block();
     }
 
     // Other settings hold from here on.
-    pub(crate) fn set(&mut self, settings: Settings)
-        ensures sets { Follows self.old self.new (with_settings settings) }
-        ensures tables { tables.Follows self.old.table self.new.table (with_settings settings) }
+    pub(crate) fn set(&mut self, modes: Modes)
+        ensures sets { Follows self.old self.new (with_modes modes) }
+        ensures tables { tables.Follows self.old.table self.new.table (with_modes modes) }
         ensures symbols { self.new.local_symbols ≡ self.old.local_symbols }
     {
-        self.table.set(settings);
+        self.table.set(modes);
     }
 
     // A section is selected. One whose name is new has these attributes, where there is room for one: the limit is asked before anything
     // grows.
     pub(crate) fn select(&mut self, name: Name, attributes: u8) -> Result<(), AsmFault>
-        requires { self.old.table.settings.block + 1 < 2 ^ 64 }
+        requires { self.old.table.modes.block + 1 < 2 ^ 64 }
         ensures selects { IfOk result (λ _. Follows self.old self.new (with_section name attributes)) }
         ensures tables { IfOk result (λ _. tables.Follows self.old.table self.new.table (with_section name attributes)) }
         ensures symbols { IfOk result (λ _. self.new.local_symbols ≡ self.old.local_symbols) }
@@ -219,7 +219,7 @@ impl Pass {
 
     // The counter of the section goes on, or is set.
     pub(crate) fn count(&mut self, step: Move)
-        requires { self.old.table.settings.section < 64 }
+        requires { self.old.table.modes.section < 64 }
         ensures counts { Follows self.old self.new (with_move (move_seen step)) }
         ensures tables { tables.Follows self.old.table self.new.table (with_move (move_seen step)) }
         ensures symbols { self.new.local_symbols ≡ self.old.local_symbols }
@@ -230,10 +230,10 @@ impl Pass {
 
     // The size of the section is the greatest place of its counter.
     fn note_size(&mut self)
-        requires { self.old.table.settings.section < 64 }
+        requires { self.old.table.modes.section < 64 }
         ensures { self.new ≡ with_size self.old }
     {
-        let section = usize::from(self.table.settings().section);
+        let section = usize::from(self.table.modes().section);
         let place = self.table.place();
         if self.sizes[section] < place {
             self.sizes[section] = place;
@@ -251,7 +251,7 @@ fn no_sizes() -> [u16; 64]
 
 // The counter of the section goes on, or is set.
 fn move_counter(table: &mut Table, step: Move)
-    requires { table.old.settings.section < 64 }
+    requires { table.old.modes.section < 64 }
     ensures { tables.Follows table.old table.new (with_move (move_seen step)) }
 {
     match step {

@@ -9,11 +9,11 @@ use Rattle.m11_table.specs.Alike.{Alike, Follows}
 itself : (table : Table) → Alike table table
 itself table = record {
   definitions = λ key. refl;
-  doubled = λ key. refl;
+  doubly_defined = λ key. refl;
   globals = λ name. refl;
   sections = refl;
   counters = λ number. refl;
-  settings = refl;
+  modes = refl;
 }
 
 pub definition_keeps : (old new : Table) (definition : Definition) → Follows old new (with_definition definition)

@@ -9,7 +9,7 @@ use m11_directory::{FirstPass, directory_rows};
 use m11_obj::SectionFlags;
 use m11_object_text::DirectoryRow;
 use m11_placement::{Definition, Key, Standing};
-use m11_scan::Letters;
+use m11_scan::ErrorFlags;
 use m11_table::Table;
 use m11_values::{Kind, Value};
 use std::alloc::{AllocError, Global};
@@ -58,7 +58,7 @@ fn in_blank(number: u16) -> Value {
     Value {
         number,
         kind: Kind::Section(blank_name()),
-        letters: Letters::none(),
+        flags: ErrorFlags::none(),
     }
 }
 

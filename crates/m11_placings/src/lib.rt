@@ -1,5 +1,5 @@
 //! Pieces and the records that they make, directories, lines of listings, and what the lines of sources give in two passes: tests alone,
-//! which use only what the crates below hand out. Expected words, bytes, letters, lines and sizes were worked by hand from the manuals.
+//! which use only what the crates below hand out. Expected words, bytes, flags, lines and sizes were worked by hand from the manuals.
 #![tactic(auto)]
 
 #[cfg(test)]

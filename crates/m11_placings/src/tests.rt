@@ -1,4 +1,4 @@
-//! A source goes through two passes, and what its lines put and their letters are kept as a text.
+//! A source goes through two passes, and what its lines put and their flags are kept as a text.
 
 ghost use Rattle.std.specs.Prelude.{◌≡◌, [], true, Ok};
 
@@ -15,13 +15,13 @@ mod texts;
 use crate::tests::texts::{put_line, put_number};
 use m11_asm_faults::AsmFault;
 use m11_passes::{SourcePass, Turn};
-use m11_placing::{Counting, Mentioned};
+use m11_placing::{Counting, UsedSymbols};
 use m11_scan::Line;
 use m11_table::Map;
 use std::alloc::Global;
 use std::process::Abort;
 
-// Takes what is left. Returns whether the next line of the source is needed. The letters of placed lines and what they put are added to a
+// Takes what is left. Returns whether the next line of the source is needed. The flags of placed lines and what they put are added to a
 // text.
 fn take_rest(pass: &mut SourcePass, map: &Map<'_>, text: &mut Vec<u8>) -> Result<bool, AsmFault>
     ensures { result ≡ Ok true → pass.new.going.unfolder.stage.left ≡ [] }
@@ -31,7 +31,7 @@ fn take_rest(pass: &mut SourcePass, map: &Map<'_>, text: &mut Vec<u8>) -> Result
         match pass.next(map, &mut line)? {
             Turn::NeedLine => return Ok(true),
             Turn::End => return Ok(false),
-            Turn::Line => put_line(line.letters, pass.contents(), text)?,
+            Turn::Line => put_line(line.flags, pass.contents(), text)?,
         }
     }
     Ok(false)
@@ -57,7 +57,7 @@ fn go_over(
 
 // A first pass, in which the names that lines mention count.
 fn first_of(alloc: Global) -> Counting {
-    Counting::Mentions(Mentioned::new(alloc))
+    Counting::SymbolUses(UsedSymbols::new(alloc))
 }
 
 // One pass over a source. The text is that of its lines.

@@ -76,8 +76,8 @@ number-folded text =
 
 caret_piece-folded : (text : List ℕ) → caret_piece (map folded text) ≡ caret_piece text
 caret_piece-folded [] = refl
-caret_piece-folded (letter ∷ text) =
-    let same = folded-twice letter in
+caret_piece-folded (flag ∷ text) =
+    let same = folded-twice flag in
     if_cong (ap (λ l. l == 66) same) refl
     (if_cong (ap (λ l. l == 79) same) refl
     (if_cong (ap (λ l. l == 68) same) refl

@@ -98,12 +98,12 @@ number_other (byte ∷ more) =
 
 caret_other : (more : List ℕ) → IsOther (caret_form more)
 caret_other [] = found Skipped (unnamed Skipped refl)
-caret_other (letter ∷ more) =
-    either IsOther (folded letter == 0o102) _ _ (sort_alone BinaryRadix more refl)
-    (either IsOther (folded letter == 0o117) _ _ (sort_alone OctalRadix more refl)
-    (either IsOther (folded letter == 0o104) _ _ (sort_alone DecimalRadix more refl)
-    (either IsOther (folded letter == 0o103) _ _ (sort_alone Complement more refl)
-    (either IsOther (folded letter == 0o122) _ _ (packed_other more) none))))
+caret_other (flag ∷ more) =
+    either IsOther (folded flag == 0o102) _ _ (sort_alone BinaryRadix more refl)
+    (either IsOther (folded flag == 0o117) _ _ (sort_alone OctalRadix more refl)
+    (either IsOther (folded flag == 0o104) _ _ (sort_alone DecimalRadix more refl)
+    (either IsOther (folded flag == 0o103) _ _ (sort_alone Complement more refl)
+    (either IsOther (folded flag == 0o122) _ _ (packed_other more) none))))
 
 doubled_other : (byte : ℕ) (single double : Sort) (more : List ℕ) → names_sort single ≡ false → names_sort double ≡ false
     → IsOther (doubled_form byte single double more)

@@ -172,33 +172,33 @@ module _ (test : List ℕ → Option Form) (byte mark : ℕ) (one two : Sort)
 
 -- a caret
 module _ (test : List ℕ → Option Form) (byte : ℕ) (same : (more : List ℕ) → test (byte ∷ more) ≡ caret_form more) where
-  prefix_next : (letter : ℕ) (text : List ℕ) (sort : Sort) → ((more : List ℕ) → caret_form (letter ∷ more) ≡ alone (Cut sort) more)
-      → Next test (byte ∷ letter ∷ text) (token sort 2)
-  prefix_next letter text sort is = next_by test caret_form byte (letter ∷ text) _ 1 refl same
-      (before caret_form (alone (Cut sort)) letter text (Cut sort) 0 is (only_it (Cut sort) text))
+  prefix_next : (flag : ℕ) (text : List ℕ) (sort : Sort) → ((more : List ℕ) → caret_form (flag ∷ more) ≡ alone (Cut sort) more)
+      → Next test (byte ∷ flag ∷ text) (token sort 2)
+  prefix_next flag text sort is = next_by test caret_form byte (flag ∷ text) _ 1 refl same
+      (before caret_form (alone (Cut sort)) flag text (Cut sort) 0 is (only_it (Cut sort) text))
 
-  packed_next : (letter : ℕ) (text : List ℕ)
-      → ((more : List ℕ) → caret_form (letter ∷ more) ≡ all_pass is_name_character (Cut Packed) more)
-      → Next test (byte ∷ letter ∷ text) (token Packed (prefix_len is_name_character text + 2))
-  packed_next letter text is =
-      next_by test caret_form byte (letter ∷ text) _ (suc (prefix_len is_name_character text)) (omega arith) same
-      (before caret_form (all_pass is_name_character (Cut Packed)) letter text (Cut Packed)
+  packed_next : (flag : ℕ) (text : List ℕ)
+      → ((more : List ℕ) → caret_form (flag ∷ more) ≡ all_pass is_name_character (Cut Packed) more)
+      → Next test (byte ∷ flag ∷ text) (token Packed (prefix_len is_name_character text + 2))
+  packed_next flag text is =
+      next_by test caret_form byte (flag ∷ text) _ (suc (prefix_len is_name_character text)) (omega arith) same
+      (before caret_form (all_pass is_name_character (Cut Packed)) flag text (Cut Packed)
       (prefix_len is_name_character text) is (run is_name_character (Cut Packed) text))
 
   caret : (text : List ℕ) → Next test (byte ∷ text) (caret_piece text)
   caret [] = next_by test caret_form byte [] _ 0 refl same (at_end caret_form Skipped refl)
-  caret (letter ∷ text) = elim (cases_Bool (folded letter == 66)) [
-    | inl b ↦ rw b (prefix_next letter text BinaryRadix (λ more. rw b refl))
-    | inr b ↦ elim (cases_Bool (folded letter == 79)) [
-      | inl o ↦ rw (b, o) (prefix_next letter text OctalRadix (λ more. rw (b, o) refl))
-      | inr o ↦ elim (cases_Bool (folded letter == 68)) [
-        | inl d ↦ rw (b, o, d) (prefix_next letter text DecimalRadix (λ more. rw (b, o, d) refl))
-        | inr d ↦ elim (cases_Bool (folded letter == 67)) [
-          | inl c ↦ rw (b, o, d, c) (prefix_next letter text Complement (λ more. rw (b, o, d, c) refl))
-          | inr c ↦ elim (cases_Bool (folded letter == 82)) [
-            | inl r ↦ rw (b, o, d, c, r) (packed_next letter text (λ more. rw (b, o, d, c, r) refl))
-            | inr r ↦ rw (b, o, d, c, r) (next_by test caret_form byte (letter ∷ text) _ 0 refl same
-                (stopped caret_form letter text Skipped refl (λ more. rw (b, o, d, c, r) refl)))
+  caret (flag ∷ text) = elim (cases_Bool (folded flag == 66)) [
+    | inl b ↦ rw b (prefix_next flag text BinaryRadix (λ more. rw b refl))
+    | inr b ↦ elim (cases_Bool (folded flag == 79)) [
+      | inl o ↦ rw (b, o) (prefix_next flag text OctalRadix (λ more. rw (b, o) refl))
+      | inr o ↦ elim (cases_Bool (folded flag == 68)) [
+        | inl d ↦ rw (b, o, d) (prefix_next flag text DecimalRadix (λ more. rw (b, o, d) refl))
+        | inr d ↦ elim (cases_Bool (folded flag == 67)) [
+          | inl c ↦ rw (b, o, d, c) (prefix_next flag text Complement (λ more. rw (b, o, d, c) refl))
+          | inr c ↦ elim (cases_Bool (folded flag == 82)) [
+            | inl r ↦ rw (b, o, d, c, r) (packed_next flag text (λ more. rw (b, o, d, c, r) refl))
+            | inr r ↦ rw (b, o, d, c, r) (next_by test caret_form byte (flag ∷ text) _ 0 refl same
+                (stopped caret_form flag text Skipped refl (λ more. rw (b, o, d, c, r) refl)))
           ]
         ]
       ]

@@ -37,12 +37,12 @@ number_form (byte ∷ more) =
 -- what follows a `^`
 abbrev pub caret_form : Bytes → Option Form
 caret_form [] = Some Skipped
-caret_form (letter ∷ more) =
-    if folded letter == 0o102 then alone (Cut BinaryRadix) more
-    else (if folded letter == 0o117 then alone (Cut OctalRadix) more
-    else (if folded letter == 0o104 then alone (Cut DecimalRadix) more
-    else (if folded letter == 0o103 then alone (Cut Complement) more
-    else (if folded letter == 0o122 then all_pass is_name_character (Cut Packed) more else None))))
+caret_form (flag ∷ more) =
+    if folded flag == 0o102 then alone (Cut BinaryRadix) more
+    else (if folded flag == 0o117 then alone (Cut OctalRadix) more
+    else (if folded flag == 0o104 then alone (Cut DecimalRadix) more
+    else (if folded flag == 0o103 then alone (Cut Complement) more
+    else (if folded flag == 0o122 then all_pass is_name_character (Cut Packed) more else None))))
 
 -- what follows a character that counts for two where it stands twice
 abbrev pub doubled_form : ℕ → Sort → Sort → Bytes → Option Form

@@ -3,7 +3,7 @@ pub mod Codes
 pub mod Ends
 pub mod Expressions
 pub mod Grammar
-pub mod Letters
+pub mod ErrorFlags
 pub mod Names
 pub mod Numbers
 pub mod Pieces

@@ -5,7 +5,7 @@ use Rattle.std.specs.List.{list_all}
 use Rattle.m11_base.specs.Devices.{Bytes}
 use Rattle.m11_base.specs.Mnemonics.{character_at, is_name_character}
 use Rattle.m11_base.specs.Rad50.{packed_at}
-use Rattle.m11_scan.specs.Letters.{letter_Q}
+use Rattle.m11_scan.specs.ErrorFlags.{flag_Q}
 
 -- letters, digits, `$` and `.`
 abbrev pub has_name_characters_alone : Bytes → Bool
@@ -24,6 +24,6 @@ abbrev pub packed_word : Bytes → ℕ
 packed_word characters = word_or_none (packed_at (three_of characters) 0)
 
 -- Q where nothing stands there
-abbrev pub packed_letters : Bytes → ℕ
-packed_letters [] = letter_Q
-packed_letters (character ∷ characters) = 0
+abbrev pub packed_flags : Bytes → ℕ
+packed_flags [] = flag_Q
+packed_flags (character ∷ characters) = 0

@@ -4,7 +4,7 @@ use Rattle.std.specs.Prelude.{ℕ, ◌+◌, ◌-◌, ◌*◌, ◌^◌, Bool, nat
 use Rattle.std.specs.List.{list_any}
 use Rattle.std.specs.Int.RustNames.{bit_or}
 use Rattle.m11_base.specs.Devices.{Bytes}
-use Rattle.m11_scan.specs.Letters.{letter_N, letter_T}
+use Rattle.m11_scan.specs.ErrorFlags.{flag_N, flag_T}
 use Rattle.m11_scan.specs.declared.radix.Radix.{Radix}
 use Rattle.m11_scan.specs.declared.radix.Radix.TheVariants.{Binary, Octal, Decimal}
 
@@ -31,7 +31,7 @@ abbrev pub number_of : Radix → Bytes → ℕ
 number_of radix digits = spelled (base_in radix digits) digits
 
 -- T for a number over 65535, N for a digit outside the radix
-abbrev pub number_letters : Radix → Bytes → ℕ
-number_letters radix digits =
-    bit_or (if nat_lt 65535 (number_of radix digits) then letter_T else 0)
-    (if has_digit_outside (base_of radix) digits then letter_N else 0)
+abbrev pub number_flags : Radix → Bytes → ℕ
+number_flags radix digits =
+    bit_or (if nat_lt 65535 (number_of radix digits) then flag_T else 0)
+    (if has_digit_outside (base_of radix) digits then flag_N else 0)

@@ -50,12 +50,12 @@ number_piece text = number_ending (prefix_len is_digit text) (drop (prefix_len i
 -- `^` by the letter after it, in either case
 abbrev pub caret_piece : Bytes → Piece
 caret_piece [] = record { form = Skipped; length = 1 }
-caret_piece (letter ∷ rest) =
-    if folded letter == 0o102 then token BinaryRadix 2
-    else (if folded letter == 0o117 then token OctalRadix 2
-    else (if folded letter == 0o104 then token DecimalRadix 2
-    else (if folded letter == 0o103 then token Complement 2
-    else (if folded letter == 0o122 then token Packed (prefix_len is_name_character rest + 2)
+caret_piece (flag ∷ rest) =
+    if folded flag == 0o102 then token BinaryRadix 2
+    else (if folded flag == 0o117 then token OctalRadix 2
+    else (if folded flag == 0o104 then token DecimalRadix 2
+    else (if folded flag == 0o103 then token Complement 2
+    else (if folded flag == 0o122 then token Packed (prefix_len is_name_character rest + 2)
     else record { form = Skipped; length = 1 }))))
 
 -- a character that counts for two where it stands twice

@@ -1,8 +1,8 @@
 -- What the definitions see of values of the code: of a token its sort, its place in a line, and its characters; of a set
--- of letters its bits.
+-- of flags its bits.
 use Rattle.std.specs.Prelude.{ℕ}
 use Rattle.m11_base.specs.Devices.{Bytes}
-use Rattle.m11_scan.specs.declared.letters.Letters.{Letters}
+use Rattle.m11_scan.specs.declared.flags.ErrorFlags.{ErrorFlags}
 use Rattle.m11_scan.specs.declared.cutting.Token.{Token}
 use Rattle.m11_scan.specs.Cutting.{Lexeme, text_between}
 
@@ -14,5 +14,5 @@ lexeme line token = record {
   text = text_between line token.start token.end;
 }
 
-abbrev pub bits_of : Letters → ℕ
-bits_of letters = letters.0
+abbrev pub bits_of : ErrorFlags → ℕ
+bits_of flags = flags.0

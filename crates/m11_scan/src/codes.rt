@@ -31,7 +31,7 @@ static CODES: [u8; 256] = [
     40, 40, 40, 40, 40, 40, 40, 40, 40, 40, 40, 40, 40, 40, 40, 40,
 ];
 
-// What each byte is, by rows of sixteen, so that one comparison tells those of names, and those that are never skipped: 0 a letter, `$` or `.`,
+// What each byte is, by rows of sixteen, so that one comparison tells those of names, and those that are never skipped: 0 a flag, `$` or `.`,
 // 1 a digit, 2 a blank or a tab, 3 a mark, 4 `;`, and 5 any other.
 #[rattlefmt::skip]
 static KINDS: [u8; 256] = [

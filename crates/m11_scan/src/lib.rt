@@ -1,4 +1,4 @@
-//! What one line of a source is cut into: its tokens, its numbers and names, and the letters that flag it. No symbol has a
+//! What one line of a source is cut into: its tokens, its numbers and names, and the flags that flag it. No symbol has a
 //! value here, and nothing takes memory. (MACRO-11 Language Reference Manual, "Source program format" and "Symbols and
 //! expressions".)
 #![tactic(auto)]
@@ -9,8 +9,8 @@ mod conditions;
 mod cutting;
 mod ends;
 mod expressions;
+mod flags;
 mod laws;
-mod letters;
 mod names;
 mod numbers;
 mod pieces;
@@ -25,11 +25,11 @@ pub use conditions::{Condition, read_condition};
 pub use cutting::{Token, next_token, text_between, token_at};
 pub use ends::{Expression, expression_at, expression_end};
 pub use expressions::{Role, Within, role_of};
+pub use flags::ErrorFlags;
 pub use laws::{
     nested_brackets_are_read_whole, there_is_one_cut, tokens_lie_in_order,
     written_expressions_are_taken_whole,
 };
-pub use letters::Letters;
 pub use m11_lines::{LINE_LIMIT, Line};
 pub use names::{is_same_six, read_name, read_packed, six_characters};
 pub use numbers::{Number, read_number};

@@ -6,11 +6,11 @@ ghost use Rattle.std.specs.Str.{bytes_eq};
 ghost use Rattle.m11_base.specs.Mnemonics.{character_at, six_of};
 ghost use Rattle.m11_base.specs.Rad50.{code_of, name_of, name_of_words, packed_at, word_limit, word_of_codes};
 ghost use Rattle.m11_scan.specs.Codes.{code_or_no, code_or_none};
-ghost use Rattle.m11_scan.specs.Names.{has_name_characters_alone, packed_letters, packed_word, word_or_none};
+ghost use Rattle.m11_scan.specs.Names.{has_name_characters_alone, packed_flags, packed_word, word_or_none};
 ghost use Rattle.m11_scan.specs.Views.{bits_of};
 
 use crate::codes::{NO_CODE, code_in_table};
-use crate::letters::Letters;
+use crate::flags::ErrorFlags;
 use crate::numbers::Number;
 use m11_base::{Name, Rad50};
 
@@ -121,7 +121,7 @@ pub fn is_same_six(first: &[u8; 6], second: &[u8; 6]) -> bool
 /// none a term is missing: 0 and Q.
 pub fn read_packed(characters: &[u8]) -> Number
     ensures value { result.value ≡ packed_word characters.now }
-    ensures letters { bits_of result.letters ≡ packed_letters characters.now }
+    ensures flags { bits_of result.flags ≡ packed_flags characters.now }
 {
     let word = Rad50::pack(&[
         character_at(characters, 0),
@@ -130,7 +130,7 @@ pub fn read_packed(characters: &[u8]) -> Number
     ]);
     Number {
         value: word_or_none(word),
-        letters: Letters::Q.when(characters.is_empty()),
+        flags: ErrorFlags::Q.when(characters.is_empty()),
     }
 }
 

@@ -1,32 +1,34 @@
 //! Numbers. (MACRO-11 Language Reference Manual, "Numbers".)
 
 ghost use Rattle.std.specs.Prelude.{◌≡◌, ◌-◌, ◌%◌, ◌≤◌, nat_lt};
-ghost use Rattle.m11_scan.specs.Numbers.{has_digit_outside, number_letters, number_of, spelled};
+ghost use Rattle.m11_scan.specs.Numbers.{has_digit_outside, number_flags, number_of, spelled};
 ghost use Rattle.m11_scan.specs.Views.{bits_of};
 
-use crate::letters::Letters;
+use crate::flags::ErrorFlags;
 use crate::radix::Radix;
 
-/// A number as a word, and the letters that its writing has.
+/// A number as a word, and the flags that its writing has.
 #[derive(Clone, Copy, PartialEq, Eq, Debug)]
 pub struct Number {
     /// The number modulo 65536.
     pub value: u16,
     /// N where a digit lies outside the radix, T where the number is over 65535, Q where a character is missing.
-    pub letters: Letters,
+    pub flags: ErrorFlags,
 }
 
 /// The number that digits spell in a radix. A character that is none counts as its code less 48. Where one of them lies outside it, the number is decimal and has N; one over 65535
 /// counts modulo 65536 and has T.
 pub fn read_number(digits: &[u8], radix: Radix) -> Number
     ensures value { result.value ≡ number_of radix digits.now % 65536 }
-    ensures letters { bits_of result.letters ≡ number_letters radix digits.now }
+    ensures flags { bits_of result.flags ≡ number_flags radix digits.now }
 {
     let is_outside = has_digit_outside(digits, radix.base());
     let base = if is_outside { 10 } else { radix.base() };
     let (value, is_large) = spell(digits, base);
-    let letters = Letters::T.when(is_large).with(Letters::N.when(is_outside));
-    Number { value, letters }
+    let flags = ErrorFlags::T
+        .when(is_large)
+        .with(ErrorFlags::N.when(is_outside));
+    Number { value, flags }
 }
 
 // Whether some digit is none of a base.

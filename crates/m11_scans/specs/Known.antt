@@ -9,7 +9,7 @@ use Rattle.m11_values.specs.declared.names.Symbol.TheVariants.{Ordinary, Local, 
 use Rattle.m11_values.specs.Quantities.{Quantity}
 
 abbrev pub of_kind : ℕ → Kind → Quantity
-of_kind number kind = record { number = number; kind = kind; letters = 0 }
+of_kind number kind = record { number = number; kind = kind; flags = 0 }
 
 -- A and B stand in one section, C in another one, R1 is a register, X another object's; other names are unknown
 abbrev pub of_name : Name → Quantity
@@ -19,7 +19,7 @@ of_name name =
     else (if name.0 == 0o11300 then of_kind 4 (Section absolute_name)
     else (if name.0 == 0o72530 then of_kind 1 Register
     else (if name.0 == 0o113000 then of_kind 0 (Reference name)
-    else record { number = 0; kind = Absolute; letters = 0o20000 }))))
+    else record { number = 0; kind = Absolute; flags = 0o20000 }))))
 
 abbrev pub known : Symbol → Quantity
 known (Ordinary name) = of_name name

@@ -13,7 +13,7 @@ use Rattle.m11_expansions.specs.Conditions.{OpenConditions, is_live_inside}
 use Rattle.m11_expansions.specs.Left.{Left, Line, End, after_mark, count_in, has_mark, is_expanding, marks}
 use Rattle.m11_expansions.specs.declared.conditions.Part.{Part}
 use Rattle.m11_expansions.specs.declared.mark.Mark.{Mark}
-use Rattle.m11_unfolding.specs.Acting.{Acted, Directs, Operation, acted_by}
+use Rattle.m11_unfolding.specs.Acting.{Acted, OwnDirective, Operation, acted_by}
 use Rattle.m11_unfolding.specs.Stages.{Stage, line_left}
 use Rattle.m11_unfolding.specs.Taking.{Gives, Live, live_or_skipped, move, nesting, skipped_by}
 use Rattle.m11_unfolding.specs.Unfolding.{Given, given}
@@ -107,22 +107,22 @@ module _ (place : Place) (holds : Bool) (situation : Situation) (line : SourceLi
       → operation_at (within_condition holds is_live place) situation line ≡ operator → Comes is_live
   begin_comes true operator part at begins is = refl
   begin_comes false _ _ _ (shapes.Begins.IfFalse at) is =
-      by_word (Some word.IfFalse)
-      (has_word situation.macros (only_entered (within_condition holds false place).entered) line.text at word.IfFalse is) refl
+      by_word (Some word.Iff)
+      (has_word situation.macros (only_entered (within_condition holds false place).entered) line.text at word.Iff is) refl
   begin_comes false _ _ _ (shapes.Begins.IfTrue at) is =
-      by_word (Some word.IfTrue)
-      (has_word situation.macros (only_entered (within_condition holds false place).entered) line.text at word.IfTrue is) refl
+      by_word (Some word.Ift)
+      (has_word situation.macros (only_entered (within_condition holds false place).entered) line.text at word.Ift is) refl
   begin_comes false _ _ _ (shapes.Begins.IfTrueFalse at) is =
-      by_word (Some word.IfTrueFalse)
-      (has_word situation.macros (only_entered (within_condition holds false place).entered) line.text at word.IfTrueFalse is)
+      by_word (Some word.Iftf)
+      (has_word situation.macros (only_entered (within_condition holds false place).entered) line.text at word.Iftf is)
       refl
 
   pub close_comes : (is_live : Bool) (at : ℕ)
-      → operation_at (within_condition holds is_live place) situation line ≡ Directs word.EndCondition at → Comes is_live
+      → operation_at (within_condition holds is_live place) situation line ≡ OwnDirective word.Endc at → Comes is_live
   close_comes true at is = refl
   close_comes false at is =
-      by_word (Some word.EndCondition)
-      (has_word situation.macros (only_entered (within_condition holds false place).entered) line.text at word.EndCondition is)
+      by_word (Some word.Endc)
+      (has_word situation.macros (only_entered (within_condition holds false place).entered) line.text at word.Endc is)
       refl
 
 -- ---- bodies before what is left

@@ -7,7 +7,7 @@ use Rattle.m11_arguments.specs.declared.directives.Directive.TheVariants as word
 use Rattle.m11_expansions.specs.Conditions.{is_live_inside}
 use Rattle.m11_expansions.specs.Left.{Left, after_mark, marks}
 use Rattle.m11_expansions.specs.declared.conditions.Part.{Part}
-use Rattle.m11_unfolding.specs.Acting.{Directs, Operation}
+use Rattle.m11_unfolding.specs.Acting.{OwnDirective, Operation}
 use Rattle.m11_unfolding.specs.Stages.{Stage}
 use Rattle.m11_unfolding.specs.Unfolding.{Given}
 use Rattle.m11_shape_laws.specs.Laws.{Arrived, before_lines}
@@ -19,7 +19,7 @@ use Rattle.m11_shape_laws.proofs.Resting.{Rested, lifted}
 -- a word of the condition around lines
 pub data IsOwn : Operation → Type 0 where
   Begin : (operator : Operation) (part : Part) (at : ℕ) → Begins operator part at → IsOwn operator
-  Close : (at : ℕ) → IsOwn (Directs word.EndCondition at)
+  Close : (at : ℕ) → IsOwn (OwnDirective word.Endc at)
 
 -- what is left of lines begins with such a word, or with an `.IIF` whose statement does
 pub data Breaks (place : Place) : ℕ → Situation → SourceLine → List SourceLine → List Left → List Given → Type 0 where
@@ -28,7 +28,7 @@ pub data Breaks (place : Place) : ℕ → Situation → SourceLine → List Sour
       → Breaks place n situation line others left later
   ByStatement : (n : ℕ) (situation : Situation) (line : SourceLine) (others : List SourceLine) (left : List Left)
       (later : List Given)
-      (known : Known) (at : ℕ) (next : SourceLine) → operation_at place situation line ≡ Directs word.ImmediateIf at
+      (known : Known) (at : ℕ) (next : SourceLine) → operation_at place situation line ≡ OwnDirective word.Iif at
       → statement known line.text at ≡ next ∷ [] → Breaks place n (counting 1 situation) next others left later
       → Breaks place n situation line others left (own_line place known line (immediate.notes known line.text at) ∷ later)
 

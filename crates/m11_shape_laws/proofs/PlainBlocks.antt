@@ -13,7 +13,7 @@ use Rattle.m11_expansions.specs.Bodies.{Cut, cut_after, cut_at, depth_after, siz
 use Rattle.m11_expansions.specs.Left.{Left}
 use Rattle.m11_expansions.specs.declared.open_body.Nesting.{Nesting}
 use Rattle.m11_expansions.specs.declared.open_body.Nesting.TheVariants.{Closes}
-use Rattle.m11_unfolding.specs.Acting.{Calls, Directs, Operation, flagged}
+use Rattle.m11_unfolding.specs.Acting.{Calls, OwnDirective, Operation, flagged}
 use Rattle.m11_unfolding.specs.Constructs.{IsPlainBody, condition_notes, lines_of_rounds}
 use Rattle.m11_unfolding.specs.Laws.{AreForeign}
 use Rattle.m11_unfolding.specs.Stages.{Macro, Repeats, line_left}
@@ -140,7 +140,7 @@ module _ (known : Known) (place : Place) (before : Situation) (first close : Sou
     abbrev last : Given
     last = own_line place known close (flagged 0 close.text end)
 
-    by_verdict : (holds : Bool) (gives : List Given) (after : Situation) → operation_at place before first ≡ Directs word.If at
+    by_verdict : (holds : Bool) (gives : List Given) (after : Situation) → operation_at place before first ≡ OwnDirective word.If at
         → has_condition_left place ≡ true → (condition known first.text at).holds ≡ holds
         → Parts place holds holds (counting 1 before) (lines ++ close ∷ []) gives after shapes.Ending.GoesOn
         → Shape place before (first ∷ lines ++ close ∷ []) (head ∷ gives) after shapes.Ending.GoesOn
@@ -149,9 +149,9 @@ module _ (known : Known) (place : Place) (before : Situation) (first close : Sou
         (subst (λ (b : Bool). Parts place b b (counting 1 before) (lines ++ close ∷ []) gives after shapes.Ending.GoesOn)
         (sym verdict) parts)
 
-    pub holding : operation_at place before first ≡ Directs word.If at → has_condition_left place ≡ true
+    pub holding : operation_at place before first ≡ OwnDirective word.If at → has_condition_left place ≡ true
         → (condition known first.text at).holds ≡ true → AreForeign (stage_of (within_condition true true place) before []) lines
-        → operation_at (within_condition true true place) before close ≡ Directs word.EndCondition end
+        → operation_at (within_condition true true place) before close ≡ OwnDirective word.Endc end
         → Shape place before (first ∷ lines ++ close ∷ []) (head ∷ map (other_line place known) lines ++ last ∷ [])
         (counting (length lines + 2) before) shapes.Ending.GoesOn
     holding is room verdict foreign closing =
@@ -176,9 +176,9 @@ module _ (known : Known) (place : Place) (before : Situation) (first close : Sou
         (ap (is_plain false 0) (has_no_word situation.macros (only_entered place.entered) line.text foreign.0))
         (foreign_text situation others foreign.1)
 
-    pub failing : operation_at place before first ≡ Directs word.If at → has_condition_left place ≡ true
+    pub failing : operation_at place before first ≡ OwnDirective word.If at → has_condition_left place ≡ true
         → (condition known first.text at).holds ≡ false → AreForeign (stage_of place before []) lines
-        → operation_at (within_condition false false place) before close ≡ Directs word.EndCondition end
+        → operation_at (within_condition false false place) before close ≡ OwnDirective word.Endc end
         → Shape place before (first ∷ lines ++ close ∷ []) (head ∷ last ∷ []) (counting (length lines + 2) before)
         shapes.Ending.GoesOn
     failing is room verdict foreign closing =

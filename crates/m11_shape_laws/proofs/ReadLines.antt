@@ -16,7 +16,7 @@ use Rattle.m11_expansions.specs.Conditions.{is_live_inside, past}
 use Rattle.m11_expansions.specs.Left.{Left, Line, End, after_mark, count_in, has_mark, is_expanding, marks}
 use Rattle.m11_expansions.specs.declared.conditions.OpenCondition.{OpenCondition}
 use Rattle.m11_expansions.specs.declared.mark.Mark.{Mark}
-use Rattle.m11_unfolding.specs.Acting.{Acted, Calls, Directs, Operation, act, acted_by, flagged, foreign, letter_O, opens, own}
+use Rattle.m11_unfolding.specs.Acting.{Acted, Calls, OwnDirective, Operation, act, acted_by, flagged, foreign, flag_O, opens, own}
 use Rattle.m11_unfolding.specs.Constructs.{condition_notes, lines_of_rounds}
 use Rattle.m11_unfolding.specs.Stages.{Macro, Purpose, Defines, Repeats, Drops, Stage, line_left}
 use Rattle.m11_unfolding.specs.Taking.{Gives, Live, live_or_skipped, move, nesting, skipped_by, used}
@@ -101,7 +101,7 @@ statement_is text true (Some at) = inr (_, refl)
 statement_is text true None = inl refl
 statement_is text false at = inl refl
 
-own_end : (it : Option Directive) → IsOwnWord true it → it ≡ Some word.EndCondition
+own_end : (it : Option Directive) → IsOwnWord true it → it ≡ Some word.Endc
 own_end _ IsOwnWord.EndCondition = refl
 own_end _ (IsOwnWord.IfFalse full) = absurd (let bad : true ≡ false = full in cc)
 own_end _ (IsOwnWord.IfTrue full) = absurd (let bad : true ≡ false = full in cc)
@@ -294,17 +294,17 @@ module _ (n : ℕ) (again : Reads n) (again_parts : ReadsParts n) (place : Place
 
   -- ---- conditions
 
-  module _ (at : ℕ) (is : operation_at place before line ≡ Directs word.If at) where
+  module _ (at : ℕ) (is : operation_at place before line ≡ OwnDirective word.If at) where
     refused : (known : Known) (more : List Given) (lines : List SourceLine) → has_condition_left place ≡ false
         → TextSplit true 0 lines
         → Rested n (text_stage true place 0 (counting 1 before) (left_of lines)) more
-        → Parsed (suc n) place before (line ∷ lines) left (own_line place known line (noting letter_O []) ∷ more)
+        → Parsed (suc n) place before (line ∷ lines) left (own_line place known line (noting flag_O []) ∷ more)
     refused known more _ full (TextSplit.All _ last lines text) rested =
         let stage : Stage = text_stage true place last (counting (length lines) (counting 1 before)) left in
         let sum : before.taken + 1 + length lines ≡ before.taken + (length lines + 1) = omega arith in
         let next = past_run (text_stage true place 0 (counting 1 before) (left_of lines)) stage more n
         (skips_text true place 0 lines last text (counting 1 before) left refl) rested in
-        all_taken (suc n) place before (line ∷ lines) left (own_line place known line (noting letter_O []) ∷ []) more
+        all_taken (suc n) place before (line ∷ lines) left (own_line place known line (noting flag_O []) ∷ []) more
         (counting (length lines + 1) before) Stops stage
         (shapes.Shape.OpenRefused place before known line lines at last is full text)
         (record {
@@ -314,8 +314,8 @@ module _ (n : ℕ) (again : Reads n) (again_parts : ReadsParts n) (place : Place
         })
         (lifted n stage more next)
     refused known more _ full (TextSplit.UpTo _ text close others skipped own') rested =
-        let says : directive close.text ≡ Some word.EndCondition = own_end (directive close.text) own' in
-        let d = directed_so (past (only_entered place.entered)) before.macros close.text word.EndCondition refl says in
+        let says : directive close.text ≡ Some word.Endc = own_end (directive close.text) own' in
+        let d = directed_so (past (only_entered place.entered)) before.macros close.text word.Endc refl says in
         let read : Situation = counting (length text) (counting 1 before) in
         let before_close : Stage = text_stage true place 0 read (Line close ∷ left_of others) in
         let there : Stage = text_stage true place 0 (counting 1 read) (left_of others) in
@@ -348,7 +348,7 @@ module _ (n : ℕ) (again : Reads n) (again_parts : ReadsParts n) (place : Place
         let next : Rested n (stage_of place after_it (left_of others)) g.more
         = subst (λ (k : ℕ). Rested n (stage_of place (record before { taken = k }) (left_of others)) g.more) count
         (subst (λ (a : Acted). Rested n a.after g.more) acts g.next) in
-        let head : Given = own_line place known line (noting letter_O []) in
+        let head : Given = own_line place known line (noting flag_O []) in
         of_gives (suc n) place before (line ∷ text ++ close ∷ others) left (head ∷ more) (head ∷ last ∷ g.more)
         (ap (λ (gs : List Given). head ∷ gs) whole)
         (of_lines (suc n) place before (line ∷ text ++ close ∷ others) (line ∷ (text ++ close ∷ []) ++ others) left
@@ -384,15 +384,15 @@ module _ (n : ℕ) (again : Reads n) (again_parts : ReadsParts n) (place : Place
           stop = lifted_stop place n p.after p.ending p.others left p.later p.stop;
         })
     conditions lines false full walk =
-        let g = acted_line lines (λ known. own (noting letter_O []) (text_stage true place 0 (counting 1 before) (left_of lines)))
+        let g = acted_line lines (λ known. own (noting flag_O []) (text_stage true place 0 (counting 1 before) (left_of lines)))
         (λ known. if_acts place before known line (left_of lines) at false is (same_marks lines left ∙ around) full) walk in
-        of_gives (suc n) place before (line ∷ lines) left gives (own_line place g.known line (noting letter_O []) ∷ g.more)
+        of_gives (suc n) place before (line ∷ lines) left gives (own_line place g.known line (noting flag_O []) ∷ g.more)
         g.whole
         (refused g.known g.more lines full (text_split true lines 0) g.next)
 
   -- ---- `.IIF`
 
-  module _ (at : ℕ) (is : operation_at place before line ≡ Directs word.ImmediateIf at) (known : Known) (more : List Given)
+  module _ (at : ℕ) (is : operation_at place before line ≡ OwnDirective word.Iif at) (known : Known) (more : List Given)
       (lines : List SourceLine) where
     abbrev head : Given
     head = own_line place known line (immediate.notes known line.text at)
@@ -446,7 +446,7 @@ module _ (n : ℕ) (again : Reads n) (again_parts : ReadsParts n) (place : Place
         let p' = subst (λ (st : List SourceLine). Parsed n place (counting 1 before) (st ++ lines) left more) one.1 p in
         with_statement one.0 one.1 p' p'.taken refl
 
-  immediates : (lines : List SourceLine) (at : ℕ) → operation_at place before line ≡ Directs word.ImmediateIf at → Walk lines
+  immediates : (lines : List SourceLine) (at : ℕ) → operation_at place before line ≡ OwnDirective word.Iif at → Walk lines
       → Result lines
   immediates lines at is walk =
       let g = acted_line lines (λ known. own (immediate.notes known line.text at)
@@ -463,17 +463,17 @@ module _ (n : ℕ) (again : Reads n) (again_parts : ReadsParts n) (place : Place
 
   -- ---- ends
 
-  exits : (lines : List SourceLine) (at : ℕ) → operation_at place before line ≡ Directs word.MacroExit at → (marks' : List Mark)
+  exits : (lines : List SourceLine) (at : ℕ) → operation_at place before line ≡ OwnDirective word.Mexit at → (marks' : List Mark)
       → place.around ≡ marks' → Walk lines → Result lines
   exits lines at is [] none walk =
-      astray lines (flagged letter_O line.text at)
-      (subst (λ (o : Operation). IsAstray place line.text o (flagged letter_O line.text at)) (sym is)
+      astray lines (flagged flag_O line.text at)
+      (subst (λ (o : Operation). IsAstray place line.text o (flagged flag_O line.text at)) (sym is)
       (shapes.IsAstray.MacroExit at none)) walk
   exits lines at is (innermost ∷ marks') some walk =
       let there : Stage = stage_of place (counting 1 before) left in
       let notes : Notes = flagged 0 line.text at in
       let by : Bool → Acted = λ b. if b then own notes (record (here lines) { left = after_mark (left_of lines) })
-      else own (flagged letter_O line.text at) (here lines) in
+      else own (flagged flag_O line.text at) (here lines) in
       let expanding : has_mark place.around ≡ true = ap has_mark some in
       let g = acted_line lines (λ known. own notes there)
       (λ known. ap (acted_by known line.text (here lines)) is
@@ -486,7 +486,7 @@ module _ (n : ℕ) (again : Reads n) (again_parts : ReadsParts n) (place : Place
       (shapes.Shape.Exit place before g.known line lines at is expanding)
       (record { conditions = only_entered place.entered; opening = None; is = refl }) (lifted n there g.more g.next))
 
-  ended : (lines : List SourceLine) (at : ℕ) → operation_at place before line ≡ Directs word.End at → Walk lines → Result lines
+  ended : (lines : List SourceLine) (at : ℕ) → operation_at place before line ≡ OwnDirective word.End at → Walk lines → Result lines
   ended lines at is walk =
       let there : Stage = record (here lines) { has_ended = true } in
       let g = acted_line lines (λ known. foreign there) (λ known. ap (acted_by known line.text (here lines)) is) walk in
@@ -514,23 +514,23 @@ module _ (n : ℕ) (again : Reads n) (again_parts : ReadsParts n) (place : Place
   by_kind lines _ is (Kind.Called macro at) walk = calls lines macro at is walk
   by_kind lines _ is (Kind.Condition at) walk = conditions at is lines (has_condition_left place) refl walk
   by_kind lines _ is (Kind.OfPart operator part at begins) walk =
-      own_word lines (flagged letter_O line.text at) place.entered refl
+      own_word lines (flagged flag_O line.text at) place.entered refl
       (subst IsOwn (sym is) (IsOwn.Begin operator part at begins))
-      (λ none. subst (λ (o : Operation). IsAstray place line.text o (flagged letter_O line.text at)) (sym is)
+      (λ none. subst (λ (o : Operation). IsAstray place line.text o (flagged flag_O line.text at)) (sym is)
       (shapes.IsAstray.Begin operator part at begins none)) walk
   by_kind lines _ is (Kind.EndCondition at) walk =
-      own_word lines (flagged letter_O line.text at) place.entered refl (subst IsOwn (sym is) (IsOwn.Close at))
-      (λ none. subst (λ (o : Operation). IsAstray place line.text o (flagged letter_O line.text at)) (sym is)
+      own_word lines (flagged flag_O line.text at) place.entered refl (subst IsOwn (sym is) (IsOwn.Close at))
+      (λ none. subst (λ (o : Operation). IsAstray place line.text o (flagged flag_O line.text at)) (sym is)
       (shapes.IsAstray.EndCondition at none)) walk
   by_kind lines _ is (Kind.Immediate at) walk = immediates lines at is walk
   by_kind lines _ is (Kind.Body operator opening) walk =
       bodies lines (λ known text. subst (λ (o : Operation). SomePurpose known text o) (sym is) (opening known text)) walk
   by_kind lines _ is (Kind.EndMacro at) walk =
-      astray lines (noting letter_O [])
-      (subst (λ (o : Operation). IsAstray place line.text o (noting letter_O [])) (sym is) (shapes.IsAstray.EndMacro at)) walk
+      astray lines (noting flag_O [])
+      (subst (λ (o : Operation). IsAstray place line.text o (noting flag_O [])) (sym is) (shapes.IsAstray.EndMacro at)) walk
   by_kind lines _ is (Kind.EndRepeat at) walk =
-      astray lines (noting letter_O [])
-      (subst (λ (o : Operation). IsAstray place line.text o (noting letter_O [])) (sym is) (shapes.IsAstray.EndRepeat at)) walk
+      astray lines (noting flag_O [])
+      (subst (λ (o : Operation). IsAstray place line.text o (noting flag_O [])) (sym is) (shapes.IsAstray.EndRepeat at)) walk
   by_kind lines _ is (Kind.Exit at) walk = exits lines at is place.around refl walk
   by_kind lines _ is (Kind.End at) walk = ended lines at is walk
 

@@ -8,9 +8,9 @@ use Rattle.m11_arguments.specs.declared.directives.Directive.TheVariants as word
 use Rattle.m11_expansions.specs.Conditions.{is_live_in, is_live_inside}
 use Rattle.m11_expansions.specs.Left.{Left, Line, after_mark, is_expanding, marks}
 use Rattle.m11_expansions.specs.declared.conditions.Part.{Part}
-use Rattle.m11_unfolding.specs.Acting.{Directs, Operation, acted_by, flagged, own}
+use Rattle.m11_unfolding.specs.Acting.{OwnDirective, Operation, acted_by, flagged, own}
 use Rattle.m11_unfolding.specs.Stages.{Stage, line_left, start}
-use Rattle.m11_unfolding.specs.Taking.{Gives, Live, Rests, move}
+use Rattle.m11_unfolding.specs.Taking.{Gives, Live, NothingLeft, move}
 use Rattle.m11_unfolding.specs.Unfolding.{Given, Unfolds}
 use Rattle.m11_unfolding.proofs.OtherLines.{same_marks}
 use Rattle.m11_shape_laws.specs.Laws.{Arrived, HasShape, before_lines}
@@ -126,7 +126,7 @@ module _ (n : ℕ) (reads : Reads n) (reads_parts : ReadsParts n) (place : Place
         stop = lifted_stop place n p.after p.ending p.others left p.later p.stop;
       }
 
-  close_more : (at : ℕ) → operation_at part_place middle line ≡ Directs word.EndCondition at
+  close_more : (at : ℕ) → operation_at part_place middle line ≡ OwnDirective word.Endc at
       → AfterPart (suc n) place holds is_live before lines first line others left gives
   close_more at is =
       let g = line_given n part_place middle line after_left gives
@@ -260,21 +260,21 @@ module _ (n : ℕ) (reads : Reads n) (reads_word : ReadsWord n) (place : Place) 
   own_of : (middle : Situation) (line : SourceLine) (it : Option Directive) → IsOwnWord false it → directive line.text ≡ it
       → IsOwn (operation_at (within_condition holds false place) middle line)
   own_of middle line _ IsOwnWord.EndCondition is =
-      let d = directed_so (only_entered (within_condition holds false place).entered) middle.macros line.text word.EndCondition
+      let d = directed_so (only_entered (within_condition holds false place).entered) middle.macros line.text word.Endc
       refl is in
       subst IsOwn (sym d.is) (IsOwn.Close d.at)
   own_of middle line _ (IsOwnWord.IfFalse live_text) is =
-      let d = directed_so (only_entered (within_condition holds false place).entered) middle.macros line.text word.IfFalse refl
+      let d = directed_so (only_entered (within_condition holds false place).entered) middle.macros line.text word.Iff refl
       is in
-      subst IsOwn (sym d.is) (IsOwn.Begin (Directs word.IfFalse d.at) _ d.at (shapes.Begins.IfFalse d.at))
+      subst IsOwn (sym d.is) (IsOwn.Begin (OwnDirective word.Iff d.at) _ d.at (shapes.Begins.IfFalse d.at))
   own_of middle line _ (IsOwnWord.IfTrue live_text) is =
-      let d = directed_so (only_entered (within_condition holds false place).entered) middle.macros line.text word.IfTrue refl
+      let d = directed_so (only_entered (within_condition holds false place).entered) middle.macros line.text word.Ift refl
       is in
-      subst IsOwn (sym d.is) (IsOwn.Begin (Directs word.IfTrue d.at) _ d.at (shapes.Begins.IfTrue d.at))
+      subst IsOwn (sym d.is) (IsOwn.Begin (OwnDirective word.Ift d.at) _ d.at (shapes.Begins.IfTrue d.at))
   own_of middle line _ (IsOwnWord.IfTrueFalse live_text) is =
-      let d = directed_so (only_entered (within_condition holds false place).entered) middle.macros line.text word.IfTrueFalse
+      let d = directed_so (only_entered (within_condition holds false place).entered) middle.macros line.text word.Iftf
       refl is in
-      subst IsOwn (sym d.is) (IsOwn.Begin (Directs word.IfTrueFalse d.at) _ d.at (shapes.Begins.IfTrueFalse d.at))
+      subst IsOwn (sym d.is) (IsOwn.Begin (OwnDirective word.Iftf d.at) _ d.at (shapes.Begins.IfTrueFalse d.at))
 
   text_part : (before : Situation) (gives : List Given) (lines : List SourceLine) → TextSplit false 0 lines
       → Rested n (before_lines (within_condition holds false place) before lines left) gives
@@ -340,7 +340,7 @@ reads_all (suc n) = next (reads_all n) where
 
 -- ---- a whole source
 
-pub has_shape : (source : List SourceLine) (gives : List Given) (stage : Stage) → Unfolds source gives stage → move stage ≡ Rests
+pub has_shape : (source : List SourceLine) (gives : List Given) (stage : Stage) → Unfolds source gives stage → move stage ≡ NothingLeft
     → HasShape source gives
 has_shape source gives stage unfolds rests =
     let moves = all_moves (start source) stage gives unfolds rests in

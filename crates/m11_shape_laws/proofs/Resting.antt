@@ -10,7 +10,7 @@ use Rattle.m11_expansions.specs.declared.mark.Mark.{Mark}
 use Rattle.m11_unfolding.specs.Acting.{Acted, act, act_fault, acted_by}
 use Rattle.m11_unfolding.specs.Limits.{next_fault}
 use Rattle.m11_unfolding.specs.Stages.{Stage}
-use Rattle.m11_unfolding.specs.Taking.{Gives, Live, Passes, Rests, live_or_skipped, move, skipped_by}
+use Rattle.m11_unfolding.specs.Taking.{Gives, Live, Passes, NothingLeft, live_or_skipped, move, skipped_by}
 use Rattle.m11_unfolding.specs.Unfolding.{Given, Leads, given}
 use Rattle.m11_unfolding.specs.Unfolding as steps
 use Rattle.m11_shape_laws.specs.Limits.{PassesLimit}
@@ -21,7 +21,7 @@ use Rattle.m11_shape_laws.proofs.Wholes.{no_limit_at_rest, no_line, no_pass}
 
 -- in so many moves at most, with the lines that it gives
 pub data Rested : ℕ → Stage → List Given → Type 0 where
-  AtRest : (n : ℕ) (stage : Stage) → move stage ≡ Rests → Rested n stage []
+  AtRest : (n : ℕ) (stage : Stage) → move stage ≡ NothingLeft → Rested n stage []
   Passing : (n : ℕ) (stage after : Stage) (gives : List Given) → next_fault stage ≡ None → move stage ≡ Passes after
       → Rested n after gives → Rested (suc n) stage gives
   Giving : (n : ℕ) (stage after : Stage) (live : Live) (known : Known) (gives : List Given) → next_fault stage ≡ None
@@ -53,7 +53,7 @@ from_there before _ _ later n (steps.Leads.Giving done stage after live known le
     (from_there before stage done (given known live after ∷ later) (suc n) leads
     (Rested.Giving n stage after live known later fault moves acts next))
 
-pub all_moves : (before stage : Stage) (done : List Given) → Leads before done stage → move stage ≡ Rests → SomeRested before done
+pub all_moves : (before stage : Stage) (done : List Given) → Leads before done stage → move stage ≡ NothingLeft → SomeRested before done
 all_moves before stage done leads rests =
     subst (SomeRested before) (append-nil done) (from_there before stage done [] 0 leads (Rested.AtRest 0 stage rests))
 
@@ -61,7 +61,7 @@ all_moves before stage done leads rests =
 
 passed : (n : ℕ) (stage : Stage) (gives : List Given) → Rested n stage gives → (after : Stage) → move stage ≡ Passes after
     → Rested n after gives
-passed _ _ _ (Rested.AtRest n stage rests) after moves = absurd (let bad : Rests ≡ Passes after = sym rests ∙ moves in cc)
+passed _ _ _ (Rested.AtRest n stage rests) after moves = absurd (let bad : NothingLeft ≡ Passes after = sym rests ∙ moves in cc)
 passed _ _ _ (Rested.Passing n stage other gives fault moves' next) after moves =
     let both : Passes other ≡ Passes after = sym moves' ∙ moves in
     let same : other ≡ after = cc in
@@ -110,13 +110,13 @@ pub record LineGiven (n : ℕ) (one : Known → Given) (after : Known → Stage)
 
 pub no_moves : (stage after : Stage) (live : Live) (gives : List Given) → Rested 0 stage gives → move stage ≡ Gives live after → ⊥
 no_moves _ after live _ (Rested.AtRest n stage rests) moves
-    = absurd (let bad : Rests ≡ Gives live after = sym rests ∙ moves in cc)
+    = absurd (let bad : NothingLeft ≡ Gives live after = sym rests ∙ moves in cc)
 
 given_first : (n m : ℕ) (stage : Stage) (gives : List Given) → Rested n stage gives → n ≡ suc m → (after : Stage) (live : Live)
     → move stage ≡ Gives live after
     → LineGiven m (λ known. given known live after) (λ known. (act known after live.line.text).after) gives
 given_first _ m _ _ (Rested.AtRest n stage rests) is after live moves =
-    absurd (let bad : Rests ≡ Gives live after = sym rests ∙ moves in cc)
+    absurd (let bad : NothingLeft ≡ Gives live after = sym rests ∙ moves in cc)
 given_first _ m _ _ (Rested.Passing n stage other gives fault moves' next) is after live moves =
     absurd (let bad : Passes other ≡ Gives live after = sym moves' ∙ moves in cc)
 given_first _ m _ _ (Rested.Giving n stage other live' known gives fault moves' acts next) is after live moves =
@@ -203,9 +203,9 @@ past_to P before gives n (inr short) next =
     absurd (no_limit n short.stage gives (past_leads before short.stage short.first gives n short.leads none next) short.passes)
 
 -- where nothing is taken, no line is given
-pub rests_nowhere : (n : ℕ) (stage : Stage) (gives : List Given) → Rested n stage gives → move stage ≡ Rests → gives ≡ []
+pub rests_nowhere : (n : ℕ) (stage : Stage) (gives : List Given) → Rested n stage gives → move stage ≡ NothingLeft → gives ≡ []
 rests_nowhere _ _ _ (Rested.AtRest n stage is) rests = refl
 rests_nowhere _ _ _ (Rested.Passing n stage after gives fault moves next) rests =
-    absurd (let bad : Passes after ≡ Rests = sym moves ∙ rests in cc)
+    absurd (let bad : Passes after ≡ NothingLeft = sym moves ∙ rests in cc)
 rests_nowhere _ _ _ (Rested.Giving n stage after live known gives fault moves acts next) rests =
-    absurd (let bad : Gives live after ≡ Rests = sym moves ∙ rests in cc)
+    absurd (let bad : Gives live after ≡ NothingLeft = sym moves ∙ rests in cc)

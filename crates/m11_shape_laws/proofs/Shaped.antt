@@ -19,7 +19,7 @@ use Rattle.m11_expansions.specs.Bodies.{Cut, cut_at, nothing_taken, texts_of}
 use Rattle.m11_expansions.specs.Conditions.{is_live_in, is_live_inside, most_conditions, past}
 use Rattle.m11_expansions.specs.Left.{Left, Line, End, after_mark, conditions_in, count_in, expanded, has_mark, is_expanding, marks}
 use Rattle.m11_expansions.specs.declared.mark.Mark.{Mark}
-use Rattle.m11_unfolding.specs.Acting.{Acted, Calls, Directs, Operation, act, acted_by, condition_opened, flagged, foreign, formal_name, letter_O, opens, operation, own, with_statement}
+use Rattle.m11_unfolding.specs.Acting.{Acted, Calls, OwnDirective, Operation, act, acted_by, condition_opened, flagged, foreign, formal_name, flag_O, opens, operation, own, with_statement}
 use Rattle.m11_unfolding.specs.Constructs.{condition_notes, round_lines}
 use Rattle.m11_unfolding.specs.Stages.{Macro, Purpose, Defines, Repeats, Drops, Stage, line_left}
 use Rattle.m11_unfolding.specs.Taking.{Gives, Live, live_or_skipped, move, nesting, skipped_by, used}
@@ -221,14 +221,14 @@ module _ (place : Place) (before : Situation) (known : Known) (line : SourceLine
   abbrev if_here : Stage
   if_here = stage_of place (counting 1 before) left
 
-  pub if_acts : (room : Bool) → operation_at place before line ≡ Directs word.If at → marks left ≡ place.around
+  pub if_acts : (room : Bool) → operation_at place before line ≡ OwnDirective word.If at → marks left ≡ place.around
       → has_condition_left place ≡ room
       → acted_by known line.text if_here (operation_at place before line)
       ≡ (if room then condition_opened line.text (condition known line.text at) if_here
-      else own (noting letter_O []) (record if_here { conditions = past (only_entered place.entered) }))
+      else own (noting flag_O []) (record if_here { conditions = past (only_entered place.entered) }))
   if_acts room is around has =
       let by : Bool → Acted = λ b. if b then condition_opened line.text (condition known line.text at) if_here
-      else own (noting letter_O []) (record if_here { conditions = past (only_entered place.entered) }) in
+      else own (noting flag_O []) (record if_here { conditions = past (only_entered place.entered) }) in
       ap (acted_by known line.text if_here) is
       ∙ ap (λ (m : List Mark). by (nat_lt (length place.entered + conditions_in m) most_conditions)) around
       ∙ ap by has
@@ -255,8 +255,8 @@ module _ (P : Stage → Type 0) (place : Place) (before : Situation) (known last
   abbrev after_text : List Left
   after_text = map line_left lines ++ left
 
-  close_refused : operation (past (only_entered place.entered)) before.macros close.text ≡ Directs word.EndCondition end
-      → directive close.text ≡ Some word.EndCondition → marks left ≡ place.around
+  close_refused : operation (past (only_entered place.entered)) before.macros close.text ≡ OwnDirective word.Endc end
+      → directive close.text ≡ Some word.Endc → marks left ≡ place.around
       → Runs (stage_of place (counting (length text + 2) before) after_text) gives P
       → Runs (text_stage true place 0 (counting (length text) (counting 1 before)) (Line close ∷ after_text))
       (refused_end ∷ gives) P
@@ -285,17 +285,17 @@ module _ (P : Stage → Type 0) (place : Place) (before : Situation) (known last
       and_then Q P stands (refused_end ∷ []) gives (gives_line Q stands here live last refused_end acted moves acts same counted)
       (λ s stood. from_same P s (stage_of place (counting (length text + 2) before) after_text) gives stood next)
 
-  refused_runs : operation_at place before line ≡ Directs word.If at → has_condition_left place ≡ false → IsText true 0 text 0
-      → operation (past (only_entered place.entered)) before.macros close.text ≡ Directs word.EndCondition end
+  refused_runs : operation_at place before line ≡ OwnDirective word.If at → has_condition_left place ≡ false → IsText true 0 text 0
+      → operation (past (only_entered place.entered)) before.macros close.text ≡ OwnDirective word.Endc end
       → marks left ≡ place.around → is_live_inside place.entered ≡ true
       → Runs (stage_of place (counting (length text + 2) before) after_text) gives P
       → Runs (stage_of place before (map line_left (line ∷ text ++ close ∷ lines) ++ left))
-      (own_line place known line (noting letter_O []) ∷ refused_end ∷ gives) P
+      (own_line place known line (noting flag_O []) ∷ refused_end ∷ gives) P
   refused_runs is none skipped closing around taking next =
       let rest : List Left = map line_left (text ++ close ∷ lines) ++ left in
       let here : Stage = text_stage true place 0 (counting 1 before) rest in
-      let word : directive close.text ≡ Some word.EndCondition
-      = has_word before.macros (past (only_entered place.entered)) close.text end word.EndCondition closing in
+      let word : directive close.text ≡ Some word.Endc
+      = has_word before.macros (past (only_entered place.entered)) close.text end word.Endc closing in
       let closed : Stage = text_stage true place 0 (counting (length text) (counting 1 before)) (Line close ∷ after_text) in
       let Q : Stage → Type 0 = λ s. s ≡ closed in
       let split : rest ≡ map line_left text ++ (Line close ∷ after_text) = parted text (close ∷ lines) left in
@@ -306,7 +306,7 @@ module _ (P : Stage → Type 0) (place : Place) (before : Situation) (known last
       let further : Runs here (refused_end ∷ gives) P
       = and_then Q P here [] (refused_end ∷ gives) read
       (λ s stood. from_same P s closed (refused_end ∷ gives) stood (close_refused closing word around next)) in
-      line_then P place before known line rest (own (noting letter_O []) here) (refused_end ∷ gives)
+      line_then P place before known line rest (own (noting flag_O []) here) (refused_end ∷ gives)
       (same_marks (text ++ close ∷ lines) left ∙ around) taking
       (if_acts place before known line rest at false is (same_marks (text ++ close ∷ lines) left ∙ around) none) further
 
@@ -458,7 +458,7 @@ mutual
       let here : Stage = text_stage true place 0 (counting 1 before) rest in
       let sum : before.taken + 1 + length lines ≡ before.taken + (length lines + 1) = omega arith in
       line_then (IsStopped (counting (length lines + 1) before) left) place before known line rest
-      (own (noting letter_O []) here) []
+      (own (noting flag_O []) here) []
       (same_marks lines left ∙ around) taking
       (if_acts place before known line rest at false is (same_marks lines left ∙ around) none)
       (weakened (λ s. s ≡ text_stage true place inner (counting (length lines) (counting 1 before)) left)
@@ -485,7 +485,7 @@ mutual
       let there : Stage = stage_of place (counting 1 before) left in
       let notes : Notes = flagged 0 line.text at in
       let by : Bool → Acted = λ b.
-      if b then own notes (record here { left = after_mark rest }) else own (flagged letter_O line.text at) here in
+      if b then own notes (record here { left = after_mark rest }) else own (flagged flag_O line.text at) here in
       line_then (IsStopped (counting 1 before) left) place before known line rest (own notes there) [] (same_marks lines left
       ∙ around) taking
       (ap (acted_by known line.text here) is ∙ ap (λ (m : List Mark). by (has_mark m)) (same_marks lines left ∙ around)

@@ -16,7 +16,7 @@ use Rattle.m11_arguments.specs.declared.directives.Directive.TheVariants as word
 use Rattle.m11_expansions.specs.Bodies.{cut_after, cut_at, depth_after, with_line}
 use Rattle.m11_expansions.specs.Conditions.{OpenConditions, is_skipping}
 use Rattle.m11_expansions.specs.declared.conditions.Part.{Part}
-use Rattle.m11_unfolding.specs.Acting.{Calls, Directs, Foreign, Operation, called, directed, macro_of, operation, operation_in}
+use Rattle.m11_unfolding.specs.Acting.{Calls, OwnDirective, Foreign, Operation, called, directed, macro_of, operation, operation_in}
 use Rattle.m11_unfolding.specs.Macros.{macro_named}
 use Rattle.m11_unfolding.specs.Stages.{Macro, Purpose, line_left}
 use Rattle.m11_unfolding.specs.Taking.{nesting}
@@ -77,10 +77,10 @@ body_split (line ∷ lines) depth closed =
 
 -- a word that belongs to the condition whose lines are skipped
 pub data IsOwnWord (is_past : Bool) : Option Directive → Type 0 where
-  EndCondition : IsOwnWord is_past (Some word.EndCondition)
-  IfFalse : is_past ≡ false → IsOwnWord is_past (Some word.IfFalse)
-  IfTrue : is_past ≡ false → IsOwnWord is_past (Some word.IfTrue)
-  IfTrueFalse : is_past ≡ false → IsOwnWord is_past (Some word.IfTrueFalse)
+  EndCondition : IsOwnWord is_past (Some word.Endc)
+  IfFalse : is_past ≡ false → IsOwnWord is_past (Some word.Iff)
+  IfTrue : is_past ≡ false → IsOwnWord is_past (Some word.Ift)
+  IfTrueFalse : is_past ≡ false → IsOwnWord is_past (Some word.Iftf)
 
 -- text up to the end, or up to such a word
 pub data TextSplit (is_past : Bool) : ℕ → List SourceLine → Type 0 where
@@ -106,7 +106,7 @@ module _ (is_past : Bool) where
       TextSplit.UpTo inner (line ∷ text) other others
       (shapes.IsText.If inner 0 line text is (subst (λ (n : ℕ). IsText is_past n text 0) same skipped)) own
 
-  end_line : (inner : ℕ) (line : SourceLine) (lines : List SourceLine) → directive line.text ≡ Some word.EndCondition
+  end_line : (inner : ℕ) (line : SourceLine) (lines : List SourceLine) → directive line.text ≡ Some word.Endc
       → TextSplit is_past inner lines → TextSplit is_past (suc inner) (line ∷ lines)
   end_line _ line _ is (TextSplit.All inner last lines text) =
       TextSplit.All (suc inner) last (line ∷ lines) (shapes.IsText.EndCondition inner last line lines is text)
@@ -135,23 +135,23 @@ module _ (is_past : Bool) where
     by_word : (inner : ℕ) (d : Option Directive) → directive line.text ≡ d → TextSplit is_past inner (line ∷ lines)
     by_word inner None is = plain_by inner None is refl
     by_word inner (Some word.If) is = if_line inner (suc inner) line lines refl is (more (suc inner))
-    by_word zero (Some word.EndCondition) is = own_line line lines (subst (IsOwnWord is_past) (sym is) IsOwnWord.EndCondition)
-    by_word (suc inner) (Some word.EndCondition) is = end_line inner line lines is (more inner)
-    by_word inner (Some word.IfFalse) is
-        = part_by is_past refl inner (Some word.IfFalse) is (λ i. refl) (λ no. IsOwnWord.IfFalse no)
-    by_word inner (Some word.IfTrue) is = part_by is_past refl inner (Some word.IfTrue) is (λ i. refl) (λ no. IsOwnWord.IfTrue no)
-    by_word inner (Some word.IfTrueFalse) is =
-        part_by is_past refl inner (Some word.IfTrueFalse) is (λ i. refl) (λ no. IsOwnWord.IfTrueFalse no)
-    by_word inner (Some word.ImmediateIf) is = plain_by inner (Some word.ImmediateIf) is refl
+    by_word zero (Some word.Endc) is = own_line line lines (subst (IsOwnWord is_past) (sym is) IsOwnWord.EndCondition)
+    by_word (suc inner) (Some word.Endc) is = end_line inner line lines is (more inner)
+    by_word inner (Some word.Iff) is
+        = part_by is_past refl inner (Some word.Iff) is (λ i. refl) (λ no. IsOwnWord.IfFalse no)
+    by_word inner (Some word.Ift) is = part_by is_past refl inner (Some word.Ift) is (λ i. refl) (λ no. IsOwnWord.IfTrue no)
+    by_word inner (Some word.Iftf) is =
+        part_by is_past refl inner (Some word.Iftf) is (λ i. refl) (λ no. IsOwnWord.IfTrueFalse no)
+    by_word inner (Some word.Iif) is = plain_by inner (Some word.Iif) is refl
     by_word inner (Some word.Macro) is = plain_by inner (Some word.Macro) is refl
-    by_word inner (Some word.EndMacro) is = plain_by inner (Some word.EndMacro) is refl
-    by_word inner (Some word.Repeat) is = plain_by inner (Some word.Repeat) is refl
-    by_word inner (Some word.EndRepeat) is = plain_by inner (Some word.EndRepeat) is refl
-    by_word inner (Some word.IndefiniteRepeat) is = plain_by inner (Some word.IndefiniteRepeat) is refl
-    by_word inner (Some word.CharacterRepeat) is = plain_by inner (Some word.CharacterRepeat) is refl
-    by_word inner (Some word.MacroExit) is = plain_by inner (Some word.MacroExit) is refl
-    by_word inner (Some word.ArgumentCount) is = plain_by inner (Some word.ArgumentCount) is refl
-    by_word inner (Some word.CharacterCount) is = plain_by inner (Some word.CharacterCount) is refl
+    by_word inner (Some word.Endm) is = plain_by inner (Some word.Endm) is refl
+    by_word inner (Some word.Rept) is = plain_by inner (Some word.Rept) is refl
+    by_word inner (Some word.Endr) is = plain_by inner (Some word.Endr) is refl
+    by_word inner (Some word.Irp) is = plain_by inner (Some word.Irp) is refl
+    by_word inner (Some word.Irpc) is = plain_by inner (Some word.Irpc) is refl
+    by_word inner (Some word.Mexit) is = plain_by inner (Some word.Mexit) is refl
+    by_word inner (Some word.Narg) is = plain_by inner (Some word.Narg) is refl
+    by_word inner (Some word.Nchr) is = plain_by inner (Some word.Nchr) is refl
     by_word inner (Some word.End) is = plain_by inner (Some word.End) is refl
 
   pub text_split : (lines : List SourceLine) (inner : ℕ) → TextSplit is_past inner lines
@@ -163,7 +163,7 @@ module _ (is_past : Bool) where
 pub record IsDirected (conditions : OpenConditions) (macros : List (Name × Macro)) (text : Bytes) (word : Directive) : Type 0
   where
     pub at : ℕ
-    pub is : operation conditions macros text ≡ Directs word at
+    pub is : operation conditions macros text ≡ OwnDirective word at
 
 module _ (conditions : OpenConditions) (macros : List (Name × Macro)) (text : Bytes) (word : Directive)
     (skips : is_skipping conditions ≡ true) where
@@ -196,46 +196,46 @@ pub record SomePurpose (known : Known) (text : Bytes) (operator : Operation) : T
 pub data Kind : Operation → Type 0 where
   Others : (operator : Operation) → IsOther operator → Kind operator
   Called : (macro : Macro) (at : ℕ) → Kind (Calls macro at)
-  Condition : (at : ℕ) → Kind (Directs word.If at)
+  Condition : (at : ℕ) → Kind (OwnDirective word.If at)
   OfPart : (operator : Operation) (part : Part) (at : ℕ) → Begins operator part at → Kind operator
-  EndCondition : (at : ℕ) → Kind (Directs word.EndCondition at)
-  Immediate : (at : ℕ) → Kind (Directs word.ImmediateIf at)
+  EndCondition : (at : ℕ) → Kind (OwnDirective word.Endc at)
+  Immediate : (at : ℕ) → Kind (OwnDirective word.Iif at)
   Body : (operator : Operation) → ((known : Known) (text : Bytes) → SomePurpose known text operator) → Kind operator
-  EndMacro : (at : ℕ) → Kind (Directs word.EndMacro at)
-  EndRepeat : (at : ℕ) → Kind (Directs word.EndRepeat at)
-  Exit : (at : ℕ) → Kind (Directs word.MacroExit at)
-  End : (at : ℕ) → Kind (Directs word.End at)
+  EndMacro : (at : ℕ) → Kind (OwnDirective word.Endm at)
+  EndRepeat : (at : ℕ) → Kind (OwnDirective word.Endr at)
+  Exit : (at : ℕ) → Kind (OwnDirective word.Mexit at)
+  End : (at : ℕ) → Kind (OwnDirective word.End at)
 
 pub kind : (operator : Operation) → Kind operator
 kind Foreign = Kind.Others Foreign shapes.IsOther.Other
 kind (Calls macro at) = Kind.Called macro at
-kind (Directs word.If at) = Kind.Condition at
-kind (Directs word.IfFalse at) = Kind.OfPart (Directs word.IfFalse at) _ at (shapes.Begins.IfFalse at)
-kind (Directs word.IfTrue at) = Kind.OfPart (Directs word.IfTrue at) _ at (shapes.Begins.IfTrue at)
-kind (Directs word.IfTrueFalse at) = Kind.OfPart (Directs word.IfTrueFalse at) _ at (shapes.Begins.IfTrueFalse at)
-kind (Directs word.EndCondition at) = Kind.EndCondition at
-kind (Directs word.ImmediateIf at) = Kind.Immediate at
-kind (Directs word.Macro at) =
-    Kind.Body (Directs word.Macro at) (λ known text. record { notes = _; purpose = _; opens = putting.Opens.Macro at })
-kind (Directs word.EndMacro at) = Kind.EndMacro at
-kind (Directs word.Repeat at) =
-    Kind.Body (Directs word.Repeat at) (λ known text. record { notes = _; purpose = _; opens = putting.Opens.Repeat at })
-kind (Directs word.EndRepeat at) = Kind.EndRepeat at
-kind (Directs word.IndefiniteRepeat at) =
-    Kind.Body (Directs word.IndefiniteRepeat at) (λ known text. record {
+kind (OwnDirective word.If at) = Kind.Condition at
+kind (OwnDirective word.Iff at) = Kind.OfPart (OwnDirective word.Iff at) _ at (shapes.Begins.IfFalse at)
+kind (OwnDirective word.Ift at) = Kind.OfPart (OwnDirective word.Ift at) _ at (shapes.Begins.IfTrue at)
+kind (OwnDirective word.Iftf at) = Kind.OfPart (OwnDirective word.Iftf at) _ at (shapes.Begins.IfTrueFalse at)
+kind (OwnDirective word.Endc at) = Kind.EndCondition at
+kind (OwnDirective word.Iif at) = Kind.Immediate at
+kind (OwnDirective word.Macro at) =
+    Kind.Body (OwnDirective word.Macro at) (λ known text. record { notes = _; purpose = _; opens = putting.Opens.Macro at })
+kind (OwnDirective word.Endm at) = Kind.EndMacro at
+kind (OwnDirective word.Rept at) =
+    Kind.Body (OwnDirective word.Rept at) (λ known text. record { notes = _; purpose = _; opens = putting.Opens.Repeat at })
+kind (OwnDirective word.Endr at) = Kind.EndRepeat at
+kind (OwnDirective word.Irp at) =
+    Kind.Body (OwnDirective word.Irp at) (λ known text. record {
       notes = _;
       purpose = _;
       opens
           = putting.Opens.IndefiniteRepeat at;
     })
-kind (Directs word.CharacterRepeat at) =
-    Kind.Body (Directs word.CharacterRepeat at) (λ known text. record {
+kind (OwnDirective word.Irpc at) =
+    Kind.Body (OwnDirective word.Irpc at) (λ known text. record {
       notes = _;
       purpose = _;
       opens
           = putting.Opens.CharacterRepeat at;
     })
-kind (Directs word.MacroExit at) = Kind.Exit at
-kind (Directs word.ArgumentCount at) = Kind.Others (Directs word.ArgumentCount at) (shapes.IsOther.ArgumentCount at)
-kind (Directs word.CharacterCount at) = Kind.Others (Directs word.CharacterCount at) (shapes.IsOther.CharacterCount at)
-kind (Directs word.End at) = Kind.End at
+kind (OwnDirective word.Mexit at) = Kind.Exit at
+kind (OwnDirective word.Narg at) = Kind.Others (OwnDirective word.Narg at) (shapes.IsOther.ArgumentCount at)
+kind (OwnDirective word.Nchr at) = Kind.Others (OwnDirective word.Nchr at) (shapes.IsOther.CharacterCount at)
+kind (OwnDirective word.End at) = Kind.End at

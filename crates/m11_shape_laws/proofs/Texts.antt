@@ -38,20 +38,20 @@ module _ (is_past : Bool) (place : Place) where
       → skipped_by (skipping inner) word ≡ Some (skipping inner)
   plain_word inner None is = refl
   plain_word inner (Some word.If) is = bad is
-  plain_word inner (Some word.EndCondition) is = bad is
-  plain_word inner (Some word.IfFalse) is = no_part inner is_past (inner == 0) is
-  plain_word inner (Some word.IfTrue) is = no_part inner is_past (inner == 0) is
-  plain_word inner (Some word.IfTrueFalse) is = no_part inner is_past (inner == 0) is
-  plain_word inner (Some word.ImmediateIf) is = refl
+  plain_word inner (Some word.Endc) is = bad is
+  plain_word inner (Some word.Iff) is = no_part inner is_past (inner == 0) is
+  plain_word inner (Some word.Ift) is = no_part inner is_past (inner == 0) is
+  plain_word inner (Some word.Iftf) is = no_part inner is_past (inner == 0) is
+  plain_word inner (Some word.Iif) is = refl
   plain_word inner (Some word.Macro) is = refl
-  plain_word inner (Some word.EndMacro) is = refl
-  plain_word inner (Some word.Repeat) is = refl
-  plain_word inner (Some word.EndRepeat) is = refl
-  plain_word inner (Some word.IndefiniteRepeat) is = refl
-  plain_word inner (Some word.CharacterRepeat) is = refl
-  plain_word inner (Some word.MacroExit) is = refl
-  plain_word inner (Some word.ArgumentCount) is = refl
-  plain_word inner (Some word.CharacterCount) is = refl
+  plain_word inner (Some word.Endm) is = refl
+  plain_word inner (Some word.Rept) is = refl
+  plain_word inner (Some word.Endr) is = refl
+  plain_word inner (Some word.Irp) is = refl
+  plain_word inner (Some word.Irpc) is = refl
+  plain_word inner (Some word.Mexit) is = refl
+  plain_word inner (Some word.Narg) is = refl
+  plain_word inner (Some word.Nchr) is = refl
   plain_word inner (Some word.End) is = refl
 
   one_more : (inner : ℕ) → skipped_by (skipping inner) (Some word.If) ≡ Some (skipping (suc inner))
@@ -59,7 +59,7 @@ module _ (is_past : Bool) (place : Place) where
       let sum : inner + 1 ≡ suc inner = omega arith in
       ap (λ (n : ℕ). Some (skipping n)) sum
 
-  one_less : (inner : ℕ) → skipped_by (skipping (suc inner)) (Some word.EndCondition) ≡ Some (skipping inner)
+  one_less : (inner : ℕ) → skipped_by (skipping (suc inner)) (Some word.Endc) ≡ Some (skipping inner)
   one_less inner =
       let some : (suc inner == 0) ≡ false = grind (arith, nat_tests) in
       let less : suc inner - 1 ≡ inner = omega arith in

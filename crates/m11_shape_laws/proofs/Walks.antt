@@ -4,7 +4,7 @@ use Rattle.m11_arguments.specs.Expressions.{Known}
 use Rattle.m11_unfolding.specs.Acting.{act, act_fault}
 use Rattle.m11_unfolding.specs.Limits.{next_fault}
 use Rattle.m11_unfolding.specs.Stages.{Stage}
-use Rattle.m11_unfolding.specs.Taking.{Gives, Live, Move, Passes, Rests, move}
+use Rattle.m11_unfolding.specs.Taking.{Gives, Live, Move, Passes, NothingLeft, move}
 use Rattle.m11_unfolding.specs.Unfolding.{Given, Leads, given}
 use Rattle.m11_unfolding.specs.Unfolding as steps
 use Rattle.m11_unfolding.specs.declared.fault.UnfoldFault.{UnfoldFault}
@@ -23,7 +23,7 @@ by_acting known live after more (Some fault) = None
 by_acting known live after more None = with_line (given known live after) (more (act known after live.line.text).after)
 
 abbrev by_move : Known → Stage → (Stage → Option Walk) → Move → Option Walk
-by_move known stage more Rests = Some (record { gives = []; after = stage })
+by_move known stage more NothingLeft = Some (record { gives = []; after = stage })
 by_move known stage more (Passes after) = more after
 by_move known stage more (Gives live after) = by_acting known live after more (act_fault after live.line.text)
 
@@ -37,7 +37,7 @@ walk zero known stage = None
 walk (suc n) known stage = by_taking known stage (λ after. walk n known after) (next_fault stage)
 
 abbrev Led : Stage → Walk → Type 0
-Led stage all = Leads stage all.gives all.after × (move all.after ≡ Rests)
+Led stage all = Leads stage all.gives all.after × (move all.after ≡ NothingLeft)
 
 module _ (known : Known) (stage : Stage) (more : Stage → Option Walk) (all : Walk)
     (leads : (after : Stage) (rest : Walk) → more after ≡ Some rest → Led after rest) where
@@ -61,7 +61,7 @@ module _ (known : Known) (stage : Stage) (more : Stage → Option Walk) (all : W
 
   moved_so : next_fault stage ≡ None → (moves : Move) → move stage ≡ moves → by_move known stage more moves ≡ Some all
       → Led stage all
-  moved_so none Rests moves is =
+  moved_so none NothingLeft moves is =
       let whole : record { gives = []; after = stage } ≡ all = cc in
       subst (Led stage) whole (steps.Leads.Stays, moves)
   moved_so none (Passes after) moves is =

@@ -9,7 +9,7 @@ use Rattle.m11_unfolding.specs.Acting.{act_fault}
 use Rattle.m11_unfolding.specs.Histories.{GoesOn, IsKnownBy}
 use Rattle.m11_unfolding.specs.Limits.{fault_from, next_fault}
 use Rattle.m11_unfolding.specs.Stages.{Stage, line_left, start}
-use Rattle.m11_unfolding.specs.Taking.{Gives, Live, Passes, Rests, line_taken, live_or_skipped, move, move_from, one_taken, skipped}
+use Rattle.m11_unfolding.specs.Taking.{Gives, Live, Passes, NothingLeft, line_taken, live_or_skipped, move, move_from, one_taken, skipped}
 use Rattle.m11_unfolding.specs.Unfolding.{Given, Leads, Unfolds}
 use Rattle.m11_unfolding.specs.Unfolding as steps
 use Rattle.m11_unfolding.proofs.OneUnfolding as unfoldings
@@ -71,10 +71,10 @@ source_ends shapes.Ending.Stops = refl
 source_ends shapes.Ending.Ends = tt
 
 pub nothing_left : (ending : Ending) (after : Situation) (stage : Stage) → Arrived ending source_place after [] stage
-    → move stage ≡ Rests
+    → move stage ≡ NothingLeft
 nothing_left shapes.Ending.GoesOn after stage there = ap move there
 nothing_left shapes.Ending.Stops after stage there = ap move there.is
-nothing_left shapes.Ending.Ends after stage there = ap (λ (b : Bool). if b then Rests else move_from stage.left stage) there
+nothing_left shapes.Ending.Ends after stage there = ap (λ (b : Bool). if b then NothingLeft else move_from stage.left stage) there
 
 pub whole : (source : List SourceLine) (gives : List Given) (after : Situation) (ending : Ending)
     → Shape source_place beginning source gives after ending → HasLiveLines source gives ⊎ IsCutShort (start source) gives
@@ -125,19 +125,19 @@ module _ (before : Stage) where
       (subst (λ (s : Stage). move s ≡ Gives live after) earlier.1 moves) acts)
 
 -- where nothing is taken any more, no limit is passed
-pub no_limit_at_rest : (stage : Stage) → move stage ≡ Rests → PassesLimit stage → ⊥
+pub no_limit_at_rest : (stage : Stage) → move stage ≡ NothingLeft → PassesLimit stage → ⊥
 no_limit_at_rest stage rests (limits.PassesLimit.Acting fault live there is gives acts) =
-    absurd (let bad : Gives live there ≡ Rests = sym gives ∙ rests in cc)
+    absurd (let bad : Gives live there ≡ NothingLeft = sym gives ∙ rests in cc)
 no_limit_at_rest stage rests (limits.PassesLimit.Taking fault is) = by_end stage.has_ended stage.left rests is where
-  no_rest : (conditions : Option _) (line : SourceLine) (s : Stage) → live_or_skipped conditions line s ≡ Rests → ⊥
+  no_rest : (conditions : Option _) (line : SourceLine) (s : Stage) → live_or_skipped conditions line s ≡ NothingLeft → ⊥
   no_rest (Some conditions) line s is = absurd (let bad = is in cc)
   no_rest None line s is = absurd (let bad = is in cc)
 
-  no_rest_line : (opening : Option _) (line : SourceLine) (s : Stage) → line_taken opening line s ≡ Rests → ⊥
+  no_rest_line : (opening : Option _) (line : SourceLine) (s : Stage) → line_taken opening line s ≡ NothingLeft → ⊥
   no_rest_line (Some opening) line s is = absurd (let bad = is in cc)
   no_rest_line None line s is = no_rest (skipped s.conditions line.text) line s is
 
-  by_end : (has_ended : Bool) (left : List Left) → (if has_ended then Rests else move_from left stage) ≡ Rests
+  by_end : (has_ended : Bool) (left : List Left) → (if has_ended then NothingLeft else move_from left stage) ≡ NothingLeft
       → (if has_ended then None else fault_from left stage) ≡ Some fault → ⊥
   by_end true left rests is = absurd (let bad = is in cc)
   by_end false [] rests is = absurd (let bad = is in cc)
@@ -179,7 +179,7 @@ module _ (tells : List Given → Live
         (unfoldings.front_told tells short.first short.more (subst (λ (g : List Given). IsKnownBy tells g) short.whole told))
         unfolds short.leads)
 
-  pub just_these : move stage ≡ Rests → done ≡ gives
+  pub just_these : move stage ≡ NothingLeft → done ≡ gives
   just_these rests = by_shape (whole source gives after ending shaped) where
     with_first : (short : IsCutShort (start source) gives)
         → GoesOn done stage short.first short.stage ⊎ GoesOn short.first short.stage done stage

@@ -12,7 +12,7 @@ use Rattle.m11_expansions.specs.declared.conditions.OpenCondition.{OpenCondition
 use Rattle.m11_expansions.specs.declared.conditions.Part.{Part}
 use Rattle.m11_expansions.specs.declared.conditions.Part.TheVariants as parts
 use Rattle.m11_expansions.specs.declared.mark.Mark.{Mark}
-use Rattle.m11_unfolding.specs.Acting.{Directs, Operation, acted_by, flagged, foreign, letter_O, opens, own}
+use Rattle.m11_unfolding.specs.Acting.{OwnDirective, Operation, acted_by, flagged, foreign, flag_O, opens, own}
 use Rattle.m11_unfolding.specs.Stages.{Purpose, Stage}
 use Rattle.m11_shape_laws.specs.Places.{Place, Situation, only_entered, stage_of, within_condition}
 use Rattle.m11_shape_laws.specs.Putting.{Opens}
@@ -45,22 +45,22 @@ module _ (known : Known) (text : Bytes) (place : Place) (situation : Situation) 
   astray_acts _ _ around (shapes.IsAstray.EndRepeat at) = refl
   astray_acts _ _ around (shapes.IsAstray.MacroExit at none) =
       ap (λ (m : List Mark). if has_mark m then own (flagged 0 text at) (record stage { left = after_mark left })
-      else own (flagged letter_O text at) stage) (around ∙ none)
+      else own (flagged flag_O text at) stage) (around ∙ none)
   astray_acts operation notes around (shapes.IsAstray.Begin operation' part at begins none)
       = begin_astray operation' part at begins none where
         begin_astray : (operation : Operation) (part : Part) (at : ℕ) → Begins operation part at → place.entered ≡ []
-            → acted_by known text stage operation ≡ own (flagged letter_O text at) stage
+            → acted_by known text stage operation ≡ own (flagged flag_O text at) stage
         begin_astray _ _ _ (shapes.Begins.IfFalse at) none =
-            ap (λ (e : List OpenCondition). if length e == 0 then own (flagged letter_O text at) stage
+            ap (λ (e : List OpenCondition). if length e == 0 then own (flagged flag_O text at) stage
             else own (flagged 0 text at) (record stage { conditions = switched parts.False (only_entered place.entered) })) none
         begin_astray _ _ _ (shapes.Begins.IfTrue at) none =
-            ap (λ (e : List OpenCondition). if length e == 0 then own (flagged letter_O text at) stage
+            ap (λ (e : List OpenCondition). if length e == 0 then own (flagged flag_O text at) stage
             else own (flagged 0 text at) (record stage { conditions = switched parts.True (only_entered place.entered) })) none
         begin_astray _ _ _ (shapes.Begins.IfTrueFalse at) none =
-            ap (λ (e : List OpenCondition). if length e == 0 then own (flagged letter_O text at) stage
+            ap (λ (e : List OpenCondition). if length e == 0 then own (flagged flag_O text at) stage
             else own (flagged 0 text at) (record stage { conditions = switched parts.Both (only_entered place.entered) })) none
   astray_acts _ _ around (shapes.IsAstray.EndCondition at none) =
-      ap (λ (e : List OpenCondition). if length e == 0 then own (flagged letter_O text at) stage
+      ap (λ (e : List OpenCondition). if length e == 0 then own (flagged flag_O text at) stage
       else own (flagged 0 text at) (record stage { conditions = closed (only_entered place.entered) })) none
 
 -- ---- the words of a condition
@@ -76,17 +76,17 @@ module _ (known : Known) (text : Bytes) (place : Place) (holds is_live : Bool) (
       → acted_by known text inside operation
       ≡ own (flagged 0 text at) (stage_of (within_condition holds (is_live_in part holds) place) situation left)
   begins_acts _ _ _ (shapes.Begins.IfFalse at) =
-      ap (λ (b : Bool). if b then own (flagged letter_O text at) inside
+      ap (λ (b : Bool). if b then own (flagged flag_O text at) inside
       else own (flagged 0 text at) (stage_of (within_condition holds (is_live_in parts.False holds) place) situation left)) some
   begins_acts _ _ _ (shapes.Begins.IfTrue at) =
-      ap (λ (b : Bool). if b then own (flagged letter_O text at) inside
+      ap (λ (b : Bool). if b then own (flagged flag_O text at) inside
       else own (flagged 0 text at) (stage_of (within_condition holds (is_live_in parts.True holds) place) situation left)) some
   begins_acts _ _ _ (shapes.Begins.IfTrueFalse at) =
-      ap (λ (b : Bool). if b then own (flagged letter_O text at) inside
+      ap (λ (b : Bool). if b then own (flagged flag_O text at) inside
       else own (flagged 0 text at) (stage_of (within_condition holds (is_live_in parts.Both holds) place) situation left)) some
 
-  pub close_acts : (at : ℕ) → acted_by known text inside (Directs word.EndCondition at)
+  pub close_acts : (at : ℕ) → acted_by known text inside (OwnDirective word.Endc at)
       ≡ own (flagged 0 text at) (stage_of place situation left)
   close_acts at =
-      ap (λ (b : Bool). if b then own (flagged letter_O text at) inside else own (flagged 0 text at)
+      ap (λ (b : Bool). if b then own (flagged flag_O text at) inside else own (flagged 0 text at)
       (stage_of place situation left)) some

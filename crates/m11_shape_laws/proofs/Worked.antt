@@ -11,7 +11,7 @@ use Rattle.m11_values.specs.Values.{value_of}
 use Rattle.m11_arguments.specs.Expressions.{Known, known_by}
 use Rattle.m11_arguments.specs.Notes.{no_notes}
 use Rattle.m11_arguments.specs.declared.directives.Directive.TheVariants as word
-use Rattle.m11_unfolding.specs.Acting.{Directs}
+use Rattle.m11_unfolding.specs.Acting.{OwnDirective}
 use Rattle.m11_unfolding.specs.Stages.{Macro, Defines, start}
 use Rattle.m11_unfolding.specs.Unfolding.{Given}
 use Rattle.m11_shape_laws.specs.Places.{Place, Situation, beginning, operation_at, source_place, stage_of, within_expansion}
@@ -31,7 +31,7 @@ module _ (stands_for : Symbol → Quantity) where
   abbrev first : SourceLine
   first = line_of (codes " .MACRO TWICE ?L")
 
-  is_macro : operation_at source_place beginning first ≡ Directs word.Macro 7
+  is_macro : operation_at source_place beginning first ≡ OwnDirective word.Macro 7
   unfolding alphabet code_of first_piece value_of
   is_macro = refl
 
@@ -86,7 +86,7 @@ module _ (stands_for : Symbol → Quantity) where
   repeat_puts_1 : Puts known (made 30001 7) repeat_line_1.text repeat_rest_1
       (operation_at in_call (made 30001 7) repeat_line_1) put_1
   unfolding alphabet code_of first_piece value_of
-  repeat_puts_1 = putting.Puts.Repeat (Directs word.Repeat 13) no_notes [] ([] ∷ [] ∷ []) (codes " NOP" ∷ []) (branch_1 ∷ [])
+  repeat_puts_1 = putting.Puts.Repeat (OwnDirective word.Rept 13) no_notes [] ([] ∷ [] ∷ []) (codes " NOP" ∷ []) (branch_1 ∷ [])
       (putting.Opens.Repeat 13) refl
 
   nop_1 : (taken : ℕ) → IsOther (operation_at in_rounds (made 30001 taken) nop)
@@ -167,7 +167,7 @@ module _ (stands_for : Symbol → Quantity) where
   repeat_puts_2 : Puts known (made 30002 14) repeat_line_2.text repeat_rest_2
       (operation_at in_call (made 30002 14) repeat_line_2) put_2
   unfolding alphabet code_of first_piece value_of
-  repeat_puts_2 = putting.Puts.Repeat (Directs word.Repeat 13) no_notes [] ([] ∷ [] ∷ []) (codes " NOP" ∷ []) (branch_2 ∷ [])
+  repeat_puts_2 = putting.Puts.Repeat (OwnDirective word.Rept 13) no_notes [] ([] ∷ [] ∷ []) (codes " NOP" ∷ []) (branch_2 ∷ [])
       (putting.Opens.Repeat 13) refl
 
   nop_2 : (taken : ℕ) → IsOther (operation_at in_rounds (made 30002 taken) nop)

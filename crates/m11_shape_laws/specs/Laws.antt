@@ -5,7 +5,7 @@ use Rattle.m11_lines.specs.Line.{SourceLine}
 use Rattle.m11_expansions.specs.Conditions.{OpenConditions, is_live_inside}
 use Rattle.m11_expansions.specs.Left.{Left, marks}
 use Rattle.m11_unfolding.specs.Stages.{Opening, Stage, line_left}
-use Rattle.m11_unfolding.specs.Taking.{Rests, move}
+use Rattle.m11_unfolding.specs.Taking.{NothingLeft, move}
 use Rattle.m11_unfolding.specs.Unfolding.{Given, Leads, Unfolds}
 use Rattle.m11_shape_laws.specs.Places.{Place, Situation, beginning, source_place, stage_of}
 use Rattle.m11_shape_laws.specs.Shapes.{Ending, GoesOn, Stops, Ends, Shape}
@@ -50,7 +50,7 @@ pub record IsEndedAfter (before : Stage) (gives : List Given) : Type 0 where
 pub record HasLiveLines (source : List SourceLine) (gives : List Given) : Type 0 where
   pub stage : Stage
   pub unfolds : Unfolds source gives stage
-  pub rests : move stage ≡ Rests
+  pub rests : move stage ≡ NothingLeft
 
 -- some lines begin with others
 pub record BeginWith (gives done : List Given) : Type 0 where

@@ -84,7 +84,7 @@ within_expansion arguments bytes place = record { around = mark_at place argumen
 abbrev pub operation_at : Place → Situation → SourceLine → Operation
 operation_at place situation line = operation (only_entered place.entered) situation.macros line.text
 
--- a live line of unfolding's own, with its letters and symbols
+-- a live line of unfolding's own, with its flags and symbols
 abbrev pub own_line : Place → Known → SourceLine → Notes → Given
 own_line place known line notes = record {
   live = record { line = line; is_expanded = has_mark place.around };

@@ -7,14 +7,14 @@ use Rattle.m11_lines.specs.Line.{SourceLine}
 use Rattle.m11_arguments.specs.Actuals.{Given, actuals_from}
 use Rattle.m11_arguments.specs.Expressions.{Known}
 use Rattle.m11_arguments.specs.Filling.{Filled, filled}
-use Rattle.m11_arguments.specs.Indefinite.{character_repeat, indefinite_repeat}
+use Rattle.m11_arguments.specs.Indefinite.{irpc, irp}
 use Rattle.m11_arguments.specs.Macros.{header}
 use Rattle.m11_arguments.specs.Notes.{Notes, noting}
 use Rattle.m11_arguments.specs.Repeats as repeats
 use Rattle.m11_arguments.specs.declared.directives.Directive.TheVariants as word
 use Rattle.m11_expansions.specs.Bodies.{body_of, size_of}
 use Rattle.m11_unfolding.specs.Acting as acting
-use Rattle.m11_unfolding.specs.Acting.{Operation, Calls, Directs, formal_name, repeating}
+use Rattle.m11_unfolding.specs.Acting.{Operation, Calls, OwnDirective, formal_name, repeating}
 use Rattle.m11_unfolding.specs.Constructs.{lines_of_rounds, round_lines}
 use Rattle.m11_unfolding.specs.Stages as stages
 use Rattle.m11_unfolding.specs.Stages.{Purpose, Repeats, line_left}
@@ -32,28 +32,28 @@ HasBody lines body others =
 abbrev pub HasNoClose : List SourceLine → Type 0
 HasNoClose lines = (body_of nesting (map line_left lines)).is_closed ≡ false
 
--- a line opens a body: its letters and symbols, and what the body is for
+-- a line opens a body: its flags and symbols, and what the body is for
 pub data Opens (known : Known) (text : Bytes) : Operation → Notes → Purpose → Type 0 where
   -- a macro; where the name is missing or bad, the body is for nothing
   Macro : (place : ℕ)
-      → Opens known text (Directs word.Macro place) (noting (header text place).letters [])
+      → Opens known text (OwnDirective word.Macro place) (noting (header text place).flags [])
       (acting.defining (header text place).named)
   -- as many rounds as the expression says, without formals
   Repeat : (place : ℕ)
-      → Opens known text (Directs word.Repeat place) (repeats.notes known text place)
-      (Repeats [] (replicate (repeats.repeat_count known text place) []))
+      → Opens known text (OwnDirective word.Rept place) (repeats.notes known text place)
+      (Repeats [] (replicate (repeats.rept_count known text place) []))
   -- a round for each argument, which is put in place of the formal
   IndefiniteRepeat : (place : ℕ)
-      → Opens known text (Directs word.IndefiniteRepeat place) (indefinite_repeat known text place).notes
-      (repeating (indefinite_repeat known text place).rounds)
+      → Opens known text (OwnDirective word.Irp place) (irp known text place).notes
+      (repeating (irp known text place).rounds)
   -- a round for each character
   CharacterRepeat : (place : ℕ)
-      → Opens known text (Directs word.CharacterRepeat place) (character_repeat text place).notes
-      (repeating (character_repeat text place).rounds)
+      → Opens known text (OwnDirective word.Irpc place) (irpc text place).notes
+      (repeating (irpc text place).rounds)
 
 -- ---- what is put in place
 
--- what an expansion puts in its place: letters and symbols of its first line; the number of actuals, if it is a call; the bytes
+-- what an expansion puts in its place: flags and symbols of its first line; the number of actuals, if it is a call; the bytes
 -- that it holds; its lines; the situation as they begin; and the lines that stand after it
 pub record Put : Type 0 where
   pub notes : Notes

@@ -16,7 +16,7 @@ use Rattle.m11_expansions.specs.Conditions.{is_live_in, past}
 use Rattle.m11_expansions.specs.Left.{has_mark}
 use Rattle.m11_expansions.specs.declared.conditions.Part.{Part}
 use Rattle.m11_expansions.specs.declared.conditions.Part.TheVariants as part
-use Rattle.m11_unfolding.specs.Acting.{Operation, Directs, Foreign, flagged, letter_O, operation}
+use Rattle.m11_unfolding.specs.Acting.{Operation, OwnDirective, Foreign, flagged, flag_O, operation}
 use Rattle.m11_unfolding.specs.Constructs.{condition_notes}
 use Rattle.m11_unfolding.specs.Stages.{Purpose, Defines, Drops}
 use Rattle.m11_unfolding.specs.Unfolding.{Given}
@@ -49,24 +49,24 @@ unclosed Ends = Ends
 -- an operator that is none of unfolding's own; `.NARG` and `.NCHR` say no more here than where they stand
 pub data IsOther : Operation → Type 0 where
   Other : IsOther Foreign
-  ArgumentCount : (place : ℕ) → IsOther (Directs word.ArgumentCount place)
-  CharacterCount : (place : ℕ) → IsOther (Directs word.CharacterCount place)
+  ArgumentCount : (place : ℕ) → IsOther (OwnDirective word.Narg place)
+  CharacterCount : (place : ℕ) → IsOther (OwnDirective word.Nchr place)
 
 -- a part of a condition begins
 pub data Begins : Operation → Part → ℕ → Type 0 where
-  IfFalse : (place : ℕ) → Begins (Directs word.IfFalse place) part.False place
-  IfTrue : (place : ℕ) → Begins (Directs word.IfTrue place) part.True place
-  IfTrueFalse : (place : ℕ) → Begins (Directs word.IfTrueFalse place) part.Both place
+  IfFalse : (place : ℕ) → Begins (OwnDirective word.Iff place) part.False place
+  IfTrue : (place : ℕ) → Begins (OwnDirective word.Ift place) part.True place
+  IfTrueFalse : (place : ℕ) → Begins (OwnDirective word.Iftf place) part.Both place
 
 -- a word where it has no meaning: the close of a body where none is open, a part or the end of a condition where none is open in
--- the expansion, and an exit outside all expansions. Its line has the letter O.
+-- the expansion, and an exit outside all expansions. Its line has the flag O.
 pub data IsAstray (place : Place) (text : Bytes) : Operation → Notes → Type 0 where
-  EndMacro : (at : ℕ) → IsAstray place text (Directs word.EndMacro at) (noting letter_O [])
-  EndRepeat : (at : ℕ) → IsAstray place text (Directs word.EndRepeat at) (noting letter_O [])
-  MacroExit : (at : ℕ) → place.around ≡ [] → IsAstray place text (Directs word.MacroExit at) (flagged letter_O text at)
+  EndMacro : (at : ℕ) → IsAstray place text (OwnDirective word.Endm at) (noting flag_O [])
+  EndRepeat : (at : ℕ) → IsAstray place text (OwnDirective word.Endr at) (noting flag_O [])
+  MacroExit : (at : ℕ) → place.around ≡ [] → IsAstray place text (OwnDirective word.Mexit at) (flagged flag_O text at)
   Begin : (operator : Operation) (part : Part) (at : ℕ) → Begins operator part at → place.entered ≡ []
-      → IsAstray place text operator (flagged letter_O text at)
-  EndCondition : (at : ℕ) → place.entered ≡ [] → IsAstray place text (Directs word.EndCondition at) (flagged letter_O text at)
+      → IsAstray place text operator (flagged flag_O text at)
+  EndCondition : (at : ℕ) → place.entered ≡ [] → IsAstray place text (OwnDirective word.Endc at) (flagged flag_O text at)
 
 -- ---- text that is skipped
 
@@ -74,10 +74,10 @@ pub data IsAstray (place : Place) (text : Bytes) : Operation → Notes → Type 
 -- condition past the last has no parts.
 abbrev pub is_plain : Bool → ℕ → Option Directive → Bool
 is_plain is_past inner (Some word.If) = false
-is_plain is_past inner (Some word.EndCondition) = false
-is_plain is_past inner (Some word.IfFalse) = is_past || not (inner == 0)
-is_plain is_past inner (Some word.IfTrue) = is_past || not (inner == 0)
-is_plain is_past inner (Some word.IfTrueFalse) = is_past || not (inner == 0)
+is_plain is_past inner (Some word.Endc) = false
+is_plain is_past inner (Some word.Iff) = is_past || not (inner == 0)
+is_plain is_past inner (Some word.Ift) = is_past || not (inner == 0)
+is_plain is_past inner (Some word.Iftf) = is_past || not (inner == 0)
 is_plain is_past inner (Some other) = true
 is_plain is_past inner None = true
 
@@ -88,7 +88,7 @@ pub data IsText (is_past : Bool) : ℕ → List SourceLine → ℕ → Type 0 wh
       → IsText is_past inner lines last → IsText is_past inner (line ∷ lines) last
   If : (inner last : ℕ) (line : SourceLine) (lines : List SourceLine) → directive line.text ≡ Some word.If
       → IsText is_past (suc inner) lines last → IsText is_past inner (line ∷ lines) last
-  EndCondition : (inner last : ℕ) (line : SourceLine) (lines : List SourceLine) → directive line.text ≡ Some word.EndCondition
+  EndCondition : (inner last : ℕ) (line : SourceLine) (lines : List SourceLine) → directive line.text ≡ Some word.Endc
       → IsText is_past inner lines last → IsText is_past (suc inner) (line ∷ lines) last
 
 -- ---- `.IIF`
@@ -153,38 +153,38 @@ mutual
         → Shape place before (line ∷ lines) (own_line place known line notes ∷ []) (counting (length lines + 1) before) Stops
     -- `.IF`: its own line, and then its parts, the first of which is live where it holds
     Condition : (place : Place) (before after : Situation) (ending : Ending) (known : Known) (line : SourceLine)
-        (lines : List SourceLine) (gives : List Given) (at : ℕ) → operation_at place before line ≡ Directs word.If at
+        (lines : List SourceLine) (gives : List Given) (at : ℕ) → operation_at place before line ≡ OwnDirective word.If at
         → has_condition_left place ≡ true
         → Parts place (condition known line.text at).holds (condition known line.text at).holds (counting 1 before) lines gives
         after ending
         → Shape place before (line ∷ lines) (own_line place known line (condition_notes known line.text at) ∷ gives) after ending
-    -- a 33rd condition has the letter O, and all up to its `.ENDC` is text
+    -- a 33rd condition has the flag O, and all up to its `.ENDC` is text
     Refused : (place : Place) (before after : Situation) (ending : Ending) (known last : Known) (line close : SourceLine)
-        (text lines : List SourceLine) (gives : List Given) (at end : ℕ) → operation_at place before line ≡ Directs word.If at
+        (text lines : List SourceLine) (gives : List Given) (at end : ℕ) → operation_at place before line ≡ OwnDirective word.If at
         → has_condition_left place ≡ false → IsText true 0 text 0
-        → operation (past (only_entered place.entered)) before.macros close.text ≡ Directs word.EndCondition end
+        → operation (past (only_entered place.entered)) before.macros close.text ≡ OwnDirective word.Endc end
         → Shape place (counting (length text + 2) before) lines gives after ending
         → Shape place before (line ∷ text ++ close ∷ lines)
-        (own_line place known line (noting letter_O []) ∷ own_line place last close (flagged 0 close.text end) ∷ gives) after
+        (own_line place known line (noting flag_O []) ∷ own_line place last close (flagged 0 close.text end) ∷ gives) after
         ending
     -- or all lines are, where that doesn't come
     OpenRefused : (place : Place) (before : Situation) (known : Known) (line : SourceLine) (lines : List SourceLine)
         (at inner : ℕ)
-        → operation_at place before line ≡ Directs word.If at → has_condition_left place ≡ false → IsText true 0 lines inner
-        → Shape place before (line ∷ lines) (own_line place known line (noting letter_O []) ∷ [])
+        → operation_at place before line ≡ OwnDirective word.If at → has_condition_left place ≡ false → IsText true 0 lines inner
+        → Shape place before (line ∷ lines) (own_line place known line (noting flag_O []) ∷ [])
         (counting (length lines + 1) before) Stops
     -- `.IIF`: its own line, and where it holds its statement as the next line
     Immediate : (place : Place) (before after : Situation) (ending : Ending) (known : Known) (line : SourceLine)
-        (lines : List SourceLine) (gives : List Given) (at : ℕ) → operation_at place before line ≡ Directs word.ImmediateIf at
+        (lines : List SourceLine) (gives : List Given) (at : ℕ) → operation_at place before line ≡ OwnDirective word.Iif at
         → Shape place (counting 1 before) (statement known line.text at ++ lines) gives after ending
         → Shape place before (line ∷ lines) (own_line place known line (immediate.notes known line.text at) ∷ gives) after ending
     -- `.MEXIT`: no line after it in the expansion is taken, in none of its rounds
     Exit : (place : Place) (before : Situation) (known : Known) (line : SourceLine) (lines : List SourceLine) (at : ℕ)
-        → operation_at place before line ≡ Directs word.MacroExit at → has_mark place.around ≡ true
+        → operation_at place before line ≡ OwnDirective word.Mexit at → has_mark place.around ≡ true
         → Shape place before (line ∷ lines) (own_line place known line (flagged 0 line.text at) ∷ []) (counting 1 before) Stops
     -- `.END`: no line after it is taken at all
     End : (place : Place) (before : Situation) (known : Known) (line : SourceLine) (lines : List SourceLine) (at : ℕ)
-        → operation_at place before line ≡ Directs word.End at
+        → operation_at place before line ≡ OwnDirective word.End at
         → Shape place before (line ∷ lines) (other_line place known line ∷ []) (counting 1 before) Ends
 
   -- What is left of a condition that holds or doesn't, from a part on that is live or not, with the lines after it.
@@ -201,7 +201,7 @@ mutual
     Close : (place : Place) (holds is_live : Bool) (before middle after : Situation) (ending : Ending) (known : Known)
         (line : SourceLine) (lines others : List SourceLine) (gives later : List Given) (at : ℕ)
         → OnePart place holds is_live before lines gives middle GoesOn
-        → operation_at (within_condition holds is_live place) middle line ≡ Directs word.EndCondition at
+        → operation_at (within_condition holds is_live place) middle line ≡ OwnDirective word.Endc at
         → Shape place (counting 1 middle) others later after ending
         → Parts place holds is_live before (lines ++ line ∷ others)
         (gives ++ own_line place known line (flagged 0 line.text at) ∷ later) after ending
@@ -209,7 +209,7 @@ mutual
     ImmediateInPart : (place : Place) (holds : Bool) (before middle after : Situation) (ending : Ending) (known : Known)
         (line : SourceLine) (lines others : List SourceLine) (gives later : List Given) (at : ℕ)
         → OnePart place holds true before lines gives middle GoesOn
-        → operation_at (within_condition holds true place) middle line ≡ Directs word.ImmediateIf at
+        → operation_at (within_condition holds true place) middle line ≡ OwnDirective word.Iif at
         → Parts place holds true (counting 1 middle) (statement known line.text at ++ others) later after ending
         → Parts place holds true before (lines ++ line ∷ others)
         (gives ++ own_line place known line (immediate.notes known line.text at) ∷ later) after ending

@@ -26,7 +26,7 @@ worked_source = map line_of
     ∷ codes " TWICE"
     ∷ [])
 
--- a line of unfolding's own without letters or symbols, and another one
+-- a line of unfolding's own without flags or symbols, and another one
 abbrev pub worked_line : (Symbol → Quantity) → Bytes → Bool → Bool → Option ℕ → Given
 worked_line stands_for text is_own is_expanded arguments = record {
   live = record { line = line_of text; is_expanded = is_expanded };

@@ -6,13 +6,13 @@ ghost use Rattle.m11_arguments.specs.Actuals.{actuals_from};
 ghost use Rattle.m11_arguments.specs.Conditions.{condition};
 ghost use Rattle.m11_arguments.specs.Expressions.{Known};
 ghost use Rattle.m11_arguments.specs.Notes.{Notes};
-ghost use Rattle.m11_arguments.specs.declared.directives.Directive.TheVariants.{EndCondition, If};
+ghost use Rattle.m11_arguments.specs.declared.directives.Directive.TheVariants as directive;
 ghost use Rattle.m11_base.specs.Devices.{Bytes};
 ghost use Rattle.m11_base.specs.Rad50.{Name};
 ghost use Rattle.m11_expansions.specs.Bodies.{size_of, texts_of};
 ghost use Rattle.m11_expansions.specs.declared.open_body.Nesting.TheVariants.{Closes};
 ghost use Rattle.m11_lines.specs.Line.{SourceLine, line_of};
-ghost use Rattle.m11_unfolding.specs.Acting.{Calls, Directs, flagged};
+ghost use Rattle.m11_unfolding.specs.Acting.{Calls, OwnDirective, flagged};
 ghost use Rattle.m11_unfolding.specs.Constructs.{IsPlainBody, condition_notes, lines_of_rounds};
 ghost use Rattle.m11_unfolding.specs.Laws.{AreForeign};
 ghost use Rattle.m11_unfolding.specs.Stages.{Repeats};
@@ -66,18 +66,18 @@ pub fn calls_have_a_shape()
 pub fn conditions_have_a_shape()
     ensures holds { (known : Known) (place : Place) (before : Situation) (first close : SourceLine) (lines : List SourceLine)
         (at end : ℕ)
-        → operation_at place before first ≡ Directs If at → has_condition_left place ≡ true
+        → operation_at place before first ≡ OwnDirective directive.If at → has_condition_left place ≡ true
         → (condition known first.text at).holds ≡ true → AreForeign (stage_of (within_condition true true place) before []) lines
-        → operation_at (within_condition true true place) before close ≡ Directs EndCondition end
+        → operation_at (within_condition true true place) before close ≡ OwnDirective directive.Endc end
         → Shape place before (first ∷ lines ++ close ∷ [])
         (own_line place known first (condition_notes known first.text at) ∷ map (other_line place known) lines
         ++ own_line place known close (flagged 0 close.text end) ∷ [])
         (counting (length lines + 2) before) GoesOn }
     ensures fails { (known : Known) (place : Place) (before : Situation) (first close : SourceLine) (lines : List SourceLine)
         (at end : ℕ)
-        → operation_at place before first ≡ Directs If at → has_condition_left place ≡ true
+        → operation_at place before first ≡ OwnDirective directive.If at → has_condition_left place ≡ true
         → (condition known first.text at).holds ≡ false → AreForeign (stage_of place before []) lines
-        → operation_at (within_condition false false place) before close ≡ Directs EndCondition end
+        → operation_at (within_condition false false place) before close ≡ OwnDirective directive.Endc end
         → Shape place before (first ∷ lines ++ close ∷ [])
         (own_line place known first (condition_notes known first.text at)
         ∷ own_line place known close (flagged 0 close.text end) ∷ [])

@@ -8,7 +8,7 @@ ghost use Rattle.m11_expansions.specs.declared.mark.Mark.{Mark};
 ghost use Rattle.m11_lines.specs.Line.{SourceLine};
 ghost use Rattle.m11_unfolding.specs.Histories.{IsKnownBy};
 ghost use Rattle.m11_unfolding.specs.Stages.{Purpose, Stage, start};
-ghost use Rattle.m11_unfolding.specs.Taking.{Live, Rests, ended, move, used};
+ghost use Rattle.m11_unfolding.specs.Taking.{Live, NothingLeft, ended, move, used};
 ghost use Rattle.m11_unfolding.specs.Unfolding.{Given, Leads, Unfolds};
 ghost use Rattle.m11_shape_laws.specs.Bodies.{StaysOpen, past_body, past_open_body, rest_of_body, with_body};
 ghost use Rattle.m11_shape_laws.specs.Laws.{BeginWith, HasLiveLines, HasShape, IsEndedAfter, StandsIn, before_lines};
@@ -49,12 +49,12 @@ pub fn a_source_has_just_the_live_lines_of_its_shape()
     ensures just_these { (known_by : List Given → Live
         → Known) (source : List SourceLine) (gives done : List Given) (after : Situation)
         (ending : Ending) (stage : Stage) → Shape source_place beginning source gives after ending → IsKnownBy known_by gives
-        → IsKnownBy known_by done → Unfolds source done stage → move stage ≡ Rests → done ≡ gives }
+        → IsKnownBy known_by done → Unfolds source done stage → move stage ≡ NothingLeft → done ≡ gives }
 {}
 
 /// Each unfolding of a source that comes to its end is that of a shape: no source is without one, but where a limit is passed.
 pub fn each_source_has_a_shape()
-    ensures { (source : List SourceLine) (gives : List Given) (stage : Stage) → Unfolds source gives stage → move stage ≡ Rests
+    ensures { (source : List SourceLine) (gives : List Given) (stage : Stage) → Unfolds source gives stage → move stage ≡ NothingLeft
         → HasShape source gives }
 {}
 

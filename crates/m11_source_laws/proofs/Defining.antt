@@ -12,18 +12,18 @@ use Rattle.m11_placement.specs.Assignments.{assigned}
 use Rattle.m11_placement.specs.Changes.{Change, Keeps, Counts, Selects, Assigns, Numbers, Exports, Sets, becomes_global, changed, numbered}
 use Rattle.m11_placement.specs.Definitions.{is_defined, is_labelled, is_same, registers}
 use Rattle.m11_placement.specs.Labels.{global_if, label_name, labelled, with_definition, with_kind, with_label, with_labels, with_name}
-use Rattle.m11_placement.specs.Limits.{is_counted, name_count, names_after, names_defined, with_defined, with_mentions, with_symbol}
-use Rattle.m11_placement.specs.Lines.{after_line, deed, line_change, stands}
+use Rattle.m11_placement.specs.Limits.{is_counted, name_count, names_after, names_defined, with_defined, with_uses, with_symbol}
+use Rattle.m11_placement.specs.Lines.{after_line, action, line_change, stands}
 use Rattle.m11_placement.specs.Meanings.{Map}
-use Rattle.m11_placement.specs.Mentions as mentions_of
-use Rattle.m11_placement.specs.Mentions.{Mention, deed_mentions, label_mentions, mention, mentions}
+use Rattle.m11_placement.specs.SymbolUses as uses_of
+use Rattle.m11_placement.specs.SymbolUses.{SymbolUse, action_uses, label_uses, symbol_use, symbol_uses}
 use Rattle.m11_placement.specs.Placements.{after_lines, table_after}
 use Rattle.m11_placement.specs.Tables.{Table, firm_table, first_table}
 use Rattle.m11_placement.specs.declared.definitions.Definition.{Definition}
 use Rattle.m11_placement.specs.declared.definitions.Key.{Key}
 use Rattle.m11_placement.specs.declared.definitions.Key.TheVariants.{Named, Numbered}
-use Rattle.m11_placement.specs.declared.meanings.Context.TheVariants.{Knows}
-use Rattle.m11_source_laws.proofs.Noted.{IsNoted, deed_noted, first_counts, mentions_stay}
+use Rattle.m11_placement.specs.declared.meanings.Context.TheVariants.{LocalOnly}
+use Rattle.m11_source_laws.proofs.Noted.{IsNoted, action_noted, first_counts, uses_stay}
 use Rattle.m11_statements.specs.Labels.{labels_at}
 use Rattle.m11_statements.specs.declared.labels.Label.{Label}
 use Rattle.m11_statements.specs.declared.labels.LabelKind.{LabelKind}
@@ -140,13 +140,13 @@ no_more (first ∷ some) all differ there =
 abbrev Known : Table → List Name → Type 0
 Known table names = (name : Name) → is_defined (Named name) table.definitions ≡ true → is_counted name names ≡ true
 
-joined : (first second : List Mention) (names : List Name)
-    → with_mentions (first ++ second) names ≡ with_mentions second (with_mentions first names)
+joined : (first second : List SymbolUse) (names : List Name)
+    → with_uses (first ++ second) names ≡ with_uses second (with_uses first names)
 joined [] second names = refl
-joined (mention ∷ first) second names = joined first second (with_symbol mention.symbol names)
+joined (symbol_use ∷ first) second names = joined first second (with_symbol symbol_use.symbol names)
 
-known_stays : (some : List Mention) (table : Table) (names : List Name) → Known table names → Known table (with_mentions some names)
-known_stays some table names known name there = mentions_stay name some names (known name there)
+known_stays : (some : List SymbolUse) (table : Table) (names : List Name) → Known table names → Known table (with_uses some names)
+known_stays some table names known name there = uses_stay name some names (known name there)
 
 key_by : (key : Key) (name other : Name) (names : List Name) → key ≡ Named name → is_same key (Named other) ≡ true
     → is_counted name names ≡ true → is_counted other names ≡ true
@@ -194,78 +194,78 @@ name_known is_global table name names counts known =
     (global_known is_global name _ names (defines name (labelled table (Named name)) table names refl counts known))
 
 named_known : (is_global : Bool) (table : Table) (name : Option Name) (names : List Name) → Known table names
-    → Known (with_name is_global table name) (with_mentions (mentions_of.defined name) names)
+    → Known (with_name is_global table name) (with_uses (uses_of.defined name) names)
 named_known is_global table (Some name) names known =
-    name_known is_global table name (with_mentions (mentions_of.named name ∷ []) names) (first_counts name [] names)
-    (known_stays (mentions_of.named name ∷ []) table names known)
+    name_known is_global table name (with_uses (uses_of.named name ∷ []) names) (first_counts name [] names)
+    (known_stays (uses_of.named name ∷ []) table names known)
 named_known is_global table None names known = known
 
 kind_known : (table : Table) (name : Option Name) (of : LabelKind) (names : List Name) → Known table names
-    → Known (with_kind table name of) (with_mentions (mentions_of.label_mention name of) names)
+    → Known (with_kind table name of) (with_uses (uses_of.label_use name of) names)
 kind_known table name label.Ordinary names known = named_known false table name names known
 kind_known table name label.Global names known = named_known true table name names known
 kind_known table name (label.Local number) names known =
-    choice_known (is_defined (Numbered table.settings.block number) table.definitions) _ _ names known
-    (defines_symbol table.settings.block number (labelled table (Numbered table.settings.block number)) table names refl known)
+    choice_known (is_defined (Numbered table.modes.block number) table.definitions) _ _ names known
+    (defines_symbol table.modes.block number (labelled table (Numbered table.modes.block number)) table names refl known)
 kind_known table name label.Outside names known = known
 
 labels_known : (line : Bytes) (table : Table) (labels : List Label) (names : List Name) → Known table names
-    → Known (with_labels line table labels) (with_mentions (flat_map (label_mentions line) labels) names)
+    → Known (with_labels line table labels) (with_uses (flat_map (label_uses line) labels) names)
 labels_known line table [] names known = known
 labels_known line table (one ∷ labels) names known =
     let P : List Name → Type 0 = λ ns. Known (with_labels line (with_label line table one) labels) ns in
-    subst P (sym (joined (label_mentions line one) (flat_map (label_mentions line) labels) names))
-    (labels_known line (with_label line table one) labels (with_mentions (label_mentions line one) names)
+    subst P (sym (joined (label_uses line one) (flat_map (label_uses line) labels) names))
+    (labels_known line (with_label line table one) labels (with_uses (label_uses line one) names)
     (kind_known table (label_name line one) one.kind names known))
 
 -- ---- changes
 
-changed_known : (map_ : Map) (line : Bytes) (some : List Mention) (change : Change) (table : Table) (names : List Name) → IsNoted some change
-    → Known table names → Known (changed map_ line change table) (with_mentions some names)
+changed_known : (map_ : Map) (line : Bytes) (some : List SymbolUse) (change : Change) (table : Table) (names : List Name) → IsNoted some change
+    → Known table names → Known (changed map_ line change table) (with_uses some names)
 changed_known map_ line some Keeps table names noted known = known_stays some table names known
 changed_known map_ line some (Counts move) table names noted known = known_stays some table names known
 changed_known map_ line some (Selects name attributes) table names noted known = known_stays some table names known
 changed_known map_ line some (Assigns name is_global start) table names noted known =
-    let all : List Name = with_mentions some names in
+    let all : List Name = with_uses some names in
     global_known (becomes_global is_global name table) name _ all
     (choice_known (is_labelled (Named name) table.definitions) _ _ all (known_stays some table names known)
     (defines name (assigned map_ table (Named name) line start) table all refl (noted names) (known_stays some table names known)))
 changed_known map_ line some (Numbers name number) table names noted known =
-    let all : List Name = with_mentions some names in
+    let all : List Name = with_uses some names in
     choice_known (is_labelled (Named name) table.definitions) _ _ all (known_stays some table names known)
     (defines name (numbered name number) table all refl (noted names) (known_stays some table names known))
 changed_known map_ line some (Exports start) table names noted known = known_stays some table names known
-changed_known map_ line some (Sets settings) table names noted known = known_stays some table names known
+changed_known map_ line some (Sets modes) table names noted known = known_stays some table names known
 
 -- ---- lines
 
 change_noted : (table : Table) (given : Given)
-    → IsNoted (deed_mentions (stands table given) given.live.line.text given.arguments (deed given.is_own given.live.line.text))
+    → IsNoted (action_uses (stands table given) given.live.line.text given.arguments (action given.is_own given.live.line.text))
     (line_change (firm_table (stands table given)) given)
 unfolding line_change
 change_noted table given =
-    deed_noted (stands table given) (firm_table (stands table given)) given.live.line.text given.arguments
-    (deed given.is_own given.live.line.text)
+    action_noted (stands table given) (firm_table (stands table given)) given.live.line.text given.arguments
+    (action given.is_own given.live.line.text)
 
 line_known : (map_ : Map) (table : Table) (given : Given) (names : List Name) → Known table names
-    → Known (after_line map_ table given) (with_mentions (mentions table given) names)
+    → Known (after_line map_ table given) (with_uses (symbol_uses table given) names)
 line_known map_ table given names known =
     let text : Bytes = given.live.line.text in
-    let of_labels : List Mention = flat_map (label_mentions text) (labels_at text) in
-    let of_notes : List Mention = map (mention Knows) given.notes.symbols in
-    let of_deed : List Mention = deed_mentions (stands table given) text given.arguments (deed given.is_own text) in
+    let of_labels : List SymbolUse = flat_map (label_uses text) (labels_at text) in
+    let of_notes : List SymbolUse = map (symbol_use LocalOnly) given.notes.symbols in
+    let of_action : List SymbolUse = action_uses (stands table given) text given.arguments (action given.is_own text) in
     let P : List Name → Type 0 = λ ns. Known (after_line map_ table given) ns in
     subst P
-    (sym (joined (of_labels ++ of_notes) of_deed names ∙ ap (with_mentions of_deed) (joined of_labels of_notes names)))
-    (changed_known map_ text of_deed (line_change (firm_table (stands table given)) given) (stands table given)
-    (with_mentions of_notes (with_mentions of_labels names)) (change_noted table given)
-    (known_stays of_notes (stands table given) (with_mentions of_labels names) (labels_known text table (labels_at text) names known)))
+    (sym (joined (of_labels ++ of_notes) of_action names ∙ ap (with_uses of_action) (joined of_labels of_notes names)))
+    (changed_known map_ text of_action (line_change (firm_table (stands table given)) given) (stands table given)
+    (with_uses of_notes (with_uses of_labels names)) (change_noted table given)
+    (known_stays of_notes (stands table given) (with_uses of_labels names) (labels_known text table (labels_at text) names known)))
 
 lines_known : (map_ : Map) (table : Table) (lines : List Given) (names : List Name) → Known table names
     → Known (after_lines map_ table lines) (names_after map_ table lines names)
 lines_known map_ table [] names known = known
 lines_known map_ table (given ∷ lines) names known =
-    lines_known map_ (after_line map_ table given) lines (with_mentions (mentions table given) names)
+    lines_known map_ (after_line map_ table given) lines (with_uses (symbol_uses table given) names)
     (line_known map_ table given names known)
 
 -- ---- how many there are

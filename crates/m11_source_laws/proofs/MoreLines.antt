@@ -8,11 +8,11 @@ use Rattle.m11_expansions.specs.Left.{Left, Line, End, bytes_in, has_mark, most_
 use Rattle.m11_expansions.specs.declared.mark.Mark.{Mark}
 use Rattle.m11_lines.specs.Line.{SourceLine}
 use Rattle.m11_unfolding.proofs.MoreLines.{same_open}
-use Rattle.m11_unfolding.specs.Acting.{Operation, Calls, Directs, Foreign, act_fault, fault_by, operation}
+use Rattle.m11_unfolding.specs.Acting.{Operation, Calls, OwnDirective, Foreign, act_fault, fault_by, operation}
 use Rattle.m11_unfolding.specs.Histories.{with_more}
 use Rattle.m11_unfolding.specs.Limits.{body_fault, bytes_taken, closing_fault, depth_fault, fault_if, line_fault, most_bytes, most_lines, taking_fault}
 use Rattle.m11_unfolding.specs.Stages.{Opening, Purpose, Defines, Repeats, Drops, Stage, line_left}
-use Rattle.m11_unfolding.specs.Taking.{Gives, Live, Move, Passes, Rests, line_taken, live_or_skipped, move, move_from, nesting, one_taken, skipped}
+use Rattle.m11_unfolding.specs.Taking.{Gives, Live, Move, Passes, NothingLeft, line_taken, live_or_skipped, move, move_from, nesting, one_taken, skipped}
 use Rattle.m11_unfolding.specs.declared.fault.UnfoldFault.{UnfoldFault}
 use Rattle.m11_unfolding.specs.declared.fault.UnfoldFault.TheVariants.{TooDeep, TooManyLines, TooMuchText}
 
@@ -50,7 +50,7 @@ module _ (more : List SourceLine) where
   fault_by_on : (stage : Stage) (operation : Operation) → fault_by (with_more more stage) operation ≡ fault_by stage operation
   fault_by_on stage Foreign = refl
   fault_by_on stage (Calls macro place) = same_depth stage.left
-  fault_by_on stage (Directs directive place) = refl
+  fault_by_on stage (OwnDirective directive place) = refl
 
   pub act_fault_on : (stage : Stage) (text : Bytes) → act_fault (with_more more stage) text ≡ act_fault stage text
   act_fault_on stage text = fault_by_on stage (operation stage.conditions stage.macros text)
@@ -58,7 +58,7 @@ module _ (more : List SourceLine) where
   -- ---- a line that becomes live
 
   abbrev on_after : Move → Move
-  on_after Rests = Rests
+  on_after NothingLeft = NothingLeft
   on_after (Passes stage) = Passes (with_more more stage)
   on_after (Gives live stage) = Gives live (with_more more stage)
 
@@ -75,8 +75,8 @@ module _ (more : List SourceLine) where
   taken_on None line stage after live is = live_on (skipped stage.conditions line.text) line stage ∙ ap on_after is
 
   from_on : (has_ended : Bool) (left : List Left) (stage after : Stage) (live : Live)
-      → (if has_ended then Rests else move_from left stage) ≡ Gives live after
-      → (if has_ended then Rests else move_from (left ++ lines) (with_more more stage)) ≡ Gives live (with_more more after)
+      → (if has_ended then NothingLeft else move_from left stage) ≡ Gives live after
+      → (if has_ended then NothingLeft else move_from (left ++ lines) (with_more more stage)) ≡ Gives live (with_more more after)
   from_on true left stage after live is = absurd (let bad = is in cc)
   from_on false [] stage after live is = absurd (let bad = is in cc)
   from_on false (End mark ∷ left) stage after live is = absurd (let bad = is in cc)

@@ -16,20 +16,20 @@ use Rattle.m11_placement.specs.Definitions.{is_defined, registers}
 use Rattle.m11_placement.specs.declared.definitions.Key.TheVariants.{Named}
 use Rattle.m11_placement.specs.Effects.{change_by, directive_change}
 use Rattle.m11_placement.specs.Elements.{names_at, texts_of}
-use Rattle.m11_placement.specs.Limits.{is_counted, with_mentions, with_symbol}
-use Rattle.m11_placement.specs.Lines.{Deed, Rests, Assigning, Setting, Operating, change_of}
-use Rattle.m11_placement.specs.Mentions.{Mention, deed_mentions, defined, directive_mentions, mention, named, numbered_mention, operator_mentions, read_at}
+use Rattle.m11_placement.specs.Limits.{is_counted, with_uses, with_symbol}
+use Rattle.m11_placement.specs.Lines.{Action, NoAction, Assign, SetCounter, Operate, change_of}
+use Rattle.m11_placement.specs.SymbolUses.{SymbolUse, action_uses, defined, directive_uses, symbol_use, named, numbered_use, operator_uses, read_at}
 use Rattle.m11_placement.specs.Operators.{is_even}
 use Rattle.m11_placement.specs.Places.{Goes}
-use Rattle.m11_placement.specs.ProgramSections as sections
+use Rattle.m11_placement.specs.Psects as sections
 use Rattle.m11_placement.specs.Relocations.{is_here}
 use Rattle.m11_placement.specs.Tables.{Table, place}
-use Rattle.m11_placement.specs.declared.meanings.Context.TheVariants.{Knows}
+use Rattle.m11_placement.specs.declared.meanings.Context.TheVariants.{LocalOnly}
 use Rattle.m11_placement.specs.declared.operators.Directive.{Directive}
 use Rattle.m11_placement.specs.declared.operators.Directive.TheVariants as word
 use Rattle.m11_placement.specs.declared.operators.Operator.{Operator}
-use Rattle.m11_placement.specs.declared.operators.Operator.TheVariants.{Instruction, Directs}
-use Rattle.m11_placement.specs.declared.settings.Settings.{Settings}
+use Rattle.m11_placement.specs.declared.operators.Operator.TheVariants as operators
+use Rattle.m11_placement.specs.declared.modes.Modes.{Modes}
 use Rattle.m11_scan.specs.Cutting.{Lexeme, tokens_from}
 use Rattle.m11_scan.specs.declared.radix.Radix.{Radix}
 use Rattle.m11_values.specs.declared.names.Symbol.{Symbol}
@@ -68,11 +68,11 @@ module _ (name : Name) where
   symbol_stays (Local number) names there = there
   symbol_stays Counter names there = there
 
-  pub mentions_stay : (some : List Mention) (names : List Name) → is_counted name names ≡ true
-      → is_counted name (with_mentions some names) ≡ true
-  mentions_stay [] names there = there
-  mentions_stay (mention ∷ some) names there =
-      mentions_stay some (with_symbol mention.symbol names) (symbol_stays mention.symbol names there)
+  pub uses_stay : (some : List SymbolUse) (names : List Name) → is_counted name names ≡ true
+      → is_counted name (with_uses some names) ≡ true
+  uses_stay [] names there = there
+  uses_stay (symbol_use ∷ some) names there =
+      uses_stay some (with_symbol symbol_use.symbol names) (symbol_stays symbol_use.symbol names there)
 
   now_by : (is_known : Bool) (names : List Name) → is_counted name names ≡ is_known
       → is_counted name (if is_known then names else names ++ name ∷ []) ≡ true
@@ -83,106 +83,106 @@ module _ (name : Name) where
       (same_name_itself name)
 
   -- the first of some mentions
-  pub first_counts : (some : List Mention) (names : List Name) → is_counted name (with_mentions (named name ∷ some) names) ≡ true
-  first_counts some names = mentions_stay some (with_symbol (Ordinary name) names) (now_by (is_counted name names) names refl)
+  pub first_counts : (some : List SymbolUse) (names : List Name) → is_counted name (with_uses (named name ∷ some) names) ≡ true
+  first_counts some names = uses_stay some (with_symbol (Ordinary name) names) (now_by (is_counted name names) names refl)
 
 -- ---- the name that a change defines is mentioned
 
-abbrev pub IsNoted : List Mention → Change → Type 0
-IsNoted some (Assigns name is_global start) = (names : List Name) → is_counted name (with_mentions some names) ≡ true
-IsNoted some (Numbers name number) = (names : List Name) → is_counted name (with_mentions some names) ≡ true
+abbrev pub IsNoted : List SymbolUse → Change → Type 0
+IsNoted some (Assigns name is_global start) = (names : List Name) → is_counted name (with_uses some names) ≡ true
+IsNoted some (Numbers name number) = (names : List Name) → is_counted name (with_uses some names) ≡ true
 IsNoted some Keeps = Unit {0}
 IsNoted some (Counts move) = Unit {0}
 IsNoted some (Selects name attributes) = Unit {0}
 IsNoted some (Exports start) = Unit {0}
-IsNoted some (Sets settings) = Unit {0}
+IsNoted some (Sets modes) = Unit {0}
 
-module _ (some : List Mention) where
+module _ (some : List SymbolUse) where
   choice_noted : (choice : Bool) (one other : Change) → IsNoted some one → IsNoted some other
       → IsNoted some (if choice then one else other)
   choice_noted true one other first second = first
   choice_noted false one other first second = second
 
-  radix_noted : (settings : Settings) (radix : Option Radix) → IsNoted some (control.with_radix settings radix)
-  radix_noted settings (Some radix) = tt
-  radix_noted settings None = tt
+  radix_noted : (modes : Modes) (radix : Option Radix) → IsNoted some (control.with_radix modes radix)
+  radix_noted modes (Some radix) = tt
+  radix_noted modes None = tt
 
-  token_noted : (settings : Settings) (tokens : List Lexeme) → IsNoted some (control.radix_by settings tokens)
-  token_noted settings [] = tt
-  token_noted settings (token ∷ tokens) = radix_noted settings (control.radix_in token.sort token.text)
+  token_noted : (modes : Modes) (tokens : List Lexeme) → IsNoted some (control.radix_by modes tokens)
+  token_noted modes [] = tt
+  token_noted modes (token ∷ tokens) = radix_noted modes (control.radix_in token.sort token.text)
 
-  words_noted : (settings : Settings) (shows : Bool) (words : List Bytes) → IsNoted some (control.with_words settings shows words)
-  words_noted settings shows words = choice_noted (control.is_among words control.expansions_word) _ _ tt tt
+  words_noted : (modes : Modes) (shows : Bool) (words : List Bytes) → IsNoted some (control.with_words modes shows words)
+  words_noted modes shows words = choice_noted (control.is_among words control.expansions_word) _ _ tt tt
 
-  section_noted : (line : Bytes) (start : ℕ) (at : sections.SectionAt) → IsNoted some (sections.program_section_of line start at)
+  section_noted : (line : Bytes) (start : ℕ) (at : sections.SectionAt) → IsNoted some (sections.psect_of line start at)
   section_noted line start sections.Unnamed = tt
   section_noted line start (sections.NamedAt name end) = tt
   section_noted line start sections.Bad = tt
 
-  control_noted : (at : sections.SectionAt) → IsNoted some (sections.control_section_of at)
+  control_noted : (at : sections.SectionAt) → IsNoted some (sections.csect_of at)
   control_noted sections.Unnamed = tt
   control_noted (sections.NamedAt name end) = tt
   control_noted sections.Bad = tt
 
 count_noted : (arguments : Option ℕ) (name : Option NameAt)
-    → IsNoted (numbered_mention (counts.argument_count_by arguments name)) (counts.argument_count_by arguments name)
+    → IsNoted (numbered_use (counts.narg_by arguments name)) (counts.narg_by arguments name)
 count_noted (Some count) (Some at) = λ names. first_counts at.name [] names
 count_noted (Some count) None = tt
 count_noted None name = tt
 
 character_noted : (line : Bytes) (name : Option NameAt)
-    → IsNoted (numbered_mention (counts.character_count_by line name)) (counts.character_count_by line name)
+    → IsNoted (numbered_use (counts.nchr_by line name)) (counts.nchr_by line name)
 character_noted line (Some at) = λ names. first_counts at.name [] names
 character_noted line None = tt
 
 directive_noted : (table : Table) (passed here : ℕ) (line : Bytes) (start : ℕ) (arguments : Option ℕ) (of : Directive)
-    → IsNoted (directive_mentions line start arguments of) (directive_change table passed here line start arguments of)
-directive_noted table passed here line start arguments word.Words = tt
-directive_noted table passed here line start arguments word.Bytewise = tt
+    → IsNoted (directive_uses line start arguments of) (directive_change table passed here line start arguments of)
+directive_noted table passed here line start arguments word.Word = tt
+directive_noted table passed here line start arguments word.Byte = tt
 directive_noted table passed here line start arguments word.Ascii = tt
 directive_noted table passed here line start arguments word.Asciz = tt
 directive_noted table passed here line start arguments word.Rad50 = tt
-directive_noted table passed here line start arguments word.ByteBlock = tt
-directive_noted table passed here line start arguments word.WordBlock = tt
+directive_noted table passed here line start arguments word.Blkb = tt
+directive_noted table passed here line start arguments word.Blkw = tt
 directive_noted table passed here line start arguments word.Even = tt
 directive_noted table passed here line start arguments word.Odd = tt
 directive_noted table passed here line start arguments word.Limit = tt
-directive_noted table passed here line start arguments word.InRadix = token_noted [] table.settings (tokens_from line start)
-directive_noted table passed here line start arguments word.AbsoluteSection = tt
-directive_noted table passed here line start arguments word.ControlSection = control_noted [] (sections.section_at line start)
-directive_noted table passed here line start arguments word.ProgramSection = section_noted [] line start (sections.section_at line start)
-directive_noted table passed here line start arguments word.Global = tt
+directive_noted table passed here line start arguments word.Radix = token_noted [] table.modes (tokens_from line start)
+directive_noted table passed here line start arguments word.Asect = tt
+directive_noted table passed here line start arguments word.Csect = control_noted [] (sections.section_at line start)
+directive_noted table passed here line start arguments word.Psect = section_noted [] line start (sections.section_at line start)
+directive_noted table passed here line start arguments word.Globl = tt
 directive_noted table passed here line start arguments word.Weak = tt
-directive_noted table passed here line start arguments word.Lists =
-    choice_noted [] (has_token (tokens_from line start)) _ _ (words_noted [] table.settings true (texts_of line (names_at line start).list)) tt
-directive_noted table passed here line start arguments word.Unlists =
-    choice_noted [] (has_token (tokens_from line start)) _ _ (words_noted [] table.settings false (texts_of line (names_at line start).list)) tt
-directive_noted table passed here line start arguments word.ArgumentCount = count_noted arguments (counts.name_in line start)
-directive_noted table passed here line start arguments word.CharacterCount = character_noted line (counts.name_in line start)
+directive_noted table passed here line start arguments word.List =
+    choice_noted [] (has_token (tokens_from line start)) _ _ (words_noted [] table.modes true (texts_of line (names_at line start).list)) tt
+directive_noted table passed here line start arguments word.Nlist =
+    choice_noted [] (has_token (tokens_from line start)) _ _ (words_noted [] table.modes false (texts_of line (names_at line start).list)) tt
+directive_noted table passed here line start arguments word.Narg = count_noted arguments (counts.name_in line start)
+directive_noted table passed here line start arguments word.Nchr = character_noted line (counts.name_in line start)
 directive_noted table passed here line start arguments word.Title = tt
-directive_noted table passed here line start arguments word.Identification = tt
-directive_noted table passed here line start arguments word.Subtitle = tt
+directive_noted table passed here line start arguments word.Ident = tt
+directive_noted table passed here line start arguments word.Sbttl = tt
 directive_noted table passed here line start arguments word.Page = tt
-directive_noted table passed here line start arguments word.Enable = tt
-directive_noted table passed here line start arguments word.Disable = tt
+directive_noted table passed here line start arguments word.Enabl = tt
+directive_noted table passed here line start arguments word.Dsabl = tt
 directive_noted table passed here line start arguments word.End = tt
 
 operator_noted : (stood firm : Table) (passed here : ℕ) (line : Bytes) (start : ℕ) (arguments : Option ℕ) (operator : Operator)
-    → IsNoted (operator_mentions stood line start arguments operator) (change_by firm passed here line start arguments operator)
-operator_noted stood firm passed here line start arguments (Instruction operation) = tt
-operator_noted stood firm passed here line start arguments (Directs of) = directive_noted firm passed here line start arguments of
+    → IsNoted (operator_uses stood line start arguments operator) (change_by firm passed here line start arguments operator)
+operator_noted stood firm passed here line start arguments (operators.Instruction operation) = tt
+operator_noted stood firm passed here line start arguments (operators.Directive of) = directive_noted firm passed here line start arguments of
 
 target_noted : (is_global : Bool) (start : ℕ) (line : Bytes) (name : Option Name)
-    → IsNoted (defined name ++ read_at Knows line start) (assigning.assignment_to is_global start name)
-target_noted is_global start line (Some name) = λ names. first_counts name (read_at Knows line start) names
+    → IsNoted (defined name ++ read_at LocalOnly line start) (assigning.assignment_to is_global start name)
+target_noted is_global start line (Some name) = λ names. first_counts name (read_at LocalOnly line start) names
 target_noted is_global start line None = tt
 
-pub deed_noted : (stood firm : Table) (line : Bytes) (arguments : Option ℕ) (deed : Deed)
-    → IsNoted (deed_mentions stood line arguments deed) (change_of firm line arguments deed)
-deed_noted stood firm line arguments Rests = tt
-deed_noted stood firm line arguments (Assigning name is_global start) = target_noted is_global start line (assigning.target line name)
-deed_noted stood firm line arguments (Setting start) =
+pub action_noted : (stood firm : Table) (line : Bytes) (arguments : Option ℕ) (action : Action)
+    → IsNoted (action_uses stood line arguments action) (change_of firm line arguments action)
+action_noted stood firm line arguments NoAction = tt
+action_noted stood firm line arguments (Assign name is_global start) = target_noted is_global start line (assigning.target line name)
+action_noted stood firm line arguments (SetCounter start) =
     let value = assigning.counter_value firm line start in
-    choice_noted (read_at Knows line start) (is_here firm value.kind) (Counts (Goes value.number)) Keeps tt tt
-deed_noted stood firm line arguments (Operating operator start) =
+    choice_noted (read_at LocalOnly line start) (is_here firm value.kind) (Counts (Goes value.number)) Keeps tt tt
+action_noted stood firm line arguments (Operate operator start) =
     operator_noted stood firm (gap (is_even operator) (place firm)) (place_for (is_even operator) (place firm)) line start arguments operator

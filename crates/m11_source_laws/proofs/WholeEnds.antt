@@ -21,7 +21,7 @@ use Rattle.m11_unfolding.specs.Acting.{act_fault}
 use Rattle.m11_unfolding.specs.Histories.{GoesOn, IsKnownBy, with_more}
 use Rattle.m11_unfolding.specs.Limits.{fault_from, next_fault}
 use Rattle.m11_unfolding.specs.Stages.{Opening, Stage, line_left, start}
-use Rattle.m11_unfolding.specs.Taking.{Gives, Live, Passes, Rests, line_taken, live_or_skipped, move, move_from, one_taken, skipped}
+use Rattle.m11_unfolding.specs.Taking.{Gives, Live, Passes, NothingLeft, line_taken, live_or_skipped, move, move_from, one_taken, skipped}
 use Rattle.m11_unfolding.specs.Unfolding.{Given, Leads}
 use Rattle.m11_unfolding.specs.Unfolding as steps
 use Rattle.m11_unfolding.specs.declared.fault.UnfoldFault.{UnfoldFault}
@@ -50,10 +50,10 @@ stays before _ _ halts (steps.Leads.Giving done stage after live known leads fit
     absurd (halts.no_line after live (subst (λ (s : Stage). next_fault s ≡ None) earlier.1 fits)
     (subst (λ (s : Stage). move s ≡ Gives live after) earlier.1 moves) acts)
 
-at_rest : (stage : Stage) → move stage ≡ Rests → Halts stage
+at_rest : (stage : Stage) → move stage ≡ NothingLeft → Halts stage
 at_rest stage rests = record {
-  no_pass = λ after fits moves. let bad : Rests ≡ Passes after = sym rests ∙ moves in cc;
-  no_line = λ after live fits moves acts. let bad : Rests ≡ Gives live after = sym rests ∙ moves in cc;
+  no_pass = λ after fits moves. let bad : NothingLeft ≡ Passes after = sym rests ∙ moves in cc;
+  no_line = λ after live fits moves acts. let bad : NothingLeft ≡ Gives live after = sym rests ∙ moves in cc;
 }
 
 -- ---- what comes next passes a limit of unfolding
@@ -84,24 +84,24 @@ stuck_halts stage (Acting fault live there gives is) = record {
         let bad : Some fault ≡ None = sym is ∙ same ∙ acts in cc
 
 -- something comes next
-no_rest : (conditions : Option OpenConditions) (line : SourceLine) (stage : Stage) → live_or_skipped conditions line stage ≡ Rests → ⊥
+no_rest : (conditions : Option OpenConditions) (line : SourceLine) (stage : Stage) → live_or_skipped conditions line stage ≡ NothingLeft → ⊥
 no_rest (Some conditions) line stage is = let bad = is in cc
 no_rest None line stage is = let bad = is in cc
 
-no_rest_line : (opening : Option Opening) (line : SourceLine) (stage : Stage) → line_taken opening line stage ≡ Rests → ⊥
+no_rest_line : (opening : Option Opening) (line : SourceLine) (stage : Stage) → line_taken opening line stage ≡ NothingLeft → ⊥
 no_rest_line (Some opening) line stage is = let bad = is in cc
 no_rest_line None line stage is = no_rest (skipped stage.conditions line.text) line stage is
 
 no_rest_by : (has_ended : Bool) (left : List Left) (stage : Stage) (fault : UnfoldFault)
-    → (if has_ended then Rests else move_from left stage) ≡ Rests → (if has_ended then None else fault_from left stage) ≡ Some fault → ⊥
+    → (if has_ended then NothingLeft else move_from left stage) ≡ NothingLeft → (if has_ended then None else fault_from left stage) ≡ Some fault → ⊥
 no_rest_by true left stage fault rests is = let bad = is in cc
 no_rest_by false [] stage fault rests is = let bad = is in cc
 no_rest_by false (End mark ∷ left) stage fault rests is = let bad = is in cc
 no_rest_by false (Line line ∷ left) stage fault rests is = no_rest_line stage.opening line (one_taken left stage) rests
 
-stuck_moves : (stage : Stage) → IsStuck stage → move stage ≡ Rests → ⊥
+stuck_moves : (stage : Stage) → IsStuck stage → move stage ≡ NothingLeft → ⊥
 stuck_moves stage (Taking fault is) rests = no_rest_by stage.has_ended stage.left stage fault rests is
-stuck_moves stage (Acting fault live after gives is) rests = let bad : Gives live after ≡ Rests = sym gives ∙ rests in cc
+stuck_moves stage (Acting fault live after gives is) rests = let bad : Gives live after ≡ NothingLeft = sym gives ∙ rests in cc
 
 -- with further lines of the source it is the same limit
 fault_on : (more : List SourceLine) (has_ended : Bool) (left : List Left) (stage : Stage) (fault : UnfoldFault)
@@ -127,7 +127,7 @@ Compared = (tells : List Given → Live → Known) (before first second : Stage)
 
 abbrev pub EndsOnce : Type 0
 EndsOnce = (tells : List Given → Live → Known) (before first second : Stage) (done later : List Given) → IsKnownBy tells done
-    → IsKnownBy tells later → Leads before done first → Leads before later second → move first ≡ Rests → move second ≡ Rests
+    → IsKnownBy tells later → Leads before done first → Leads before later second → move first ≡ NothingLeft → move second ≡ NothingLeft
     → (done ≡ later) × (first ≡ second)
 
 -- a line that passes no limit has no fault

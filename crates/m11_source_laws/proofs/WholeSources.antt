@@ -13,7 +13,7 @@ use Rattle.m11_passes.specs.Refusals.{act_refused, given_by, labels_fault, line_
 use Rattle.m11_placement.specs.Labels.{labels_stand}
 use Rattle.m11_placement.specs.Lines.{after_line, stands}
 use Rattle.m11_placement.specs.Meanings.{Map}
-use Rattle.m11_placement.specs.Mentions.{mentions}
+use Rattle.m11_placement.specs.SymbolUses.{symbol_uses}
 use Rattle.m11_placement.specs.Placements.{after_lines, table_after}
 use Rattle.m11_placement.specs.Tables.{Table, first_table}
 use Rattle.m11_placement.specs.Unfolded.{AreLines, KnowLinesBefore, known_after_labels}
@@ -23,7 +23,7 @@ use Rattle.m11_unfolding.specs.Acting.{act_fault}
 use Rattle.m11_unfolding.specs.Histories.{IsKnownBy, with_more}
 use Rattle.m11_unfolding.specs.Limits.{next_fault}
 use Rattle.m11_unfolding.specs.Stages.{Stage, line_left, start}
-use Rattle.m11_unfolding.specs.Taking.{Gives, Live, Rests, move}
+use Rattle.m11_unfolding.specs.Taking.{Gives, Live, NothingLeft, move}
 use Rattle.m11_unfolding.specs.Unfolding.{Given, Leads}
 use Rattle.m11_unfolding.specs.Unfolding as steps
 use Rattle.m11_unfolding.specs.declared.fault.UnfoldFault.{UnfoldFault}
@@ -140,7 +140,7 @@ module _ (map_ : Map) (counting : Counting) where
 
   -- ---- a pass that ends
 
-  no_more : (stage : Stage) (more : List SourceLine) → IsOver more stage → move (with_more more stage) ≡ Rests
+  no_more : (stage : Stage) (more : List SourceLine) → IsOver more stage → move (with_more more stage) ≡ NothingLeft
   no_more stage more (inl ended) = ended_rests (with_more more stage) ended
   no_more stage more (inr (all, none, goes)) =
       none_rests (with_more more stage) (ap (λ (l : List Left). l ++ map line_left more) none ∙ ap (map line_left) all) goes
@@ -163,7 +163,7 @@ kept_more : (map_ : Map) (table : Table) (counting : Counting) (done : List Give
     → KeepLimits map_ table counting (done ++ one ∷ [])
 kept_more map_ table counting [] one kept labels placing = (labels, placing, tt)
 kept_more map_ table counting (given ∷ done) one kept labels placing =
-    (kept.0, kept.1, kept_more map_ (after_line map_ table given) (with_counted (mentions table given) counting) done one kept.2 labels placing)
+    (kept.0, kept.1, kept_more map_ (after_line map_ table given) (with_counted (symbol_uses table given) counting) done one kept.2 labels placing)
 
 pub kept_at : (map_ : Map) (table : Table) (counting : Counting) (done more : List Given) (one : Given)
     → KeepLimits map_ table counting (done ++ one ∷ more)
@@ -171,7 +171,7 @@ pub kept_at : (map_ : Map) (table : Table) (counting : Counting) (done more : Li
     × (placing_fault map_ (after_lines map_ table done) (counting_after map_ table done counting) one ≡ None)
 kept_at map_ table counting [] more one kept = (kept.0, kept.1)
 kept_at map_ table counting (given ∷ done) more one kept =
-    kept_at map_ (after_line map_ table given) (with_counted (mentions table given) counting) done more one kept.2
+    kept_at map_ (after_line map_ table given) (with_counted (symbol_uses table given) counting) done more one kept.2
 
 module _ (map_ : Map) (counting : Counting) where
   pub keeps : (source : List SourceLine) (placed_lines : List Numbered) (stage : Stage)

@@ -7,11 +7,11 @@ use Rattle.m11_passes.specs.Lines.{Numbered, givens}
 use Rattle.m11_passes.specs.Refusals.{labels_fault, placing_fault}
 use Rattle.m11_placement.specs.Lines.{after_line}
 use Rattle.m11_placement.specs.Meanings.{Map}
-use Rattle.m11_placement.specs.Mentions.{mentions}
+use Rattle.m11_placement.specs.SymbolUses.{symbol_uses}
 use Rattle.m11_placement.specs.Tables.{Table}
 use Rattle.m11_placement.specs.Unfolded.{AreLines}
 use Rattle.m11_unfolding.specs.Stages.{Stage}
-use Rattle.m11_unfolding.specs.Taking.{Rests, move}
+use Rattle.m11_unfolding.specs.Taking.{NothingLeft, move}
 use Rattle.m11_unfolding.specs.Unfolding.{Given}
 use Rattle.m11_placing.specs.Counting.{with_counted}
 use Rattle.m11_placing.specs.declared.counting.Counting.{Counting}
@@ -19,14 +19,14 @@ use Rattle.m11_placing.specs.declared.counting.Counting.{Counting}
 -- these are all live lines of a source under a map: nothing is taken after them
 pub record AreAllLines (map : Map) (source : List SourceLine) (gives : List Given) (stage : Stage) : Type 0 where
   pub are : AreLines map source gives stage
-  pub rests : move stage ≡ Rests
+  pub rests : move stage ≡ NothingLeft
 
 -- no live line passes a limit where it is placed, after a table and by which names count before it
 abbrev pub KeepLimits : Map → Table → Counting → List Given → Type 0
 KeepLimits map table counting [] = ⊤
 KeepLimits map table counting (given ∷ lines) =
     (labels_fault counting table given.live.line.text ≡ None) × (placing_fault map table counting given ≡ None)
-    × KeepLimits map (after_line map table given) (with_counted (mentions table given) counting) lines
+    × KeepLimits map (after_line map table given) (with_counted (symbol_uses table given) counting) lines
 
 -- a pass over all lines of a source ends, with these live lines
 pub record EndsWith (map : Map) (counting : Counting) (all : List SourceLine) (gives : List Given) : Type 0 where

@@ -46,7 +46,7 @@ pub fn a_pass_has_the_lines_of_the_whole_source()
 /// Lines mention each name that they define. So a reading that counts the names that its lines mention never has more names defined than
 /// it may before it has more mentioned than it may.
 #[tactic(auto, using(crate::proofs::Defining::few_defined))]
-pub fn what_lines_define_they_mention()
+pub fn what_lines_define_they_use()
     ensures { (map : Map) (lines : List Given)
         → name_count (table_after map lines) ≤ length registers + length (names_after map first_table lines []) }
 {}

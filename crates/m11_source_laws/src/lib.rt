@@ -7,5 +7,5 @@ mod laws;
 
 pub use laws::{
     a_pass_has_the_lines_of_the_whole_source, the_lines_of_a_pass_are_those_of_the_whole_source,
-    what_lines_define_they_mention,
+    what_lines_define_they_use,
 };

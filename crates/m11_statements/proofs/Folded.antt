@@ -7,7 +7,7 @@ use Rattle.m11_base.specs.Mnemonics.{folded}
 use Rattle.m11_scan.specs.Characters.{is_digit}
 use Rattle.m11_scan.specs.Cutting.{Lexeme, tokens_from, tokens_of}
 use Rattle.std.specs.Int.RustNames.{bit_or}
-use Rattle.m11_scan.specs.Letters.{letter_A, letter_I, letter_L}
+use Rattle.m11_scan.specs.ErrorFlags.{flag_A, flag_I, flag_L}
 use Rattle.m11_scan.specs.Numbers.{number_of}
 use Rattle.m11_scan.specs.declared.radix.Radix.TheVariants.{Decimal}
 use Rattle.m11_scan.specs.declared.sort.Sort.{Sort}
@@ -17,7 +17,7 @@ use Rattle.m11_statements.specs.declared.labels.LabelKind.{LabelKind}
 use Rattle.m11_statements.specs.Bodies.{assignment_to, body_in, body_or, operation, set_by}
 use Rattle.m11_statements.specs.Labels.{before_labels, end_of, is_counter, kind_of, label_of, labelled, labels_at, labels_end, labels_in, local_kind, local_of, numbered}
 use Rattle.m11_statements.specs.Listed.{names}
-use Rattle.m11_statements.specs.Statements.{body_of, has_outside, letter_if, letters_of, label_letters}
+use Rattle.m11_statements.specs.Statements.{body_of, has_outside, flag_if, flags_of, label_flags}
 
 -- labels
 counter-folded : (text : List ℕ) → is_counter (map folded text) ≡ is_counter text
@@ -104,21 +104,21 @@ module _ (a b : List ℕ) (same : map folded a ≡ map folded b) where
   pub same_body : body_of a ≡ body_of b
   same_body = sym (body_of-folded a) ∙ ap body_of same ∙ body_of-folded b
 
-  label_letters-folded : (line : List ℕ) (is_over_long : Bool)
-      → label_letters (record { text = map folded line; is_over_long = is_over_long })
-      ≡ label_letters (record { text = line; is_over_long = is_over_long })
-  label_letters-folded line is_over_long =
-      ap (λ labels. letters_of (record { text = map folded line; is_over_long = is_over_long }) labels (end_of 0 labels))
+  label_flags-folded : (line : List ℕ) (is_over_long : Bool)
+      → label_flags (record { text = map folded line; is_over_long = is_over_long })
+      ≡ label_flags (record { text = line; is_over_long = is_over_long })
+  label_flags-folded line is_over_long =
+      ap (λ labels. flags_of (record { text = map folded line; is_over_long = is_over_long }) labels (end_of 0 labels))
       (labels_at-folded line)
-      ∙ ap (λ skipped. bit_or (bit_or (letter_if is_over_long letter_L) (letter_if (has_outside (labels_at line)) letter_A))
-      (letter_if skipped letter_I)) (skipped_between-folded line 0 (labels_end line))
+      ∙ ap (λ skipped. bit_or (bit_or (flag_if is_over_long flag_L) (flag_if (has_outside (labels_at line)) flag_A))
+      (flag_if skipped flag_I)) (skipped_between-folded line 0 (labels_end line))
 
-  pub same_label_letters : (is_over_long : Bool)
-      → label_letters (record { text = a; is_over_long = is_over_long })
-      ≡ label_letters (record { text = b; is_over_long = is_over_long })
-  same_label_letters is_over_long =
-      sym (label_letters-folded a is_over_long)
-      ∙ ap (λ text. label_letters (record { text = text; is_over_long = is_over_long })) same
-      ∙ label_letters-folded b is_over_long
+  pub same_label_flags : (is_over_long : Bool)
+      → label_flags (record { text = a; is_over_long = is_over_long })
+      ≡ label_flags (record { text = b; is_over_long = is_over_long })
+  same_label_flags is_over_long =
+      sym (label_flags-folded a is_over_long)
+      ∙ ap (λ text. label_flags (record { text = text; is_over_long = is_over_long })) same
+      ∙ label_flags-folded b is_over_long
 
-pub ruleset cases = (same_labels, same_body, same_label_letters)
+pub ruleset cases = (same_labels, same_body, same_label_flags)

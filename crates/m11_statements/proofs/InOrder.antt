@@ -8,7 +8,7 @@ use Rattle.m11_scan.specs.Cuts.{AreOrdered}
 use Rattle.m11_scan.proofs.OrderedTokens.{tokens_from-ordered, tokens_of-ordered}
 use Rattle.m11_scan.specs.Skipped.{skipped_between}
 use Rattle.m11_statements.specs.declared.bodies.Body.{Body}
-use Rattle.m11_statements.specs.declared.bodies.Body.TheVariants.{Operates, Words}
+use Rattle.m11_statements.specs.declared.bodies.Body.TheVariants.{Operate, Words}
 use Rattle.m11_statements.specs.declared.labels.Label.{Label}
 use Rattle.m11_statements.specs.declared.labels.LabelKind.{LabelKind}
 use Rattle.m11_statements.specs.Bodies.{assigned, body_in, body_or, counter_set, name_set, operation, set_by}
@@ -61,7 +61,7 @@ labels_at-stand line = labels_stand (length line) 0 (tokens_of line) (tokens_of-
 module _ (size place : ℕ) (first : Lexeme) (early : place ≤ first.start) (longer : first.start < first.end)
     (inside : first.end ≤ size) where
   operation_stands : (is_operator : Bool) → BodyStands place size
-      (if is_operator then Operates (record { start = first.start; end = first.end }) else Words first.start)
+      (if is_operator then Operate (record { start = first.start; end = first.end }) else Words first.start)
   operation_stands true = (early, longer, inside)
   operation_stands false = (early, omega arith)
 

@@ -13,16 +13,16 @@ use Rattle.m11_scan.specs.Skipped.{skipped_between}
 use Rattle.m11_statements.specs.Labels.{is_counter}
 use Rattle.m11_statements.specs.Listed.{is_name, span_of}
 use Rattle.m11_statements.specs.declared.bodies.Body.{Body}
-use Rattle.m11_statements.specs.declared.bodies.Body.TheVariants.{Nothing, Assigns, SetsCounter, Operates, Words}
+use Rattle.m11_statements.specs.declared.bodies.Body.TheVariants.{Nothing, Assign, SetCounter, Operate, Words}
 
 -- `=` after the counter
 abbrev pub counter_set : Sort → ℕ → Option Body
-counter_set sorts.Equals end = Some (SetsCounter end)
+counter_set sorts.Equals end = Some (SetCounter end)
 counter_set _ end = None
 
 abbrev pub assigns : ℕ → ℕ → Bool → ℕ → Option Body
 assigns start end is_global value =
-    Some (Assigns (record { name = record { start = start; end = end }; is_global = is_global; value = value }))
+    Some (Assign (record { name = record { start = start; end = end }; is_global = is_global; value = value }))
 
 -- `=` or `==` after a name
 abbrev pub name_set : ℕ → ℕ → Sort → ℕ → Option Body
@@ -60,7 +60,7 @@ begins_operand text = begins_or_ends (drop (prefix_len is_blank text) text)
 
 -- a name is an operator, and anything else is words
 abbrev pub operation : Lexeme → Body
-operation token = if is_name token then Operates (span_of token) else Words token.start
+operation token = if is_name token then Operate (span_of token) else Words token.start
 
 abbrev pub body_or : Option Body → Body → Body
 body_or (Some body) other = body
@@ -78,7 +78,7 @@ body_in line (first ∷ tokens) = begun_body line first tokens
 -- the place after the operator of a line of a size, or the line's end where none stands
 abbrev pub end_of : Body → ℕ → ℕ
 end_of Nothing size = size
-end_of (Assigns assignment) size = size
-end_of (SetsCounter value) size = size
-end_of (Operates name) size = name.end
+end_of (Assign assignment) size = size
+end_of (SetCounter value) size = size
+end_of (Operate name) size = name.end
 end_of (Words start) size = size

@@ -1,7 +1,7 @@
 -- The places of what a line says. (MACRO-11 Language Reference Manual, "Source program format".)
 use Rattle.std.specs.Prelude.{ℕ, ◌<◌, ◌≤◌, List, [], ◌∷◌}
 use Rattle.m11_statements.specs.declared.bodies.Body.{Body}
-use Rattle.m11_statements.specs.declared.bodies.Body.TheVariants.{Nothing, Assigns, SetsCounter, Operates, Words}
+use Rattle.m11_statements.specs.declared.bodies.Body.TheVariants.{Nothing, Assign, SetCounter, Operate, Words}
 use Rattle.m11_statements.specs.declared.labels.Label.{Label}
 
 -- labels in order, the first of which begins no earlier than a place, and all of which end within a length
@@ -14,9 +14,9 @@ LabelsStand size place (label ∷ labels) =
 -- what stands after labels begins no earlier than a place, and ends within a length
 abbrev pub BodyStands : ℕ → ℕ → Body → Type 0
 BodyStands place size Nothing = place ≤ size
-BodyStands place size (Assigns assignment) =
+BodyStands place size (Assign assignment) =
     (place ≤ assignment.name.start) × (assignment.name.start < assignment.name.end)
     × (assignment.name.end < assignment.value) × (assignment.value ≤ size)
-BodyStands place size (SetsCounter value) = (place < value) × (value ≤ size)
-BodyStands place size (Operates name) = (place ≤ name.start) × (name.start < name.end) × (name.end ≤ size)
+BodyStands place size (SetCounter value) = (place < value) × (value ≤ size)
+BodyStands place size (Operate name) = (place ≤ name.start) × (name.start < name.end) × (name.end ≤ size)
 BodyStands place size (Words start) = (place ≤ start) × (start < size)

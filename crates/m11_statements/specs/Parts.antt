@@ -9,7 +9,7 @@ use Rattle.m11_scan.specs.declared.sort.Sort.TheVariants.{Greater}
 use Rattle.m11_scan.specs.declared.texts.Enclosed.{Enclosed}
 use Rattle.m11_scan.specs.Cutting.{Lexeme, tokens_from}
 use Rattle.m11_scan.specs.Ends.{expression_end}
-use Rattle.m11_scan.specs.Letters.{letter_A, letter_Q}
+use Rattle.m11_scan.specs.ErrorFlags.{flag_A, flag_Q}
 use Rattle.m11_scan.specs.Texts.{delimited}
 use Rattle.m11_statements.specs.declared.parts.Part.{Part}
 use Rattle.m11_statements.specs.declared.parts.PartKind.{PartKind}
@@ -74,10 +74,10 @@ pub data AreParts (line : Bytes) : Bool → ℕ → List Part → ℕ → Type 0
   Then : (is_first : Bool) (place : ℕ) (part : Part) (parts : List Part) (end : ℕ) → next_part line place is_first ≡ Some part
       → part.is_closed ≡ true → AreParts line false part.end parts end → AreParts line is_first place (part ∷ parts) end
 
-abbrev pub letter_of : PartKind → ℕ
-letter_of Text = letter_A
-letter_of Expression = letter_Q
+abbrev pub flag_of : PartKind → ℕ
+flag_of Text = flag_A
+flag_of Expression = flag_Q
 
 -- A for a missing delimiter, Q for a missing `>`
-abbrev pub part_letters : Part → ℕ
-part_letters part = if not part.is_closed then letter_of part.kind else 0
+abbrev pub part_flags : Part → ℕ
+part_flags part = if not part.is_closed then flag_of part.kind else 0

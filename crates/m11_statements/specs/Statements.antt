@@ -4,7 +4,7 @@ use Rattle.std.specs.List.{list_any}
 use Rattle.std.specs.Int.RustNames.{bit_or}
 use Rattle.m11_base.specs.Devices.{Bytes}
 use Rattle.m11_scan.specs.Cutting.{tokens_from}
-use Rattle.m11_scan.specs.Letters.{letter_A, letter_I, letter_L}
+use Rattle.m11_scan.specs.ErrorFlags.{flag_A, flag_I, flag_L}
 use Rattle.m11_lines.specs.Line.{SourceLine}
 use Rattle.m11_scan.specs.Skipped.{skipped_between}
 use Rattle.m11_statements.specs.Bodies.{body_in}
@@ -27,15 +27,15 @@ is_outside Outside = true
 abbrev pub has_outside : List Label → Bool
 has_outside labels = list_any (λ label. is_outside label.kind) labels
 
-abbrev pub letter_if : Bool → ℕ → ℕ
-letter_if holds letter = if holds then letter else 0
+abbrev pub flag_if : Bool → ℕ → ℕ
+flag_if holds flag = if holds then flag else 0
 
 -- L for an over-long line, A for a local symbol outside 1 to 65535 among its labels, I for a skipped character up to a place
-abbrev pub letters_of : SourceLine → List Label → ℕ → ℕ
-letters_of line labels end =
-    bit_or (bit_or (letter_if line.is_over_long letter_L) (letter_if (has_outside labels) letter_A))
-    (letter_if (skipped_between line.text 0 end) letter_I)
+abbrev pub flags_of : SourceLine → List Label → ℕ → ℕ
+flags_of line labels end =
+    bit_or (bit_or (flag_if line.is_over_long flag_L) (flag_if (has_outside labels) flag_A))
+    (flag_if (skipped_between line.text 0 end) flag_I)
 
--- the letters that a line has whatever stands after its labels
-abbrev pub label_letters : SourceLine → ℕ
-label_letters line = letters_of line (labels_at line.text) (labels_end line.text)
+-- the flags that a line has whatever stands after its labels
+abbrev pub label_flags : SourceLine → ℕ
+label_flags line = flags_of line (labels_at line.text) (labels_end line.text)

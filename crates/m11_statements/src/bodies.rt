@@ -28,12 +28,12 @@ pub enum Body {
     /// Nothing, or a comment.
     Nothing,
     /// `name=e` or `name==e`.
-    Assigns(Assignment),
+    Assign(Assignment),
     /// `.=e`: the place after the `=`.
-    SetsCounter(u8),
+    SetCounter(u8),
     /// A name, in the place of an operator's: whether it is one is asked where it stands. What stands after it is the operator's to
     /// cut.
-    Operates(Span),
+    Operate(Span),
     /// Anything else, which counts as the elements of a `.WORD`: the place where they begin.
     Words(u8),
 }
@@ -120,7 +120,7 @@ fn counter_set(equals: Token) -> Option<Body>
     ensures { result ≡ spec.counter_set equals.sort equals.end }
 {
     match equals.sort {
-        Sort::Equals => Some(Body::SetsCounter(equals.end)),
+        Sort::Equals => Some(Body::SetCounter(equals.end)),
         _ => None,
     }
 }
@@ -133,7 +133,7 @@ fn name_set(name: Token, equals: Token) -> Option<Body>
         Sort::TwoEquals => true,
         _ => return None,
     };
-    Some(Body::Assigns(Assignment {
+    Some(Body::Assign(Assignment {
         name: Span {
             start: name.start,
             end: name.end,
@@ -148,7 +148,7 @@ fn operation(line: &Line, first: Token) -> Body
     ensures { result ≡ spec.operation (lexeme line.now.text first) }
 {
     if is_name(line, first) {
-        Body::Operates(Span {
+        Body::Operate(Span {
             start: first.start,
             end: first.end,
         })

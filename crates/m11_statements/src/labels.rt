@@ -11,7 +11,7 @@ use crate::spans::Span;
 use arrayvec::ArrayVec;
 use bitflags::Flags;
 use m11_scan::{
-    Letters, Line, Radix, Sort, Token, digits_length, next_token, read_number, token_at,
+    ErrorFlags, Line, Radix, Sort, Token, digits_length, next_token, read_number, token_at,
 };
 
 /// What a label is.
@@ -61,7 +61,7 @@ pub(crate) struct LabelField {
     // The place after the last label.
     pub end: usize,
     // The label, where there is one alone.
-    pub lone: Option<Label>,
+    pub single: Option<Label>,
     // Whether one is a local symbol whose number isn't 1 to 65535.
     pub has_outside: bool,
     // The token after the last label, if one stands there.
@@ -73,7 +73,7 @@ pub(crate) fn label_field(line: &Line) -> LabelField
     ensures end { result.end ≡ spec.labels_end line.now.text }
     ensures outside { result.has_outside ≡ has_outside (spec.labels_at line.now.text) }
     ensures unlabelled { result.end ≡ 0 → spec.labels_at line.now.text ≡ [] }
-    ensures lone { IfSome result.lone (λ label. spec.labels_at line.now.text ≡ label ∷ []) }
+    ensures single { IfSome result.single (λ label. spec.labels_at line.now.text ≡ label ∷ []) }
     ensures within { result.end ≤ length line.now.text }
     ensures limited { length line.now.text ≤ line_limit }
     ensures next { MatchOption result.next (tokens_from line.now.text result.end ≡ [])
@@ -81,13 +81,13 @@ pub(crate) fn label_field(line: &Line) -> LabelField
     ensures next_within { IfSome result.next (λ token. token.end ≤ length line.now.text) }
 {
     let mut end = 0;
-    let mut lone = None;
+    let mut single = None;
     let mut has_outside = false;
     let mut next = next_token(line, 0);
     'labels: while let Some(name) = next {
         match label_by(line, name) {
             Some(label) => {
-                lone = if end == 0 { Some(label) } else { None };
+                single = if end == 0 { Some(label) } else { None };
                 has_outside = has_outside || is_outside(label.kind);
                 end = usize::from(label.end);
                 next = next_token(line, end);
@@ -95,7 +95,7 @@ pub(crate) fn label_field(line: &Line) -> LabelField
             None => {
                 return LabelField {
                     end,
-                    lone,
+                    single,
                     has_outside,
                     next,
                 };
@@ -104,7 +104,7 @@ pub(crate) fn label_field(line: &Line) -> LabelField
     }
     LabelField {
         end,
-        lone,
+        single,
         has_outside,
         next,
     }
@@ -212,7 +212,7 @@ fn numbered(text: &[u8]) -> LabelKind
 {
     let digits = &text[..digits_length(text)];
     let number = read_number(digits, Radix::Decimal);
-    let is_large = number.letters.contains(Letters::T);
+    let is_large = number.flags.contains(ErrorFlags::T);
     if is_large || number.value == 0 {
         LabelKind::Outside
     } else {

@@ -7,7 +7,7 @@ ghost use Rattle.m11_scan.specs.Views.{bits_of};
 ghost use Rattle.m11_statements.specs.Parts as spec;
 
 use crate::spans::{Span, text_from};
-use m11_scan::{Enclosed, Letters, Line, Sort, delimited, expression_end, next_token};
+use m11_scan::{Enclosed, ErrorFlags, Line, Sort, delimited, expression_end, next_token};
 
 /// How a part is written.
 #[derive(Clone, Copy, PartialEq, Eq, Debug, Default)]
@@ -34,14 +34,14 @@ pub struct Part {
 
 impl Part {
     /// A where the second delimiter of a text is missing, Q where the `>` of an expression is.
-    pub fn letters(&self) -> Letters
-        ensures { bits_of result ≡ spec.part_letters self.now }
+    pub fn flags(&self) -> ErrorFlags
+        ensures { bits_of result ≡ spec.part_flags self.now }
     {
-        let letters = match self.kind {
-            PartKind::Text => Letters::A,
-            PartKind::Expression => Letters::Q,
+        let flags = match self.kind {
+            PartKind::Text => ErrorFlags::A,
+            PartKind::Expression => ErrorFlags::Q,
         };
-        letters.when(!self.is_closed)
+        flags.when(!self.is_closed)
     }
 }
 

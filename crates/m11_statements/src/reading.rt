@@ -9,36 +9,36 @@ ghost use Rattle.m11_statements.specs.Statements as spec;
 use crate::bodies::body_at;
 use crate::labels::{LabelField, label_field};
 use crate::statements::Statement;
-use m11_scan::{Letters, Line, skipped_between};
+use m11_scan::{ErrorFlags, Line, skipped_between};
 
 /// What a line says.
 pub fn statement(line: &Line) -> Statement
     ensures unlabelled { result.labels_end ≡ 0 → labels_at line.now.text ≡ [] }
-    ensures lone_label { IfSome result.lone_label (λ label. labels_at line.now.text ≡ label ∷ []) }
+    ensures only_label { IfSome result.only_label (λ label. labels_at line.now.text ≡ label ∷ []) }
     ensures labels_end { result.labels_end ≡ labels_end line.now.text }
     ensures body { result.body ≡ spec.body_of line.now.text }
     ensures within { end_of result.body (length line.now.text) ≤ length line.now.text }
-    ensures label_letters { bits_of result.label_letters ≡ spec.label_letters line.now }
+    ensures label_flags { bits_of result.label_flags ≡ spec.label_flags line.now }
 {
     let labels = label_field(line);
     let body = body_at(line, labels.end, labels.next);
     Statement {
         labels_end: labels.end as u8,
-        lone_label: labels.lone,
+        only_label: labels.single,
         body,
-        label_letters: label_letters(line, labels),
+        label_flags: label_flags(line, labels),
     }
 }
 
-fn label_letters(line: &Line, labels: LabelField) -> Letters
+fn label_flags(line: &Line, labels: LabelField) -> ErrorFlags
     requires outside { labels.has_outside ≡ spec.has_outside (labels_at line.now.text) }
     requires end { labels.end ≡ labels_end line.now.text }
     requires within { labels.end ≤ length line.now.text }
-    ensures { bits_of result ≡ spec.label_letters line.now }
+    ensures { bits_of result ≡ spec.label_flags line.now }
 {
-    let skipped = Letters::I.when(skipped_between(line, 0, labels.end));
-    let outside = Letters::A.when(labels.has_outside);
-    Letters::L
+    let skipped = ErrorFlags::I.when(skipped_between(line, 0, labels.end));
+    let outside = ErrorFlags::A.when(labels.has_outside);
+    ErrorFlags::L
         .when(line.is_over_long())
         .with(outside)
         .with(skipped)

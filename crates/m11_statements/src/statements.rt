@@ -2,7 +2,7 @@
 
 use crate::bodies::Body;
 use crate::labels::Label;
-use m11_scan::Letters;
+use m11_scan::ErrorFlags;
 
 /// What a line says beside what its labels are. It names places of the line that it was read from.
 #[derive(Clone, Copy)]
@@ -10,10 +10,10 @@ pub struct Statement {
     /// The place after the last label: 0 where the line has none.
     pub labels_end: u8,
     /// Its label, where it has one alone.
-    pub lone_label: Option<Label>,
+    pub only_label: Option<Label>,
     /// What stands after the labels.
     pub body: Body,
-    /// Letters that the line has whatever its body does: L where it is over-long; of its labels, A where a local symbol's number
+    /// Flags that the line has whatever its body does: L where it is over-long; of its labels, A where a local symbol's number
     /// isn't 1 to 65535, and I where a character is skipped.
-    pub label_letters: Letters,
+    pub label_flags: ErrorFlags,
 }

@@ -52,13 +52,13 @@ facts = record {
   transfer = None;
 }
 
-abbrev pub mentioned : List Name
-mentioned =
+abbrev pub used_symbols : List Name
+used_symbols =
     name (codes "X     ") ∷ name (codes "A     ") ∷ name (codes "Q     ") ∷ name (codes "Z     ") ∷ name (codes "Y     ")
     ∷ name (codes "R1    ") ∷ []
 
 abbrev pub found_lines : List Bytes
-found_lines = last_lines (symbol_entries facts mentioned) (section_entries facts) 2
+found_lines = last_lines (symbol_entries facts used_symbols) (section_entries facts) 2
 
 abbrev pub worked_lines : List Bytes
 worked_lines =

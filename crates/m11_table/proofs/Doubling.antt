@@ -36,9 +36,9 @@ or_nothing : (b : Bool) → (b || false) ≡ b
 or_nothing true = refl
 or_nothing false = refl
 
-pub doubled_name : (name : Name) (names : List Name) (symbols : List (ℕ × ℕ))
+pub doubly_defined_name : (name : Name) (names : List Name) (symbols : List (ℕ × ℕ))
     → has_key (Named name) (map Named names ++ map symbol_key symbols) ≡ list_any (is_same_name name) names
-doubled_name name names symbols =
+doubly_defined_name name names symbols =
     list_any-append (λ (other : Key). is_same other (Named name)) (map Named names) (map symbol_key symbols)
     ∙ either (has_key (Named name) (map Named names)) (has_key (Named name) (map symbol_key symbols))
     (list_any (is_same_name name) names) false
@@ -46,10 +46,10 @@ doubled_name name names symbols =
     (none_mapped symbol_key (Named name) (λ item. refl) symbols)
     ∙ or_nothing (list_any (is_same_name name) names)
 
-pub doubled_symbol : (block number : ℕ) (names : List Name) (symbols : List (ℕ × ℕ))
+pub doubly_defined_symbol : (block number : ℕ) (names : List Name) (symbols : List (ℕ × ℕ))
     → has_key (Numbered block number) (map Named names ++ map symbol_key symbols)
     ≡ list_any (is_same_symbol (block, number)) symbols
-doubled_symbol block number names symbols =
+doubly_defined_symbol block number names symbols =
     list_any-append (λ (other : Key). is_same other (Numbered block number)) (map Named names) (map symbol_key symbols)
     ∙ either (has_key (Numbered block number) (map Named names)) (has_key (Numbered block number) (map symbol_key symbols))
     false (list_any (is_same_symbol (block, number)) symbols)

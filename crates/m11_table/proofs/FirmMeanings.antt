@@ -1,11 +1,11 @@
 -- What a key stands for as far as it is firm.
 use Rattle.std.proofs.Common.{◌≡◌, ◌∙◌, Bool, Option, Some, None, refl, sym, ap}
-use Rattle.m11_arguments.specs.Definedness.{letter_U}
+use Rattle.m11_arguments.specs.Definedness.{flag_U}
 use Rattle.m11_values.specs.Quantities.{Quantity, absolute}
 use Rattle.m11_placement.specs.declared.definitions.Key.{Key}
 use Rattle.m11_placement.specs.Definitions.{firm_standing, has_key, last_definition}
-use Rattle.m11_placement.specs.Meanings.{defined_or, empty_map, letter_D, meaning_of, quantity_of}
-use Rattle.m11_statements.specs.Statements.{letter_if}
+use Rattle.m11_placement.specs.Meanings.{defined_or, empty_map, flag_D, meaning_of, quantity_of}
+use Rattle.m11_statements.specs.Statements.{flag_if}
 use Rattle.m11_placement.specs.Tables.{Table, firm_table}
 use Rattle.m11_placement.proofs.FirmNames.{firm_option, last_firm}
 use Rattle.m11_table.specs.Asking.{given_by}
@@ -22,29 +22,29 @@ same_option key (Some entry) = refl
 same_option key None = refl
 
 same_meaning : (table : Table) (key : Key) (other : Quantity) (found : Option Entry)
-    → given_by (has_key key table.doubled) other found ≡ defined_or key table.doubled other (defined_as key found)
+    → given_by (has_key key table.doubly_defined) other found ≡ defined_or key table.doubly_defined other (defined_as key found)
 same_meaning table key other (Some entry) = refl
 same_meaning table key other None = refl
 
 firm_meant_by : (table : Table) (key : Key) (found : Option Entry)
     → defined_as key found ≡ last_definition key table.definitions
-    → given_by (has_key key table.doubled) (absolute 0 letter_U) (firm_entry found)
-    ≡ meaning_of empty_map (absolute 0 letter_U) (firm_table table) key
+    → given_by (has_key key table.doubly_defined) (absolute 0 flag_U) (firm_entry found)
+    ≡ meaning_of empty_map (absolute 0 flag_U) (firm_table table) key
 firm_meant_by table key found f =
-    same_meaning table key (absolute 0 letter_U) (firm_entry found)
-    ∙ ap (defined_or key table.doubled (absolute 0 letter_U))
+    same_meaning table key (absolute 0 flag_U) (firm_entry found)
+    ∙ ap (defined_or key table.doubly_defined (absolute 0 flag_U))
     (same_option key found ∙ ap firm_option f ∙ sym (last_firm key table.definitions))
 
 -- of a key of which something is kept
-pub firm_known : (table : Table) (key : Key) (is_doubled : Bool) (entry : Entry)
-    → defined_as key (Some entry) ≡ last_definition key table.definitions → is_doubled ≡ has_key key table.doubled
-    → quantity_of (letter_if is_doubled letter_D) (firm_standing entry.is_firm entry.standing)
-    ≡ meaning_of empty_map (absolute 0 letter_U) (firm_table table) key
-firm_known table key is_doubled entry f d =
-    ap (λ (b : Bool). quantity_of (letter_if b letter_D) (firm_standing entry.is_firm entry.standing)) d
+pub firm_known : (table : Table) (key : Key) (is_doubly_defined : Bool) (entry : Entry)
+    → defined_as key (Some entry) ≡ last_definition key table.definitions → is_doubly_defined ≡ has_key key table.doubly_defined
+    → quantity_of (flag_if is_doubly_defined flag_D) (firm_standing entry.is_firm entry.standing)
+    ≡ meaning_of empty_map (absolute 0 flag_U) (firm_table table) key
+firm_known table key is_doubly_defined entry f d =
+    ap (λ (b : Bool). quantity_of (flag_if b flag_D) (firm_standing entry.is_firm entry.standing)) d
     ∙ firm_meant_by table key (Some entry) f
 
 -- and of one of which nothing is
 pub firm_unknown : (table : Table) (key : Key) → defined_as key None ≡ last_definition key table.definitions
-    → absolute 0 letter_U ≡ meaning_of empty_map (absolute 0 letter_U) (firm_table table) key
+    → absolute 0 flag_U ≡ meaning_of empty_map (absolute 0 flag_U) (firm_table table) key
 firm_unknown table key f = firm_meant_by table key None f

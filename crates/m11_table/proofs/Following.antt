@@ -11,12 +11,12 @@ use Rattle.m11_placement.specs.declared.definitions.Definition.{Definition}
 use Rattle.m11_placement.specs.declared.definitions.Key.{Key}
 use Rattle.m11_placement.specs.declared.definitions.Key.TheVariants.{Named, Numbered}
 use Rattle.m11_placement.specs.Definitions.{has_key, is_same, last_definition}
-use Rattle.m11_placement.specs.Labels.{with_definition, with_doubled}
+use Rattle.m11_placement.specs.Labels.{with_definition, with_doubly_defined}
 use Rattle.m11_placement.specs.Places.{place_in}
 use Rattle.m11_placement.specs.Tables.{Table}
 use Rattle.m11_table.specs.declared.entries.Entry.{Entry}
 use Rattle.m11_table.specs.Alike.{Follows}
-use Rattle.m11_placement.specs.declared.settings.Settings.{Settings}
+use Rattle.m11_placement.specs.declared.modes.Modes.{Modes}
 use Rattle.m11_table.specs.Entries.{definition, definitions_by, is_same_symbol, symbol_key}
 use Rattle.m11_table.proofs.Found.{last_after, last_more, none_found}
 use Rattle.m11_table.proofs.Inserting.{entry_inserted, key_inserted}
@@ -91,18 +91,18 @@ symbol_last key symbol entry names symbols =
 
 with_definitions : (old new : Table) (found : Definition)
     → ((key : Key) → last_definition key new.definitions ≡ one_more key found old.definitions)
-    → new.doubled ≡ old.doubled → new.globals ≡ old.globals → new.sections ≡ old.sections → new.moves ≡ old.moves
-    → new.settings ≡ old.settings
+    → new.doubly_defined ≡ old.doubly_defined → new.globals ≡ old.globals → new.sections ≡ old.sections → new.moves ≡ old.moves
+    → new.modes ≡ old.modes
     → Follows old new (with_definition found)
-with_definitions old new found last doubled globals sections moves settings table alike = record {
+with_definitions old new found last doubly_defined globals sections moves modes table alike = record {
   definitions = λ key. last key
       ∙ ap (λ (o : Option Definition). if is_same found.key key then Some found else o) (alike.definitions key)
       ∙ sym (last_more key table.definitions found);
-  doubled = λ key. ap (has_key key) doubled ∙ alike.doubled key;
+  doubly_defined = λ key. ap (has_key key) doubly_defined ∙ alike.doubly_defined key;
   globals = λ name. ap (list_any (λ global. is_same_name global name)) globals ∙ alike.globals name;
   sections = sections ∙ alike.sections;
   counters = λ number. ap (place_in number) moves ∙ alike.counters number;
-  settings = settings ∙ alike.settings;
+  modes = modes ∙ alike.modes;
 }
 
 abbrev kept : Definition → Entry
@@ -137,53 +137,53 @@ has_one_more : (key : Key) (keys : List Key) (other : Key) → has_key key (keys
 has_one_more key keys other =
     has_after key keys (other ∷ []) ∙ ap (λ (b : Bool). has_key key keys || b) (or_nothing (is_same other key))
 
-name_doubled : (key : Key) (name : Name) (names : List Name) (symbols : List (ℕ × ℕ))
+name_doubly_defined : (key : Key) (name : Name) (names : List Name) (symbols : List (ℕ × ℕ))
     → has_key key (map Named (insert_key is_same_name names name) ++ map symbol_key symbols)
     ≡ (has_key key (map Named names ++ map symbol_key symbols) || is_same (Named name) key)
-name_doubled key name names symbols =
+name_doubly_defined key name names symbols =
     has_after key (map Named (insert_key is_same_name names name)) (map symbol_key symbols)
     ∙ ap (λ (b : Bool). b || has_key key (map symbol_key symbols))
     (key_inserted Named is_same_name key name same_name_equal (name_apart key) names)
     ∙ or_between (has_key key (map Named names)) (has_key key (map symbol_key symbols)) (is_same (Named name) key)
     ∙ ap (λ (b : Bool). b || is_same (Named name) key) (sym (has_after key (map Named names) (map symbol_key symbols)))
 
-symbol_doubled : (key : Key) (symbol : ℕ × ℕ) (names : List Name) (symbols : List (ℕ × ℕ))
+symbol_doubly_defined : (key : Key) (symbol : ℕ × ℕ) (names : List Name) (symbols : List (ℕ × ℕ))
     → has_key key (map Named names ++ map symbol_key (insert_key is_same_symbol symbols symbol))
     ≡ (has_key key (map Named names ++ map symbol_key symbols) || is_same (symbol_key symbol) key)
-symbol_doubled key symbol names symbols =
+symbol_doubly_defined key symbol names symbols =
     has_after key (map Named names) (map symbol_key (insert_key is_same_symbol symbols symbol))
     ∙ ap (λ (b : Bool). has_key key (map Named names) || b)
     (key_inserted symbol_key is_same_symbol key symbol symbol_sound (symbol_apart key) symbols)
     ∙ or_after (has_key key (map Named names)) (has_key key (map symbol_key symbols)) (is_same (symbol_key symbol) key)
     ∙ ap (λ (b : Bool). b || is_same (symbol_key symbol) key) (sym (has_after key (map Named names) (map symbol_key symbols)))
 
-with_key_doubled : (old new : Table) (other : Key)
-    → ((key : Key) → has_key key new.doubled ≡ (has_key key old.doubled || is_same other key))
+with_key_doubly_defined : (old new : Table) (other : Key)
+    → ((key : Key) → has_key key new.doubly_defined ≡ (has_key key old.doubly_defined || is_same other key))
     → new.definitions ≡ old.definitions → new.globals ≡ old.globals → new.sections ≡ old.sections → new.moves ≡ old.moves
-    → new.settings ≡ old.settings
-    → Follows old new (with_doubled other)
-with_key_doubled old new other has definitions globals sections moves settings table alike = record {
+    → new.modes ≡ old.modes
+    → Follows old new (with_doubly_defined other)
+with_key_doubly_defined old new other has definitions globals sections moves modes table alike = record {
   definitions = λ key. ap (last_definition key) definitions ∙ alike.definitions key;
-  doubled = λ key. has key ∙ ap (λ (b : Bool). b || is_same other key) (alike.doubled key)
-      ∙ sym (has_one_more key table.doubled other);
+  doubly_defined = λ key. has key ∙ ap (λ (b : Bool). b || is_same other key) (alike.doubly_defined key)
+      ∙ sym (has_one_more key table.doubly_defined other);
   globals = λ name. ap (list_any (λ global. is_same_name global name)) globals ∙ alike.globals name;
   sections = sections ∙ alike.sections;
   counters = λ number. ap (place_in number) moves ∙ alike.counters number;
-  settings = settings ∙ alike.settings;
+  modes = modes ∙ alike.modes;
 }
 
-module _ (names : List (Name × Entry)) (symbols : List ((ℕ × ℕ) × Entry)) (doubled_names : List Name)
-    (doubled_symbols : List (ℕ × ℕ)) (globals : List Name) (sections : List (Name × ℕ)) (counters : List ℕ) (settings : Settings)
-    (old : Table) (told : table_with names symbols doubled_names doubled_symbols globals sections counters settings ≡ old) where
+module _ (names : List (Name × Entry)) (symbols : List ((ℕ × ℕ) × Entry)) (doubly_defined_names : List Name)
+    (doubly_defined_symbols : List (ℕ × ℕ)) (globals : List Name) (sections : List (Name × ℕ)) (counters : List ℕ) (modes : Modes)
+    (old : Table) (told : table_with names symbols doubly_defined_names doubly_defined_symbols globals sections counters modes ≡ old) where
   pub name_follows : (name : Name) (found : Definition) (after : List (Name × Entry))
       → after ≡ insert_entry is_same_name names name (kept found) → found.key ≡ Named name
-      → Follows old (table_with after symbols doubled_names doubled_symbols globals sections counters settings) (with_definition found)
+      → Follows old (table_with after symbols doubly_defined_names doubly_defined_symbols globals sections counters modes) (with_definition found)
   name_follows name found after e k =
       let P : Table → Type 0 = λ t. Follows t
-      (table_with after symbols doubled_names doubled_symbols globals sections counters settings) (with_definition found) in
+      (table_with after symbols doubly_defined_names doubly_defined_symbols globals sections counters modes) (with_definition found) in
       subst P told
-      (with_definitions (table_with names symbols doubled_names doubled_symbols globals sections counters settings)
-      (table_with after symbols doubled_names doubled_symbols globals sections counters settings) found
+      (with_definitions (table_with names symbols doubly_defined_names doubly_defined_symbols globals sections counters modes)
+      (table_with after symbols doubly_defined_names doubly_defined_symbols globals sections counters modes) found
       (λ key. ap (λ (ns : List (Name × Entry)). last_definition key (all_definitions ns symbols)) e
       ∙ name_last key name (kept found) names symbols
       ∙ ap (λ (d : Definition). one_more key d (all_definitions names symbols)) (with_key (Named name) found k))
@@ -191,44 +191,44 @@ module _ (names : List (Name × Entry)) (symbols : List ((ℕ × ℕ) × Entry))
 
   pub symbol_follows : (block number : ℕ) (found : Definition) (after : List ((ℕ × ℕ) × Entry))
       → after ≡ insert_entry is_same_symbol symbols (block, number) (kept found) → found.key ≡ Numbered block number
-      → Follows old (table_with names after doubled_names doubled_symbols globals sections counters settings) (with_definition found)
+      → Follows old (table_with names after doubly_defined_names doubly_defined_symbols globals sections counters modes) (with_definition found)
   symbol_follows block number found after e k =
       let P : Table → Type 0 = λ t. Follows t
-      (table_with names after doubled_names doubled_symbols globals sections counters settings) (with_definition found) in
+      (table_with names after doubly_defined_names doubly_defined_symbols globals sections counters modes) (with_definition found) in
       subst P told
-      (with_definitions (table_with names symbols doubled_names doubled_symbols globals sections counters settings)
-      (table_with names after doubled_names doubled_symbols globals sections counters settings) found
+      (with_definitions (table_with names symbols doubly_defined_names doubly_defined_symbols globals sections counters modes)
+      (table_with names after doubly_defined_names doubly_defined_symbols globals sections counters modes) found
       (λ key. ap (λ (ss : List ((ℕ × ℕ) × Entry)). last_definition key (all_definitions names ss)) e
       ∙ symbol_last key (block, number) (kept found) names symbols
       ∙ ap (λ (d : Definition). one_more key d (all_definitions names symbols)) (with_key (Numbered block number) found k))
       refl refl refl refl refl)
 
-  pub name_doubles : (name : Name) (key : Key) (after : List Name) → after ≡ insert_key is_same_name doubled_names name
+  pub name_doubles : (name : Name) (key : Key) (after : List Name) → after ≡ insert_key is_same_name doubly_defined_names name
       → key ≡ Named name
-      → Follows old (table_with names symbols after doubled_symbols globals sections counters settings) (with_doubled key)
+      → Follows old (table_with names symbols after doubly_defined_symbols globals sections counters modes) (with_doubly_defined key)
   name_doubles name other after e k =
       let P : Table → Type 0 = λ t. Follows t
-      (table_with names symbols after doubled_symbols globals sections counters settings) (with_doubled other) in
-      let has_other : (key : Key) → Bool = λ key. has_key key (map Named doubled_names ++ map symbol_key doubled_symbols) in
+      (table_with names symbols after doubly_defined_symbols globals sections counters modes) (with_doubly_defined other) in
+      let has_other : (key : Key) → Bool = λ key. has_key key (map Named doubly_defined_names ++ map symbol_key doubly_defined_symbols) in
       subst P told
-      (with_key_doubled (table_with names symbols doubled_names doubled_symbols globals sections counters settings)
-      (table_with names symbols after doubled_symbols globals sections counters settings) other
-      (λ key. ap (λ (ns : List Name). has_key key (map Named ns ++ map symbol_key doubled_symbols)) e
-      ∙ name_doubled key name doubled_names doubled_symbols
+      (with_key_doubly_defined (table_with names symbols doubly_defined_names doubly_defined_symbols globals sections counters modes)
+      (table_with names symbols after doubly_defined_symbols globals sections counters modes) other
+      (λ key. ap (λ (ns : List Name). has_key key (map Named ns ++ map symbol_key doubly_defined_symbols)) e
+      ∙ name_doubly_defined key name doubly_defined_names doubly_defined_symbols
       ∙ ap (λ (o : Key). has_other key || is_same o key) (sym k))
       refl refl refl refl refl)
 
   pub symbol_doubles : (block number : ℕ) (key : Key) (after : List (ℕ × ℕ))
-      → after ≡ insert_key is_same_symbol doubled_symbols (block, number) → key ≡ Numbered block number
-      → Follows old (table_with names symbols doubled_names after globals sections counters settings) (with_doubled key)
+      → after ≡ insert_key is_same_symbol doubly_defined_symbols (block, number) → key ≡ Numbered block number
+      → Follows old (table_with names symbols doubly_defined_names after globals sections counters modes) (with_doubly_defined key)
   symbol_doubles block number other after e k =
       let P : Table → Type 0 = λ t. Follows t
-      (table_with names symbols doubled_names after globals sections counters settings) (with_doubled other) in
-      let has_other : (key : Key) → Bool = λ key. has_key key (map Named doubled_names ++ map symbol_key doubled_symbols) in
+      (table_with names symbols doubly_defined_names after globals sections counters modes) (with_doubly_defined other) in
+      let has_other : (key : Key) → Bool = λ key. has_key key (map Named doubly_defined_names ++ map symbol_key doubly_defined_symbols) in
       subst P told
-      (with_key_doubled (table_with names symbols doubled_names doubled_symbols globals sections counters settings)
-      (table_with names symbols doubled_names after globals sections counters settings) other
-      (λ key. ap (λ (ss : List (ℕ × ℕ)). has_key key (map Named doubled_names ++ map symbol_key ss)) e
-      ∙ symbol_doubled key (block, number) doubled_names doubled_symbols
+      (with_key_doubly_defined (table_with names symbols doubly_defined_names doubly_defined_symbols globals sections counters modes)
+      (table_with names symbols doubly_defined_names after globals sections counters modes) other
+      (λ key. ap (λ (ss : List (ℕ × ℕ)). has_key key (map Named doubly_defined_names ++ map symbol_key ss)) e
+      ∙ symbol_doubly_defined key (block, number) doubly_defined_names doubly_defined_symbols
       ∙ ap (λ (o : Key). has_other key || is_same o key) (sym k))
       refl refl refl refl refl)

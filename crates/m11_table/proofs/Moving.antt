@@ -2,7 +2,7 @@
 use Rattle.std.proofs.Common.{◌≡◌, ◌≢◌, ◌∙◌, ◌<◌, ℕ, zero, suc, ◌+◌, ◌%◌, ◌==◌, Bool, true, false, true≢false, List, [], ◌∷◌, ◌++◌, length, slice_get, slice_set, Option, Some, refl, sym, ap, subst, arith}
 use Rattle.std.proofs.lemmas.Bool.{eq-eqb, eqb-true}
 use Rattle.m11_base.specs.Rad50.{Name}
-use Rattle.m11_placement.specs.declared.settings.Settings.{Settings}
+use Rattle.m11_placement.specs.declared.modes.Modes.{Modes}
 use Rattle.m11_placement.specs.Changes.{with_move}
 use Rattle.m11_placement.specs.Places.{Goes, Moved, Steps, in_section, place_after, place_in}
 use Rattle.m11_placement.specs.Tables.{Table, place}
@@ -71,32 +71,32 @@ set_by counters number new other moves false e h alike =
     ∙ sym (counter_placed other counters) ∙ alike
     ∙ sym (stays_there other number (Goes new) moves (not_equal number other e))
 
-module _ (names : List (Name × Entry)) (symbols : List ((ℕ × ℕ) × Entry)) (doubled_names : List Name)
-    (doubled_symbols : List (ℕ × ℕ)) (globals : List Name) (sections : List (Name × ℕ)) (counters : List ℕ) (settings : Settings)
-    (old : Table) (told : table_with names symbols doubled_names doubled_symbols globals sections counters settings ≡ old) where
-  set_follows : (new : ℕ) → settings.section < length counters
-      → Follows (table_with names symbols doubled_names doubled_symbols globals sections counters settings)
-      (table_with names symbols doubled_names doubled_symbols globals sections (slice_set counters settings.section new) settings)
+module _ (names : List (Name × Entry)) (symbols : List ((ℕ × ℕ) × Entry)) (doubly_defined_names : List Name)
+    (doubly_defined_symbols : List (ℕ × ℕ)) (globals : List Name) (sections : List (Name × ℕ)) (counters : List ℕ) (modes : Modes)
+    (old : Table) (told : table_with names symbols doubly_defined_names doubly_defined_symbols globals sections counters modes ≡ old) where
+  set_follows : (new : ℕ) → modes.section < length counters
+      → Follows (table_with names symbols doubly_defined_names doubly_defined_symbols globals sections counters modes)
+      (table_with names symbols doubly_defined_names doubly_defined_symbols globals sections (slice_set counters modes.section new) modes)
       (with_move (Goes new))
   set_follows new h table alike = record {
     definitions = alike.definitions;
-    doubled = alike.doubled;
+    doubly_defined = alike.doubly_defined;
     globals = alike.globals;
     sections = alike.sections;
-    counters = λ other. set_by counters settings.section new other table.moves (settings.section == other) refl h (alike.counters other)
-        ∙ ap (λ (s : Settings). place_in other (table.moves ++ in_section s.section (Goes new) ∷ [])) alike.settings;
-    settings = alike.settings;
+    counters = λ other. set_by counters modes.section new other table.moves (modes.section == other) refl h (alike.counters other)
+        ∙ ap (λ (s : Modes). place_in other (table.moves ++ in_section s.section (Goes new) ∷ [])) alike.modes;
+    modes = alike.modes;
   }
 
-  pub counter_follows : (number new : ℕ) → number ≡ settings.section → number < length counters
-      → Follows old (table_with names symbols doubled_names doubled_symbols globals sections (slice_set counters number new) settings)
+  pub counter_follows : (number new : ℕ) → number ≡ modes.section → number < length counters
+      → Follows old (table_with names symbols doubly_defined_names doubly_defined_symbols globals sections (slice_set counters number new) modes)
       (with_move (Goes new))
   counter_follows number new e h =
       let P : Table → Type 0 = λ t. Follows t
-      (table_with names symbols doubled_names doubled_symbols globals sections (slice_set counters number new) settings)
+      (table_with names symbols doubly_defined_names doubly_defined_symbols globals sections (slice_set counters number new) modes)
       (with_move (Goes new)) in
-      let Q : ℕ → Type 0 = λ n. Follows (table_with names symbols doubled_names doubled_symbols globals sections counters settings)
-      (table_with names symbols doubled_names doubled_symbols globals sections (slice_set counters n new) settings)
+      let Q : ℕ → Type 0 = λ n. Follows (table_with names symbols doubly_defined_names doubly_defined_symbols globals sections counters modes)
+      (table_with names symbols doubly_defined_names doubly_defined_symbols globals sections (slice_set counters n new) modes)
       (with_move (Goes new)) in
       let R : ℕ → Type 0 = λ n. n < length counters in
       subst P told (subst Q (sym e) (set_follows new (subst R e h)))
@@ -122,15 +122,15 @@ pub step_follows : (old after : Table) (new size : ℕ) → new ≡ (place old +
     → Follows old after (with_move (Steps size))
 step_follows old after new size e follows table alike =
     let went : Alike after (with_move (Goes new) table) = follows table alike in
-    let same : place old ≡ place table = alike.counters old.settings.section
-    ∙ ap (λ (s : Settings). place_in s.section table.moves) alike.settings in
+    let same : place old ≡ place table = alike.counters old.modes.section
+    ∙ ap (λ (s : Modes). place_in s.section table.moves) alike.modes in
     record {
       definitions = went.definitions;
-      doubled = went.doubled;
+      doubly_defined = went.doubly_defined;
       globals = went.globals;
       sections = went.sections;
       counters = λ other. went.counters other
-          ∙ steps_by table.settings.section new size other table.moves (table.settings.section == other) refl
+          ∙ steps_by table.modes.section new size other table.moves (table.modes.section == other) refl
           (e ∙ ap (λ (n : ℕ). (n + size) % 65536) same);
-      settings = went.settings;
+      modes = went.modes;
     }

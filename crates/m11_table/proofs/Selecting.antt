@@ -8,7 +8,7 @@ use Rattle.std.proofs.lemmas.List.{length-append, length-map, map-append}
 use Rattle.indexmap.specs.IndexMap.{insert_entry}
 use Rattle.m11_base.specs.Rad50.{Name, is_same_name}
 use Rattle.m11_placement.specs.declared.sections.Section.{Section}
-use Rattle.m11_placement.specs.declared.settings.Settings.{Settings}
+use Rattle.m11_placement.specs.declared.modes.Modes.{Modes}
 use Rattle.m11_placement.specs.Sections.{number_of, section}
 use Rattle.m11_placement.specs.Tables.{Table}
 use Rattle.m11_table.specs.declared.entries.Entry.{Entry}
@@ -53,30 +53,30 @@ put_last name value (entry ∷ entries) e =
     ∙ ap (λ (es : List (Name × ℕ)). entry ∷ es)
     (put_last name value entries (not_later (is_same_name name entry.0) p n differs e))
 
-pub section_added : (names : List (Name × Entry)) (symbols : List ((ℕ × ℕ) × Entry)) (doubled_names : List Name)
-    (doubled_symbols : List (ℕ × ℕ)) (globals : List Name) (sections : List (Name × ℕ)) (counters : List ℕ) (settings : Settings)
-    (old : Table) → table_with names symbols doubled_names doubled_symbols globals sections counters settings ≡ old
+pub section_added : (names : List (Name × Entry)) (symbols : List ((ℕ × ℕ) × Entry)) (doubly_defined_names : List Name)
+    (doubly_defined_symbols : List (ℕ × ℕ)) (globals : List Name) (sections : List (Name × ℕ)) (counters : List ℕ) (modes : Modes)
+    (old : Table) → table_with names symbols doubly_defined_names doubly_defined_symbols globals sections counters modes ≡ old
     → (name : Name) (attributes : ℕ) (after : List (Name × ℕ)) → after ≡ insert_entry is_same_name sections name attributes
     → number_of name old.sections ≡ None
-    → table_with names symbols doubled_names doubled_symbols globals after counters settings
+    → table_with names symbols doubly_defined_names doubly_defined_symbols globals after counters modes
     ≡ with_new_section (section name attributes) old
-section_added names symbols doubled_names doubled_symbols globals sections counters settings old told name attributes after e absent =
+section_added names symbols doubly_defined_names doubly_defined_symbols globals sections counters modes old told name attributes after e absent =
     let found : position (is_same_name name) (keys_of sections) ≡ None =
     section_found name sections ∙ ap (λ (t : Table). number_of name t.sections) told ∙ absent in
-    let listed : List Section → Table = λ s. record (table_with names symbols doubled_names doubled_symbols globals sections
-    counters settings) { sections = s } in
+    let listed : List Section → Table = λ s. record (table_with names symbols doubly_defined_names doubly_defined_symbols globals sections
+    counters modes) { sections = s } in
     ap (λ (s : List (Name × ℕ)). listed (map section_in s)) (e ∙ put_last name attributes sections found)
     ∙ ap listed (map-append section_in sections ((name, attributes) ∷ []))
     ∙ ap (λ (t : Table). with_new_section (section name attributes) t) told
 
-pub room_added : (names : List (Name × Entry)) (symbols : List ((ℕ × ℕ) × Entry)) (doubled_names : List Name)
-    (doubled_symbols : List (ℕ × ℕ)) (globals : List Name) (sections : List (Name × ℕ)) (counters : List ℕ) (settings : Settings)
-    (old : Table) → table_with names symbols doubled_names doubled_symbols globals sections counters settings ≡ old
+pub room_added : (names : List (Name × Entry)) (symbols : List ((ℕ × ℕ) × Entry)) (doubly_defined_names : List Name)
+    (doubly_defined_symbols : List (ℕ × ℕ)) (globals : List Name) (sections : List (Name × ℕ)) (counters : List ℕ) (modes : Modes)
+    (old : Table) → table_with names symbols doubly_defined_names doubly_defined_symbols globals sections counters modes ≡ old
     → (name : Name) (attributes : ℕ) (after : List (Name × ℕ)) → after ≡ insert_entry is_same_name sections name attributes
     → number_of name old.sections ≡ None → length old.sections < 64 → length after ≤ 64
-room_added names symbols doubled_names doubled_symbols globals sections counters settings old told name attributes after e absent room =
+room_added names symbols doubly_defined_names doubly_defined_symbols globals sections counters modes old told name attributes after e absent room =
     let all : length (map section_in after) ≡ length (old.sections ++ section name attributes ∷ []) =
-    ap (λ (t : Table). length t.sections) (section_added names symbols doubled_names doubled_symbols globals sections counters settings
+    ap (λ (t : Table). length t.sections) (section_added names symbols doubly_defined_names doubly_defined_symbols globals sections counters modes
     old told name attributes after e absent) in
     let mapped : length (map section_in after) ≡ length after = length-map after section_in in
     let one_more : length (old.sections ++ section name attributes ∷ []) ≡ length old.sections + 1
@@ -84,11 +84,11 @@ room_added names symbols doubled_names doubled_symbols globals sections counters
     omega (arith, all, mapped, one_more, room)
 
 -- the sections that a table has are those that it keeps
-pub sections_kept : (names : List (Name × Entry)) (symbols : List ((ℕ × ℕ) × Entry)) (doubled_names : List Name)
-    (doubled_symbols : List (ℕ × ℕ)) (globals : List Name) (sections : List (Name × ℕ)) (counters : List ℕ) (settings : Settings)
-    (old : Table) → table_with names symbols doubled_names doubled_symbols globals sections counters settings ≡ old
+pub sections_kept : (names : List (Name × Entry)) (symbols : List ((ℕ × ℕ) × Entry)) (doubly_defined_names : List Name)
+    (doubly_defined_symbols : List (ℕ × ℕ)) (globals : List Name) (sections : List (Name × ℕ)) (counters : List ℕ) (modes : Modes)
+    (old : Table) → table_with names symbols doubly_defined_names doubly_defined_symbols globals sections counters modes ≡ old
     → length sections ≤ 64 → length old.sections ≤ 64
-sections_kept names symbols doubled_names doubled_symbols globals sections counters settings old told few =
+sections_kept names symbols doubly_defined_names doubly_defined_symbols globals sections counters modes old told few =
     let P : Table → Type 0 = λ t. length t.sections ≤ 64 in
     let mapped : length (map section_in sections) ≡ length sections = length-map sections section_in in
     subst P told (omega (arith, mapped, few))

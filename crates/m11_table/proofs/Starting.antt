@@ -32,11 +32,11 @@ with_sections = with_new_section (section blank_name of_program)
 empty_alike : Alike with_sections nothing_defined
 empty_alike = record {
   definitions = λ key. refl;
-  doubled = λ key. refl;
+  doubly_defined = λ key. refl;
   globals = λ name. refl;
   sections = refl;
   counters = λ number. no_place number;
-  settings = refl;
+  modes = refl;
 }
 
 pub first_alike : (before with_absolute with_blank after : Table) → before ≡ empty_table

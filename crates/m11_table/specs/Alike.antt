@@ -11,12 +11,12 @@ use Rattle.m11_placement.specs.Tables.{Table}
 pub record Alike (one other : Table) : Type 0 where
   -- each key has the same last definition, and is doubled in both or in none
   pub definitions : (key : Key) → last_definition key one.definitions ≡ last_definition key other.definitions
-  pub doubled : (key : Key) → has_key key one.doubled ≡ has_key key other.doubled
+  pub doubly_defined : (key : Key) → has_key key one.doubly_defined ≡ has_key key other.doubly_defined
   pub globals : (name : Name) → list_any (λ global. is_same_name global name) one.globals
       ≡ list_any (λ global. is_same_name global name) other.globals
   pub sections : one.sections ≡ other.sections
   pub counters : (number : ℕ) → place_in number one.moves ≡ place_in number other.moves
-  pub settings : one.settings ≡ other.settings
+  pub modes : one.modes ≡ other.modes
 
 -- what changes a table so leaves it alike each table to which the same was done, if it was alike that before
 abbrev pub Follows : Table → Table → (Table → Table) → Type 0

@@ -1,11 +1,11 @@
 -- What is asked when a symbol stands for something, and by which steps it is found. (MACRO-11 Language Reference Manual, "Symbols" and
 -- "Current location counter".)
 use Rattle.std.specs.Prelude.{ℕ, Bool, Option, Some, None}
-use Rattle.m11_statements.specs.Statements.{letter_if}
+use Rattle.m11_statements.specs.Statements.{flag_if}
 use Rattle.m11_values.specs.declared.kinds.Kind.{Kind}
 use Rattle.m11_values.specs.Quantities.{Quantity}
 use Rattle.m11_placement.specs.declared.meanings.Context.{Context}
-use Rattle.m11_placement.specs.Meanings.{Map, letter_D, quantity_of}
+use Rattle.m11_placement.specs.Meanings.{Map, flag_D, quantity_of}
 use Rattle.m11_placement.specs.Tables.{Table}
 use Rattle.m11_table.specs.declared.entries.Entry.{Entry}
 
@@ -29,9 +29,9 @@ firm_asked table place = record { table = table; place = place }
 
 -- what `.` stands for
 abbrev pub counted : ℕ → Kind → Quantity
-counted place kind = record { number = place; kind = kind; letters = 0 }
+counted place kind = record { number = place; kind = kind; flags = 0 }
 
 -- what is kept of a key gives a value, with D where the key is doubled; where nothing is kept there is something else
 abbrev pub given_by : Bool → Quantity → Option Entry → Quantity
-given_by is_doubled other (Some entry) = quantity_of (letter_if is_doubled letter_D) entry.standing
-given_by is_doubled other None = other
+given_by is_doubly_defined other (Some entry) = quantity_of (flag_if is_doubly_defined flag_D) entry.standing
+given_by is_doubly_defined other None = other

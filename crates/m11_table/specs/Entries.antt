@@ -6,11 +6,11 @@ use Rattle.m11_placement.specs.declared.definitions.Definition.{Definition}
 use Rattle.m11_placement.specs.declared.definitions.Key.{Key}
 use Rattle.m11_placement.specs.declared.definitions.Key.TheVariants.{Named, Numbered}
 use Rattle.m11_placement.specs.declared.sections.Section.{Section}
-use Rattle.m11_placement.specs.declared.settings.Settings.{Settings}
+use Rattle.m11_placement.specs.declared.modes.Modes.{Modes}
 use Rattle.m11_placement.specs.Definitions.{registers}
 use Rattle.m11_placement.specs.Labels.{with_definition}
 use Rattle.m11_placement.specs.Places.{Goes, Moved, in_section}
-use Rattle.m11_placement.specs.Tables.{Table, first_settings}
+use Rattle.m11_placement.specs.Tables.{Table, first_modes}
 use Rattle.m11_table.specs.declared.entries.Entry.{Entry}
 
 -- a local symbol by its block and its number
@@ -63,21 +63,21 @@ no_counters = replicate 64 0
 pub record KeptTable : Type 0 where
   pub names : List (Name × Entry)
   pub local_symbols : List ((ℕ × ℕ) × Entry)
-  pub doubled_names : List Name
-  pub doubled_symbols : List (ℕ × ℕ)
+  pub doubly_defined_names : List Name
+  pub doubly_defined_symbols : List (ℕ × ℕ)
   pub globals : List Name
   pub sections : List (Name × ℕ)
   pub counters : List ℕ
-  pub settings : Settings
+  pub modes : Modes
 
 abbrev pub table_of : KeptTable → Table
 table_of kept = record {
   definitions = definitions_by Named kept.names ++ definitions_by symbol_key kept.local_symbols;
-  doubled = map Named kept.doubled_names ++ map symbol_key kept.doubled_symbols;
+  doubly_defined = map Named kept.doubly_defined_names ++ map symbol_key kept.doubly_defined_symbols;
   globals = kept.globals;
   sections = map section_in kept.sections;
   moves = counters_from 0 kept.counters;
-  settings = kept.settings;
+  modes = kept.modes;
 }
 
 -- nothing is defined, and no section is there
@@ -85,12 +85,12 @@ abbrev pub empty_table : Table
 empty_table = table_of (record {
   names = [];
   local_symbols = [];
-  doubled_names = [];
-  doubled_symbols = [];
+  doubly_defined_names = [];
+  doubly_defined_symbols = [];
   globals = [];
   sections = [];
   counters = no_counters;
-  settings = first_settings;
+  modes = first_modes;
 })
 
 -- with one more section

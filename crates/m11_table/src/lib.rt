@@ -8,5 +8,5 @@ mod names;
 mod table;
 
 pub use map::Map;
-pub use names::{FirmNames, NamesAt, register_letters};
+pub use names::{FirmNames, NamesAt, register_flags};
 pub use table::Table;

@@ -58,11 +58,11 @@ impl<'a> Map<'a> {
     }
 
     /// Whether a key is doubled.
-    pub fn is_doubled(&self, key: &Key) -> bool
-        ensures { result ≡ has_key key.now self.now.doubled }
+    pub fn is_doubly_defined(&self, key: &Key) -> bool
+        ensures { result ≡ has_key key.now self.now.doubly_defined }
     {
         match self.table {
-            Some(table) => table.is_doubled(key),
+            Some(table) => table.is_doubly_defined(key),
             None => false,
         }
     }

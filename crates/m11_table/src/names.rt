@@ -2,21 +2,21 @@
 
 ghost use Rattle.std.specs.Prelude.{◌≡◌, Option, option_copied};
 ghost use Rattle.m11_scan.specs.Views.{bits_of};
-ghost use Rattle.m11_statements.specs.Statements.{letter_if};
+ghost use Rattle.m11_statements.specs.Statements.{flag_if};
 ghost use Rattle.m11_values.specs.Quantities.{absolute, quantity};
-ghost use Rattle.m11_placement.specs.Contents.{register_letters};
-ghost use Rattle.m11_placement.specs.Meanings.{empty_map, letter_D, meaning_of, quantity_of, stands_for, undefined};
-ghost use Rattle.m11_placement.specs.declared.meanings.Context.TheVariants.{Knows};
+ghost use Rattle.m11_placement.specs.Contents.{register_flags};
+ghost use Rattle.m11_placement.specs.Meanings.{empty_map, flag_D, meaning_of, quantity_of, stands_for, undefined};
+ghost use Rattle.m11_placement.specs.declared.meanings.Context.TheVariants.{LocalOnly};
 ghost use Rattle.m11_placement.specs.Tables.{firm_table, kind_here};
 ghost use Rattle.m11_placement.specs.Definitions.{firm_standing};
 ghost use Rattle.m11_table.specs.Asking.{asked, counted, firm_asked, given_by};
-ghost use Rattle.m11_arguments.specs.Definedness.{letter_U};
+ghost use Rattle.m11_arguments.specs.Definedness.{flag_U};
 
 use crate::entries::Entry;
 use crate::map::Map;
 use crate::table::Table;
 use m11_placement::{Context, Key, Standing};
-use m11_scan::{Letters, Radix};
+use m11_scan::{ErrorFlags, Radix};
 use m11_values::{Kind, Names, Symbol, Value};
 use std::marker::Model;
 
@@ -52,12 +52,12 @@ impl<'a> NamesAt<'a> {
 }
 
 impl<'a> Names for NamesAt<'a> {
-    ghost base = { λ n. n.table.settings.radix };
+    ghost base = { λ n. n.table.modes.radix };
 
     ghost stands_for = { λ n symbol. stands_for n.map n.context n.table n.place symbol };
 
     fn radix(&self) -> Radix {
-        self.table.settings().radix
+        self.table.modes().radix
     }
 
     // Inline: each symbol of an expression comes here, and a call would hand its result on by memory.
@@ -70,7 +70,7 @@ impl<'a> Names for NamesAt<'a> {
             }
             Symbol::Local(number) => {
                 let other = undefined(self.context, Symbol::Local(number));
-                let block = self.table.settings().block;
+                let block = self.table.modes().block;
                 meaning_of(self.map, other, self.table, &Key::Numbered(block, number))
             }
             Symbol::Counter => counter_value(self.table, self.place),
@@ -103,12 +103,12 @@ impl<'a> FirmNames<'a> {
 }
 
 impl<'a> Names for FirmNames<'a> {
-    ghost base = { λ n. n.table.settings.radix };
+    ghost base = { λ n. n.table.modes.radix };
 
-    ghost stands_for = { λ n symbol. stands_for empty_map Knows (firm_table n.table) n.place symbol };
+    ghost stands_for = { λ n symbol. stands_for empty_map LocalOnly (firm_table n.table) n.place symbol };
 
     fn radix(&self) -> Radix {
-        self.table.settings().radix
+        self.table.modes().radix
     }
 
     // Inline: each symbol of an expression comes here, and a call would hand its result on by memory.
@@ -117,7 +117,7 @@ impl<'a> Names for FirmNames<'a> {
         match symbol {
             Symbol::Ordinary(name) => firm_meaning_of(self.table, &Key::Named(name)),
             Symbol::Local(number) => {
-                let block = self.table.settings().block;
+                let block = self.table.modes().block;
                 firm_meaning_of(self.table, &Key::Numbered(block, number))
             }
             Symbol::Counter => counter_value(self.table, self.place),
@@ -132,22 +132,22 @@ fn counter_value(table: &Table, place: u16) -> Value
     Value {
         number: place,
         kind: table.kind_here(),
-        letters: Letters::none(),
+        flags: ErrorFlags::none(),
     }
 }
 
 // What a standing gives, with D where its key is doubled, and with U where it isn't known.
-fn value_of(standing: Standing, is_doubled: bool) -> Value
-    ensures { quantity result ≡ quantity_of (letter_if is_doubled letter_D) standing }
+fn value_of(standing: Standing, is_doubly_defined: bool) -> Value
+    ensures { quantity result ≡ quantity_of (flag_if is_doubly_defined flag_D) standing }
 {
-    let letters = Letters::D.when(is_doubled);
+    let flags = ErrorFlags::D.when(is_doubly_defined);
     match standing {
         Standing::Known(number, kind) => Value {
             number,
             kind,
-            letters,
+            flags,
         },
-        Standing::Unknown => Value::absolute(0, letters.with(Letters::U)),
+        Standing::Unknown => Value::absolute(0, flags.with(ErrorFlags::U)),
     }
 }
 
@@ -156,21 +156,21 @@ fn undefined(context: Context, symbol: Symbol) -> Value
     ensures { quantity result ≡ undefined context symbol }
 {
     match (context, symbol) {
-        (Context::Refers, Symbol::Ordinary(name)) => Value {
+        (Context::MayBeGlobal, Symbol::Ordinary(name)) => Value {
             number: 0,
             kind: Kind::Reference(name),
-            letters: Letters::none(),
+            flags: ErrorFlags::none(),
         },
-        _ => Value::absolute(0, Letters::U),
+        _ => Value::absolute(0, ErrorFlags::U),
     }
 }
 
 // What a key stands for by what is kept of it, or else something other.
-fn given_or(found: Option<&Entry>, is_doubled: bool, other: Value) -> Value
-    ensures { quantity result ≡ given_by is_doubled (quantity other) (option_copied found.entry) }
+fn given_or(found: Option<&Entry>, is_doubly_defined: bool, other: Value) -> Value
+    ensures { quantity result ≡ given_by is_doubly_defined (quantity other) (option_copied found.entry) }
 {
     match found {
-        Some(entry) => value_of(entry.standing, is_doubled),
+        Some(entry) => value_of(entry.standing, is_doubly_defined),
         None => other,
     }
 }
@@ -182,8 +182,8 @@ fn meaning_of(map: &Map<'_>, other: Value, table: &Table, key: &Key) -> Value
     ensures { quantity result ≡ meaning_of map.now (quantity other) table.now key.now }
 {
     match table.entry(key) {
-        Some(entry) => value_of(entry.standing, table.is_doubled(key)),
-        None => given_or(map.entry(key), map.is_doubled(key), other),
+        Some(entry) => value_of(entry.standing, table.is_doubly_defined(key)),
+        None => given_or(map.entry(key), map.is_doubly_defined(key), other),
     }
 }
 
@@ -202,17 +202,17 @@ fn firm_standing(entry: &Entry) -> Standing
 // Inline: each symbol of an expression comes here, and a call would hand its result on by memory.
 #[inline(always)]
 fn firm_meaning_of(table: &Table, key: &Key) -> Value
-    ensures { quantity result ≡ meaning_of empty_map (absolute 0 letter_U) (firm_table table.now) key.now }
+    ensures { quantity result ≡ meaning_of empty_map (absolute 0 flag_U) (firm_table table.now) key.now }
 {
     match table.entry(key) {
-        Some(entry) => value_of(firm_standing(entry), table.is_doubled(key)),
-        None => Value::absolute(0, Letters::U),
+        Some(entry) => value_of(firm_standing(entry), table.is_doubly_defined(key)),
+        None => Value::absolute(0, ErrorFlags::U),
     }
 }
 
 /// R for a register where none may be.
-pub fn register_letters(kind: Kind) -> Letters
-    ensures { bits_of result ≡ register_letters kind }
+pub fn register_flags(kind: Kind) -> ErrorFlags
+    ensures { bits_of result ≡ register_flags kind }
 {
-    Letters::R.when(kind.is_register())
+    ErrorFlags::R.when(kind.is_register())
 }

@@ -5,13 +5,13 @@ ghost use Rattle.std.specs.Prelude.{◌≡◌, ◌<◌, ◌≤◌, ◌+◌, ◌^
 ghost use Rattle.std.specs.List.{list_any};
 ghost use Rattle.m11_base.specs.Names.{blank_name, name_in_words};
 ghost use Rattle.m11_base.specs.Rad50.{is_same_name};
-ghost use Rattle.m11_placement.specs.Changes.{in_number, with_move, with_section, with_settings};
+ghost use Rattle.m11_placement.specs.Changes.{in_number, with_move, with_section, with_modes};
 ghost use Rattle.m11_placement.specs.Definitions.{has_key, is_defined, is_labelled, last_definition, register_named};
-ghost use Rattle.m11_placement.specs.Labels.{with_block, with_definition, with_doubled, with_global};
+ghost use Rattle.m11_placement.specs.Labels.{with_block, with_definition, with_doubly_defined, with_global};
 ghost use Rattle.m11_placement.specs.Limits.{most_sections};
 ghost use Rattle.m11_placement.specs.Meanings.{is_firm, is_firm_in};
 ghost use Rattle.m11_placement.specs.Places.{Goes, Steps};
-ghost use Rattle.m11_placement.specs.ProgramSections.{known_section};
+ghost use Rattle.m11_placement.specs.Psects.{known_section};
 ghost use Rattle.m11_placement.specs.Relocations.{is_here, is_moved};
 ghost use Rattle.m11_placement.specs.Sections.{number_of, numbered, of_program, section};
 ghost use Rattle.m11_placement.specs.Tables.{first_table, kind_here, place, section_name};
@@ -23,7 +23,7 @@ ghost use Rattle.m11_table.specs.Entries.{counter_or, defined_as, empty_table, w
 use crate::entries::Entry;
 use indexmap::{IndexMap, IndexSet};
 use m11_base::{Name, absolute_section, blank_name};
-use m11_placement::{Definition, Key, Section, Settings, Standing};
+use m11_placement::{Definition, Key, Modes, Section, Standing};
 use m11_scan::Radix;
 use m11_values::{Kind, Symbol};
 use std::alloc::{AllocError, Global};
@@ -44,14 +44,14 @@ const RELOCATABLE: u8 = 0o040;
 pub struct Table {
     names: IndexMap<Name, Entry>,
     local_symbols: IndexMap<(u64, u16), Entry>,
-    doubled_names: IndexSet<Name>,
-    doubled_symbols: IndexSet<(u64, u16)>,
+    doubly_defined_names: IndexSet<Name>,
+    doubly_defined_symbols: IndexSet<(u64, u16)>,
     globals: IndexSet<Name>,
     // The bits of their attributes.
     sections: IndexMap<Name, u8>,
     // Where the counters stand, by the numbers of sections.
     counters: [u16; 64],
-    settings: Settings,
+    modes: Modes,
 }
 
 impl Model for Table {
@@ -65,12 +65,12 @@ impl Model for Table {
     ghost view = { λ t. table_of (record {
       names = t.names.entries;
       local_symbols = t.local_symbols.entries;
-      doubled_names = t.doubled_names.keys;
-      doubled_symbols = t.doubled_symbols.keys;
+      doubly_defined_names = t.doubly_defined_names.keys;
+      doubly_defined_symbols = t.doubly_defined_symbols.keys;
       globals = t.globals.keys;
       sections = t.sections.entries;
       counters = t.counters;
-      settings = t.settings;
+      modes = t.modes;
     }) };
 
     ghost invariant = { λ t. length t.sections.entries ≤ most_sections };
@@ -112,12 +112,12 @@ impl Table {
         Table {
             names: IndexMap::new(alloc),
             local_symbols: IndexMap::new(alloc),
-            doubled_names: IndexSet::new(alloc),
-            doubled_symbols: IndexSet::new(alloc),
+            doubly_defined_names: IndexSet::new(alloc),
+            doubly_defined_symbols: IndexSet::new(alloc),
             globals: IndexSet::new(alloc),
             sections: IndexMap::new(alloc),
             counters: [0; 64],
-            settings: Settings {
+            modes: Modes {
                 section: 1,
                 block: 0,
                 radix: Radix::Octal,
@@ -152,10 +152,10 @@ impl Table {
     }
 
     /// What holds at the next line.
-    pub fn settings(&self) -> Settings
-        ensures { result ≡ self.now.settings }
+    pub fn modes(&self) -> Modes
+        ensures { result ≡ self.now.modes }
     {
-        self.settings
+        self.modes
     }
 
     /// The section of a number; the blank one where there is none.
@@ -182,7 +182,7 @@ impl Table {
     pub fn section_name(&self) -> Name
         ensures { result ≡ section_name self.now }
     {
-        self.section(self.settings.section).name
+        self.section(self.modes.section).name
     }
 
     /// The limit on sections holds of each table, after a refusal too. It does nothing.
@@ -222,7 +222,7 @@ impl Table {
     pub fn is_moved(&self) -> bool
         ensures { result ≡ is_moved self.now }
     {
-        let section = self.section(self.settings.section);
+        let section = self.section(self.modes.section);
         section.attributes & RELOCATABLE != 0
     }
 
@@ -241,14 +241,14 @@ impl Table {
     pub fn place(&self) -> u16
         ensures { result ≡ place self.now }
     {
-        counter_at(&self.counters, self.settings.section)
+        counter_at(&self.counters, self.modes.section)
     }
 
     /// What places of the section count from.
     pub fn kind_here(&self) -> Kind
         ensures { result ≡ kind_here self.now }
     {
-        let section = self.section(self.settings.section);
+        let section = self.section(self.modes.section);
         if section.attributes & RELOCATABLE == 0 {
             Kind::Absolute
         } else {
@@ -315,12 +315,14 @@ impl Table {
     /// Whether a key is doubled.
     // Inline: each symbol of an expression comes here, and a call would hand its result on by memory.
     #[inline(always)]
-    pub fn is_doubled(&self, key: &Key) -> bool
-        ensures { result ≡ has_key key.now self.now.doubled }
+    pub fn is_doubly_defined(&self, key: &Key) -> bool
+        ensures { result ≡ has_key key.now self.now.doubly_defined }
     {
         match key {
-            Key::Named(name) => is_among(&self.doubled_names, *name),
-            Key::Numbered(block, number) => self.doubled_symbols.contains(&(*block, *number)),
+            Key::Named(name) => is_among(&self.doubly_defined_names, *name),
+            Key::Numbered(block, number) => self
+                .doubly_defined_symbols
+                .contains(&(*block, *number)),
         }
     }
 
@@ -345,9 +347,7 @@ impl Table {
         match symbol {
             Symbol::Counter => true,
             Symbol::Ordinary(name) => self.is_firm_key(&Key::Named(name)),
-            Symbol::Local(number) => {
-                self.is_firm_key(&Key::Numbered(self.settings.block, number))
-            }
+            Symbol::Local(number) => { self.is_firm_key(&Key::Numbered(self.modes.block, number)) }
         }
     }
 
@@ -366,7 +366,7 @@ impl Table {
     /// A section is selected, and with it a new block of local symbols begins. One whose name is new has these attributes, and there is room
     /// for it. Error: memory may be refused.
     pub fn select(&mut self, name: Name, attributes: u8) -> Result<(), AllocError>
-        requires blocks { self.old.settings.block + 1 < 2 ^ 64 }
+        requires blocks { self.old.modes.block + 1 < 2 ^ 64 }
         requires room { number_of name self.old.sections ≡ None → length self.old.sections < most_sections }
         ensures { IfOk result (λ _. Follows self.old self.new (with_section name attributes)) }
     {
@@ -393,11 +393,11 @@ impl Table {
 
     // The section of a number, with a new block of local symbols.
     fn enter(&mut self, number: u16)
-        requires { self.old.settings.block + 1 < 2 ^ 64 }
-        ensures { self.new ≡ with_settings (in_number number self.old.settings) self.old }
+        requires { self.old.modes.block + 1 < 2 ^ 64 }
+        ensures { self.new ≡ with_modes (in_number number self.old.modes) self.old }
     {
-        self.settings.section = number;
-        self.settings.block += 1;
+        self.modes.section = number;
+        self.modes.block += 1;
     }
 
     /// One more definition, which is then the last one of its key. It says whether the key had none before. Error: memory may be refused.
@@ -446,7 +446,7 @@ impl Table {
 
     /// A key is doubled from here on. Error: memory may be refused.
     pub fn double(&mut self, key: &Key) -> Result<(), AllocError>
-        ensures { IfOk result (λ _. Follows self.old self.new (with_doubled key.now)) }
+        ensures { IfOk result (λ _. Follows self.old self.new (with_doubly_defined key.now)) }
     {
         match key {
             Key::Named(name) => self.double_name(*name, key),
@@ -456,17 +456,17 @@ impl Table {
 
     fn double_name(&mut self, name: Name, key: &Key) -> Result<(), AllocError>
         requires { key.now ≡ Named name }
-        ensures { IfOk result (λ _. Follows self.old self.new (with_doubled key.now)) }
+        ensures { IfOk result (λ _. Follows self.old self.new (with_doubly_defined key.now)) }
     {
-        self.doubled_names.insert(name)?;
+        self.doubly_defined_names.insert(name)?;
         Ok(())
     }
 
     fn double_symbol(&mut self, block: u64, number: u16, key: &Key) -> Result<(), AllocError>
         requires { key.now ≡ Numbered block number }
-        ensures { IfOk result (λ _. Follows self.old self.new (with_doubled key.now)) }
+        ensures { IfOk result (λ _. Follows self.old self.new (with_doubly_defined key.now)) }
     {
-        self.doubled_symbols.insert((block, number))?;
+        self.doubly_defined_symbols.insert((block, number))?;
         Ok(())
     }
 
@@ -480,30 +480,30 @@ impl Table {
 
     /// A new block of local symbols begins.
     pub fn open_block(&mut self)
-        requires { self.old.settings.block + 1 < 2 ^ 64 }
+        requires { self.old.modes.block + 1 < 2 ^ 64 }
         ensures { self.new ≡ with_block self.old }
     {
-        self.settings.block += 1;
+        self.modes.block += 1;
     }
 
     /// Other settings hold from here on.
-    pub fn set(&mut self, settings: Settings)
-        ensures { self.new ≡ with_settings settings self.old }
+    pub fn set(&mut self, modes: Modes)
+        ensures { self.new ≡ with_modes modes self.old }
     {
-        self.settings = settings;
+        self.modes = modes;
     }
 
     /// The counter of the section is set to a place.
     pub fn go_to(&mut self, place: u16)
-        requires { self.old.settings.section < 64 }
+        requires { self.old.modes.section < 64 }
         ensures { Follows self.old self.new (with_move (Goes place)) }
     {
-        self.counters[usize::from(self.settings.section)] = place;
+        self.counters[usize::from(self.modes.section)] = place;
     }
 
     /// The counter of the section goes on by some bytes, modulo 65536.
     pub fn step(&mut self, size: u32)
-        requires { self.old.settings.section < 64 }
+        requires { self.old.modes.section < 64 }
         ensures { Follows self.old self.new (with_move (Steps size)) }
     {
         let place = (u64::from(self.place()) + u64::from(size)) % 65536;

@@ -37,8 +37,8 @@ few_actuals known line (suc wanted) place =
 
 one_listed : (bound : ℕ) (more : ℕ → FormalList) → ((next : ℕ) → length (more next).list ≤ bound)
     → (listed : NextListed) → length (formals_by more listed).list ≤ suc bound
-one_listed bound more few (Ending letters) = omega arith
-one_listed bound more few (Formally formal letters end) = let rest = few end in omega (arith, rest)
+one_listed bound more few (Ending flags) = omega arith
+one_listed bound more few (Formally formal flags end) = let rest = few end in omega (arith, rest)
 
 few_formals : (bound : ℕ) (line : List ℕ) (place : ℕ) → length (formals_within bound line place).list ≤ bound
 few_formals zero line place = omega arith

@@ -17,7 +17,7 @@ use Rattle.m11_unfolding.specs.Limits.{body_fault, bytes_of, bytes_taken, closin
 use Rattle.m11_expansions.specs.Left.{most_expansions}
 use Rattle.m11_unfolding.specs.Macros.{defined, macro_named}
 use Rattle.m11_unfolding.specs.Stages.{Macro, Opening, Purpose, Defines, Repeats, Drops, Stage}
-use Rattle.m11_unfolding.specs.Taking.{Move, Rests, Passes, Gives, into_body, line_taken, live_or_skipped, move, move_from, nesting, one_taken, opened, skipped, skipped_by, switch_in, used}
+use Rattle.m11_unfolding.specs.Taking.{Move, NothingLeft, Passes, Gives, into_body, line_taken, live_or_skipped, move, move_from, nesting, one_taken, opened, skipped, skipped_by, switch_in, used}
 use Rattle.m11_expansions.specs.Bodies.{depth_after}
 use Rattle.m11_expansions.specs.Conditions.{is_skipping}
 use Rattle.m11_arguments.specs.Directives.{directive}
@@ -29,7 +29,7 @@ abbrev pub work_left : Stage → ℕ
 work_left stage = 2 * (most_lines - stage.taken) + depth stage.left
 
 abbrev pub Keeps : Stage → Move → Type 0
-Keeps before Rests = Unit {0}
+Keeps before NothingLeft = Unit {0}
 Keeps before (Passes after) = IsKept after × (work_left after < work_left before)
 Keeps before (Gives live after) = IsKept after
 
@@ -74,21 +74,21 @@ little_switch before =
 
 little_by : (before : OpenConditions) (word : Option Directive) → Little before (skipped_by before word)
 little_by before (Some word.If) = (refl, omega arith)
-little_by before (Some word.EndCondition) =
+little_by before (Some word.Endc) =
     little_if (before.nested == 0) before None (Some (unnested before)) tt (refl, omega arith)
-little_by before (Some word.IfFalse) = little_switch before
-little_by before (Some word.IfTrue) = little_switch before
-little_by before (Some word.IfTrueFalse) = little_switch before
-little_by before (Some word.ImmediateIf) = same before
+little_by before (Some word.Iff) = little_switch before
+little_by before (Some word.Ift) = little_switch before
+little_by before (Some word.Iftf) = little_switch before
+little_by before (Some word.Iif) = same before
 little_by before (Some word.Macro) = same before
-little_by before (Some word.EndMacro) = same before
-little_by before (Some word.Repeat) = same before
-little_by before (Some word.EndRepeat) = same before
-little_by before (Some word.IndefiniteRepeat) = same before
-little_by before (Some word.CharacterRepeat) = same before
-little_by before (Some word.MacroExit) = same before
-little_by before (Some word.ArgumentCount) = same before
-little_by before (Some word.CharacterCount) = same before
+little_by before (Some word.Endm) = same before
+little_by before (Some word.Rept) = same before
+little_by before (Some word.Endr) = same before
+little_by before (Some word.Irp) = same before
+little_by before (Some word.Irpc) = same before
+little_by before (Some word.Mexit) = same before
+little_by before (Some word.Narg) = same before
+little_by before (Some word.Nchr) = same before
 little_by before (Some word.End) = same before
 little_by before None = same before
 
@@ -285,7 +285,7 @@ kept_from (Line line ∷ left) stage kept fits =
     kept_line stage line left kept (under most_lines stage.taken so.0) stage.opening refl so.1
 
 kept_by : (b : Bool) (stage : Stage) → IsKept stage → (if b then None else fault_from stage.left stage) ≡ None
-    → Keeps stage (if b then Rests else move_from stage.left stage)
+    → Keeps stage (if b then NothingLeft else move_from stage.left stage)
 kept_by true stage kept fits = tt
 kept_by false stage kept fits = kept_from stage.left stage kept fits
 

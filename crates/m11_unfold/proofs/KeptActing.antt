@@ -7,7 +7,7 @@ use Rattle.m11_arguments.specs.Conditions.{Asked, condition}
 use Rattle.m11_arguments.specs.Expressions.{Known}
 use Rattle.m11_arguments.specs.Filling.{filled}
 use Rattle.m11_arguments.specs.Immediate as immediate
-use Rattle.m11_arguments.specs.Indefinite.{character_repeat, indefinite_repeat}
+use Rattle.m11_arguments.specs.Indefinite.{irpc, irp}
 use Rattle.m11_arguments.specs.Macros.{header}
 use Rattle.m11_arguments.specs.declared.directives.Directive.TheVariants as word
 use Rattle.m11_expansions.specs.Conditions.{OpenConditions, closed, has_none, most_conditions, switched, with_part, without_first}
@@ -16,7 +16,7 @@ use Rattle.m11_expansions.specs.declared.conditions.OpenCondition.{OpenCondition
 use Rattle.m11_expansions.specs.declared.conditions.Part.{Part}
 use Rattle.m11_expansions.specs.declared.conditions.Part.TheVariants as part
 use Rattle.m11_lines.specs.Line.{line_of}
-use Rattle.m11_unfolding.specs.Acting.{Acted, Operation, Foreign, Calls, Directs, act, act_fault, acted_by, acted_exit, acted_within, condition_opened, defining, fault_by, flagged, formal_name, letter_O, operation, opens, own, repeating, with_statement}
+use Rattle.m11_unfolding.specs.Acting.{Acted, Operation, Foreign, Calls, OwnDirective, act, act_fault, acted_by, acted_exit, acted_within, condition_opened, defining, fault_by, flagged, formal_name, flag_O, operation, opens, own, repeating, with_statement}
 use Rattle.m11_unfolding.specs.Limits.{has_room}
 use Rattle.m11_unfolding.specs.Stages.{Purpose, Stage}
 use Rattle.m11_unfolding.specs.declared.fault.UnfoldFault.{UnfoldFault}
@@ -74,7 +74,7 @@ module _ (stage : Stage) (kept : IsKept stage) where
       → (change stage.conditions).nested ≡ stage.conditions.nested → IsKept (acted_within change text place stage).after
   kept_within change text place fewer same =
       let few = kept.conditions in
-      kept_if (has_none stage.conditions) (own (flagged letter_O text place) stage)
+      kept_if (has_none stage.conditions) (own (flagged flag_O text place) stage)
       (own (flagged 0 text place) (record stage { conditions = change stage.conditions })) (λ _. kept)
       (λ _. with_conditions (change stage.conditions) (omega (arith, few, fewer)) same)
 
@@ -115,7 +115,7 @@ module _ (stage : Stage) (kept : IsKept stage) where
   kept_exit : (text : List ℕ) (place : ℕ) → IsKept (acted_exit text place stage).after
   kept_exit text place =
       kept_if (is_expanding stage.left) (own (flagged 0 text place) (record stage { left = after_mark stage.left }))
-      (own (flagged letter_O text place) stage) (λ _. with_left (after_mark stage.left) (same_ends stage.left)) (λ _. kept)
+      (own (flagged flag_O text place) stage) (λ _. with_left (after_mark stage.left) (same_ends stage.left)) (λ _. kept)
 
   pub kept_created : (created : ℕ) → IsKept (record stage { created = created })
   kept_created created = record {
@@ -148,28 +148,28 @@ module _ (stage : Stage) (kept : IsKept stage) where
       opened_kept (Some (length given.texts)) 0 (map formal_name macro.formals) (filling.texts ∷ []) macro.body
       (record stage { created = filling.created }) (kept_created filling.created)
       (under most_expansions (depth stage.left) so.0) (omega (arith, bytes))
-  kept_by known text (Directs word.If place) fits =
+  kept_by known text (OwnDirective word.If place) fits =
       kept_if (has_room stage) (condition_opened text (condition known text place) stage) _
       (λ room. kept_condition text (condition known text place) room)
       (λ _. with_conditions _ kept.conditions refl)
-  kept_by known text (Directs word.IfFalse place) fits = kept_switch part.False text place
-  kept_by known text (Directs word.IfTrue place) fits = kept_switch part.True text place
-  kept_by known text (Directs word.IfTrueFalse place) fits = kept_switch part.Both text place
-  kept_by known text (Directs word.EndCondition place) fits =
+  kept_by known text (OwnDirective word.Iff place) fits = kept_switch part.False text place
+  kept_by known text (OwnDirective word.Ift place) fits = kept_switch part.True text place
+  kept_by known text (OwnDirective word.Iftf place) fits = kept_switch part.Both text place
+  kept_by known text (OwnDirective word.Endc place) fits =
       kept_within closed text place (closed_fewer stage.conditions.is_past stage.conditions.entered) refl
-  kept_by known text (Directs word.ImmediateIf place) fits =
+  kept_by known text (OwnDirective word.Iif place) fits =
       kept_statement text (immediate.immediate known text place).holds (immediate.immediate known text place).statement
-  kept_by known text (Directs word.Macro place) fits = kept_opening (defining (header text place).named)
-  kept_by known text (Directs word.EndMacro place) fits = kept
-  kept_by known text (Directs word.Repeat place) fits = kept_opening _
-  kept_by known text (Directs word.EndRepeat place) fits = kept
-  kept_by known text (Directs word.IndefiniteRepeat place) fits =
-      kept_opening (repeating (indefinite_repeat known text place).rounds)
-  kept_by known text (Directs word.CharacterRepeat place) fits = kept_opening (repeating (character_repeat text place).rounds)
-  kept_by known text (Directs word.MacroExit place) fits = kept_exit text place
-  kept_by known text (Directs word.ArgumentCount place) fits = kept
-  kept_by known text (Directs word.CharacterCount place) fits = kept
-  kept_by known text (Directs word.End place) fits = kept_ended
+  kept_by known text (OwnDirective word.Macro place) fits = kept_opening (defining (header text place).named)
+  kept_by known text (OwnDirective word.Endm place) fits = kept
+  kept_by known text (OwnDirective word.Rept place) fits = kept_opening _
+  kept_by known text (OwnDirective word.Endr place) fits = kept
+  kept_by known text (OwnDirective word.Irp place) fits =
+      kept_opening (repeating (irp known text place).rounds)
+  kept_by known text (OwnDirective word.Irpc place) fits = kept_opening (repeating (irpc text place).rounds)
+  kept_by known text (OwnDirective word.Mexit place) fits = kept_exit text place
+  kept_by known text (OwnDirective word.Narg place) fits = kept
+  kept_by known text (OwnDirective word.Nchr place) fits = kept
+  kept_by known text (OwnDirective word.End place) fits = kept_ended
 
   -- what the operator of a line leaves
   pub kept_acts : (known : Known) (text : List ℕ) → act_fault stage text ≡ None → IsKept (act known stage text).after

@@ -7,14 +7,14 @@ use Rattle.m11_statements.specs.Labels.{labels_end}
 use Rattle.m11_statements.specs.Order.{BodyStands}
 use Rattle.m11_statements.specs.Statements.{body_of}
 use Rattle.m11_statements.specs.declared.bodies.Body.{Body}
-use Rattle.m11_statements.specs.declared.bodies.Body.TheVariants.{Nothing, Assigns, SetsCounter, Operates, Words}
+use Rattle.m11_statements.specs.declared.bodies.Body.TheVariants.{Nothing, Assign, SetCounter, Operate, Words}
 use Rattle.m11_statements.specs.declared.spans.Span.{Span}
 
 in_body : (place size : ℕ) (body : Body) (name : Span) → BodyStands place size body → operator_in body ≡ Some name → name.end ≤ size
 in_body place size Nothing name stands is = absurd (none-some name is)
-in_body place size (Assigns assignment) name stands is = absurd (none-some name is)
-in_body place size (SetsCounter value) name stands is = absurd (none-some name is)
-in_body place size (Operates other) name stands is = subst (λ (s : Span). s.end ≤ size) (same_Some other name is) stands.2
+in_body place size (Assign assignment) name stands is = absurd (none-some name is)
+in_body place size (SetCounter value) name stands is = absurd (none-some name is)
+in_body place size (Operate other) name stands is = subst (λ (s : Span). s.end ≤ size) (same_Some other name is) stands.2
 in_body place size (Words start) name stands is = absurd (none-some name is)
 
 -- the operator of a line lies in it

@@ -63,9 +63,9 @@ refuses source done before fault stands stops = record {
 
 -- nothing is taken where nothing is left, and after `.END`
 rests_without : (left : List Left) (stage : Stage) → left ≡ [] → stage.has_ended ≡ false
-    → (if stage.has_ended then taking.Rests else taking.move_from left stage) ≡ taking.Rests
+    → (if stage.has_ended then taking.NothingLeft else taking.move_from left stage) ≡ taking.NothingLeft
 rests_without left stage none going =
-    ap (λ (b : Bool). if b then taking.Rests else taking.move_from left stage) going
+    ap (λ (b : Bool). if b then taking.NothingLeft else taking.move_from left stage) going
     ∙ ap (λ (l : List Left). taking.move_from l stage) none
 
 all_taken : (source : List SourceLine) (done : List Given) (before after : Stage) → Unfolds source done before

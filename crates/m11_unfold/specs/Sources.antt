@@ -6,7 +6,7 @@ use Rattle.m11_unfolding.specs.Acting.{act, act_fault}
 use Rattle.m11_unfolding.specs.Limits.{next_fault}
 use Rattle.m11_unfolding.specs.Stages.{Stage}
 use Rattle.m11_unfolding.specs.Histories.{with_more}
-use Rattle.m11_unfolding.specs.Taking.{Gives, Live, Rests, move}
+use Rattle.m11_unfolding.specs.Taking.{Gives, Live, NothingLeft, move}
 use Rattle.m11_unfolding.specs.Unfolding.{Given, Leads, Unfolds, given}
 use Rattle.m11_unfolding.specs.declared.fault.UnfoldFault.{UnfoldFault}
 use Rattle.m11_unfold.specs.Steps.{Fails, FailsMoving, grows}
@@ -25,12 +25,12 @@ pub record Refuses (source : List SourceLine) (done : List Given) (fault : Unfol
 pub record IsAllTaken (source : List SourceLine) (done : List Given) (after : Stage) : Type 0 where
   pub unfolds : Unfolds source done after
   pub none_left : after.left ≡ []
-  pub rests : move after ≡ Rests
+  pub rests : move after ≡ NothingLeft
 
 -- `.END` became live: whatever lines follow in the source, nothing is taken, and none becomes live
 pub record IsOver (source : List SourceLine) (done : List Given) (after : Stage) : Type 0 where
   pub unfolds : Unfolds source done after
-  pub rests : (more : List SourceLine) → move (with_more more after) ≡ Rests
+  pub rests : (more : List SourceLine) → move (with_more more after) ≡ NothingLeft
   pub no_more : (more : List SourceLine) (later : List Given) (stage : Stage) → Leads (with_more more after) later stage
       → later ≡ []
 

@@ -11,7 +11,7 @@ use Rattle.m11_unfolding.specs.Taking.{Move, into_body, move, nesting, used}
 use Rattle.m11_unfolding.specs.declared.fault.UnfoldFault.{UnfoldFault}
 use Rattle.m11_unfolding.specs.declared.fault.UnfoldFault.TheVariants.{NoMemory}
 use Rattle.m11_unfold.specs.declared.taking.Moved.{Moved}
-use Rattle.m11_unfold.specs.declared.taking.Moved.TheVariants.{Rests, Passes, Gives}
+use Rattle.m11_unfold.specs.declared.taking.Moved.TheVariants.{NothingLeft, Passes, Gives}
 
 -- the fault of the limit that is passed, or want of memory where none is passed
 abbrev pub Fails : Option UnfoldFault → UnfoldFault → Type 0
@@ -38,14 +38,14 @@ with_line line stage = record stage { left = Line line ∷ stage.left }
 
 -- a move that passes no limit leads to the stage after, or fails
 abbrev pub Results : Option UnfoldFault → Bool → Move → Stage → SourceLine → Result Moved UnfoldFault → Type 0
-Results passed grows move after line (Ok Rests) = move ≡ taking.Rests
+Results passed grows move after line (Ok NothingLeft) = move ≡ taking.NothingLeft
 Results passed grows move after line (Ok Passes) = (passed ≡ None) × (move ≡ taking.Passes after)
 Results passed grows move after line (Ok (Gives is_expanded)) =
     (passed ≡ None) × (move ≡ taking.Gives (record { line = line; is_expanded = is_expanded }) after)
 Results passed grows move after line (Err fault) = FailsMoving passed grows fault
 
 abbrev pub Moves : Stage → Stage → SourceLine → Result Moved UnfoldFault → Type 0
-Moves before after line (Ok Rests) = (move before ≡ taking.Rests) × (after ≡ before)
+Moves before after line (Ok NothingLeft) = (move before ≡ taking.NothingLeft) × (after ≡ before)
 Moves before after line (Ok Passes) = (next_fault before ≡ None) × (move before ≡ taking.Passes after)
 Moves before after line (Ok (Gives is_expanded)) =
     (next_fault before ≡ None) × (move before ≡ taking.Gives (record { line = line; is_expanded = is_expanded }) after)
@@ -53,7 +53,7 @@ Moves before after line (Err fault) = FailsMoving (next_fault before) (grows bef
 
 -- after a live line no statement stands before what is left
 abbrev pub IsFree : Bool → Result Moved UnfoldFault → Type 0
-IsFree has_statement (Ok Rests) = Unit {0}
+IsFree has_statement (Ok NothingLeft) = Unit {0}
 IsFree has_statement (Ok Passes) = Unit {0}
 IsFree has_statement (Ok (Gives is_expanded)) = has_statement ≡ false
 IsFree has_statement (Err fault) = Unit {0}

@@ -19,11 +19,10 @@ use crate::opening::{Opening, Purpose};
 use crate::rounds::round_of_each;
 use crate::state::State;
 use m11_arguments::{
-    Directive, Header, Notes, Rounds, character_repeat, condition, header_at, immediate_condition,
-    indefinite_repeat, left_over, repeat_count,
+    Directive, Header, Notes, Rounds, condition, header_at, iif, irp, irpc, left_over, rept_count,
 };
 use m11_expansions::{CONDITION_LIMIT, Part};
-use m11_scan::{Letters, Line};
+use m11_scan::{ErrorFlags, Line};
 use m11_values::Names;
 use std::alloc::{AllocError, Global};
 
@@ -44,35 +43,35 @@ impl State {
         requires free { self.old.left.has_statement ≡ false }
         ensures own { IfOk result (λ is_own. is_own ≡ (spec.acted_by
             (known_by (N.base names.now) (N.stands_for names.now)) line.now.text (stage_of self.old)
-            (spec.Directs directive place)).is_own) }
+            (spec.OwnDirective directive place)).is_own) }
         ensures after { IfOk result (λ _. stage_of self.new ≡ (spec.acted_by
             (known_by (N.base names.now) (N.stands_for names.now)) line.now.text (stage_of self.old)
-            (spec.Directs directive place)).after) }
+            (spec.OwnDirective directive place)).after) }
         ensures notes { IfOk result (λ _. notes.new ≡ joined notes.old (spec.acted_by
             (known_by (N.base names.now) (N.stands_for names.now)) line.now.text (stage_of self.old)
-            (spec.Directs directive place)).notes) }
+            (spec.OwnDirective directive place)).notes) }
         ensures unchanged { IfErr result (λ _. stage_of self.new ≡ stage_of self.old) }
     {
         match directive {
             Directive::If => self.act_if(line, place, names, notes)?,
-            Directive::IfFalse => self.act_switch(line, place, Part::False, notes),
-            Directive::IfTrue => self.act_switch(line, place, Part::True, notes),
-            Directive::IfTrueFalse => self.act_switch(line, place, Part::Both, notes),
-            Directive::EndCondition => self.act_close(line, place, notes),
-            Directive::ImmediateIf => self.act_immediate(line, place, names, notes)?,
+            Directive::Iff => self.act_switch(line, place, Part::False, notes),
+            Directive::Ift => self.act_switch(line, place, Part::True, notes),
+            Directive::Iftf => self.act_switch(line, place, Part::Both, notes),
+            Directive::Endc => self.act_close(line, place, notes),
+            Directive::Iif => self.act_immediate(line, place, names, notes)?,
             Directive::Macro => self.act_header(alloc, line, place, notes)?,
-            Directive::EndMacro | Directive::EndRepeat => notes.add_letters(Letters::O),
-            Directive::Repeat => self.act_repeat(alloc, line, place, names, notes)?,
-            Directive::IndefiniteRepeat => {
-                let rounds = indefinite_repeat(alloc, line, place, names, notes)?;
+            Directive::Endm | Directive::Endr => notes.add_flags(ErrorFlags::O),
+            Directive::Rept => self.act_repeat(alloc, line, place, names, notes)?,
+            Directive::Irp => {
+                let rounds = irp(alloc, line, place, names, notes)?;
                 self.act_repeated(alloc, rounds)?;
             }
-            Directive::CharacterRepeat => {
-                let rounds = character_repeat(alloc, line, place, notes)?;
+            Directive::Irpc => {
+                let rounds = irpc(alloc, line, place, notes)?;
                 self.act_repeated(alloc, rounds)?;
             }
-            Directive::MacroExit => self.act_exit(line, place, notes),
-            Directive::ArgumentCount | Directive::CharacterCount => return Ok(false),
+            Directive::Mexit => self.act_exit(line, place, notes),
+            Directive::Narg | Directive::Nchr => return Ok(false),
             Directive::End => {
                 self.has_ended = true;
                 return Ok(false);
@@ -100,14 +99,14 @@ impl State {
         if self.conditions.count() + self.left.conditions_open() < CONDITION_LIMIT {
             self.open_condition(line, place, names, notes)?;
         } else {
-            notes.add_letters(Letters::O);
+            notes.add_flags(ErrorFlags::O);
             self.conditions.enter_past();
         }
         Ok(())
     }
 
     // Opens a condition, for which there is room.
-    #[tactic(auto, using(crate::proofs::Noting::letters_after))]
+    #[tactic(auto, using(crate::proofs::Noting::flags_after))]
     fn open_condition<N: Names>(
         &mut self,
         line: &Line,
@@ -124,7 +123,7 @@ impl State {
         ensures unchanged { IfErr result (λ _. stage_of self.new ≡ stage_of self.old) }
     {
         let verdict = condition(line, place, names, notes)?;
-        notes.add_letters(left_over(line, usize::from(verdict.end)));
+        notes.add_flags(left_over(line, usize::from(verdict.end)));
         self.conditions.enter(verdict.holds);
         Ok(())
     }
@@ -138,7 +137,7 @@ impl State {
             ≡ joined notes.old (spec.acted_within (switched part) line.now.text place (stage_of self.old)).notes }
     {
         let has_none = self.conditions.is_empty();
-        notes.add_letters(letters_within(line, place, has_none));
+        notes.add_flags(flags_within(line, place, has_none));
         if !has_none {
             self.conditions.switch(part);
         }
@@ -153,7 +152,7 @@ impl State {
             ≡ joined notes.old (spec.acted_within closed line.now.text place (stage_of self.old)).notes }
     {
         let has_none = self.conditions.is_empty();
-        notes.add_letters(letters_within(line, place, has_none));
+        notes.add_flags(flags_within(line, place, has_none));
         if !has_none {
             self.conditions.close();
         }
@@ -175,7 +174,7 @@ impl State {
             (known_by (N.base names.now) (N.stands_for names.now)) line.now.text place (stage_of self.old)).notes) }
         ensures unchanged { IfErr result (λ _. stage_of self.new ≡ stage_of self.old) }
     {
-        let immediate = immediate_condition(line, place, names, notes)?;
+        let immediate = iif(line, place, names, notes)?;
         if immediate.holds
             && let Some(begin) = immediate.statement
         {
@@ -221,7 +220,7 @@ impl State {
             (known_by (N.base names.now) (N.stands_for names.now)) line.now.text place (stage_of self.old)).notes) }
         ensures unchanged { IfErr result (λ _. stage_of self.new ≡ stage_of self.old) }
     {
-        let count = repeat_count(line, place, names, notes)?;
+        let count = rept_count(line, place, names, notes)?;
         let rounds = m11_expansions::Rounds::plain(alloc, count);
         self.open(alloc, Purpose::Repeats(Vec::new(alloc), rounds));
         Ok(())
@@ -261,7 +260,11 @@ impl State {
             ≡ joined notes.old (spec.acted_exit line.now.text place (stage_of self.old)).notes }
     {
         let is_expanding = self.left.is_expanding();
-        notes.add_letters(Letters::O.when(!is_expanding).with(left_over(line, place)));
+        notes.add_flags(
+            ErrorFlags::O
+                .when(!is_expanding)
+                .with(left_over(line, place)),
+        );
         if is_expanding {
             self.left.leave();
         }
@@ -280,11 +283,11 @@ fn defining(header: Option<Header>) -> Purpose
     }
 }
 
-// The letters of a directive that needs a condition of its own expansion, where there may be none.
-fn letters_within(line: &Line, place: usize, has_none: bool) -> Letters
+// The flags of a directive that needs a condition of its own expansion, where there may be none.
+fn flags_within(line: &Line, place: usize, has_none: bool) -> ErrorFlags
     requires { place ≤ length line.now.text }
     ensures { bits_of result
-        ≡ bit_or (if has_none then spec.letter_O else 0) (line_left_over line.now.text place) }
+        ≡ bit_or (if has_none then spec.flag_O else 0) (line_left_over line.now.text place) }
 {
-    Letters::O.when(has_none).with(left_over(line, place))
+    ErrorFlags::O.when(has_none).with(left_over(line, place))
 }

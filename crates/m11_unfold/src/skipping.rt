@@ -47,10 +47,8 @@ fn skip_by(conditions: &mut Conditions, word: Option<Directive>) -> bool
             conditions.nest();
             true
         }
-        Some(Directive::EndCondition) => skip_close(conditions),
-        Some(Directive::IfFalse | Directive::IfTrue | Directive::IfTrueFalse) => {
-            is_inner_switch(conditions)
-        }
+        Some(Directive::Endc) => skip_close(conditions),
+        Some(Directive::Iff | Directive::Ift | Directive::Iftf) => { is_inner_switch(conditions) }
         _ => true,
     }
 }
@@ -81,13 +79,9 @@ pub(crate) fn nesting_of(line: &Line) -> Nesting
     ensures { result ≡ spec.nesting line.now.text }
 {
     match directive_of(line) {
-        Some(
-            Directive::Macro
-            | Directive::Repeat
-            | Directive::IndefiniteRepeat
-            | Directive::CharacterRepeat,
-        ) => Nesting::Opens,
-        Some(Directive::EndMacro | Directive::EndRepeat) => Nesting::Closes,
+        Some(Directive::Macro | Directive::Rept | Directive::Irp | Directive::Irpc) =>
+            Nesting::Opens,
+        Some(Directive::Endm | Directive::Endr) => Nesting::Closes,
         _ => Nesting::Neither,
     }
 }

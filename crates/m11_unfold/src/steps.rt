@@ -18,7 +18,7 @@ pub enum Step {
 pub struct Act {
     /// Whether the line is unfolding's own: a call, or a directive of conditions, repeats and macros. Such a line places nothing.
     pub is_own: bool,
-    /// The letters of the operator and its arguments, and the symbols that they read, in order.
+    /// The flags of the operator and its arguments, and the symbols that they read, in order.
     pub notes: Notes,
     /// The number of actuals of the innermost call of a macro that is expanded around the line, if there is one.
     pub arguments: Option<u16>,

@@ -37,7 +37,7 @@ const MACRO_MOST: usize = 256;
 #[derive(Clone, Copy)]
 pub enum Moved {
     // Nothing is taken any more.
-    Rests,
+    NothingLeft,
     // Something was taken, and no line became live.
     Passes,
     // A line became live, and whether an expansion gave it.
@@ -71,14 +71,14 @@ impl State {
         ensures free { IsFree self.new.left.has_statement result }
     {
         if self.has_ended {
-            return Ok(Moved::Rests);
+            return Ok(Moved::NothingLeft);
         }
         // most lines are those of the source itself
         if self.left.take_source_line(line) {
             return self.take_line(alloc, line, false);
         }
         if self.left.is_empty() {
-            return Ok(Moved::Rests);
+            return Ok(Moved::NothingLeft);
         }
         self.advance_within(alloc, line)
     }
@@ -100,7 +100,7 @@ impl State {
                 self.conditions = mark.conditions;
                 Ok(Moved::Passes)
             }
-            None => Ok(Moved::Rests),
+            None => Ok(Moved::NothingLeft),
         }
     }
 

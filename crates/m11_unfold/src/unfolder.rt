@@ -169,7 +169,7 @@ impl State {
             match self.advance(alloc, line)? {
                 Moved::Passes => {}
                 Moved::Gives(is_expanded) => return Ok(Step::Line(is_expanded)),
-                Moved::Rests => return Ok(self.rested()),
+                Moved::NothingLeft => return Ok(self.rested()),
             }
         }
     }

@@ -52,7 +52,7 @@ past_lines [] mark left = refl
 past_lines (line ∷ rest) mark left = past_lines rest mark left
 
 pub exits : (known : Known) (stage : Stage) (line : SourceLine) (place : ℕ) (rest : List SourceLine) (mark : Mark) (left : List Left)
-    → IsLive stage → IsDirective stage line word.MacroExit place → stage.taken + 1 ≤ most_lines
+    → IsLive stage → IsDirective stage line word.Mexit place → stage.taken + 1 ≤ most_lines
     → Leads (before_exit stage line rest mark left) (exit_given known mark left line (flagged 0 line.text place) ∷ [])
     (after_exit stage mark left)
 exits known stage line place rest mark left live is most =

@@ -7,13 +7,13 @@ use Rattle.m11_arguments.specs.declared.directives.Directive.TheVariants as word
 use Rattle.m11_unfolding.specs.Acting.{Operation, act, acted_by}
 use Rattle.m11_unfolding.specs.Laws.{IsDirective}
 use Rattle.m11_unfolding.specs.Stages.{Stage}
-use Rattle.m11_unfolding.specs.Taking.{Gives, Passes, Rests, move, move_from}
+use Rattle.m11_unfolding.specs.Taking.{Gives, Passes, NothingLeft, move, move_from}
 use Rattle.m11_unfolding.specs.Unfolding.{Given, Leads}
 use Rattle.m11_unfolding.specs.Unfolding as steps
 
 -- where `.END` came, nothing is taken
-pub rests_after : (stage : Stage) → stage.has_ended ≡ true → move stage ≡ Rests
-rests_after stage ended = ap (λ (b : Bool). if b then Rests else move_from stage.left stage) ended
+pub rests_after : (stage : Stage) → stage.has_ended ≡ true → move stage ≡ NothingLeft
+rests_after stage ended = ap (λ (b : Bool). if b then NothingLeft else move_from stage.left stage) ended
 
 -- and so no stage but the same one is led to
 pub stays_after : (before after : Stage) (done : List Given) → before.has_ended ≡ true → Leads before done after
@@ -23,15 +23,15 @@ stays_after before _ _ ended (steps.Leads.Passing done stage after steps' fault 
     let earlier = stays_after before stage done ended steps' in
     let P : Stage → Type 0 = λ s. move s ≡ Passes after in
     let here : move before ≡ Passes after = subst P earlier.1 moves in
-    let rests : move before ≡ Rests = rests_after before ended in
-    let bad : Rests ≡ Passes after = sym rests ∙ here in
+    let rests : move before ≡ NothingLeft = rests_after before ended in
+    let bad : NothingLeft ≡ Passes after = sym rests ∙ here in
     absurd (cc bad)
 stays_after before _ _ ended (steps.Leads.Giving done stage after live known steps' fault moves acts) =
     let earlier = stays_after before stage done ended steps' in
     let P : Stage → Type 0 = λ s. move s ≡ Gives live after in
     let here : move before ≡ Gives live after = subst P earlier.1 moves in
-    let rests : move before ≡ Rests = rests_after before ended in
-    let bad : Rests ≡ Gives live after = sym rests ∙ here in
+    let rests : move before ≡ NothingLeft = rests_after before ended in
+    let bad : NothingLeft ≡ Gives live after = sym rests ∙ here in
     absurd (cc bad)
 
 ends : (known : Known) (stage : Stage) (line : SourceLine) (place : ℕ) → IsDirective stage line word.End place
@@ -40,7 +40,7 @@ ends known stage line place is =
     ap (λ (o : Operation). (acted_by known line.text stage o).after.has_ended) is
 
 pub rests : (known : Known) (stage : Stage) (line : SourceLine) (place : ℕ) → IsDirective stage line word.End place
-    → move (act known stage line.text).after ≡ Rests
+    → move (act known stage line.text).after ≡ NothingLeft
 rests known stage line place is = rests_after (act known stage line.text).after (ends known stage line place is)
 
 pub stays : (known : Known) (stage after : Stage) (line : SourceLine) (place : ℕ) (done : List Given)

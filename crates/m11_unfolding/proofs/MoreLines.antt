@@ -18,11 +18,11 @@ use Rattle.m11_expansions.specs.Conditions.{OpenConditions, closed, has_none, mo
 use Rattle.m11_expansions.specs.Left.{Left, Line, End, after_mark, bytes_in, conditions_in, count_in, has_mark, is_expanding, marks, most_expansions, round}
 use Rattle.m11_expansions.specs.declared.conditions.Part.TheVariants as part
 use Rattle.m11_expansions.specs.declared.mark.Mark.{Mark}
-use Rattle.m11_unfolding.specs.Acting.{Acted, Operation, Calls, Directs, Foreign, act, act_fault, acted_by, acted_exit, acted_if, acted_immediate, acted_within, called_with, condition_opened, fault_by, flagged, formal_name, letter_O, operation, own, with_statement}
+use Rattle.m11_unfolding.specs.Acting.{Acted, Operation, Calls, OwnDirective, Foreign, act, act_fault, acted_by, acted_exit, acted_if, acted_immediate, acted_within, called_with, condition_opened, fault_by, flagged, formal_name, flag_O, operation, own, with_statement}
 use Rattle.m11_unfolding.specs.Histories.{with_more}
 use Rattle.m11_unfolding.specs.Limits.{body_fault, bytes_of, bytes_taken, closing_fault, depth_fault, fault_from, fault_if, has_room, line_fault, most_bytes, most_lines, taking_fault}
 use Rattle.m11_unfolding.specs.Stages.{Macro, Opening, Purpose, Defines, Repeats, Drops, Stage, line_left}
-use Rattle.m11_unfolding.specs.Taking.{Gives, Live, Move, Passes, Rests, into_body, line_taken, live_or_skipped, move_from, nesting, one_taken, opened, skipped, used}
+use Rattle.m11_unfolding.specs.Taking.{Gives, Live, Move, Passes, NothingLeft, into_body, line_taken, live_or_skipped, move_from, nesting, one_taken, opened, skipped, used}
 use Rattle.m11_unfolding.specs.Unfolding as steps
 use Rattle.m11_unfolding.specs.Unfolding.{Leads, given}
 use Rattle.m11_unfolding.specs.declared.fault.UnfoldFault.{UnfoldFault}
@@ -34,7 +34,7 @@ no_marks (line ∷ more) = no_marks more
 
 -- a move that takes something
 abbrev IsMove : Move → Type 0
-IsMove Rests = ⊥
+IsMove NothingLeft = ⊥
 IsMove (Passes stage) = Unit {0}
 IsMove (Gives live stage) = Unit {0}
 
@@ -88,7 +88,7 @@ module _ (more : List SourceLine) where
   -- ---- moves
 
   abbrev on_after : Move → Move
-  on_after Rests = Rests
+  on_after NothingLeft = NothingLeft
   on_after (Passes stage) = Passes (on stage)
   on_after (Gives live stage) = Gives live (on stage)
 
@@ -128,15 +128,15 @@ module _ (more : List SourceLine) where
   from_on (Line line ∷ left) stage moves = taken_on stage.opening line (one_taken left stage)
 
   fault_on : (has_ended : Bool) (left : List Left) (stage : Stage) (result : Move)
-      → (if has_ended then Rests else move_from left stage) ≡ result → IsMove result
+      → (if has_ended then NothingLeft else move_from left stage) ≡ result → IsMove result
       → (if has_ended then None else fault_from left stage) ≡ None
       → (if has_ended then None else fault_from (left ++ lines) (on stage)) ≡ None
   fault_on true left stage result moves is fault = refl
   fault_on false left stage result moves is fault = same_fault left stage (subst IsMove (sym moves) is) ∙ fault
 
   moves_on : (has_ended : Bool) (left : List Left) (stage : Stage) (result : Move)
-      → (if has_ended then Rests else move_from left stage) ≡ result → IsMove result
-      → (if has_ended then Rests else move_from (left ++ lines) (on stage)) ≡ on_after result
+      → (if has_ended then NothingLeft else move_from left stage) ≡ result → IsMove result
+      → (if has_ended then NothingLeft else move_from (left ++ lines) (on stage)) ≡ on_after result
   moves_on true left stage result moves is = absurd (subst IsMove (sym moves) is)
   moves_on false left stage result moves is = from_on left stage (subst IsMove (sym moves) is) ∙ ap on_after moves
 
@@ -154,9 +154,9 @@ module _ (more : List SourceLine) where
   if_on known text place stage =
       ap (λ (ms : List Mark). if nat_lt (length stage.conditions.entered + conditions_in ms) most_conditions
       then condition_opened text (condition known text place) (on stage)
-      else own (noting letter_O []) (record (on stage) { conditions = past stage.conditions })) (same_open stage.left)
+      else own (noting flag_O []) (record (on stage) { conditions = past stage.conditions })) (same_open stage.left)
       ∙ either_on (has_room stage) (condition_opened text (condition known text place) stage)
-      (own (noting letter_O []) (record stage { conditions = past stage.conditions }))
+      (own (noting flag_O []) (record stage { conditions = past stage.conditions }))
 
   statement_on : (text : Bytes) (holds : Bool) (place : Option ℕ) (stage : Stage)
       → with_statement text holds place (on stage) ≡ on (with_statement text holds place stage)
@@ -173,7 +173,7 @@ module _ (more : List SourceLine) where
   within_on : (change : OpenConditions → OpenConditions) (text : Bytes) (place : ℕ) (stage : Stage)
       → acted_within change text place (on stage) ≡ on_acted (acted_within change text place stage)
   within_on change text place stage =
-      either_on (has_none stage.conditions) (own (flagged letter_O text place) stage)
+      either_on (has_none stage.conditions) (own (flagged flag_O text place) stage)
       (own (flagged 0 text place) (record stage { conditions = change stage.conditions }))
 
   after_mark_on : (left : List Left) → is_expanding left ≡ true → after_mark (left ++ lines) ≡ after_mark left ++ lines
@@ -184,14 +184,14 @@ module _ (more : List SourceLine) where
   exit_on : (text : Bytes) (place : ℕ) (stage : Stage) → acted_exit text place (on stage) ≡ on_acted (acted_exit text place stage)
   exit_on text place stage =
       ap (λ (ms : List Mark). if has_mark ms then own (flagged 0 text place) (record stage { left = after_mark (stage.left ++ lines) })
-      else own (flagged letter_O text place) (on stage)) (same_open stage.left)
+      else own (flagged flag_O text place) (on stage)) (same_open stage.left)
       ∙ go (is_expanding stage.left) refl
     where
       go : (b : Bool) → is_expanding stage.left ≡ b
           → (if b then own (flagged 0 text place) (record stage { left = after_mark (stage.left ++ lines) })
-          else own (flagged letter_O text place) (on stage))
+          else own (flagged flag_O text place) (on stage))
           ≡ on_acted (if b then own (flagged 0 text place) (record stage { left = after_mark stage.left })
-          else own (flagged letter_O text place) stage)
+          else own (flagged flag_O text place) stage)
       go true is = ap (λ (l : List Left). own (flagged 0 text place) (record stage { left = l })) (after_mark_on stage.left is)
       go false is = refl
 
@@ -201,22 +201,22 @@ module _ (more : List SourceLine) where
       (record stage { created = filled.created })
 
   directive_on : (known : Known) (text : Bytes) (stage : Stage) (directive : Directive) (place : ℕ)
-      → acted_by known text (on stage) (Directs directive place) ≡ on_acted (acted_by known text stage (Directs directive place))
+      → acted_by known text (on stage) (OwnDirective directive place) ≡ on_acted (acted_by known text stage (OwnDirective directive place))
   directive_on known text stage word.If place = if_on known text place stage
-  directive_on known text stage word.IfFalse place = within_on (switched part.False) text place stage
-  directive_on known text stage word.IfTrue place = within_on (switched part.True) text place stage
-  directive_on known text stage word.IfTrueFalse place = within_on (switched part.Both) text place stage
-  directive_on known text stage word.EndCondition place = within_on closed text place stage
-  directive_on known text stage word.ImmediateIf place = immediate_on known text place stage
+  directive_on known text stage word.Iff place = within_on (switched part.False) text place stage
+  directive_on known text stage word.Ift place = within_on (switched part.True) text place stage
+  directive_on known text stage word.Iftf place = within_on (switched part.Both) text place stage
+  directive_on known text stage word.Endc place = within_on closed text place stage
+  directive_on known text stage word.Iif place = immediate_on known text place stage
   directive_on known text stage word.Macro place = refl
-  directive_on known text stage word.EndMacro place = refl
-  directive_on known text stage word.Repeat place = refl
-  directive_on known text stage word.EndRepeat place = refl
-  directive_on known text stage word.IndefiniteRepeat place = refl
-  directive_on known text stage word.CharacterRepeat place = refl
-  directive_on known text stage word.MacroExit place = exit_on text place stage
-  directive_on known text stage word.ArgumentCount place = refl
-  directive_on known text stage word.CharacterCount place = refl
+  directive_on known text stage word.Endm place = refl
+  directive_on known text stage word.Rept place = refl
+  directive_on known text stage word.Endr place = refl
+  directive_on known text stage word.Irp place = refl
+  directive_on known text stage word.Irpc place = refl
+  directive_on known text stage word.Mexit place = exit_on text place stage
+  directive_on known text stage word.Narg place = refl
+  directive_on known text stage word.Nchr place = refl
   directive_on known text stage word.End place = refl
 
   acted_on : (known : Known) (text : Bytes) (stage : Stage) (operation : Operation)
@@ -225,7 +225,7 @@ module _ (more : List SourceLine) where
   acted_on known text stage (Calls macro place) =
       let actuals : Given = actuals_from known text (length macro.formals) place in
       ap (own actuals.notes) (call_on macro (length actuals.texts) (filled macro.formals actuals.texts stage.created) stage)
-  acted_on known text stage (Directs directive place) = directive_on known text stage directive place
+  acted_on known text stage (OwnDirective directive place) = directive_on known text stage directive place
 
   act_on : (known : Known) (stage : Stage) (text : Bytes) → act known (on stage) text ≡ on_acted (act known stage text)
   act_on known stage text = acted_on known text stage (operation stage.conditions stage.macros text)
@@ -233,7 +233,7 @@ module _ (more : List SourceLine) where
   fault_by_on : (stage : Stage) (operation : Operation) → fault_by (on stage) operation ≡ fault_by stage operation
   fault_by_on stage Foreign = refl
   fault_by_on stage (Calls macro place) = same_depth stage.left
-  fault_by_on stage (Directs directive place) = refl
+  fault_by_on stage (OwnDirective directive place) = refl
 
   act_fault_on : (stage : Stage) (text : Bytes) → act_fault (on stage) text ≡ act_fault stage text
   act_fault_on stage text = fault_by_on stage (operation stage.conditions stage.macros text)

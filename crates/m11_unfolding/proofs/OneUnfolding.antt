@@ -5,7 +5,7 @@ use Rattle.m11_arguments.specs.Expressions.{Known}
 use Rattle.m11_unfolding.specs.Acting.{act}
 use Rattle.m11_unfolding.specs.Histories.{GoesOn, IsKnownBy}
 use Rattle.m11_unfolding.specs.Stages.{Stage}
-use Rattle.m11_unfolding.specs.Taking.{Gives, Live, Passes, Rests, move}
+use Rattle.m11_unfolding.specs.Taking.{Gives, Live, Passes, NothingLeft, move}
 use Rattle.m11_unfolding.specs.Unfolding.{Given, Leads, given}
 use Rattle.m11_unfolding.specs.Unfolding as steps
 use Rattle.m11_unfolding.specs.Limits.{next_fault}
@@ -144,24 +144,24 @@ compared tells before _ second _ later told told' (steps.Leads.Giving done stage
 -- ---- unfoldings that are at their end
 
 -- where nothing is taken any more, an unfolding stays
-stays_there : (stage after : Stage) (more : List Given) → move stage ≡ Rests → Begins stage more after
+stays_there : (stage after : Stage) (more : List Given) → move stage ≡ NothingLeft → Begins stage more after
     → (more ≡ []) × (after ≡ stage)
 stays_there stage after more rests (Still none same) = (none, same)
 stays_there stage after more rests (Moved next moves leads) =
-    let both : Rests ≡ Passes next = sym rests ∙ moves in
+    let both : NothingLeft ≡ Passes next = sym rests ∙ moves in
     absurd (cc both)
 stays_there stage after more rests (Gave next live known rest moves is leads) =
-    let both : Rests ≡ Gives live next = sym rests ∙ moves in
+    let both : NothingLeft ≡ Gives live next = sym rests ∙ moves in
     absurd (cc both)
 
-pub same_end : (done later : List Given) (first second : Stage) → move first ≡ Rests → GoesOn done first later second
+pub same_end : (done later : List Given) (first second : Stage) → move first ≡ NothingLeft → GoesOn done first later second
     → (later ≡ done) × (second ≡ first)
 same_end done later first second rests on =
     let still = stays_there first second on.more rests (first_step first second on.more on.leads) in
     (on.whole ∙ ap (λ (m : List Given). done ++ m) still.0 ∙ append-nil done, still.1)
 
 pub one_end : (tells : List Given → Live → Known) (before first second : Stage) (done later : List Given) → IsKnownBy tells done
-    → IsKnownBy tells later → Leads before done first → Leads before later second → move first ≡ Rests → move second ≡ Rests
+    → IsKnownBy tells later → Leads before done first → Leads before later second → move first ≡ NothingLeft → move second ≡ NothingLeft
     → (done ≡ later) × (first ≡ second)
 one_end tells before first second done later told told' leads leads' rests rests' =
     go (compared tells before first second done later told told' leads leads')

@@ -13,7 +13,7 @@ use Rattle.m11_arguments.specs.declared.directives.Directive.TheVariants as word
 use Rattle.m11_expansions.specs.Conditions.{OpenConditions, closed, entering, is_live_inside, is_skipping, most_conditions, past, unnested}
 use Rattle.m11_expansions.specs.Left.{Left, Line, conditions_in, conditions_open, count_in, has_mark, is_expanding, marks}
 use Rattle.m11_expansions.specs.declared.mark.Mark.{Mark}
-use Rattle.m11_unfolding.specs.Acting.{Acted, Directs, act, act_fault, acted_by, condition_opened, fault_by, flagged, letter_O, operation, own}
+use Rattle.m11_unfolding.specs.Acting.{Acted, OwnDirective, act, act_fault, acted_by, condition_opened, fault_by, flagged, flag_O, operation, own}
 use Rattle.m11_unfolding.specs.Constructs.{Block, HasConditionLeft, after_block, before_block, condition_notes}
 use Rattle.m11_unfolding.specs.Laws.{AreForeign, IsDirective, IsLive, foreign_given, own_given}
 use Rattle.m11_unfolding.specs.Limits.{most_lines}
@@ -63,7 +63,7 @@ module _ (known : Known) (conditions : OpenConditions) (macros : List (Name × M
   at c taken left = stage_at c macros bytes created taken left
 
   opens_condition : (taken place : ℕ) (line : SourceLine) (left : List Left) (holds : Bool) → is_skipping conditions ≡ false
-      → operation conditions macros line.text ≡ Directs word.If place → (condition known line.text place).holds ≡ holds
+      → operation conditions macros line.text ≡ OwnDirective word.If place → (condition known line.text place).holds ≡ holds
       → length conditions.entered + conditions_open left < most_conditions → taken + 1 ≤ most_lines
       → Leads (at conditions taken (Line line ∷ left)) (own_given known left line (condition_notes known line.text place) ∷ [])
       (at (entering holds conditions) (taken + 1) left)
@@ -75,13 +75,13 @@ module _ (known : Known) (conditions : OpenConditions) (macros : List (Name × M
       let done : Acted = own notes (at (entering holds conditions) (taken + 1) left) in
       let acts : act known here line.text ≡ done = ap (acted_by known line.text here) is
       ∙ ap (λ (b : Bool). if b then condition_opened line.text asked here
-      else own (noting letter_O []) (record here { conditions = past conditions })) has
+      else own (noting flag_O []) (record here { conditions = past conditions })) has
       ∙ ap (λ (b : Bool). own notes (at (entering b conditions) (taken + 1) left)) answers in
       let faults : act_fault here line.text ≡ None = ap (fault_by here) is in
       one_line known conditions macros bytes created taken line left done live most acts faults
 
   closes_condition : (taken place : ℕ) (line : SourceLine) (left : List Left) (holds : Bool) → conditions.is_past ≡ false
-      → operation (entering holds conditions) macros line.text ≡ Directs word.EndCondition place
+      → operation (entering holds conditions) macros line.text ≡ OwnDirective word.Endc place
       → move (at (entering holds conditions) taken (Line line ∷ left))
       ≡ Gives (record { line = line; is_expanded = is_expanding left }) (at (entering holds conditions) (taken + 1) left)
       → taken + 1 ≤ most_lines
@@ -95,9 +95,9 @@ module _ (known : Known) (conditions : OpenConditions) (macros : List (Name × M
       let done : Acted = own notes (at conditions (taken + 1) left) in
       let some : (length c.entered == 0) ≡ false = grind (arith, nat_tests) in
       let acts : act known here line.text ≡ done = ap (acted_by known line.text here) is
-      ∙ ap (λ (b : Bool). if not b && length c.entered == 0 then own (flagged letter_O line.text place) here
+      ∙ ap (λ (b : Bool). if not b && length c.entered == 0 then own (flagged flag_O line.text place) here
       else own notes (at (closed c) (taken + 1) left)) none
-      ∙ ap (λ (b : Bool). if b then own (flagged letter_O line.text place) here else own notes (at (closed c) (taken + 1) left)) some
+      ∙ ap (λ (b : Bool). if b then own (flagged flag_O line.text place) here else own notes (at (closed c) (taken + 1) left)) some
       ∙ ap (λ (o : OpenConditions). own notes (at o (taken + 1) left)) (closes_again conditions holds none) in
       let faults : act_fault here line.text ≡ None = ap (fault_by here) is in
       let shown : Live = record { line = line; is_expanded = is_expanding left } in
@@ -130,14 +130,14 @@ module _ (known : Known) (conditions : OpenConditions) (macros : List (Name × M
       subst Q sum later
 
   pub close_is_live : (taken place : ℕ) (line : SourceLine) (left : List Left) → conditions.is_past ≡ false → conditions.nested ≡ 0
-      → operation conditions macros line.text ≡ Directs word.EndCondition place
+      → operation conditions macros line.text ≡ OwnDirective word.Endc place
       → move (at (entering false conditions) taken (Line line ∷ left))
       ≡ Gives (record { line = line; is_expanded = is_expanding left }) (at (entering false conditions) (taken + 1) left)
   close_is_live taken place line left none outermost is =
       let c : OpenConditions = entering false conditions in
       let here : Stage = at c (taken + 1) left in
       ap (λ (b : Bool). live_or_skipped (if b then skipped_by c (directive line.text) else None) line here) (skipping_in_false conditions none)
-      ∙ ap (λ (d : Option Directive). live_or_skipped (skipped_by c d) line here) (has_word macros conditions line.text place word.EndCondition is)
+      ∙ ap (λ (d : Option Directive). live_or_skipped (skipped_by c d) line here) (has_word macros conditions line.text place word.Endc is)
       ∙ ap (λ (n : ℕ). live_or_skipped (if n == 0 then None else Some (unnested c)) line here) outermost
 
 -- ---- the whole block
@@ -180,7 +180,7 @@ module _ (known : Known) (stage : Stage) (block : Block) (place end : ℕ) where
       holds live.taking is answers room' most)
 
   pub condition_holds : IsLive stage → IsDirective stage block.first word.If place → (condition known block.first.text place).holds ≡ true
-      → HasConditionLeft stage block → AreForeign stage block.lines → IsDirective stage block.close word.EndCondition end
+      → HasConditionLeft stage block → AreForeign stage block.lines → IsDirective stage block.close word.Endc end
       → stage.taken + (length block.lines + 2) ≤ most_lines
       → Leads (before_block stage block) (head_given ∷ map (foreign_given known block.left) block.lines ++ close_given ∷ [])
       (after_block stage block 0)
@@ -197,7 +197,7 @@ module _ (known : Known) (stage : Stage) (block : Block) (place end : ℕ) where
       let lines_left : stage.taken + 1 + n ≤ most_lines = omega (arith, most) in
       let lines = onwards before known c stage.macros stage.defined_bytes stage.created rest inside block.lines (stage.taken + 1)
       (head_given ∷ []) looked lines_left begun in
-      let is' : operation c stage.macros block.close.text ≡ Directs word.EndCondition end
+      let is' : operation c stage.macros block.close.text ≡ OwnDirective word.Endc end
       = sym (alike stage.macros stage.conditions c block.close.text same) ∙ closing in
       let ends = closes_condition known stage.conditions stage.macros stage.defined_bytes stage.created (stage.taken + 1 + n) end block.close
       block.left true none is' (becomes_live c stage.macros stage.defined_bytes stage.created (stage.taken + 1 + n) block.close block.left inside)
@@ -213,7 +213,7 @@ module _ (known : Known) (stage : Stage) (block : Block) (place end : ℕ) where
 
   pub condition_fails : IsLive stage → IsDirective stage block.first word.If place → (condition known block.first.text place).holds ≡ false
       → HasConditionLeft stage block → stage.conditions.nested ≡ 0 → AreForeign stage block.lines
-      → IsDirective stage block.close word.EndCondition end → stage.taken + (length block.lines + 2) ≤ most_lines
+      → IsDirective stage block.close word.Endc end → stage.taken + (length block.lines + 2) ≤ most_lines
       → Leads (before_block stage block) (head_given ∷ close_given ∷ []) (after_block stage block 0)
   condition_fails live is answers room outermost foreign closing most =
       let n : ℕ = length block.lines in
@@ -225,8 +225,8 @@ module _ (known : Known) (stage : Stage) (block : Block) (place end : ℕ) where
       let lines_left : stage.taken + 1 + n ≤ most_lines = omega (arith, most) in
       let lines = skipped_lines known stage.conditions stage.macros stage.defined_bytes stage.created before (head_given ∷ []) rest none
       block.lines (stage.taken + 1) (looked_up stage block.lines foreign) lines_left begun in
-      let is' : operation c stage.macros block.close.text ≡ Directs word.EndCondition end
-      = directive_skipping stage.macros stage.conditions c block.close.text end word.EndCondition skips closing in
+      let is' : operation c stage.macros block.close.text ≡ OwnDirective word.Endc end
+      = directive_skipping stage.macros stage.conditions c block.close.text end word.Endc skips closing in
       let ends = closes_condition known stage.conditions stage.macros stage.defined_bytes stage.created (stage.taken + 1 + n) end block.close
       block.left false none is' (close_is_live known stage.conditions stage.macros stage.defined_bytes stage.created (stage.taken + 1 + n) end
       block.close block.left none outermost closing) (omega (arith, most)) in

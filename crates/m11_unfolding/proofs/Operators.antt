@@ -10,7 +10,7 @@ use Rattle.m11_statements.specs.declared.spans.Span.{Span}
 use Rattle.m11_arguments.specs.Directives.{directive, directive_at, directive_named, operator}
 use Rattle.m11_arguments.specs.declared.directives.Directive.{Directive}
 use Rattle.m11_expansions.specs.Conditions.{OpenConditions, is_skipping}
-use Rattle.m11_unfolding.specs.Acting.{Directs, Foreign, called, directed, macro_of, operation, operation_in}
+use Rattle.m11_unfolding.specs.Acting.{OwnDirective, Foreign, called, directed, macro_of, operation, operation_in}
 use Rattle.m11_unfolding.specs.Macros.{macro_named}
 use Rattle.m11_unfolding.specs.Stages.{Macro}
 use Rattle.m11_unfolding.proofs.OtherLines.{ForeignHere}
@@ -41,7 +41,7 @@ module _ (macros : List (Name × Macro)) where
   -- ---- what a word alone is
 
   word_of_called : (macro : Option Macro) (word : Option Directive) (end place : ℕ) (directive : Directive)
-      → called macro word end ≡ Directs directive place → (word ≡ Some directive) × (directed word end ≡ Directs directive place)
+      → called macro word end ≡ OwnDirective directive place → (word ≡ Some directive) × (directed word end ≡ OwnDirective directive place)
   word_of_called (Some macro) word end place directive is = absurd (let bad = is in cc)
   word_of_called None None end place directive is = absurd (let bad = is in cc)
   word_of_called None (Some word) end place directive is =
@@ -54,7 +54,7 @@ module _ (macros : List (Name × Macro)) where
   no_word_of_called None (Some word) end is = absurd (let bad = is in cc)
 
   word_in : (conditions : OpenConditions) (text : Bytes) (name : Option Span) (place : ℕ) (directive : Directive)
-      → operation_in conditions macros text name ≡ Directs directive place → directive_at text name ≡ Some directive
+      → operation_in conditions macros text name ≡ OwnDirective directive place → directive_at text name ≡ Some directive
   word_in conditions text None place directive is = absurd (let bad = is in cc)
   word_in conditions text (Some name) place directive is =
       let word : Bytes = six_of (text_between text name.start name.end) in
@@ -62,7 +62,7 @@ module _ (macros : List (Name × Macro)) where
 
   -- a line with a directive has its word
   pub has_word : (conditions : OpenConditions) (text : Bytes) (place : ℕ) (word : Directive)
-      → operation conditions macros text ≡ Directs word place → directive text ≡ Some word
+      → operation conditions macros text ≡ OwnDirective word place → directive text ≡ Some word
   has_word conditions text place word is = word_in conditions text (operator text) place word is
 
   no_word_in : (conditions : OpenConditions) (text : Bytes) (name : Option Span)
@@ -81,8 +81,8 @@ module _ (macros : List (Name × Macro)) where
   no_macro conditions (Some name) skips = ap (λ (b : Bool). if b then None else macro_named macros name) skips
 
   skipping_in : (one other : OpenConditions) (text : Bytes) (name : Option Span) (place : ℕ) (directive : Directive)
-      → is_skipping other ≡ true → operation_in one macros text name ≡ Directs directive place
-      → operation_in other macros text name ≡ Directs directive place
+      → is_skipping other ≡ true → operation_in one macros text name ≡ OwnDirective directive place
+      → operation_in other macros text name ≡ OwnDirective directive place
   skipping_in one other text None place directive skips is = is
   skipping_in one other text (Some name) place directive skips is =
       let word : Bytes = six_of (text_between text name.start name.end) in
@@ -91,5 +91,5 @@ module _ (macros : List (Name × Macro)) where
 
   -- a directive is one in skipped lines too
   pub directive_skipping : (one other : OpenConditions) (text : Bytes) (place : ℕ) (word : Directive)
-      → is_skipping other ≡ true → operation one macros text ≡ Directs word place → operation other macros text ≡ Directs word place
+      → is_skipping other ≡ true → operation one macros text ≡ OwnDirective word place → operation other macros text ≡ OwnDirective word place
   directive_skipping one other text place word skips is = skipping_in one other text (operator text) place word skips is

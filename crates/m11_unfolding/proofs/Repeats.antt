@@ -7,7 +7,7 @@ use Rattle.m11_base.specs.Devices.{Bytes}
 use Rattle.m11_base.specs.Rad50.{Name}
 use Rattle.m11_lines.specs.Line.{SourceLine, line_of}
 use Rattle.m11_arguments.specs.Expressions.{Known}
-use Rattle.m11_arguments.specs.Indefinite.{Repeated, Repetition, character_repeat, indefinite_repeat}
+use Rattle.m11_arguments.specs.Indefinite.{Repeated, Repetition, irpc, irp}
 use Rattle.m11_arguments.specs.Notes.{Notes}
 use Rattle.m11_arguments.specs.Repeats as repeats
 use Rattle.m11_arguments.specs.declared.directives.Directive.TheVariants as word
@@ -186,17 +186,17 @@ module _ (known : Known) (stage : Stage) (block : Block) (formals : List Name) (
 
 -- ---- each repeat
 
-pub repeated : (known : Known) (stage : Stage) (block : Block) (place : ℕ) → IsLive stage → IsDirective stage block.first word.Repeat place
+pub repeated : (known : Known) (stage : Stage) (block : Block) (place : ℕ) → IsLive stage → IsDirective stage block.first word.Rept place
     → IsPlainBody (texts_of block.lines) → nesting block.close.text ≡ Closes
-    → AreForeign stage (times (repeats.repeat_count known block.first.text place) (map line_of (texts_of block.lines)))
+    → AreForeign stage (times (repeats.rept_count known block.first.text place) (map line_of (texts_of block.lines)))
     → HasRoom stage block (texts_of block.lines)
-    (times (repeats.repeat_count known block.first.text place) (map line_of (texts_of block.lines)))
+    (times (repeats.rept_count known block.first.text place) (map line_of (texts_of block.lines)))
     → Leads (before_block stage block) (own_given known block.left block.first (repeats.notes known block.first.text place)
     ∷ map (expanded_given known (argument_count block.left))
-    (times (repeats.repeat_count known block.first.text place) (map line_of (texts_of block.lines))))
-    (after_block stage block (length (times (repeats.repeat_count known block.first.text place) (map line_of (texts_of block.lines)))))
+    (times (repeats.rept_count known block.first.text place) (map line_of (texts_of block.lines))))
+    (after_block stage block (length (times (repeats.rept_count known block.first.text place) (map line_of (texts_of block.lines)))))
 repeated known stage block place live is plain closing foreign room =
-    let n : ℕ = repeats.repeat_count known block.first.text place in
+    let n : ℕ = repeats.rept_count known block.first.text place in
     let notes : Notes = repeats.notes known block.first.text place in
     let rounds : List (List Bytes) = replicate n [] in
     let body : List Bytes = texts_of block.lines in
@@ -228,26 +228,26 @@ module _ (known : Known) (stage : Stage) (block : Block) (place : ℕ) (rounds :
       = acts ∙ ap (λ (r : Option Repetition). own arguments.notes (opens (repeating r) here)) some in
       repeats_run known stage block (rounds.formal ∷ []) (map alone rounds.texts) arguments.notes live plain closing foreign room acts' faults
 
-  pub with_list : IsDirective stage block.first word.IndefiniteRepeat place
-      → (indefinite_repeat known block.first.text place).rounds ≡ Some rounds → IsLive stage
+  pub with_list : IsDirective stage block.first word.Irp place
+      → (irp known block.first.text place).rounds ≡ Some rounds → IsLive stage
       → IsPlainBody (texts_of block.lines) → nesting block.close.text ≡ Closes
       → AreForeign stage (repeated_lines rounds (texts_of block.lines))
       → HasRoom stage block (texts_of block.lines) (repeated_lines rounds (texts_of block.lines))
-      → Leads (before_block stage block) (own_given known block.left block.first (indefinite_repeat known block.first.text place).notes
+      → Leads (before_block stage block) (own_given known block.left block.first (irp known block.first.text place).notes
       ∷ map (expanded_given known (argument_count block.left)) (repeated_lines rounds (texts_of block.lines)))
       (after_block stage block (length (repeated_lines rounds (texts_of block.lines))))
   with_list is some live plain closing foreign room =
-      indefinitely (indefinite_repeat known block.first.text place) some live plain closing foreign room
+      indefinitely (irp known block.first.text place) some live plain closing foreign room
       (ap (acted_by known block.first.text here) is) (ap (fault_by here) is)
 
-  pub with_characters : IsDirective stage block.first word.CharacterRepeat place
-      → (character_repeat block.first.text place).rounds ≡ Some rounds → IsLive stage
+  pub with_characters : IsDirective stage block.first word.Irpc place
+      → (irpc block.first.text place).rounds ≡ Some rounds → IsLive stage
       → IsPlainBody (texts_of block.lines) → nesting block.close.text ≡ Closes
       → AreForeign stage (repeated_lines rounds (texts_of block.lines))
       → HasRoom stage block (texts_of block.lines) (repeated_lines rounds (texts_of block.lines))
-      → Leads (before_block stage block) (own_given known block.left block.first (character_repeat block.first.text place).notes
+      → Leads (before_block stage block) (own_given known block.left block.first (irpc block.first.text place).notes
       ∷ map (expanded_given known (argument_count block.left)) (repeated_lines rounds (texts_of block.lines)))
       (after_block stage block (length (repeated_lines rounds (texts_of block.lines))))
   with_characters is some live plain closing foreign room =
-      indefinitely (character_repeat block.first.text place) some live plain closing foreign room
+      indefinitely (irpc block.first.text place) some live plain closing foreign room
       (ap (acted_by known block.first.text here) is) (ap (fault_by here) is)

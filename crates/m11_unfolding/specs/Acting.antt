@@ -1,5 +1,5 @@
 -- What the operator of a live line does. (MACRO-11 Language Reference Manual, "Conditional assembly block directives", "Macro definition",
--- "Macro calls", "Repeat block directives", "Indefinite repeat block directives" and "Macro exit". Which letters flag a line, and what
+-- "Macro calls", "Repeat block directives", "Indefinite repeat block directives" and "Macro exit". Which flags flag a line, and what
 -- becomes of a bad argument, is this project's own.)
 use Rattle.std.specs.Prelude.{ℕ, Bool, true, false, if◌then◌else◌, List, [], ◌∷◌, length, map, replicate, drop, Option, Some, None}
 use Rattle.std.specs.Int.RustNames.{bit_or}
@@ -15,10 +15,10 @@ use Rattle.m11_arguments.specs.Directives.{directive_named, operator}
 use Rattle.m11_arguments.specs.Expressions.{Known}
 use Rattle.m11_arguments.specs.Filling.{Filled, filled}
 use Rattle.m11_arguments.specs.Immediate as immediate
-use Rattle.m11_arguments.specs.Indefinite.{Repeated, Repetition, character_repeat, indefinite_repeat}
+use Rattle.m11_arguments.specs.Indefinite.{Repeated, Repetition, irpc, irp}
 use Rattle.m11_arguments.specs.Macros.{MacroNamed, MacroHeader, header}
 use Rattle.m11_arguments.specs.LeftOvers.{left_over}
-use Rattle.m11_arguments.specs.Notes.{Notes, no_notes, noting, with_letters}
+use Rattle.m11_arguments.specs.Notes.{Notes, no_notes, noting, with_flags}
 use Rattle.m11_arguments.specs.Repeats as repeats
 use Rattle.m11_arguments.specs.declared.directives.Directive.{Directive}
 use Rattle.m11_arguments.specs.declared.directives.Directive.TheVariants as word
@@ -40,9 +40,9 @@ pub record Acted : Type 0 where
   pub notes : Notes
   pub after : Stage
 
--- the set of the letter O
-abbrev pub letter_O : ℕ
-letter_O = 0o400
+-- the set of the flag O
+abbrev pub flag_O : ℕ
+flag_O = 0o400
 
 -- ---- operators
 
@@ -51,12 +51,12 @@ pub data Operation : Type 0 where
   -- a call of a macro, and the place after its name
   Calls : Macro → ℕ → Operation
   -- a directive, and the place after its name
-  Directs : Directive → ℕ → Operation
+  OwnDirective : Directive → ℕ → Operation
   -- anything else
   Foreign : Operation
 
 abbrev pub directed : Option Directive → ℕ → Operation
-directed (Some directive) place = Directs directive place
+directed (Some directive) place = OwnDirective directive place
 directed None place = Foreign
 
 abbrev pub called : Option Macro → Option Directive → ℕ → Operation
@@ -89,20 +89,20 @@ own notes stage = record { is_own = true; notes = notes; after = stage }
 abbrev pub foreign : Stage → Acted
 foreign stage = record { is_own = false; notes = no_notes; after = stage }
 
--- letters, with those of what is left over on the line
+-- flags, with those of what is left over on the line
 abbrev pub flagged : ℕ → Bytes → ℕ → Notes
-flagged letters text place = noting (bit_or letters (left_over text place)) []
+flagged flags text place = noting (bit_or flags (left_over text place)) []
 
 -- `.IF` opens a condition. A 33rd one is no entry: it and what is inside it are skipped, and its arguments aren't read.
 abbrev pub condition_opened : Bytes → Asked → Stage → Acted
 condition_opened text asked stage =
-    own (with_letters (notes_of asked) (left_over text asked.end))
+    own (with_flags (notes_of asked) (left_over text asked.end))
     (record stage { conditions = entering asked.holds stage.conditions })
 
 abbrev pub acted_if : Known → Bytes → ℕ → Stage → Acted
 acted_if known text place stage =
     if has_room stage then condition_opened text (condition known text place) stage
-    else own (noting letter_O []) (record stage { conditions = past stage.conditions })
+    else own (noting flag_O []) (record stage { conditions = past stage.conditions })
 
 -- `.IIF`: where its condition holds, its statement is the next line
 abbrev pub with_statement : Bytes → Bool → Option ℕ → Stage → Stage
@@ -118,7 +118,7 @@ acted_immediate known text place stage =
 -- a switch, or `.ENDC`: it needs a condition of its own expansion
 abbrev pub acted_within : (OpenConditions → OpenConditions) → Bytes → ℕ → Stage → Acted
 acted_within change text place stage =
-    if has_none stage.conditions then own (flagged letter_O text place) stage
+    if has_none stage.conditions then own (flagged flag_O text place) stage
     else own (flagged 0 text place) (record stage { conditions = change stage.conditions })
 
 -- what follows is to be taken as a body
@@ -128,13 +128,13 @@ opens purpose stage = record stage { opening = Some (record { purpose = purpose;
 -- `.REPT`: no formals in each round
 abbrev pub acted_repeat : Known → Bytes → ℕ → Stage → Acted
 acted_repeat known text place stage =
-    own (repeats.notes known text place) (opens (Repeats [] (replicate (repeats.repeat_count known text place) [])) stage)
+    own (repeats.notes known text place) (opens (Repeats [] (replicate (repeats.rept_count known text place) [])) stage)
 
 -- `.MEXIT`: what is left up to the first mark isn't taken
 abbrev pub acted_exit : Bytes → ℕ → Stage → Acted
 acted_exit text place stage =
     if is_expanding stage.left then own (flagged 0 text place) (record stage { left = after_mark stage.left })
-    else own (flagged letter_O text place) stage
+    else own (flagged flag_O text place) stage
 
 -- `.MACRO`: without a name its body is taken for nothing
 abbrev pub defining : Option MacroNamed → Purpose
@@ -142,7 +142,7 @@ defining (Some macro) = Defines macro.name macro.formals
 defining None = Drops
 
 abbrev pub acted_header : MacroHeader → Stage → Acted
-acted_header header stage = own (noting header.letters []) (opens (defining header.named) stage)
+acted_header header stage = own (noting header.flags []) (opens (defining header.named) stage)
 
 -- `.IRP` and `.IRPC`: one formal, and one actual in each round; no round where an argument is bad or missing
 abbrev pub alone : Bytes → List Bytes
@@ -172,22 +172,22 @@ abbrev pub acted_by : Known → Bytes → Stage → Operation → Acted
 acted_by known text stage Foreign = foreign stage
 acted_by known text stage (Calls macro place) =
     acted_call macro (actuals_from known text (length macro.formals) place) stage
-acted_by known text stage (Directs word.If place) = acted_if known text place stage
-acted_by known text stage (Directs word.IfFalse place) = acted_within (switched part.False) text place stage
-acted_by known text stage (Directs word.IfTrue place) = acted_within (switched part.True) text place stage
-acted_by known text stage (Directs word.IfTrueFalse place) = acted_within (switched part.Both) text place stage
-acted_by known text stage (Directs word.EndCondition place) = acted_within closed text place stage
-acted_by known text stage (Directs word.ImmediateIf place) = acted_immediate known text place stage
-acted_by known text stage (Directs word.Macro place) = acted_header (header text place) stage
-acted_by known text stage (Directs word.EndMacro place) = own (noting letter_O []) stage
-acted_by known text stage (Directs word.Repeat place) = acted_repeat known text place stage
-acted_by known text stage (Directs word.EndRepeat place) = own (noting letter_O []) stage
-acted_by known text stage (Directs word.IndefiniteRepeat place) = acted_repeated (indefinite_repeat known text place) stage
-acted_by known text stage (Directs word.CharacterRepeat place) = acted_repeated (character_repeat text place) stage
-acted_by known text stage (Directs word.MacroExit place) = acted_exit text place stage
-acted_by known text stage (Directs word.ArgumentCount place) = foreign stage
-acted_by known text stage (Directs word.CharacterCount place) = foreign stage
-acted_by known text stage (Directs word.End place) = foreign (record stage { has_ended = true })
+acted_by known text stage (OwnDirective word.If place) = acted_if known text place stage
+acted_by known text stage (OwnDirective word.Iff place) = acted_within (switched part.False) text place stage
+acted_by known text stage (OwnDirective word.Ift place) = acted_within (switched part.True) text place stage
+acted_by known text stage (OwnDirective word.Iftf place) = acted_within (switched part.Both) text place stage
+acted_by known text stage (OwnDirective word.Endc place) = acted_within closed text place stage
+acted_by known text stage (OwnDirective word.Iif place) = acted_immediate known text place stage
+acted_by known text stage (OwnDirective word.Macro place) = acted_header (header text place) stage
+acted_by known text stage (OwnDirective word.Endm place) = own (noting flag_O []) stage
+acted_by known text stage (OwnDirective word.Rept place) = acted_repeat known text place stage
+acted_by known text stage (OwnDirective word.Endr place) = own (noting flag_O []) stage
+acted_by known text stage (OwnDirective word.Irp place) = acted_repeated (irp known text place) stage
+acted_by known text stage (OwnDirective word.Irpc place) = acted_repeated (irpc text place) stage
+acted_by known text stage (OwnDirective word.Mexit place) = acted_exit text place stage
+acted_by known text stage (OwnDirective word.Narg place) = foreign stage
+acted_by known text stage (OwnDirective word.Nchr place) = foreign stage
+acted_by known text stage (OwnDirective word.End place) = foreign (record stage { has_ended = true })
 
 -- what the operator of a line does at a stage, under what names say
 abbrev pub act : Known → Stage → Bytes → Acted
@@ -198,7 +198,7 @@ act known stage text = acted_by known text stage (operation stage.conditions sta
 abbrev pub fault_by : Stage → Operation → Option UnfoldFault
 fault_by stage Foreign = None
 fault_by stage (Calls macro place) = depth_fault stage.left
-fault_by stage (Directs directive place) = None
+fault_by stage (OwnDirective directive place) = None
 
 -- only a call passes a limit: one expansion too many, before an argument is read
 abbrev pub act_fault : Stage → Bytes → Option UnfoldFault

@@ -9,7 +9,7 @@ use Rattle.m11_arguments.specs.Conditions.{condition, notes_of}
 use Rattle.m11_arguments.specs.Expressions.{Known}
 use Rattle.m11_arguments.specs.Indefinite.{Repetition}
 use Rattle.m11_arguments.specs.LeftOvers.{left_over}
-use Rattle.m11_arguments.specs.Notes.{Notes, no_notes, with_letters}
+use Rattle.m11_arguments.specs.Notes.{Notes, no_notes, with_flags}
 use Rattle.m11_expansions.specs.Bodies.{size_of}
 use Rattle.m11_expansions.specs.Conditions.{most_conditions}
 use Rattle.m11_expansions.specs.Left.{Left, Line, bytes_held, conditions_open, depth, most_expansions}
@@ -92,10 +92,10 @@ after_call stage body left = record stage { left = left; taken = stage.taken + 1
 
 -- ---- conditions
 
--- the letters and symbols of an `.IF`
+-- the flags and symbols of an `.IF`
 abbrev pub condition_notes : Known → Bytes → ℕ → Notes
 condition_notes known text place =
-    with_letters (notes_of (condition known text place)) (left_over text (condition known text place).end)
+    with_flags (notes_of (condition known text place)) (left_over text (condition known text place).end)
 
 -- one more condition may be open
 abbrev pub HasConditionLeft : Stage → Block → Type 0

@@ -8,7 +8,7 @@ use Rattle.m11_arguments.specs.declared.directives.Directive.{Directive}
 use Rattle.m11_expansions.specs.Conditions.{is_skipping}
 use Rattle.m11_expansions.specs.Left.{Left, Line, End, argument_count, is_expanding}
 use Rattle.m11_expansions.specs.declared.mark.Mark.{Mark}
-use Rattle.m11_unfolding.specs.Acting.{Directs, Foreign, operation}
+use Rattle.m11_unfolding.specs.Acting.{OwnDirective, Foreign, operation}
 use Rattle.m11_unfolding.specs.Stages.{Stage, line_left}
 use Rattle.m11_unfolding.specs.Unfolding.{Given}
 
@@ -42,7 +42,7 @@ after_lines stage lines left = record stage { left = left; taken = stage.taken +
 
 -- a line's operator is a directive, whose arguments begin at a place
 abbrev pub IsDirective : Stage → SourceLine → Directive → ℕ → Type 0
-IsDirective stage line directive place = operation stage.conditions stage.macros line.text ≡ Directs directive place
+IsDirective stage line directive place = operation stage.conditions stage.macros line.text ≡ OwnDirective directive place
 
 -- a line of unfolding's own, before what is left
 abbrev pub own_given : Known → List Left → SourceLine → Notes → Given

@@ -22,11 +22,11 @@ use Rattle.m11_unfolding.specs.Stages.{Stage, Opening, Purpose, Defines, Repeats
 -- what the word in an operator's place does to a body: either closing word closes what any of the four opens
 abbrev pub nesting_of : Option Directive → Nesting
 nesting_of (Some word.Macro) = Opens
-nesting_of (Some word.Repeat) = Opens
-nesting_of (Some word.IndefiniteRepeat) = Opens
-nesting_of (Some word.CharacterRepeat) = Opens
-nesting_of (Some word.EndMacro) = Closes
-nesting_of (Some word.EndRepeat) = Closes
+nesting_of (Some word.Rept) = Opens
+nesting_of (Some word.Irp) = Opens
+nesting_of (Some word.Irpc) = Opens
+nesting_of (Some word.Endm) = Closes
+nesting_of (Some word.Endr) = Closes
 nesting_of (Some other) = Neither
 nesting_of None = Neither
 
@@ -68,10 +68,10 @@ close_in conditions = if conditions.nested == 0 then None else Some (unnested co
 -- the conditions after a line that is skipped, by its word: `.IF` and `.ENDC` alone count. None where the line is live.
 abbrev pub skipped_by : OpenConditions → Option Directive → Option OpenConditions
 skipped_by conditions (Some word.If) = Some (nested conditions)
-skipped_by conditions (Some word.EndCondition) = close_in conditions
-skipped_by conditions (Some word.IfFalse) = switch_in conditions
-skipped_by conditions (Some word.IfTrue) = switch_in conditions
-skipped_by conditions (Some word.IfTrueFalse) = switch_in conditions
+skipped_by conditions (Some word.Endc) = close_in conditions
+skipped_by conditions (Some word.Iff) = switch_in conditions
+skipped_by conditions (Some word.Ift) = switch_in conditions
+skipped_by conditions (Some word.Iftf) = switch_in conditions
 skipped_by conditions (Some other) = Some conditions
 skipped_by conditions None = Some conditions
 
@@ -87,7 +87,7 @@ pub record Live : Type 0 where
 
 pub data Move : Type 0 where
   -- nothing is taken any more
-  Rests : Move
+  NothingLeft : Move
   -- something is taken, and no line became live
   Passes : Stage → Move
   -- a line became live
@@ -112,10 +112,10 @@ line_taken (Some opening) line stage = Passes
 line_taken None line stage = live_or_skipped (skipped stage.conditions line.text) line stage
 
 abbrev pub move_from : List Left → Stage → Move
-move_from [] stage = Rests
+move_from [] stage = NothingLeft
 move_from (End mark ∷ left) stage = Passes (ended mark left stage)
 move_from (Line line ∷ left) stage = line_taken stage.opening line (one_taken left stage)
 
 -- the next move: after `.END` nothing is taken
 abbrev pub move : Stage → Move
-move stage = if stage.has_ended then Rests else move_from stage.left stage
+move stage = if stage.has_ended then NothingLeft else move_from stage.left stage

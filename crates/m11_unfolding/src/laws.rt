@@ -4,9 +4,9 @@ ghost use Rattle.std.specs.Prelude.{◌≡◌, ◌⊎◌, ◌+◌, ◌<◌, ◌�
 ghost use Rattle.m11_arguments.specs.Actuals.{actuals_from};
 ghost use Rattle.m11_arguments.specs.Conditions.{condition};
 ghost use Rattle.m11_arguments.specs.Expressions.{Known};
-ghost use Rattle.m11_arguments.specs.Indefinite.{Repetition, character_repeat, indefinite_repeat};
+ghost use Rattle.m11_arguments.specs.Indefinite.{Repetition, irpc, irp};
 ghost use Rattle.m11_arguments.specs.Repeats as repeats;
-ghost use Rattle.m11_arguments.specs.declared.directives.Directive.TheVariants.{CharacterRepeat, End, EndCondition, If, IndefiniteRepeat, MacroExit, Repeat};
+ghost use Rattle.m11_arguments.specs.declared.directives.Directive.TheVariants as directive;
 ghost use Rattle.m11_base.specs.Devices.{Bytes};
 ghost use Rattle.m11_expansions.specs.Bodies.{texts_of};
 ghost use Rattle.m11_expansions.specs.Left.{Left, argument_count, depth, most_expansions};
@@ -19,7 +19,7 @@ ghost use Rattle.m11_unfolding.specs.Histories.{GoesOn, IsKnownBy, with_more};
 ghost use Rattle.m11_unfolding.specs.Laws.{AreForeign, IsDirective, IsLive, after_exit, after_lines, before_exit, before_lines, exit_given, foreign_given, own_given};
 ghost use Rattle.m11_unfolding.specs.Limits.{most_lines};
 ghost use Rattle.m11_unfolding.specs.Stages.{Stage};
-ghost use Rattle.m11_unfolding.specs.Taking.{Live, Rests, move, nesting};
+ghost use Rattle.m11_unfolding.specs.Taking.{Live, NothingLeft, move, nesting};
 ghost use Rattle.m11_unfolding.specs.Unfolding.{Given, Leads};
 
 /// Lines whose operators are no macros and no directives of unfolding become live as they are, one after the other.
@@ -33,34 +33,34 @@ pub fn other_lines_become_live()
 /// the lines of their body once for each text, with that put in place of the formal.
 pub fn repeats_give_their_rounds()
     ensures counted { (known : Known) (stage : Stage) (block : Block) (place : ℕ) → IsLive stage
-        → IsDirective stage block.first Repeat place → IsPlainBody (texts_of block.lines) → nesting block.close.text ≡ Closes
-        → AreForeign stage (times (repeats.repeat_count known block.first.text place) (map line_of (texts_of block.lines)))
+        → IsDirective stage block.first directive.Rept place → IsPlainBody (texts_of block.lines) → nesting block.close.text ≡ Closes
+        → AreForeign stage (times (repeats.rept_count known block.first.text place) (map line_of (texts_of block.lines)))
         → HasRoom stage block (texts_of block.lines)
-        (times (repeats.repeat_count known block.first.text place) (map line_of (texts_of block.lines)))
+        (times (repeats.rept_count known block.first.text place) (map line_of (texts_of block.lines)))
         → Leads (before_block stage block)
         (own_given known block.left block.first (repeats.notes known block.first.text place)
         ∷ map (expanded_given known (argument_count block.left))
-        (times (repeats.repeat_count known block.first.text place) (map line_of (texts_of block.lines))))
+        (times (repeats.rept_count known block.first.text place) (map line_of (texts_of block.lines))))
         (after_block stage block
-        (length (times (repeats.repeat_count known block.first.text place) (map line_of (texts_of block.lines))))) }
+        (length (times (repeats.rept_count known block.first.text place) (map line_of (texts_of block.lines))))) }
     ensures listed { (known : Known) (stage : Stage) (block : Block) (place : ℕ) (rounds : Repetition)
-        → IsDirective stage block.first IndefiniteRepeat place
-        → (indefinite_repeat known block.first.text place).rounds ≡ Some rounds → IsLive stage
+        → IsDirective stage block.first directive.Irp place
+        → (irp known block.first.text place).rounds ≡ Some rounds → IsLive stage
         → IsPlainBody (texts_of block.lines) → nesting block.close.text ≡ Closes
         → AreForeign stage (repeated_lines rounds (texts_of block.lines))
         → HasRoom stage block (texts_of block.lines) (repeated_lines rounds (texts_of block.lines))
         → Leads (before_block stage block)
-        (own_given known block.left block.first (indefinite_repeat known block.first.text place).notes
+        (own_given known block.left block.first (irp known block.first.text place).notes
         ∷ map (expanded_given known (argument_count block.left)) (repeated_lines rounds (texts_of block.lines)))
         (after_block stage block (length (repeated_lines rounds (texts_of block.lines)))) }
     ensures spelled { (known : Known) (stage : Stage) (block : Block) (place : ℕ) (rounds : Repetition)
-        → IsDirective stage block.first CharacterRepeat place
-        → (character_repeat block.first.text place).rounds ≡ Some rounds → IsLive stage
+        → IsDirective stage block.first directive.Irpc place
+        → (irpc block.first.text place).rounds ≡ Some rounds → IsLive stage
         → IsPlainBody (texts_of block.lines) → nesting block.close.text ≡ Closes
         → AreForeign stage (repeated_lines rounds (texts_of block.lines))
         → HasRoom stage block (texts_of block.lines) (repeated_lines rounds (texts_of block.lines))
         → Leads (before_block stage block)
-        (own_given known block.left block.first (character_repeat block.first.text place).notes
+        (own_given known block.left block.first (irpc block.first.text place).notes
         ∷ map (expanded_given known (argument_count block.left)) (repeated_lines rounds (texts_of block.lines)))
         (after_block stage block (length (repeated_lines rounds (texts_of block.lines)))) }
 {}
@@ -79,8 +79,8 @@ pub fn calls_give_their_bodies()
 /// Where an `.IF` holds, its own line, the lines inside and the `.ENDC` become live; where it doesn't, the first and the last alone.
 pub fn conditions_give_all_or_nothing()
     ensures holds { (known : Known) (stage : Stage) (block : Block) (place end : ℕ) → IsLive stage
-        → IsDirective stage block.first If place → (condition known block.first.text place).holds ≡ true
-        → HasConditionLeft stage block → AreForeign stage block.lines → IsDirective stage block.close EndCondition end
+        → IsDirective stage block.first directive.If place → (condition known block.first.text place).holds ≡ true
+        → HasConditionLeft stage block → AreForeign stage block.lines → IsDirective stage block.close directive.Endc end
         → stage.taken + (length block.lines + 2) ≤ most_lines
         → Leads (before_block stage block)
         (own_given known block.left block.first (condition_notes known block.first.text place)
@@ -88,9 +88,9 @@ pub fn conditions_give_all_or_nothing()
         ++ own_given known block.left block.close (flagged 0 block.close.text end) ∷ [])
         (after_block stage block 0) }
     ensures fails { (known : Known) (stage : Stage) (block : Block) (place end : ℕ) → IsLive stage
-        → IsDirective stage block.first If place → (condition known block.first.text place).holds ≡ false
+        → IsDirective stage block.first directive.If place → (condition known block.first.text place).holds ≡ false
         → HasConditionLeft stage block → stage.conditions.nested ≡ 0 → AreForeign stage block.lines
-        → IsDirective stage block.close EndCondition end → stage.taken + (length block.lines + 2) ≤ most_lines
+        → IsDirective stage block.close directive.Endc end → stage.taken + (length block.lines + 2) ≤ most_lines
         → Leads (before_block stage block)
         (own_given known block.left block.first (condition_notes known block.first.text place)
         ∷ own_given known block.left block.close (flagged 0 block.close.text end) ∷ [])
@@ -111,7 +111,7 @@ pub fn a_source_has_one_unfolding()
         → GoesOn done first later second ⊎ GoesOn later second done first }
     ensures ended { (known_by : List Given → Live → Known) (before first second : Stage) (done later : List Given)
         → IsKnownBy known_by done → IsKnownBy known_by later → Leads before done first → Leads before later second
-        → move first ≡ Rests → move second ≡ Rests → (done ≡ later) × (first ≡ second) }
+        → move first ≡ NothingLeft → move second ≡ NothingLeft → (done ≡ later) × (first ≡ second) }
 {}
 
 /// Further lines of a source change nothing of what became live before them.
@@ -122,17 +122,17 @@ pub fn further_lines_change_nothing_before_them()
 
 /// After a live `.END` nothing is taken any more: no line becomes live, and the stage stays.
 pub fn end_is_the_last_line()
-    ensures rests { (known : Known) (stage : Stage) (line : SourceLine) (place : ℕ) → IsDirective stage line End place
-        → move (act known stage line.text).after ≡ Rests }
+    ensures rests { (known : Known) (stage : Stage) (line : SourceLine) (place : ℕ) → IsDirective stage line directive.End place
+        → move (act known stage line.text).after ≡ NothingLeft }
     ensures stays { (known : Known) (stage after : Stage) (line : SourceLine) (place : ℕ) (done : List Given)
-        → IsDirective stage line End place → Leads (act known stage line.text).after done after
+        → IsDirective stage line directive.End place → Leads (act known stage line.text).after done after
         → (done ≡ []) × (after ≡ (act known stage line.text).after) }
 {}
 
 /// A live `.MEXIT` in an expansion leaves what stood after the expansion, with the conditions that were open around it.
 pub fn exits_leave_what_stood_after_the_call()
     ensures { (known : Known) (stage : Stage) (line : SourceLine) (place : ℕ) (rest : List SourceLine) (mark : Mark)
-        (left : List Left) → IsLive stage → IsDirective stage line MacroExit place → stage.taken + 1 ≤ most_lines
+        (left : List Left) → IsLive stage → IsDirective stage line directive.Mexit place → stage.taken + 1 ≤ most_lines
         → Leads (before_exit stage line rest mark left) (exit_given known mark left line (flagged 0 line.text place) ∷ [])
         (after_exit stage mark left) }
 {}

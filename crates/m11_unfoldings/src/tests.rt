@@ -12,7 +12,7 @@ mod sources;
 
 use m11_arguments::operator;
 use m11_base::Name;
-use m11_scan::{Letters, Line};
+use m11_scan::{ErrorFlags, Line};
 use m11_unfold::{Act, Step, Unfolder};
 use m11_unfolding::UnfoldFault;
 use m11_values::{Names, Radix, Symbol, Value};
@@ -38,7 +38,7 @@ impl Names for Known {
         match symbol {
             Symbol::Ordinary(name) => of_name(name),
             Symbol::Local(_) => unknown(),
-            Symbol::Counter => Value::absolute(64, Letters::none()),
+            Symbol::Counter => Value::absolute(64, ErrorFlags::none()),
         }
     }
 }
@@ -46,15 +46,15 @@ impl Names for Known {
 fn unknown() -> Value
     ensures { quantity result ≡ unknown }
 {
-    Value::absolute(0, Letters::U)
+    Value::absolute(0, ErrorFlags::U)
 }
 
 fn of_name(name: Name) -> Value
     ensures { quantity result ≡ of_name name }
 {
     match name.words().0 {
-        0o113000 => Value::absolute(10, Letters::none()),
-        0o14400 => Value::absolute(1, Letters::D),
+        0o113000 => Value::absolute(10, ErrorFlags::none()),
+        0o14400 => Value::absolute(1, ErrorFlags::D),
         _ => unknown(),
     }
 }

@@ -6,7 +6,7 @@ use Rattle.std.proofs.lemmas.List.{get_or-map, length-map}
 use Rattle.m11_base.specs.Mnemonics.{character_at, folded, six_of}
 use Rattle.m11_base.specs.Rad50.{name_of, packed_at}
 use Rattle.m11_scan.specs.Cutting.{Lexeme}
-use Rattle.m11_scan.specs.Names.{packed_letters, packed_word, word_or_none}
+use Rattle.m11_scan.specs.Names.{packed_flags, packed_word, word_or_none}
 use Rattle.m11_scan.specs.declared.radix.Radix.{Radix}
 use Rattle.m11_scan.specs.declared.sort.Sort.{Sort}
 use Rattle.m11_scan.specs.declared.sort.Sort.TheVariants.{Name, Number, DecimalNumber, LocalSymbol, Character, TwoCharacters, Packed, BinaryRadix, OctalRadix, DecimalRadix, Complement, Plus, Minus, Times, Over, And, Or, Less, Greater, Percent, NumberSign, At, Open, Close, Comma, Colon, TwoColons, Equals, TwoEquals}
@@ -50,7 +50,7 @@ same_characters a b (place ∷ places) h =
     ap (λ (c : ℕ). c ∷ map (character_at a) places) (same_character a b place h)
     ∙ ap (λ (l : List ℕ). character_at b place ∷ l) (same_characters a b places h)
 
--- no letter is a point
+-- no flag is a point
 folded_point : (byte : ℕ) → eqb (folded byte) 46 ≡ eqb byte 46
 folded_point byte = grind (arith, nat_tests)
 
@@ -74,11 +74,11 @@ same_word : (a b : List ℕ) → map folded a ≡ map folded b → packed_word a
 same_word a b h =
     ap (λ (three : List ℕ). word_or_none (packed_at three 0)) (same_characters a b (0 ∷ 1 ∷ 2 ∷ []) h)
 
-same_letters : (a b : List ℕ) → map folded a ≡ map folded b → packed_letters a ≡ packed_letters b
-same_letters [] [] h = refl
-same_letters [] (x ∷ b) h = cc
-same_letters (x ∷ a) [] h = cc
-same_letters (x ∷ a) (y ∷ b) h = refl
+same_flags : (a b : List ℕ) → map folded a ≡ map folded b → packed_flags a ≡ packed_flags b
+same_flags [] [] h = refl
+same_flags [] (x ∷ b) h = cc
+same_flags (x ∷ a) [] h = cc
+same_flags (x ∷ a) (y ∷ b) h = refl
 
 same_packed : (a b : List ℕ) → map folded a ≡ map folded b → packed a ≡ packed b
 same_packed [] [] h = refl
@@ -89,8 +89,8 @@ same_packed (x ∷ []) (y ∷ z ∷ b) h = cc
 same_packed (x ∷ z ∷ a) (y ∷ []) h = cc
 same_packed (x ∷ z ∷ a) (y ∷ w ∷ b) h =
     let rest : map folded a ≡ map folded b = ap (λ (l : List ℕ). drop 2 l) h in
-    ap (λ (n : ℕ). absolute n (packed_letters a)) (same_word a b rest)
-    ∙ ap (λ (n : ℕ). absolute (packed_word b) n) (same_letters a b rest)
+    ap (λ (n : ℕ). absolute n (packed_flags a)) (same_word a b rest)
+    ∙ ap (λ (n : ℕ). absolute (packed_word b) n) (same_flags a b rest)
 
 same_atom : (stands_for : Symbol → Quantity) (sort : Sort) (a b : List ℕ) → IsSameText sort a b
     → atom_of stands_for sort a ≡ atom_of stands_for sort b

@@ -3,10 +3,10 @@ mod Cases
 mod Exits
 mod FirstOperators
 mod Folds
-mod FurtherLetters
+mod FurtherFlags
 mod Groups
 mod LastOperators
-mod LoneTerms
+mod SingleTerms
 pub mod Meanings
 mod OpenBrackets
 mod Parts

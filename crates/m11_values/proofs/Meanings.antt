@@ -1,7 +1,7 @@
 -- Expressions whose tokens stand for the same have the same value.
 use Rattle.std.proofs.Common.{◌≡◌, ℕ, List, [], ◌∷◌, Option, Some, None, refl, ap, ◌∙◌}
 use Rattle.m11_scan.specs.Cutting.{text_between}
-use Rattle.m11_scan.specs.Letters.{letter_A}
+use Rattle.m11_scan.specs.ErrorFlags.{flag_A}
 use Rattle.m11_scan.specs.declared.cutting.Token.{Token}
 use Rattle.m11_scan.specs.declared.radix.Radix.{Radix}
 use Rattle.m11_scan.specs.declared.sort.Sort.{Sort}
@@ -25,7 +25,7 @@ atom_agrees first second Name text agree =
 atom_agrees first second Number text agree = refl
 atom_agrees first second DecimalNumber text agree = refl
 atom_agrees first second LocalSymbol text agree =
-    ap (λ (v : Quantity). Fixed v) (meaning_agrees first second (absolute 0 letter_A) (symbol_in LocalSymbol text) agree)
+    ap (λ (v : Quantity). Fixed v) (meaning_agrees first second (absolute 0 flag_A) (symbol_in LocalSymbol text) agree)
 atom_agrees first second Character text agree = refl
 atom_agrees first second TwoCharacters text agree = refl
 atom_agrees first second Packed text agree = refl

@@ -1,12 +1,12 @@
 -- The value of an expression in brackets. Where a bracket of the expression itself isn't closed, the `>` closes that one, and the
--- outer bracket isn't closed: the value and its letters stay the same.
+-- outer bracket isn't closed: the value and its flags stay the same.
 use Rattle.std.proofs.Common.{◌≡◌, ℕ, zero, suc, ◌+◌, ◌-◌, ◌<◌, ◌≤◌, Bool, true, false, List, [], ◌∷◌, ◌++◌, length, take, drop, Option, Some, None, nat_lt, refl, sym, ap, ◌∙◌, subst, arith, eqb, if◌then◌else◌}
 use Rattle.std.proofs.Math.Seq.{take-length}
 use Rattle.std.proofs.lemmas.Bool.{le-ltb}
 use Rattle.std.proofs.lemmas.List.{append-nil, drop-append-le, length-append, length-drop, take-append-le}
 use Rattle.std.specs.List.{drop-map}
 use Rattle.m11_scan.specs.Expressions.{begin, count_from, expression_length, goes_on, role_of, taken}
-use Rattle.m11_scan.specs.Letters.{letter_Q}
+use Rattle.m11_scan.specs.ErrorFlags.{flag_Q}
 use Rattle.m11_scan.specs.declared.expressions.Role.{Role}
 use Rattle.m11_scan.specs.declared.expressions.Role.TheVariants as roles
 use Rattle.m11_scan.specs.declared.expressions.Within.{Within}
@@ -23,11 +23,11 @@ use Rattle.m11_values.specs.Laws.{place_after}
 use Rattle.m11_values.specs.Operations.{combined}
 use Rattle.m11_values.specs.Places.{after, last_operator, later, operator_at, operator_of}
 use Rattle.m11_values.specs.Prefixes.{applied, bracket_length, one_more, prefix_of, radix_under, reach}
-use Rattle.m11_values.specs.Quantities.{Quantity, with_letters}
+use Rattle.m11_values.specs.Quantities.{Quantity, with_flags}
 use Rattle.m11_values.specs.Terms.{Item}
 use Rattle.m11_values.specs.Values.{item_sort, sorts_of, split_value, term_value, value_of}
 use Rattle.m11_values.proofs.Folds.{operator_outside, size_of, sorts-append}
-use Rattle.m11_values.proofs.FurtherLetters.{applied_keeps, combined_keeps}
+use Rattle.m11_values.proofs.FurtherFlags.{applied_keeps, combined_keeps}
 use Rattle.m11_values.proofs.Groups.{Goes, at, at_depth, closed_value, deeper, goes, is_taken, length_inside, none_outside, not_zero, sorts_are}
 use Rattle.m11_values.proofs.LastOperators.{IsBelow, last_below}
 use Rattle.m11_values.proofs.Parts.{value_by_parts}
@@ -214,7 +214,7 @@ plain_value radix item items prefix is plain none =
 
 unclosed_value : (radix : Radix) (less : Item) (items : List Item) → less.sort ≡ tokens.Less
     → last_operator begin (sorts_of (less ∷ items)) ≡ None → bracket_length 0 (sorts_of items) ≡ length items
-    → value_of radix (less ∷ items) ≡ with_letters letter_Q (value_of radix items)
+    → value_of radix (less ∷ items) ≡ with_flags flag_Q (value_of radix items)
 unclosed_value radix less items opens none reaches =
     value_by_parts radix (less ∷ items)
     ∙ ap (λ (s : Option Split). split_value value_of radix (less ∷ items) s) none
@@ -222,7 +222,7 @@ unclosed_value radix less items opens none reaches =
     ∙ ap (λ (n : ℕ). applied Bracket (nat_lt n (length items)) (value_of radix (take n items))) reaches
     ∙ ap (λ (b : Bool). applied Bracket b (value_of radix (take (length items) items)))
     (le-ltb (length items) (length items) (omega arith))
-    ∙ ap (λ (l : List Item). with_letters letter_Q (value_of radix l)) (take-length items)
+    ∙ ap (λ (l : List Item). with_flags flag_Q (value_of radix l)) (take-length items)
 
 whole_length : (sorts : List Sort) → taken sorts begin ≡ length sorts → bracket_length 0 sorts ≡ length sorts
 whole_length sorts whole =
@@ -239,7 +239,7 @@ no_operator false = refl
 module _ (greater : Item) (closes : greater.sort ≡ tokens.Greater) where
   -- a `>` more gives back the value of an expression that has an open bracket, but for the Q
   abbrev Keeps : Radix → List Item → Type 0
-  Keeps radix items = with_letters letter_Q (value_of radix (items ++ greater ∷ [])) ≡ value_of radix items
+  Keeps radix items = with_flags flag_Q (value_of radix (items ++ greater ∷ [])) ≡ value_of radix items
 
   last_in : (place : Within) (sorts : List Sort) → last_operator place (sorts ++ greater.sort ∷ []) ≡ last_operator place sorts
   last_in place [] =
@@ -259,13 +259,13 @@ module _ (greater : Item) (closes : greater.sort ≡ tokens.Greater) where
       let inside : split.place < length (sorts_of items) = subst P found (last_below begin (sorts_of items)) in
       let size = size_of items in
       let left = value_of radix (take split.place items) in
-      ap (λ (v : Quantity). with_letters letter_Q v) (split_is radix (items ++ greater ∷ []) split (same_last items ∙ found))
-      ∙ ap (λ (l : List Item). with_letters letter_Q
+      ap (λ (v : Quantity). with_flags flag_Q v) (split_is radix (items ++ greater ∷ []) split (same_last items ∙ found))
+      ∙ ap (λ (l : List Item). with_flags flag_Q
       (combined split.operator (value_of radix l) (value_of radix (drop (suc split.place) (items ++ greater ∷ [])))))
       (take-append-le split.place items (greater ∷ []) (omega arith))
-      ∙ ap (λ (l : List Item). with_letters letter_Q (combined split.operator left (value_of radix l)))
+      ∙ ap (λ (l : List Item). with_flags flag_Q (combined split.operator left (value_of radix l)))
       (drop-append-le (suc split.place) items (greater ∷ []) (omega arith))
-      ∙ combined_keeps letter_Q split.operator left (value_of radix (drop (suc split.place) items ++ greater ∷ []))
+      ∙ combined_keeps flag_Q split.operator left (value_of radix (drop (suc split.place) items ++ greater ∷ []))
       ∙ ap (λ (v : Quantity). combined split.operator left v) keeps
       ∙ sym (split_is radix items split found)
 
@@ -273,9 +273,9 @@ module _ (greater : Item) (closes : greater.sort ≡ tokens.Greater) where
       → IsPlain prefix → last_operator begin (sorts_of (item ∷ items)) ≡ None → Keeps (radix_under prefix radix) items
       → Keeps radix (item ∷ items)
   before radix item items prefix is plain none keeps =
-      ap (λ (v : Quantity). with_letters letter_Q v)
+      ap (λ (v : Quantity). with_flags flag_Q v)
       (plain_value radix item (items ++ greater ∷ []) prefix is plain (same_last (item ∷ items) ∙ none))
-      ∙ applied_keeps letter_Q prefix false (value_of (radix_under prefix radix) (items ++ greater ∷ []))
+      ∙ applied_keeps flag_Q prefix false (value_of (radix_under prefix radix) (items ++ greater ∷ []))
       ∙ ap (λ (v : Quantity). applied prefix false v) keeps
       ∙ sym (plain_value radix item items prefix is plain none)
 
@@ -313,7 +313,7 @@ module _ (greater : Item) (closes : greater.sort ≡ tokens.Greater) where
       before radix item items prefix is plain none (shorter (radix_under prefix radix) items (omega arith) rest)
   alone radix item items none shorter (Bracketed opens rest last) =
       let own : taken (sorts_of items) begin ≡ length (sorts_of items) = all_within (sorts_of items) begin rest last in
-      ap (λ (v : Quantity). with_letters letter_Q v)
+      ap (λ (v : Quantity). with_flags flag_Q v)
       (in_brackets radix item items opens (own ∙ size_of items) (place_after begin (sorts_of items)).depth refl
       (λ inside. shorter radix items (omega arith) (record { whole = own; inside = inside })))
       ∙ sym (unclosed_value radix item items opens none (whole_length (sorts_of items) own ∙ size_of items))

@@ -3,7 +3,7 @@
 -- together, is this project's own.)
 use Rattle.std.specs.Prelude.{ℕ, Bool, true, false, if◌then◌else◌, Option, Some, None}
 use Rattle.m11_base.specs.Rad50.{is_same_name}
-use Rattle.m11_scan.specs.Letters.{letter_A}
+use Rattle.m11_scan.specs.ErrorFlags.{flag_A}
 use Rattle.m11_values.specs.declared.kinds.Kind.{Kind}
 use Rattle.m11_values.specs.declared.kinds.Kind.TheVariants.{Absolute, Section, Register, Reference}
 use Rattle.m11_values.specs.declared.operators.Operator.{Operator}
@@ -34,10 +34,10 @@ is_register (Section name) = false
 is_register Register = true
 is_register (Reference name) = false
 
--- the set of the letter R
-abbrev pub letter_R : ℕ
-letter_R = 0o4000
+-- the set of the flag R
+abbrev pub flag_R : ℕ
+flag_R = 0o4000
 
--- the letter of operands that may not stand where they do: R where one of them is a register, else A
+-- the flag of operands that may not stand where they do: R where one of them is a register, else A
 abbrev pub refusal : Bool → ℕ
-refusal has_register = if has_register then letter_R else letter_A
+refusal has_register = if has_register then flag_R else flag_A

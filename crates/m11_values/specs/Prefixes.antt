@@ -2,7 +2,7 @@
 -- and "Radix and numeric control". That a `>` may be missing, which is flagged Q, is this project's own.)
 use Rattle.std.specs.Prelude.{ℕ, suc, ◌+◌, ◌-◌, ◌==◌, Bool, if◌then◌else◌, List, [], ◌∷◌, length, Option, Some, None}
 use Rattle.m11_scan.specs.Expressions.{role_of}
-use Rattle.m11_scan.specs.Letters.{letter_Q}
+use Rattle.m11_scan.specs.ErrorFlags.{flag_Q}
 use Rattle.m11_scan.specs.declared.expressions.Role.{Role}
 use Rattle.m11_scan.specs.declared.expressions.Role.TheVariants.{Opens, Closes}
 use Rattle.m11_scan.specs.declared.radix.Radix.{Radix}
@@ -12,7 +12,7 @@ use Rattle.m11_scan.specs.declared.sort.Sort.TheVariants as sorts
 use Rattle.m11_values.specs.declared.prefixes.Prefix.{Prefix}
 use Rattle.m11_values.specs.declared.prefixes.Prefix.TheVariants.{Plus, Minus, Complement, Register, InRadix, Bracket}
 use Rattle.m11_values.specs.Operations.{as_register, complemented, negated}
-use Rattle.m11_values.specs.Quantities.{Quantity, with_letters}
+use Rattle.m11_values.specs.Quantities.{Quantity, with_flags}
 
 -- what a token of a sort is before a term
 abbrev pub prefix_of : Sort → Option Prefix
@@ -58,4 +58,4 @@ applied Minus is_closed value = negated value
 applied Complement is_closed value = complemented value
 applied Register is_closed value = as_register value
 applied (InRadix radix) is_closed value = value
-applied Bracket is_closed value = if is_closed then value else with_letters letter_Q value
+applied Bracket is_closed value = if is_closed then value else with_flags flag_Q value

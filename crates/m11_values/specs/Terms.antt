@@ -6,9 +6,9 @@ use Rattle.m11_base.specs.Devices.{Bytes}
 use Rattle.m11_base.specs.Mnemonics.{six_of}
 use Rattle.m11_base.specs.Rad50.{Name, name_of}
 use Rattle.m11_scan.specs.Cutting.{Lexeme}
-use Rattle.m11_scan.specs.Letters.{letter_A}
-use Rattle.m11_scan.specs.Names.{packed_letters, packed_word}
-use Rattle.m11_scan.specs.Numbers.{number_letters, number_of}
+use Rattle.m11_scan.specs.ErrorFlags.{flag_A}
+use Rattle.m11_scan.specs.Names.{packed_flags, packed_word}
+use Rattle.m11_scan.specs.Numbers.{number_flags, number_of}
 use Rattle.m11_scan.specs.declared.radix.Radix.{Radix}
 use Rattle.m11_scan.specs.declared.radix.Radix.TheVariants.{Decimal}
 use Rattle.m11_scan.specs.declared.sort.Sort.{Sort}
@@ -29,7 +29,7 @@ pub record Item : Type 0 where
 
 -- the number of digits in a radix
 abbrev pub number : Radix → Bytes → Quantity
-number radix digits = absolute (number_of radix digits % 65536) (number_letters radix digits)
+number radix digits = absolute (number_of radix digits % 65536) (number_flags radix digits)
 
 abbrev pub atom_value : Radix → Atom → Quantity
 atom_value radix (Digits digits) = number radix digits
@@ -52,9 +52,9 @@ name_symbol text = if is_counter text then Some Counter else ordinary (name_of (
 abbrev pub front_of : Bytes → Bytes
 front_of text = take (length text - 1) text
 
--- the local symbol of a decimal number: one over 65535 has a letter
+-- the local symbol of a decimal number: one over 65535 has a flag
 abbrev pub local_of : Quantity → Option Symbol
-local_of value = if value.number == 0 then None else (if value.letters == 0 then Some (Local value.number) else None)
+local_of value = if value.number == 0 then None else (if value.flags == 0 then Some (Local value.number) else None)
 
 abbrev pub local_symbol : Bytes → Option Symbol
 local_symbol digits = local_of (number Decimal digits)
@@ -85,14 +85,14 @@ two_characters [] = missing
 
 -- `^R` and the characters after it
 abbrev pub packed : Bytes → Quantity
-packed (mark ∷ letter ∷ characters) = absolute (packed_word characters) (packed_letters characters)
+packed (mark ∷ flag ∷ characters) = absolute (packed_word characters) (packed_flags characters)
 packed (mark ∷ []) = missing
 packed [] = missing
 
 -- what a token of a sort and a text is as a term
 abbrev pub atom_of : (Symbol → Quantity) → Sort → Bytes → Atom
 atom_of stands_for sorts.Name text = Fixed (meaning_or stands_for missing (symbol_in sorts.Name text))
-atom_of stands_for sorts.LocalSymbol text = Fixed (meaning_or stands_for (absolute 0 letter_A) (symbol_in sorts.LocalSymbol text))
+atom_of stands_for sorts.LocalSymbol text = Fixed (meaning_or stands_for (absolute 0 flag_A) (symbol_in sorts.LocalSymbol text))
 atom_of stands_for sorts.Number text = Digits text
 atom_of stands_for sorts.DecimalNumber text = Fixed (number Decimal (front_of text))
 atom_of stands_for sorts.Character text = Fixed (character text)

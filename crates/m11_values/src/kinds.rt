@@ -8,7 +8,7 @@ ghost use Rattle.m11_values.specs.Operations.{absence};
 
 use crate::operators::Operator;
 use m11_base::Name;
-use m11_scan::Letters;
+use m11_scan::ErrorFlags;
 
 /// What the number of a value counts from.
 #[derive(Clone, Copy, PartialEq, Eq, Debug)]
@@ -31,12 +31,12 @@ impl Kind {
         matches!(&self, Kind::Register)
     }
 
-    /// The letter of the kind where only an absolute number may stand: R for a register, A for any other.
-    pub fn absence(self) -> Letters
+    /// The flag of the kind where only an absolute number may stand: R for a register, A for any other.
+    pub fn absence(self) -> ErrorFlags
         ensures { bits_of result ≡ absence self }
     {
         match self {
-            Kind::Absolute => Letters::none(),
+            Kind::Absolute => ErrorFlags::none(),
             Kind::Register => refusal(true),
             Kind::Section(_) | Kind::Reference(_) => refusal(false),
         }
@@ -68,9 +68,13 @@ fn apart(one: Name, other: Name) -> Option<Kind>
     }
 }
 
-// The letter of an operand that may not stand where it does: R for a register, else A.
-pub(crate) fn refusal(is_register: bool) -> Letters
+// The flag of an operand that may not stand where it does: R for a register, else A.
+pub(crate) fn refusal(is_register: bool) -> ErrorFlags
     ensures { bits_of result ≡ refusal is_register }
 {
-    if is_register { Letters::R } else { Letters::A }
+    if is_register {
+        ErrorFlags::R
+    } else {
+        ErrorFlags::A
+    }
 }

@@ -34,7 +34,7 @@ pub fn operators_apply_from_left_to_right()
         → value_of radix (first ∷ written steps) ≡ left_fold radix (atom_value radix first.atom) steps }
 {}
 
-/// Brackets round an expression of which nothing is left over make a term of its value and its letters. Where one of its own
+/// Brackets round an expression of which nothing is left over make a term of its value and its flags. Where one of its own
 /// brackets isn't closed, the `>` closes that one, and the outer one isn't closed.
 #[tactic(auto, using(crate::proofs::OpenBrackets::bracketed_value))]
 pub fn brackets_keep_the_value()

@@ -21,7 +21,7 @@ pub enum Symbol {
     Counter,
 }
 
-/// Who says what is written in an expression. Each symbol has a meaning: an unknown one has letters that say so.
+/// Who says what is written in an expression. Each symbol has a meaning: an unknown one has flags that say so.
 pub trait Names {
     // The radix of numbers that have no radix of their own.
     ghost base: { Self → Radix };

@@ -2,26 +2,26 @@
 
 ghost use Rattle.std.specs.Prelude.{◌≡◌};
 ghost use Rattle.m11_scan.specs.Views.{bits_of};
-ghost use Rattle.m11_values.specs.Operations.{as_register, combined, complemented, division_letters, limited, negated, number_of, quotient, replaced, settled};
+ghost use Rattle.m11_values.specs.Operations.{as_register, combined, complemented, division_flags, limited, negated, number_of, quotient, replaced, settled};
 ghost use Rattle.m11_values.specs.Quantities.{quantity};
 
 use crate::kinds::{Kind, kind_of, refusal};
 use crate::operators::Operator;
 use crate::values::Value;
-use m11_scan::Letters;
+use m11_scan::ErrorFlags;
 
 // What an operator makes of two values.
 pub(crate) fn combined(operator: Operator, left: Value, right: Value) -> Value
     ensures { quantity result ≡ combined operator (quantity left) (quantity right) }
 {
-    let letters = left
-        .letters
-        .with(right.letters)
-        .with(division_letters(operator, right.number));
+    let flags = left
+        .flags
+        .with(right.flags)
+        .with(division_flags(operator, right.number));
     settled(
         kind_of(operator, left.kind, right.kind),
         number_of(operator, left.number, right.number),
-        letters,
+        flags,
         left.kind.is_register() || right.kind.is_register(),
     )
 }
@@ -53,26 +53,26 @@ fn quotient(left: u16, right: u16) -> u16
 }
 
 // A for a division by 0.
-fn division_letters(operator: Operator, divisor: u16) -> Letters
-    ensures { bits_of result ≡ division_letters operator divisor }
+fn division_flags(operator: Operator, divisor: u16) -> ErrorFlags
+    ensures { bits_of result ≡ division_flags operator divisor }
 {
     match operator {
-        Operator::Divide => Letters::A.when(divisor == 0),
-        _ => Letters::none(),
+        Operator::Divide => ErrorFlags::A.when(divisor == 0),
+        _ => ErrorFlags::none(),
     }
 }
 
 // A number of a kind, or an absolute one where its operands may not stand together.
-fn settled(kind: Option<Kind>, number: u16, letters: Letters, has_register: bool) -> Value
-    ensures { quantity result ≡ settled kind number (bits_of letters) has_register }
+fn settled(kind: Option<Kind>, number: u16, flags: ErrorFlags, has_register: bool) -> Value
+    ensures { quantity result ≡ settled kind number (bits_of flags) has_register }
 {
     match kind {
         Some(kind) => limited(Value {
             number,
             kind,
-            letters,
+            flags,
         }),
-        None => Value::absolute(number, letters.with(refusal(has_register))),
+        None => Value::absolute(number, flags.with(refusal(has_register))),
     }
 }
 
@@ -81,7 +81,7 @@ fn limited(value: Value) -> Value
     ensures { quantity result ≡ limited (quantity value) }
 {
     if value.kind.is_register() && value.number > 7 {
-        Value::absolute(value.number, value.letters.with(Letters::R))
+        Value::absolute(value.number, value.flags.with(ErrorFlags::R))
     } else {
         value
     }
@@ -105,7 +105,7 @@ pub(crate) fn complemented(value: Value) -> Value
 fn replaced(value: Value, number: u16) -> Value
     ensures { quantity result ≡ replaced (quantity value) number }
 {
-    Value::absolute(number, value.letters.with(value.kind.absence()))
+    Value::absolute(number, value.flags.with(value.kind.absence()))
 }
 
 // The register of a number.
@@ -115,6 +115,6 @@ pub(crate) fn as_register(value: Value) -> Value
     limited(Value {
         number: value.number,
         kind: Kind::Register,
-        letters: value.letters.with(value.kind.absence()),
+        flags: value.flags.with(value.kind.absence()),
     })
 }

@@ -7,7 +7,7 @@ ghost use Rattle.m11_values.specs.Quantities.{quantity};
 
 use crate::operations::{as_register, complemented, negated};
 use crate::values::Value;
-use m11_scan::{Letters, Radix, Role, Sort, Token, role_of};
+use m11_scan::{ErrorFlags, Radix, Role, Sort, Token, role_of};
 
 // What stands before a term.
 #[derive(Clone, Copy, PartialEq, Eq, Debug)]
@@ -107,7 +107,7 @@ pub(crate) fn applied(prefix: Prefix, is_closed: bool, value: Value) -> Value
             if is_closed {
                 value
             } else {
-                value.with_letters(Letters::Q)
+                value.with_flags(ErrorFlags::Q)
             }
         }
     }

@@ -9,7 +9,7 @@ ghost use Rattle.m11_values.specs.Terms.{atom_value, is_counter, item, local_sym
 use crate::names::{Names, Symbol};
 use crate::values::Value;
 use m11_base::Name;
-use m11_scan::{Letters, Line, Number, Radix, Sort, Token, read_name, read_number, read_packed};
+use m11_scan::{ErrorFlags, Line, Number, Radix, Sort, Token, read_name, read_number, read_packed};
 
 // The value of a token that is a term.
 pub(crate) fn atom<N: Names>(token: &Token, radix: Radix, line: &Line, names: &N) -> Value
@@ -22,7 +22,7 @@ pub(crate) fn atom<N: Names>(token: &Token, radix: Radix, line: &Line, names: &N
         Sort::LocalSymbol => meaning_or(
             names,
             symbol_in(Sort::LocalSymbol, text),
-            Value::absolute(0, Letters::A),
+            Value::absolute(0, ErrorFlags::A),
         ),
         Sort::Number => of_number(read_number(text, radix)),
         Sort::DecimalNumber => of_number(read_number(front_of(text), Radix::Decimal)),
@@ -34,9 +34,9 @@ pub(crate) fn atom<N: Names>(token: &Token, radix: Radix, line: &Line, names: &N
 }
 
 fn of_number(number: Number) -> Value
-    ensures { quantity result ≡ absolute number.value (bits_of number.letters) }
+    ensures { quantity result ≡ absolute number.value (bits_of number.flags) }
 {
-    Value::absolute(number.value, number.letters)
+    Value::absolute(number.value, number.flags)
 }
 
 // Inline: each symbol of an expression comes here, and a call would hand its result on by memory.
@@ -98,7 +98,7 @@ fn local_symbol(digits: &[u8]) -> Option<Symbol>
     if number.value == 0 {
         return None;
     }
-    if number.letters == Letters::none() {
+    if number.flags == ErrorFlags::none() {
         Some(Symbol::Local(number.value))
     } else {
         None
@@ -116,7 +116,7 @@ fn character(text: &[u8]) -> Value
     ensures { quantity result ≡ spec.character text.now }
 {
     match text {
-        [_, first, ..] => Value::absolute(u16::from(*first), Letters::none()),
+        [_, first, ..] => Value::absolute(u16::from(*first), ErrorFlags::none()),
         _ => Value::missing(),
     }
 }
@@ -128,7 +128,7 @@ fn two_characters(text: &[u8]) -> Value
         [_, first, second, ..] => {
             Value::absolute(
                 u16::from(*first) + 256 * u16::from(*second),
-                Letters::none(),
+                ErrorFlags::none(),
             )
         }
         _ => Value::missing(),

@@ -2,10 +2,10 @@
 
 ghost use Rattle.std.specs.Prelude.{◌≡◌};
 ghost use Rattle.m11_scan.specs.Views.{bits_of};
-ghost use Rattle.m11_values.specs.Quantities.{absolute, missing, quantity, with_letters};
+ghost use Rattle.m11_values.specs.Quantities.{absolute, missing, quantity, with_flags};
 
 use crate::kinds::Kind;
-use m11_scan::Letters;
+use m11_scan::ErrorFlags;
 
 /// What an expression stands for.
 #[derive(Clone, Copy, PartialEq, Eq, Debug)]
@@ -14,19 +14,19 @@ pub struct Value {
     pub number: u16,
     /// What the number counts from.
     pub kind: Kind,
-    /// The letters that flag the expression.
-    pub letters: Letters,
+    /// The flags that flag the expression.
+    pub flags: ErrorFlags,
 }
 
 impl Value {
-    /// An absolute value with letters.
-    pub fn absolute(number: u16, letters: Letters) -> Value
-        ensures { quantity result ≡ absolute number (bits_of letters) }
+    /// An absolute value with flags.
+    pub fn absolute(number: u16, flags: ErrorFlags) -> Value
+        ensures { quantity result ≡ absolute number (bits_of flags) }
     {
         Value {
             number,
             kind: Kind::Absolute,
-            letters,
+            flags,
         }
     }
 
@@ -34,17 +34,17 @@ impl Value {
     pub fn missing() -> Value
         ensures { quantity result ≡ missing }
     {
-        Value::absolute(0, Letters::Q)
+        Value::absolute(0, ErrorFlags::Q)
     }
 
-    /// The same value with further letters.
-    pub fn with_letters(self, letters: Letters) -> Value
-        ensures { quantity result ≡ with_letters (bits_of letters) (quantity self) }
+    /// The same value with further flags.
+    pub fn with_flags(self, flags: ErrorFlags) -> Value
+        ensures { quantity result ≡ with_flags (bits_of flags) (quantity self) }
     {
         Value {
             number: self.number,
             kind: self.kind,
-            letters: self.letters.with(letters),
+            flags: self.flags.with(flags),
         }
     }
 }

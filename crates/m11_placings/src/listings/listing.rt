@@ -12,7 +12,7 @@ fn byte(number: u8) -> Item {
 
 #[test]
 fn a_source_line_stands_in_its_columns(rt: HostRuntime) {
-    // letters, number, place, items and text, and how they are listed
+    // flags, number, place, items and text, and how they are listed
     let rows: [(&[u8], u16, u16, &[Item], &[u8], &[u8]); 12] = [
         (
             b"",
@@ -109,9 +109,9 @@ fn a_source_line_stands_in_its_columns(rt: HostRuntime) {
         ),
         (b"E", 0, 0, &[], b"", b"E        0 000000\n"),
     ];
-    for (letters, number, place, items, text, wanted) in rows {
+    for (flags, number, place, items, text, wanted) in rows {
         assert!(rt; text.len() <= 132, "the text of line {number}");
-        let line = listed_line(letters, number, place, items, text);
+        let line = listed_line(flags, number, place, items, text);
         assert!(rt; line.as_slice() == wanted, "line {number}");
     }
 }

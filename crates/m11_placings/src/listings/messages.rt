@@ -17,10 +17,10 @@ const ROWS: [(&[u8], u16, &[u8], &[u8]); 6] = [
 ];
 
 #[test]
-fn a_message_has_letters_number_and_text(rt: HostRuntime) {
-    for (letters, number, text, wanted) in ROWS {
+fn a_message_has_flags_number_and_text(rt: HostRuntime) {
+    for (flags, number, text, wanted) in ROWS {
         assert!(rt;
-            message_line(letters, number, text).as_slice() == wanted,
+            message_line(flags, number, text).as_slice() == wanted,
             "line {number}"
         );
     }

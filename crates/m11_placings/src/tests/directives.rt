@@ -1,4 +1,4 @@
-//! What directives put, with their letters.
+//! What directives put, with their flags.
 
 use super::{Row, check_lines};
 
@@ -115,6 +115,6 @@ fn sections_are_selected(rt: HostRuntime) {
 }
 
 #[test]
-fn other_directives_have_their_letters(rt: HostRuntime) {
+fn other_directives_have_their_flags(rt: HostRuntime) {
     check_lines(&rt, rt.alloc(), &OTHERS);
 }

@@ -1,4 +1,4 @@
-//! Each letter that a line may have before it is listed.
+//! Each flag that a line may have before it is listed.
 
 use super::{Row, check_lines};
 
@@ -51,11 +51,11 @@ static LAST_LETTERS: [Row; 9] = [
 ];
 
 #[test]
-fn lines_have_the_letters_from_a_to_l(rt: HostRuntime) {
+fn lines_have_the_flags_from_a_to_l(rt: HostRuntime) {
     check_lines(&rt, rt.alloc(), &FIRST_LETTERS);
 }
 
 #[test]
-fn lines_have_the_letters_from_m_to_u(rt: HostRuntime) {
+fn lines_have_the_flags_from_m_to_u(rt: HostRuntime) {
     check_lines(&rt, rt.alloc(), &LAST_LETTERS);
 }

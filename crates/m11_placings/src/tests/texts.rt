@@ -2,16 +2,16 @@
 
 use m11_base::{Name, octal6};
 use m11_object_text::{PieceContent, RelocationKind, Stored};
-use m11_scan::Letters;
+use m11_scan::ErrorFlags;
 use std::alloc::AllocError;
 
-// The letters of a line and what it puts, each after a blank, and `;`.
+// The flags of a line and what it puts, each after a blank, and `;`.
 pub(crate) fn put_line(
-    letters: Letters,
+    flags: ErrorFlags,
     contents: &[PieceContent],
     text: &mut Vec<u8>,
 ) -> Result<(), AllocError> {
-    text.extend_from_slice(&letters.text())?;
+    text.extend_from_slice(&flags.text())?;
     'contents: for content in contents {
         text.push(b' ')?;
         put_content(content, text)?;

@@ -2,20 +2,20 @@
 //! "Arguments in macro definitions and macro calls".)
 
 use super::{part_after, same};
-use m11_scan::{Letters, Line};
+use m11_scan::{ErrorFlags, Line};
 use m11_statements::{
     Actual, ActualKind, ListedName, NextFormal, PartKind, listed_name, next_actual, next_formal,
     separator_at,
 };
 use std::process::Abort;
 
-// A text, its parts with the places of what stands in them and whether they are closed, the place after them, and the letters of
+// A text, its parts with the places of what stands in them and whether they are closed, the place after them, and the flags of
 // the last part.
 struct PartsRow {
     text: &'static [u8],
     parts: &'static [(PartKind, u8, u8, bool)],
     end: u8,
-    letters: &'static str,
+    flags: &'static str,
 }
 
 static PARTS: [PartsRow; 18] = [
@@ -23,7 +23,7 @@ static PARTS: [PartsRow; 18] = [
         text: b"/ab/",
         parts: &[(PartKind::Text, 1, 3, true)],
         end: 4,
-        letters: "",
+        flags: "",
     },
     PartsRow {
         text: b"/\"/<15>",
@@ -32,7 +32,7 @@ static PARTS: [PartsRow; 18] = [
             (PartKind::Expression, 4, 6, true),
         ],
         end: 7,
-        letters: "",
+        flags: "",
     },
     PartsRow {
         text: b" <<1+2>*3> /x/ ;c",
@@ -41,97 +41,97 @@ static PARTS: [PartsRow; 18] = [
             (PartKind::Text, 12, 13, true),
         ],
         end: 14,
-        letters: "",
+        flags: "",
     },
     PartsRow {
         text: b"/ab ;c",
         parts: &[(PartKind::Text, 1, 6, false)],
         end: 6,
-        letters: "A",
+        flags: "A",
     },
     PartsRow {
         text: b"\"X",
         parts: &[(PartKind::Text, 1, 2, false)],
         end: 2,
-        letters: "A",
+        flags: "A",
     },
     PartsRow {
         text: b":xy:",
         parts: &[(PartKind::Text, 1, 3, true)],
         end: 4,
-        letters: "",
+        flags: "",
     },
     PartsRow {
         text: b"=x=",
         parts: &[(PartKind::Text, 1, 2, true)],
         end: 3,
-        letters: "",
+        flags: "",
     },
     PartsRow {
         text: b"//",
         parts: &[(PartKind::Text, 1, 1, true)],
         end: 2,
-        letters: "",
+        flags: "",
     },
     PartsRow {
         text: b"<>",
         parts: &[(PartKind::Expression, 1, 1, true)],
         end: 2,
-        letters: "",
+        flags: "",
     },
     PartsRow {
         text: b"<1 2>/a/",
         parts: &[(PartKind::Expression, 1, 2, false)],
         end: 2,
-        letters: "Q",
+        flags: "Q",
     },
     PartsRow {
         text: b"<15",
         parts: &[(PartKind::Expression, 1, 3, false)],
         end: 3,
-        letters: "Q",
+        flags: "Q",
     },
     PartsRow {
         text: b";a;b",
         parts: &[(PartKind::Text, 1, 2, true), (PartKind::Text, 4, 4, false)],
         end: 4,
-        letters: "A",
+        flags: "A",
     },
     PartsRow {
         text: b";a;;b",
         parts: &[(PartKind::Text, 1, 2, true)],
         end: 3,
-        letters: "",
+        flags: "",
     },
     PartsRow {
         text: b"/a/ ;b;",
         parts: &[(PartKind::Text, 1, 2, true)],
         end: 3,
-        letters: "",
+        flags: "",
     },
     PartsRow {
         text: b"",
         parts: &[],
         end: 0,
-        letters: "",
+        flags: "",
     },
     PartsRow {
         text: b" \t",
         parts: &[],
         end: 0,
-        letters: "",
+        flags: "",
     },
     PartsRow {
         text: b"\x80a\x80a",
         parts: &[(PartKind::Text, 2, 3, true)],
         end: 4,
-        letters: "",
+        flags: "",
     },
     PartsRow {
         text: b"\x7f/a/\x01/b/",
         parts: &[(PartKind::Text, 2, 3, true), (PartKind::Text, 6, 7, true)],
         end: 8,
-        letters: "",
+        flags: "",
     },
 ];
 
@@ -148,7 +148,7 @@ fn check_parts(rt: &impl Abort, row: &PartsRow) {
     let mut place: u8 = 0;
     let mut is_first = true;
     let mut is_closed = true;
-    let mut letters = Letters::none();
+    let mut flags = ErrorFlags::none();
     for wanted in row.parts {
         let Some(part) = part_after(&line, place, is_first) else {
             break;
@@ -160,19 +160,19 @@ fn check_parts(rt: &impl Abort, row: &PartsRow) {
             part.is_closed,
         );
         same(rt, &row.end, &got, wanted);
-        letters = part.letters();
+        flags = part.flags();
         is_closed = part.is_closed;
         place = part.end;
         is_first = false;
     }
     let goes_on = is_closed && part_after(&line, place, is_first).is_some();
-    same(rt, &row.letters, &goes_on, &false);
-    same(rt, &row.letters, &place, &row.end);
+    same(rt, &row.flags, &goes_on, &false);
+    same(rt, &row.flags, &place, &row.end);
     same(
         rt,
         &row.end,
-        &letters.text().as_slice(),
-        &row.letters.as_bytes(),
+        &flags.text().as_slice(),
+        &row.flags.as_bytes(),
     );
 }
 

@@ -29,7 +29,7 @@ fn are_both(rt: &impl Abort, line: &Line, fields: &Fields) {
         same(rt, &LINE, &mode_of(field), &Some(*wanted));
     }
     same(rt, &LINE, &fields.end, &20);
-    same(rt, &LINE, &fields.letters.text().len(), &0);
+    same(rt, &LINE, &fields.flags.text().len(), &0);
     let end = line.text().len();
     let is_skipped = usize::from(fields.end) <= end
         && skipped_between(line, usize::from(fields.end), end);
@@ -45,14 +45,14 @@ fn labels_operator_and_operands_stand_in_order(rt: HostRuntime) {
         same(&rt, &LINE, &label_of(label), &(LabelKind::Global, 0, 1));
     }
     let said = statement(&line);
-    same(&rt, &LINE, &said.label_letters.text().len(), &0);
+    same(&rt, &LINE, &said.label_flags.text().len(), &0);
     same(
         &rt,
         &LINE,
         &said.body,
-        &Body::Operates(Span { start: 4, end: 7 }),
+        &Body::Operate(Span { start: 4, end: 7 }),
     );
-    if let Body::Operates(name) = said.body {
+    if let Body::Operate(name) = said.body {
         let operation = Op::Double(DoubleOp::Mov, Size::Word);
         let names = values::Known {
             radix: Radix::Octal,

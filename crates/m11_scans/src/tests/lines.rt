@@ -1,8 +1,8 @@
-//! Lines and sets of letters.
+//! Lines and sets of flags.
 
 use super::same;
 use bitflags::Flags;
-use m11_scan::{Letters, Line, expression_at};
+use m11_scan::{ErrorFlags, Line, expression_at};
 
 #[test]
 fn a_line_has_132_characters(rt: HostRuntime) {
@@ -20,14 +20,14 @@ fn a_line_has_132_characters(rt: HostRuntime) {
 }
 
 #[test]
-fn letters_stand_in_the_order_of_the_alphabet(rt: HostRuntime) {
-    let some = Letters::U
-        .with(Letters::A)
-        .with(Letters::Q)
-        .with(Letters::A);
+fn flags_stand_in_the_order_of_the_alphabet(rt: HostRuntime) {
+    let some = ErrorFlags::U
+        .with(ErrorFlags::A)
+        .with(ErrorFlags::Q)
+        .with(ErrorFlags::A);
     same(&rt, &"some", &some.text().as_slice(), &b"AQU".as_slice());
-    same(&rt, &"none", &Letters::none().text().len(), &0);
-    let all = Letters::from_bits_retain(0xffff);
+    same(&rt, &"none", &ErrorFlags::none().text().len(), &0);
+    let all = ErrorFlags::from_bits_retain(0xffff);
     same(
         &rt,
         &"all",

@@ -69,9 +69,9 @@ fn check_tokens(rt: &impl Abort, line: &Line) {
 fn ends_of(body: Body, size: u8) -> (u8, u8) {
     match body {
         Body::Nothing => (size, size),
-        Body::Assigns(assignment) => (assignment.name.start, assignment.value),
-        Body::SetsCounter(value) => (value, value),
-        Body::Operates(name) => (name.start, name.end),
+        Body::Assign(assignment) => (assignment.name.start, assignment.value),
+        Body::SetCounter(value) => (value, value),
+        Body::Operate(name) => (name.start, name.end),
         Body::Words(start) => (start, size),
     }
 }

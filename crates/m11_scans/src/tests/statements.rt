@@ -18,12 +18,12 @@ enum Shape {
 
 use Shape::{Assigns, AssignsGlobally, Nothing, Operates, SetsCounter, Words};
 
-// A line, its labels with the places of their names, what stands after them with its places, and the letters of its labels.
+// A line, its labels with the places of their names, what stands after them with its places, and the flags of its labels.
 struct Row {
     line: &'static str,
     labels: &'static [(LabelKind, u8, u8)],
     body: (Shape, u8, u8, u8),
-    letters: &'static str,
+    flags: &'static str,
 }
 
 // Labels, and what has none.
@@ -32,7 +32,7 @@ static LABELS: [Row; 16] = [
         line: "A: MOV R1,(SP)+ ;x",
         labels: &[(LabelKind::Ordinary, 0, 1)],
         body: (Operates, 3, 6, 0),
-        letters: "",
+        flags: "",
     },
     Row {
         line: "A: B:: 5$: 1$:: NOP",
@@ -43,91 +43,91 @@ static LABELS: [Row; 16] = [
             (LabelKind::Local(1), 11, 13),
         ],
         body: (Operates, 16, 19, 0),
-        letters: "",
+        flags: "",
     },
     Row {
         line: "A:B:",
         labels: &[(LabelKind::Ordinary, 0, 1), (LabelKind::Ordinary, 2, 3)],
         body: (Nothing, 0, 0, 0),
-        letters: "",
+        flags: "",
     },
     Row {
         line: "A : NOP",
         labels: &[],
         body: (Operates, 0, 1, 0),
-        letters: "",
+        flags: "",
     },
     Row {
         line: ".: NOP",
         labels: &[],
         body: (Words, 0, 0, 0),
-        letters: "",
+        flags: "",
     },
     Row {
         line: "$.: NOP",
         labels: &[(LabelKind::Ordinary, 0, 2)],
         body: (Operates, 4, 7, 0),
-        letters: "",
+        flags: "",
     },
     Row {
         line: ".ENDM:",
         labels: &[(LabelKind::Ordinary, 0, 5)],
         body: (Nothing, 0, 0, 0),
-        letters: "",
+        flags: "",
     },
     Row {
         line: "X: .ENDM",
         labels: &[(LabelKind::Ordinary, 0, 1)],
         body: (Operates, 3, 8, 0),
-        letters: "",
+        flags: "",
     },
     Row {
         line: "L'A: .ENDM",
         labels: &[],
         body: (Operates, 0, 1, 0),
-        letters: "",
+        flags: "",
     },
     Row {
         line: "5A: NOP",
         labels: &[],
         body: (Words, 0, 0, 0),
-        letters: "",
+        flags: "",
     },
     Row {
         line: "12.: NOP",
         labels: &[],
         body: (Words, 0, 0, 0),
-        letters: "",
+        flags: "",
     },
     Row {
         line: "65535$: NOP",
         labels: &[(LabelKind::Local(65535), 0, 6)],
         body: (Operates, 8, 11, 0),
-        letters: "",
+        flags: "",
     },
     Row {
         line: "007$: NOP",
         labels: &[(LabelKind::Local(7), 0, 4)],
         body: (Operates, 6, 9, 0),
-        letters: "",
+        flags: "",
     },
     Row {
         line: "0$: NOP",
         labels: &[(LabelKind::Outside, 0, 2)],
         body: (Operates, 4, 7, 0),
-        letters: "A",
+        flags: "A",
     },
     Row {
         line: "70000$: A:",
         labels: &[(LabelKind::Outside, 0, 6), (LabelKind::Ordinary, 8, 9)],
         body: (Nothing, 0, 0, 0),
-        letters: "A",
+        flags: "A",
     },
     Row {
         line: "65536$: 131073$:",
         labels: &[(LabelKind::Outside, 0, 6), (LabelKind::Outside, 8, 15)],
         body: (Nothing, 0, 0, 0),
-        letters: "A",
+        flags: "A",
     },
 ];
 
@@ -137,127 +137,127 @@ static BODIES: [Row; 21] = [
         line: "",
         labels: &[],
         body: (Nothing, 0, 0, 0),
-        letters: "",
+        flags: "",
     },
     Row {
         line: " \t;x",
         labels: &[],
         body: (Nothing, 0, 0, 0),
-        letters: "",
+        flags: "",
     },
     Row {
         line: "X=",
         labels: &[],
         body: (Assigns, 0, 1, 2),
-        letters: "",
+        flags: "",
     },
     Row {
         line: "A: X == 5",
         labels: &[(LabelKind::Ordinary, 0, 1)],
         body: (AssignsGlobally, 3, 4, 7),
-        letters: "",
+        flags: "",
     },
     Row {
         line: "A=:5",
         labels: &[],
         body: (Assigns, 0, 1, 2),
-        letters: "",
+        flags: "",
     },
     Row {
         line: ".ENDM=5",
         labels: &[],
         body: (Assigns, 0, 5, 6),
-        letters: "",
+        flags: "",
     },
     Row {
         line: ".ASCII =x=",
         labels: &[],
         body: (Assigns, 0, 6, 8),
-        letters: "",
+        flags: "",
     },
     Row {
         line: ".=.+4",
         labels: &[],
         body: (SetsCounter, 2, 0, 0),
-        letters: "",
+        flags: "",
     },
     Row {
         line: ". = 5",
         labels: &[],
         body: (SetsCounter, 3, 0, 0),
-        letters: "",
+        flags: "",
     },
     Row {
         line: ".==.+4",
         labels: &[],
         body: (Words, 0, 0, 0),
-        letters: "",
+        flags: "",
     },
     Row {
         line: "=5",
         labels: &[],
         body: (Words, 0, 0, 0),
-        letters: "",
+        flags: "",
     },
     Row {
         line: "5$=3",
         labels: &[],
         body: (Words, 0, 0, 0),
-        letters: "",
+        flags: "",
     },
     Row {
         line: " ,5",
         labels: &[],
         body: (Words, 1, 0, 0),
-        letters: "",
+        flags: "",
     },
     Row {
         line: ")",
         labels: &[],
         body: (Words, 0, 0, 0),
-        letters: "",
+        flags: "",
     },
     Row {
         line: "#5",
         labels: &[],
         body: (Words, 0, 0, 0),
-        letters: "",
+        flags: "",
     },
     Row {
         line: "A: 5,6",
         labels: &[(LabelKind::Ordinary, 0, 1)],
         body: (Words, 3, 0, 0),
-        letters: "",
+        flags: "",
     },
     Row {
         line: "FOO 5",
         labels: &[],
         body: (Operates, 0, 3, 0),
-        letters: "",
+        flags: "",
     },
     Row {
         line: ".ASCII :xy:",
         labels: &[],
         body: (Operates, 0, 6, 0),
-        letters: "",
+        flags: "",
     },
     Row {
         line: "RETURNS",
         labels: &[],
         body: (Operates, 0, 7, 0),
-        letters: "",
+        flags: "",
     },
     Row {
         line: ".radixx 10",
         labels: &[],
         body: (Operates, 0, 7, 0),
-        letters: "",
+        flags: "",
     },
     Row {
         line: "a: mov r1,r2",
         labels: &[(LabelKind::Ordinary, 0, 1)],
         body: (Operates, 3, 6, 0),
-        letters: "",
+        flags: "",
     },
 ];
 
@@ -267,104 +267,104 @@ static SKIPPED: [Row; 16] = [
         line: "?",
         labels: &[],
         body: (Nothing, 0, 0, 0),
-        letters: "",
+        flags: "",
     },
     Row {
         line: "A: ?",
         labels: &[(LabelKind::Ordinary, 0, 1)],
         body: (Nothing, 0, 0, 0),
-        letters: "",
+        flags: "",
     },
     Row {
         line: "? A: NOP",
         labels: &[(LabelKind::Ordinary, 2, 3)],
         body: (Operates, 5, 8, 0),
-        letters: "I",
+        flags: "I",
     },
     Row {
         line: "A:? B: ? NOP",
         labels: &[(LabelKind::Ordinary, 0, 1), (LabelKind::Ordinary, 4, 5)],
         body: (Operates, 9, 12, 0),
-        letters: "I",
+        flags: "I",
     },
     Row {
         line: "A?: NOP",
         labels: &[],
         body: (Operates, 0, 1, 0),
-        letters: "",
+        flags: "",
     },
     Row {
         line: "NOP ?",
         labels: &[],
         body: (Operates, 0, 3, 0),
-        letters: "",
+        flags: "",
     },
     Row {
         line: "? NOP ?",
         labels: &[],
         body: (Operates, 2, 5, 0),
-        letters: "",
+        flags: "",
     },
     Row {
         line: ".TITLE X ?",
         labels: &[],
         body: (Operates, 0, 6, 0),
-        letters: "",
+        flags: "",
     },
     Row {
         line: ".ASCII /?/",
         labels: &[],
         body: (Operates, 0, 6, 0),
-        letters: "",
+        flags: "",
     },
     Row {
         line: "X=?5",
         labels: &[],
         body: (Assigns, 0, 1, 2),
-        letters: "",
+        flags: "",
     },
     Row {
         line: "X ?= 5",
         labels: &[],
         body: (Operates, 0, 1, 0),
-        letters: "",
+        flags: "",
     },
     Row {
         line: "?X=5",
         labels: &[],
         body: (Assigns, 1, 2, 3),
-        letters: "",
+        flags: "",
     },
     Row {
         line: ".=5\\",
         labels: &[],
         body: (SetsCounter, 2, 0, 0),
-        letters: "",
+        flags: "",
     },
     Row {
         line: "5 ^F1",
         labels: &[],
         body: (Words, 0, 0, 0),
-        letters: "",
+        flags: "",
     },
     Row {
         line: "'? \"\\?",
         labels: &[],
         body: (Words, 0, 0, 0),
-        letters: "",
+        flags: "",
     },
     Row {
         line: "5 ;?",
         labels: &[],
         body: (Words, 0, 0, 0),
-        letters: "",
+        flags: "",
     },
 ];
 
 fn shape_of(body: Body) -> (Shape, u8, u8, u8) {
     match body {
         Body::Nothing => (Nothing, 0, 0, 0),
-        Body::Assigns(assignment) => {
+        Body::Assign(assignment) => {
             let shape = if assignment.is_global {
                 AssignsGlobally
             } else {
@@ -377,8 +377,8 @@ fn shape_of(body: Body) -> (Shape, u8, u8, u8) {
                 assignment.value,
             )
         }
-        Body::SetsCounter(value) => (SetsCounter, value, 0, 0),
-        Body::Operates(name) => (Operates, name.start, name.end, 0),
+        Body::SetCounter(value) => (SetsCounter, value, 0, 0),
+        Body::Operate(name) => (Operates, name.start, name.end, 0),
         Body::Words(start) => (Words, start, 0, 0),
     }
 }
@@ -397,8 +397,8 @@ fn check(rt: &impl Abort, rows: &[Row]) {
             same(rt, &row.line, &label_of(label), wanted);
         }
         same(rt, &row.line, &shape_of(found.body), &row.body);
-        let letters = found.label_letters.text();
-        same(rt, &row.line, &letters.as_slice(), &row.letters.as_bytes());
+        let flags = found.label_flags.text();
+        same(rt, &row.line, &flags.as_slice(), &row.flags.as_bytes());
     }
 }
 
@@ -413,17 +413,17 @@ fn what_is_no_assignment_and_no_name_is_words(rt: HostRuntime) {
 }
 
 #[test]
-fn a_skipped_character_among_labels_has_a_letter(rt: HostRuntime) {
+fn a_skipped_character_among_labels_has_a_flag(rt: HostRuntime) {
     check(&rt, &SKIPPED);
 }
 
 #[test]
 fn a_line_over_132_characters_has_l(rt: HostRuntime) {
     let blanks = [b' '; 133];
-    for (length, letters) in [(131, 0), (132, 0), (133, 1)] {
+    for (length, flags) in [(131, 0), (132, 0), (133, 1)] {
         let line = Line::from_bytes(&blanks[..length]);
         let found = statement(&line);
-        same(&rt, &length, &found.label_letters.text().len(), &letters);
+        same(&rt, &length, &found.label_flags.text().len(), &flags);
     }
 }
 

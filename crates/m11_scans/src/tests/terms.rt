@@ -4,12 +4,12 @@ use super::same;
 use m11_scan::{Condition, Radix, read_condition, read_name, read_number, read_packed};
 use std::process::Abort;
 
-// Digits in a radix, the word that they yield, and its letters.
+// Digits in a radix, the word that they yield, and its flags.
 struct Digits {
     digits: &'static str,
     radix: Radix,
     value: u16,
-    letters: &'static str,
+    flags: &'static str,
 }
 
 static DIGITS: [Digits; 13] = [
@@ -17,79 +17,79 @@ static DIGITS: [Digits; 13] = [
         digits: "0",
         radix: Radix::Octal,
         value: 0,
-        letters: "",
+        flags: "",
     },
     Digits {
         digits: "17",
         radix: Radix::Octal,
         value: 15,
-        letters: "",
+        flags: "",
     },
     Digits {
         digits: "18",
         radix: Radix::Octal,
         value: 18,
-        letters: "N",
+        flags: "N",
     },
     Digits {
         digits: "17",
         radix: Radix::Decimal,
         value: 17,
-        letters: "",
+        flags: "",
     },
     Digits {
         digits: "101",
         radix: Radix::Binary,
         value: 5,
-        letters: "",
+        flags: "",
     },
     Digits {
         digits: "12",
         radix: Radix::Binary,
         value: 12,
-        letters: "N",
+        flags: "N",
     },
     Digits {
         digits: "177777",
         radix: Radix::Octal,
         value: 0o177777,
-        letters: "",
+        flags: "",
     },
     Digits {
         digits: "200000",
         radix: Radix::Octal,
         value: 0,
-        letters: "T",
+        flags: "T",
     },
     Digits {
         digits: "65535",
         radix: Radix::Decimal,
         value: 65535,
-        letters: "",
+        flags: "",
     },
     Digits {
         digits: "65536",
         radix: Radix::Decimal,
         value: 0,
-        letters: "T",
+        flags: "T",
     },
     Digits {
         digits: "99999",
         radix: Radix::Octal,
         value: 0o103237,
-        letters: "NT",
+        flags: "NT",
     },
     Digits {
         digits: "0000000000000000000007",
         radix: Radix::Octal,
         value: 7,
-        letters: "",
+        flags: "",
     },
     Digits {
         digits: "10000000000000000000007",
         radix: Radix::Octal,
         value: 7,
-        letters: "T",
+        flags: "T",
     },
 ];
 
@@ -100,8 +100,8 @@ fn check(rt: &impl Abort, rows: &[Digits]) {
         same(
             rt,
             &row.digits,
-            &found.letters.text().as_slice(),
-            &row.letters.as_bytes(),
+            &found.flags.text().as_slice(),
+            &row.flags.as_bytes(),
         );
     }
 }
@@ -131,7 +131,7 @@ fn six_characters_of_a_name_count_in_either_case(rt: HostRuntime) {
 
 #[test]
 fn three_characters_are_packed(rt: HostRuntime) {
-    for (characters, value, letters) in [
+    for (characters, value, flags) in [
         ("ABC", 0o003223, ""),
         ("abcd", 0o003223, ""),
         ("A", 0o003100, ""),
@@ -142,8 +142,8 @@ fn three_characters_are_packed(rt: HostRuntime) {
         same(
             &rt,
             &characters,
-            &found.letters.text().as_slice(),
-            &letters.as_bytes(),
+            &found.flags.text().as_slice(),
+            &flags.as_bytes(),
         );
     }
 }

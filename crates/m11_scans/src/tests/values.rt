@@ -6,7 +6,7 @@ ghost use Rattle.m11_scans.specs.Known.{of_kind, of_name};
 
 use super::same;
 use m11_base::{Name, absolute_section, blank_name};
-use m11_scan::{Letters, Line, expression_at, read_name};
+use m11_scan::{ErrorFlags, Line, expression_at, read_name};
 use m11_values::{Kind, Names, Radix, Symbol, Value, expression_value};
 use std::process::Abort;
 
@@ -42,7 +42,7 @@ fn of_kind(number: u16, kind: Kind) -> Value
     Value {
         number,
         kind,
-        letters: Letters::none(),
+        flags: ErrorFlags::none(),
     }
 }
 
@@ -55,7 +55,7 @@ fn of_name(name: Name) -> Value
         0o11300 => of_kind(4, Kind::Section(absolute_section())),
         0o72530 => of_kind(1, Kind::Register),
         0o113000 => of_kind(0, Kind::Reference(name)),
-        _ => Value::absolute(0, Letters::U),
+        _ => Value::absolute(0, ErrorFlags::U),
     }
 }
 
@@ -68,7 +68,7 @@ enum From {
     Register,
 }
 
-// A text, and its first expression's value in the octal radix: number, kind, letters.
+// A text, and its first expression's value in the octal radix: number, kind, flags.
 type Row = (&'static str, u16, From, &'static str);
 
 fn kind_of(from: From) -> Kind {
@@ -176,18 +176,13 @@ fn check(rt: &impl Abort, rows: &[Row]) {
     let names = Known {
         radix: Radix::Octal,
     };
-    for (text, number, kind, letters) in rows {
+    for (text, number, kind, flags) in rows {
         let line = Line::from_bytes(text.as_bytes());
         let found = expression_at(&line, 0);
         let value = expression_value(found.tokens.as_slice(), &line, &names);
         same(rt, text, &value.number, number);
         same(rt, text, &value.kind, &kind_of(*kind));
-        same(
-            rt,
-            text,
-            &value.letters.text().as_slice(),
-            &letters.as_bytes(),
-        );
+        same(rt, text, &value.flags.text().as_slice(), &flags.as_bytes());
     }
 }
 

@@ -49,7 +49,7 @@ fn next_number(number: u64) -> u64 {
         .wrapping_add(1442695040888963407)
 }
 
-// A sum over the live lines: their bytes, their letters and their symbols, in order.
+// A sum over the live lines: their bytes, their flags and their symbols, in order.
 #[derive(Clone, Copy, PartialEq, Eq, Debug)]
 struct Sum {
     lines: u32,
@@ -68,8 +68,8 @@ impl Keeps for Sum {
         for byte in live.line.text() {
             self.add(u64::from(*byte));
         }
-        for letter in act.notes.letters().text().iter() {
-            self.add(u64::from(*letter));
+        for flag in act.notes.flags().text().iter() {
+            self.add(u64::from(*flag));
         }
         self.add(act.notes.symbols().len() as u64);
         Ok(())

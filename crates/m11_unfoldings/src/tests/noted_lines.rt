@@ -1,16 +1,16 @@
-//! The letters and symbols of lines that are unfolding's own, and the count of actuals around lines of calls.
+//! The flags and symbols of lines that are unfolding's own, and the count of actuals around lines of calls.
 
 use super::{Form, LiveLine, TextRow, check_texts};
 use m11_unfold::Act;
 use std::alloc::AllocError;
 
-// Adds, of a line that is unfolding's own or stands in a call, its letters, how many symbols its arguments read, and, after `/`, how many
+// Adds, of a line that is unfolding's own or stands in a call, its flags, how many symbols its arguments read, and, after `/`, how many
 // actuals the call has.
 pub(super) fn write(text: &mut Vec<u8>, _live: &LiveLine<'_>, act: &Act) -> Result<(), AllocError> {
     if !act.is_own && act.arguments.is_none() {
         return Ok(());
     }
-    text.extend_from_slice(&act.notes.letters().text())?;
+    text.extend_from_slice(&act.notes.flags().text())?;
     text.push(digit(act.notes.symbols().len()))?;
     match act.arguments {
         Some(count) => {
@@ -207,22 +207,22 @@ static CORNERS: [TextRow; 11] = [
 ];
 
 #[test]
-fn a_directive_outside_its_block_has_the_letter_o(rt: HostRuntime) {
+fn a_directive_outside_its_block_has_the_flag_o(rt: HostRuntime) {
     check_texts(&rt, rt.alloc(), Form::Notes, &OUTSIDE);
 }
 
 #[test]
-fn conditions_note_the_letters_and_symbols_of_their_arguments(rt: HostRuntime) {
+fn conditions_note_the_flags_and_symbols_of_their_arguments(rt: HostRuntime) {
     check_texts(&rt, rt.alloc(), Form::Notes, &CONDITIONS);
 }
 
 #[test]
-fn bodies_note_the_letters_and_symbols_of_their_arguments(rt: HostRuntime) {
+fn bodies_note_the_flags_and_symbols_of_their_arguments(rt: HostRuntime) {
     check_texts(&rt, rt.alloc(), Form::Notes, &BODIES);
 }
 
 #[test]
-fn calls_note_their_letters_and_count_their_actuals(rt: HostRuntime) {
+fn calls_note_their_flags_and_count_their_actuals(rt: HostRuntime) {
     check_texts(&rt, rt.alloc(), Form::Notes, &CALLS);
 }
 

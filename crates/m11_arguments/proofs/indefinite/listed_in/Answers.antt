@@ -18,6 +18,6 @@ returns-clause-notes g c =
     let known = known_by (g.N.Names.base c.args.names.now) (g.N.Names.stands_for c.args.names.now) in
     let P : Notes → Type 0 = λ n. IfOk c.actuals_from.result (λ x. c.actuals_from.new.notes ≡ n) in
     subst P
-    (inner_noted known c.args.line.now.text c.args.list.now c.args.notes.now c.add_letters.new.self _ _ c.add_letters.ensures
-    c.actual_letters.ensures c.line_of-inner.ensures)
+    (inner_noted known c.args.line.now.text c.args.list.now c.args.notes.now c.add_flags.new.self _ _ c.add_flags.ensures
+    c.actual_flags.ensures c.line_of-inner.ensures)
     c.actuals_from.ensures.notes

@@ -7,9 +7,9 @@ use Rattle.m11_arguments.proofs.macros.formals_within.Given as goal
 abbrev pub invariant-formals : goal.invariant-formals
 invariant-formals l = record {
   list : l.list.items ++ (formals_within l.left l.line.text l.end).list ≡ (formals_within l.bound l.line.text l.place).list;
-  letters :
-      bit_or (bits_of l.letters) (formals_within l.left l.line.text l.end).letters
-      ≡ (formals_within l.bound l.line.text l.place).letters;
+  flags :
+      bit_or (bits_of l.flags) (formals_within l.left l.line.text l.end).flags
+      ≡ (formals_within l.bound l.line.text l.place).flags;
   most : l.end ≤ length l.line.text;
 }
 

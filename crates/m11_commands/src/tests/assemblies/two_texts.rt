@@ -1,4 +1,4 @@
-//! Sections of two texts that differ are the same where their names are; and of the letters of `.END` those are the second text's that no
+//! Sections of two texts that differ are the same where their names are; and of the flags of `.END` those are the second text's that no
 //! name decides.
 
 use super::{Assembled, END_OF_MODULE, assembled_from};
@@ -168,6 +168,6 @@ fn sections_are_the_same_where_their_names_are(rt: HostRuntime) -> Result<(), Fa
 }
 
 #[test]
-fn each_letter_of_end_is_that_of_the_text_that_decides_it(rt: HostRuntime) -> Result<(), Fail> {
+fn each_flag_of_end_is_that_of_the_text_that_decides_it(rt: HostRuntime) -> Result<(), Fail> {
     leave_what_is_wanted(&rt, &ENDS)
 }

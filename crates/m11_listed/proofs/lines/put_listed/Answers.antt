@@ -3,7 +3,7 @@ use Rattle.m11_base.specs.Devices.{Bytes}
 use Rattle.m11_listing.specs.Items.{place_after}
 use Rattle.m11_listing.specs.Listing.{further_lines, listed_line}
 use Rattle.m11_listing.specs.declared.items.Item.{Item}
-use Rattle.m11_scan.specs.Letters.{letters_text}
+use Rattle.m11_scan.specs.ErrorFlags.{flags_text}
 use Rattle.m11_scan.specs.Views.{bits_of}
 use Rattle.m11_asm_outputs.specs.Outputs.{assembly, to_listing}
 use Rattle.m11_listed.specs.Listed.{all_to_listing}
@@ -14,9 +14,9 @@ use Rattle.m11_listed.proofs.lines.put_listed.Goals as goal
 
 pub returns-in_err-put_listing : goal.returns-in_err-put_listing
 returns-in_err-put_listing g c = λ object messages.
-    let letters = letters_text (bits_of c.args.letters) in
+    let flags = flags_text (bits_of c.args.flags) in
     stopped_first assembly _ _
-    (to_listing (listed_line letters c.args.number c.args.place c.args.items.now c.args.text.now) ∷ [])
+    (to_listing (listed_line flags c.args.number c.args.place c.args.items.now c.args.text.now) ∷ [])
     (all_to_listing (further_lines (place_after c.args.first_item_place (take 3 c.args.items.now)) (drop 3 c.args.items.now))) _ _
     (stops_line _ _ _ _ _ (c.as_slice-2.ensures.value ∙ c.listed_line-line.ensures
     ∙ ap (λ (l : Bytes). listed_line l c.args.number c.args.place c.args.items.now c.args.text.now)
@@ -25,9 +25,9 @@ returns-in_err-put_listing g c = λ object messages.
 
 pub returns : goal.returns
 returns g c = λ object messages.
-    let letters = letters_text (bits_of c.args.letters) in
+    let flags = flags_text (bits_of c.args.flags) in
     writes_then assembly _ _ _
-    (to_listing (listed_line letters c.args.number c.args.place c.args.items.now c.args.text.now) ∷ [])
+    (to_listing (listed_line flags c.args.number c.args.place c.args.items.now c.args.text.now) ∷ [])
     (all_to_listing (further_lines (place_after c.args.first_item_place (take 3 c.args.items.now)) (drop 3 c.args.items.now))) _
     (gains_line _ _ _ _ (c.as_slice-2.ensures.value ∙ c.listed_line-line.ensures
     ∙ ap (λ (l : Bytes). listed_line l c.args.number c.args.place c.args.items.now c.args.text.now)

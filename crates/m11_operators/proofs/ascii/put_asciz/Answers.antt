@@ -6,7 +6,7 @@ use Rattle.m11_operators.proofs.ascii.put_asciz.Goals as goal
 
 pub returns : goal.returns
 returns c =
-    let here = c.args.setting.now in
+    let here = c.args.line_context.now in
     let zero_byte = put (fixed_byte 0 ∷ []) 0 in
     let P : Put → Type 0 = λ p. IfOk c.add_fixed_byte.result (λ x. c.add_fixed_byte.new.self ≡ p) in
     subst P

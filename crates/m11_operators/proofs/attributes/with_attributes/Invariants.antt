@@ -1,6 +1,6 @@
 use Rattle.std.proofs.Common.{◌≡◌, length}
 use Rattle.m11_placement.specs.Elements.{texts_of}
-use Rattle.m11_placement.specs.ProgramSections.{with_attributes}
+use Rattle.m11_placement.specs.Psects.{with_attributes}
 use Rattle.m11_operators.proofs.attributes.with_attributes.Given as goal
 
 abbrev pub invariant-names : goal.invariant-names

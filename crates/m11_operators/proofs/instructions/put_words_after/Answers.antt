@@ -1,7 +1,7 @@
 use Rattle.std.proofs.Common.{List, ◌+◌, drop, sym, ap, ◌∙◌, subst}
 use Rattle.std.proofs.lemmas.List.{at_drop_more, drop_all, drop_more}
 use Rattle.m11_fields.specs.Terms.{AreTerms}
-use Rattle.m11_operators.specs.Settings.{setting_of}
+use Rattle.m11_operators.specs.LineContext.{line_context_of}
 use Rattle.m11_placement.specs.Codes.{others, words_from}
 use Rattle.m11_placement.specs.Contents.{followed_by}
 use Rattle.m11_placement.specs.Fields.{forms_of}
@@ -13,7 +13,7 @@ use Rattle.m11_operators.proofs.instructions.put_words_after.Goals as goal
 
 pub fields-preserved : goal.fields-preserved
 fields-preserved c =
-    let line = c.args.setting.now.line in
+    let line = c.args.line_context.now.line in
     let left = drop c.fields.field-index c.args.fields.now in
     let more = drop (c.fields.field-index + 1) c.args.fields.now in
     let P : List Field → Type 0 = λ l. AreTerms line (others l) c.others-terms.result in
@@ -21,7 +21,7 @@ fields-preserved c =
       words =
           c.in_ok-place.ensures (forms_of more)
           ∙ sym (at_drop_more
-          (λ (l : List Field). followed_by c.fields.put (words_from (setting_of c.args.setting.now) c.fields.place (forms_of l)))
+          (λ (l : List Field). followed_by c.fields.put (words_from (line_context_of c.args.line_context.now) c.fields.place (forms_of l)))
           c.args.fields.now c.fields.field-index (Formed Absent) c.fields-test.true)
           ∙ c.fields.invariant.words;
       terms =
@@ -32,6 +32,6 @@ fields-preserved c =
 pub returns : goal.returns
 returns c =
     sym (followed_nothing c.fields.put)
-    ∙ ap (λ (r : List Field). followed_by c.fields.put (words_from (setting_of c.args.setting.now) c.fields.place (forms_of r)))
+    ∙ ap (λ (r : List Field). followed_by c.fields.put (words_from (line_context_of c.args.line_context.now) c.fields.place (forms_of r)))
     (sym (drop_all c.fields.field-index c.args.fields.now c.fields-test.false))
     ∙ c.fields.invariant.words

@@ -1,5 +1,5 @@
 use Rattle.std.proofs.Common.{◌≡◌, ℕ, List, IfOk, subst, ap, ◌∙◌}
-use Rattle.m11_operators.specs.Settings.{fields_of, setting_of}
+use Rattle.m11_operators.specs.LineContext.{fields_of, line_context_of}
 use Rattle.m11_placement.specs.Contents.{Put, followed_by}
 use Rattle.m11_placement.specs.Fields.{Fields}
 use Rattle.m11_placement.specs.Instructions.{assembled}
@@ -9,12 +9,12 @@ use Rattle.m11_operators.proofs.operators.put_operation.Goals as goal
 
 pub returns : goal.returns
 returns c =
-    let here = c.args.setting.now in
+    let here = c.args.line_context.now in
     let found = c.args.fields.now in
     let P : Put → Type 0 = λ p. IfOk c.put_instruction.result (λ x. c.put_instruction.new.put ≡ p) in
     subst P
-    (ap (λ (f : Fields). followed_by c.args.put.now (assembled (setting_of here) c.args.start c.args.operation f))
-    (ap (λ (l : List Field). fields_of l c.from.result (bits_of found.letters)) c.as_slice.ensures.value
-    ∙ ap (λ (n : ℕ). fields_of found.list.items n (bits_of found.letters)) c.from.ensures
+    (ap (λ (f : Fields). followed_by c.args.put.now (assembled (line_context_of here) c.args.start c.args.operation f))
+    (ap (λ (l : List Field). fields_of l c.from.result (bits_of found.flags)) c.as_slice.ensures.value
+    ∙ ap (λ (n : ℕ). fields_of found.list.items n (bits_of found.flags)) c.from.ensures
     ∙ c.requires.fields))
     c.put_instruction.ensures

@@ -10,5 +10,5 @@ returns-in-Instruction-clause-fields c =
     ∙ ap (λ (n : ℕ). fields c.args.table.now n c.args.line.now.text c.args.start c.in-Instruction.operation)
     (c.place_for.ensures ∙ ap (place_for true) c.place.ensures))
 
-pub returns-in-Directs-clause-terms : goal.returns-in-Directs-clause-terms
-returns-in-Directs-clause-terms c = c.no_fields.ensures.terms c.args.line.now.text
+pub returns-in-Directive-clause-terms : goal.returns-in-Directive-clause-terms
+returns-in-Directive-clause-terms c = c.no_fields.ensures.terms c.args.line.now.text

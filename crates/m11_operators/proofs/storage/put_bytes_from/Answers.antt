@@ -7,7 +7,7 @@ use Rattle.m11_operators.proofs.storage.put_bytes_from.Goals as goal
 
 pub returns : goal.returns
 returns c =
-    let here = c.args.setting.now in
+    let here = c.args.line_context.now in
     sym (followed_nothing c.elements.put)
     ∙ ap (λ (r : List ℕ). followed_by c.elements.put (bytes_from here.map here.table here.line c.elements.place r))
     (sym (drop_all c.elements.start-index c.args.starts.now c.elements-test.false))

@@ -5,5 +5,5 @@ use Rattle.m11_operators.proofs.storage.put_bytes_from.Given as goal
 
 abbrev pub invariant-elements : goal.invariant-elements
 invariant-elements l =
-    followed_by l.put (bytes_from l.setting.map l.setting.table l.setting.line l.place (drop l.start-index l.starts))
-    ≡ followed_by l.initial.put (bytes_from l.setting.map l.setting.table l.setting.line l.initial.place l.starts)
+    followed_by l.put (bytes_from l.line_context.map l.line_context.table l.line_context.line l.place (drop l.start-index l.starts))
+    ≡ followed_by l.initial.put (bytes_from l.line_context.map l.line_context.table l.line_context.line l.initial.place l.starts)

@@ -11,14 +11,14 @@ returns-clause-changes c = alike.after_line_same
 pub returns-clause-pieces : goal.returns-clause-pieces
 returns-clause-pieces c = alike.pieces_same
 
-pub returns-clause-letters : goal.returns-clause-letters
-returns-clause-letters c = alike.letters_same
+pub returns-clause-flags : goal.returns-clause-flags
+returns-clause-flags c = alike.flags_same
 
 pub returns-clause-moves : goal.returns-clause-moves
 returns-clause-moves c = alike.moved_same
 
-pub returns-clause-all_letters : goal.returns-clause-all_letters
-returns-clause-all_letters c = alike.all_letters_same
+pub returns-clause-all_flags : goal.returns-clause-all_flags
+returns-clause-all_flags c = alike.all_flags_same
 
 pub returns-clause-tables : goal.returns-clause-tables
 returns-clause-tables c = table_at_same

@@ -11,7 +11,7 @@ invariant-labels l = record {
   last : end_of l.end (labels_in (tokens_from l.line.text l.end)) ≡ labels_end l.line.text;
   outside : (l.has_outside || has_outside (labels_in (tokens_from l.line.text l.end))) ≡ has_outside (labels_at l.line.text);
   unlabelled : l.end ≡ 0 → labels_in (tokens_from l.line.text l.end) ≡ labels_at l.line.text;
-  lone : IfSome l.lone (λ label. labels_at l.line.text ≡ label ∷ labels_in (tokens_from l.line.text l.end));
+  single : IfSome l.single (λ label. labels_at l.line.text ≡ label ∷ labels_in (tokens_from l.line.text l.end));
   within : l.end ≤ length l.line.text;
   next : MatchOption l.next (tokens_from l.line.text l.end ≡ [])
       (λ token. tokens_from l.line.text l.end ≡ lexeme l.line.text token ∷ tokens_from l.line.text token.end);

@@ -2,7 +2,7 @@ use Rattle.std.proofs.Common.{◌∙◌, ap, sym}
 use Rattle.m11_scan.specs.Views.{lexeme}
 use Rattle.m11_scan.specs.declared.radix.Radix.{Radix}
 use Rattle.m11_values.specs.Terms.{atom_value, item}
-use Rattle.m11_values.proofs.LoneTerms.{alone}
+use Rattle.m11_values.proofs.SingleTerms.{alone}
 use Rattle.m11_values.proofs.expressions.term_value.Goals as goal
 
 pub returns : goal.returns

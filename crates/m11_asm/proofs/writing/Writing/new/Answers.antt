@@ -11,7 +11,7 @@ use Rattle.m11_asm.proofs.writing.Writing.new.Goals as goal
 pub returns : goal.returns
 returns c =
     let kept = c.args.first.now in
-    let gathered = c.args.mentioned.now in
+    let gathered = c.args.used_symbols.now in
     let facts = c.args.facts.now in
     stands_first kept gathered facts _ _ _ _ _
     (c.in_ok-directory_rows.ensures ∙ ap (λ (t : DirectoryFacts). directory_rows t) c.first_pass_of-first_pass.ensures.facts)

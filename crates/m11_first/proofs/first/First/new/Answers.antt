@@ -1,5 +1,5 @@
 use Rattle.std.proofs.Common.{ap}
-use Rattle.m11_placing.specs.declared.counting.Counting.TheVariants.{Mentions}
+use Rattle.m11_placing.specs.declared.counting.Counting.TheVariants.{SymbolUses}
 use Rattle.m11_first.proofs.Taking.{begins, begins_so}
 use Rattle.m11_first.proofs.first.First.new.Goals as goal
 
@@ -8,5 +8,5 @@ invariant_of-result c = begins_so c.in_ok-new.field-0 c.new-4.result c.in_ok-new
 
 pub returns : goal.returns
 returns c =
-    begins c.in_ok-new.field-0.going (Mentions c.new.result) c.new-3.result c.new-4.result c.in_ok-new.ensures.stands (ap Mentions c.new.ensures)
+    begins c.in_ok-new.field-0.going (SymbolUses c.new.result) c.new-3.result c.new-4.result c.in_ok-new.ensures.stands (ap SymbolUses c.new.ensures)
     c.in_ok-new.ensures.begins c.new-3.ensures c.new-4.ensures

@@ -1,7 +1,7 @@
 use Rattle.std.proofs.Common.{◌∙◌, Ok, refl, sym, subst}
 use Rattle.m11_unfolding.specs.Taking.{Live}
 use Rattle.m11_placement.specs.Meanings.{Map, empty_map}
-use Rattle.m11_placing.specs.declared.deeds.Deed.TheVariants as code
+use Rattle.m11_placing.specs.declared.actions.Action.TheVariants as code
 use Rattle.m11_passes.proofs.Assembling.{defined_so, places_fails}
 use Rattle.m11_passes.proofs.Blanks.{blank_places, live_so}
 use Rattle.m11_passes.specs.Blank.{IsBlank}
@@ -15,7 +15,7 @@ pub returns-then-is_blank-clause-places : goal.returns-then-is_blank-clause-plac
 returns-then-is_blank-clause-places c =
     let old = going_of c.args.self.now in
     let live : LiveLine =
-    record { line = c.args.live.now.line; is_expanded = c.args.live.now.is_expanded; deed = code.Rests } in
+    record { line = c.args.live.now.line; is_expanded = c.args.live.now.is_expanded; action = code.NoAction } in
     let blank : IsBlank live.line.text = record {
       unlabelled = c.statement-statement.ensures.unlabelled (c.is_blank.ensures.unlabelled c.if-is_blank.true);
       bodiless = sym c.statement-statement.ensures.body ∙ c.is_blank.ensures.bodiless c.if-is_blank.true;
@@ -46,5 +46,5 @@ returns-clause-places c =
     let L : Live → Type 0 = λ l. Places c.none-map.result l old.unfolder.stage old new (SaysLive live) (Ok tt) in
     subst M c.none-map.ensures
     (subst L c.begin.ensures.same
-    (defined_so c.none-map.result (live_in live) old (going_of c.begin.new.self) live.deed c.in_ok-begun.begun c.in_ok-begun.ensures.begins
+    (defined_so c.none-map.result (live_in live) old (going_of c.begin.new.self) live.action c.in_ok-begun.begun c.in_ok-begun.ensures.begins
     new live c.in_ok-finish.field-0 refl refl (c.in_ok-finish.ensures.finishes old c.in_ok-begun.ensures.begins)))

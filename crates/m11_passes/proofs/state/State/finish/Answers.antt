@@ -1,6 +1,6 @@
 use Rattle.std.proofs.Common.{refl, arith}
-use Rattle.m11_placing.specs.Deeds.{deed_seen}
-use Rattle.m11_passes.proofs.Assembling.{finish_fails, finishes, mention_fails, settled}
+use Rattle.m11_placing.specs.Actions.{action_seen}
+use Rattle.m11_passes.proofs.Assembling.{finish_fails, finishes, use_fails, settled}
 use Rattle.m11_passes.specs.Placed.{live_in}
 use Rattle.m11_passes.specs.States.{going_of}
 use Rattle.m11_passes.proofs.state.State.finish.Goals as goal
@@ -34,13 +34,13 @@ returns-in_err-count_line-clause-finishes c = λ old begins.
     finish_fails c.args.map.now (live_in c.args.live.now) old.unfolder.stage old
     (going_of (record c.args.self.now { counting = c.count_line.new.counting }))
     c.in_err-count_line.field-0.0 c.from_residual.result
-    (mention_fails c.args.map.now (live_in c.args.live.now) old (going_of c.args.self.now) c.args.live.now.deed c.args.begun.now begins
+    (use_fails c.args.map.now (live_in c.args.live.now) old (going_of c.args.self.now) c.args.live.now.action c.args.begun.now begins
     c.in_err-count_line.field-0.0 (c.in_err-count_line.ensures.refuses c.args.self.now.pass.table c.requires.fields))
     c.from_residual.ensures.1
 
 pub returns-clause-finishes : goal.returns-clause-finishes
 returns-clause-finishes c = λ old begins.
-    finishes c.args.map.now (live_in c.args.live.now) old (going_of c.args.self.now) c.args.live.now.deed c.args.begun.now begins
+    finishes c.args.map.now (live_in c.args.live.now) old (going_of c.args.self.now) c.args.live.now.action c.args.begun.now begins
     c.count_line.new.counting (c.in_ok-count_line.ensures.counts c.args.self.now.pass.table c.requires.fields)
     c.counts_are_within_the_limits.ensures.names c.counts_are_within_the_limits.ensures.defined
     c.counts_are_within_the_limits.ensures.symbols c.counts_are_within_the_limits.ensures.sections
@@ -51,5 +51,5 @@ returns-clause-finishes c = λ old begins.
 pub returns-clause-sound : goal.returns-clause-sound
 returns-clause-sound c =
     settled c.args.map.now c.args.self.now.pass.table c.change_line.new.pass.table c.args.live.now.line.text
-    c.args.begun.now.act.arguments (deed_seen c.args.live.now.deed) c.args.self.now.unfolder.stage.taken c.requires.room
+    c.args.begun.now.act.arguments (action_seen c.args.live.now.action) c.args.self.now.unfolder.stage.taken c.requires.room
     c.change_line.result c.change_line.ensures.tables

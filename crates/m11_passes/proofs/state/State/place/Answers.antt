@@ -4,7 +4,7 @@ use Rattle.m11_scan.specs.Views.{bits_of}
 use Rattle.m11_unfolding.specs.Taking.{Live}
 use Rattle.m11_placement.specs.Contents.{Put}
 use Rattle.m11_placement.specs.Tables.{Table}
-use Rattle.m11_placing.specs.Lines.{letters_from}
+use Rattle.m11_placing.specs.Lines.{flags_from}
 use Rattle.m11_placing.specs.Passes.{Matches}
 use Rattle.m11_passes.specs.Faults.{Fails}
 use Rattle.m11_passes.specs.Refusals.{line_fault}
@@ -44,7 +44,7 @@ returns-in_err-placed-clause-places c =
     places_fails map (live_in c.args.placed.now.live) old.unfolder.stage old new fault _ c.from_residual-in_err-placed.result
     (subst F c.begin.ensures.same
     (c.in_err-placed.ensures.finishes old
-    (begins_still map (live_in c.begin.new.live) old (going_of c.begin.new.self) c.begin.new.live.deed c.in_ok-begun.begun
+    (begins_still map (live_in c.begin.new.live) old (going_of c.begin.new.self) c.begin.new.live.action c.in_ok-begun.begun
     c.put_line.new.put c.in_ok-begun.ensures.begins)))
     c.from_residual-in_err-placed.ensures.1
 
@@ -59,12 +59,12 @@ returns-clause-places c =
     let said : States (live_in c.args.placed.now.live) statement = record {
       labels_end_is = c.statement-statement.ensures.labels_end;
       body_is = c.statement-statement.ensures.body;
-      letters_are = c.statement-statement.ensures.label_letters;
+      flags_are = c.statement-statement.ensures.label_flags;
     } in
     let S : Live → Type 0 = λ l. States l statement in
     let placed : PlacedLine = record {
       live = c.begin.new.live;
-      letters = c.all_letters-placed.result;
+      flags = c.all_flags-placed.result;
       section = c.section_name-placed.result;
       place = c.put_place-placed.result;
       counter = c.counter-placed.result;
@@ -73,14 +73,14 @@ returns-clause-places c =
     } in
     let L : Live → Type 0 = λ l. Places map l old.unfolder.stage old new (SaysPlaced map placed new.put) (Ok tt) in
     subst L c.begin.ensures.same
-    (placed_so map (live_in c.begin.new.live) old (going_of c.begin.new.self) c.begin.new.live.deed begun c.in_ok-begun.ensures.begins
+    (placed_so map (live_in c.begin.new.live) old (going_of c.begin.new.self) c.begin.new.live.action begun c.in_ok-begun.ensures.begins
     statement (subst S (sym c.begin.ensures.same) said) new placed refl refl
     (c.finish.ensures.put ∙ c.in_ok-put_line.ensures.puts) c.section_name-placed.ensures
     c.put_place-placed.ensures c.counter-placed.ensures c.is_shown-placed.ensures
-    (c.all_letters-placed.ensures
-    ∙ ap (λ (p : Put). bit_or (letters_from text statement.labels_end statement.body
-    (bits_of statement.label_letters) (bits_of begun.found.doubled) p.letters begun.act.notes.letters)
+    (c.all_flags-placed.ensures
+    ∙ ap (λ (p : Put). bit_or (flags_from text statement.labels_end statement.body
+    (bits_of statement.label_flags) (bits_of begun.found.doubly_defined) p.flags begun.act.notes.flags)
     (bits_of begun.found.moved)) (sym c.finish.ensures.put))
     (c.in_ok-placed.ensures.finishes old
-    (begins_still map (live_in c.begin.new.live) old (going_of c.begin.new.self) c.begin.new.live.deed begun c.put_line.new.put
+    (begins_still map (live_in c.begin.new.live) old (going_of c.begin.new.self) c.begin.new.live.action begun c.put_line.new.put
     c.in_ok-begun.ensures.begins)))

@@ -6,7 +6,7 @@ use Rattle.m11_placement.specs.Labels.{labelled, with_key}
 use Rattle.m11_placement.specs.Limits.{has_too_many, most_defined_names, most_local_symbols}
 use Rattle.m11_placement.specs.Tables.{Table}
 use Rattle.m11_placement.specs.declared.definitions.Key.TheVariants.{Numbered}
-use Rattle.m11_placement.specs.declared.settings.Settings.{Settings}
+use Rattle.m11_placement.specs.declared.modes.Modes.{Modes}
 use Rattle.m11_placing.proofs.LabelTables.{block_begins, block_doubles}
 use Rattle.m11_placing.proofs.Labelling.{blocks_begin, blocks_double, blocks_known, blocks_said}
 use Rattle.m11_placing.proofs.Refusals.{fits_anyway, handed_on}
@@ -17,30 +17,30 @@ use Rattle.m11_placing.proofs.pass.Pass.define_local.Goals as goal
 pub returns-in_err-define_symbol-clause-refuses : goal.returns-in_err-define_symbol-clause-refuses
 returns-in_err-define_symbol-clause-refuses c =
     let P : AsmFault → Type 0 = λ fault. (told : Table) → Matches c.args.self.now told
-    → Refuses fault (has_too_many (with_key (Numbered told.settings.block c.args.number) told) ≡ true) ⊥ in
+    → Refuses fault (has_too_many (with_key (Numbered told.modes.block c.args.number) told) ≡ true) ⊥ in
     handed_on P c.in_err-define_symbol.field-0.0 c.from_residual-in_err-define_symbol.result
-    (blocks_said c.args.self.now c.define_symbol.new.self c.settings-block.result.block c.args.number
-    (ap (λ (s : Settings). s.block) c.settings-block.ensures ∙ ap (λ (k : Kept). k.table.settings.block) c.self.view_is)
+    (blocks_said c.args.self.now c.define_symbol.new.self c.modes-block.result.block c.args.number
+    (ap (λ (s : Modes). s.block) c.modes-block.ensures ∙ ap (λ (k : Kept). k.table.modes.block) c.self.view_is)
     (λ (t : Table). Refuses c.in_err-define_symbol.field-0.0 (has_too_many t ≡ true) ⊥) c.labelled-definition.result
-    (ap (λ (k : Kept). is_defined (Numbered c.settings-block.result.block c.args.number) k.table.definitions) (sym c.self.view_is)
+    (ap (λ (k : Kept). is_defined (Numbered c.modes-block.result.block c.args.number) k.table.definitions) (sym c.self.view_is)
     ∙ sym c.if-is_defined.ensures)
     (c.labelled-definition.ensures
-    ∙ ap (λ (k : Kept). labelled k.table (Numbered c.settings-block.result.block c.args.number)) c.self.view_is)
+    ∙ ap (λ (k : Kept). labelled k.table (Numbered c.modes-block.result.block c.args.number)) c.self.view_is)
     c.in_err-define_symbol.ensures.refuses)
     c.from_residual-in_err-define_symbol.ensures.1
 
 pub returns-in_err-define_symbol-clause-limit_first : goal.returns-in_err-define_symbol-clause-limit_first
 returns-in_err-define_symbol-clause-limit_first c =
     let P : AsmFault → Type 0 = λ fault. fault ≡ NoMemory → (told : Table) → Matches c.args.self.now told
-    → has_too_many (with_key (Numbered told.settings.block c.args.number) told) ≡ false in
+    → has_too_many (with_key (Numbered told.modes.block c.args.number) told) ≡ false in
     handed_on P c.in_err-define_symbol.field-0.0 c.from_residual-in_err-define_symbol.result
-    (λ none. blocks_said c.args.self.now c.define_symbol.new.self c.settings-block.result.block c.args.number
-    (ap (λ (s : Settings). s.block) c.settings-block.ensures ∙ ap (λ (k : Kept). k.table.settings.block) c.self.view_is)
+    (λ none. blocks_said c.args.self.now c.define_symbol.new.self c.modes-block.result.block c.args.number
+    (ap (λ (s : Modes). s.block) c.modes-block.ensures ∙ ap (λ (k : Kept). k.table.modes.block) c.self.view_is)
     (λ (t : Table). has_too_many t ≡ false) c.labelled-definition.result
-    (ap (λ (k : Kept). is_defined (Numbered c.settings-block.result.block c.args.number) k.table.definitions) (sym c.self.view_is)
+    (ap (λ (k : Kept). is_defined (Numbered c.modes-block.result.block c.args.number) k.table.definitions) (sym c.self.view_is)
     ∙ sym c.if-is_defined.ensures)
     (c.labelled-definition.ensures
-    ∙ ap (λ (k : Kept). labelled k.table (Numbered c.settings-block.result.block c.args.number)) c.self.view_is)
+    ∙ ap (λ (k : Kept). labelled k.table (Numbered c.modes-block.result.block c.args.number)) c.self.view_is)
     (c.in_err-define_symbol.ensures.limit_first none))
     c.from_residual-in_err-define_symbol.ensures.1
 
@@ -49,48 +49,48 @@ returns-in_err-double-clause-limit_first c =
     let N : Kept → Type 0 = λ k. k.names ≤ most_defined_names in
     let K : Kept → Type 0 = λ k. k.local_symbols ≤ most_local_symbols in
     fits_anyway _ c.from_residual.result
-    (blocks_known c.args.self.now c.double.new.self c.settings-block.result.block c.args.number
-    (ap (λ (s : Settings). s.block) c.settings-block.ensures ∙ ap (λ (k : Kept). k.table.settings.block) c.self.view_is)
-    (ap (λ (k : Kept). is_defined (Numbered c.settings-block.result.block c.args.number) k.table.definitions) (sym c.self.view_is)
+    (blocks_known c.args.self.now c.double.new.self c.modes-block.result.block c.args.number
+    (ap (λ (s : Modes). s.block) c.modes-block.ensures ∙ ap (λ (k : Kept). k.table.modes.block) c.self.view_is)
+    (ap (λ (k : Kept). is_defined (Numbered c.modes-block.result.block c.args.number) k.table.definitions) (sym c.self.view_is)
     ∙ sym c.if-is_defined.ensures)
     (subst N c.self.view_is c.self.invariant.0) (subst K c.self.view_is c.self.invariant.1))
 
 pub returns-in_ok-double-clause-defines : goal.returns-in_ok-double-clause-defines
 returns-in_ok-double-clause-defines c =
-    rw c.of_doubled.ensures.doubled
-    (blocks_double c.args.self.now c.double.new.self c.settings-block.result.block c.args.number
-    (ap (λ (s : Settings). s.block) c.settings-block.ensures ∙ ap (λ (k : Kept). k.table.settings.block) c.self.view_is)
-    (ap (λ (k : Kept). is_defined (Numbered c.settings-block.result.block c.args.number) k.table.definitions) (sym c.self.view_is)
+    rw c.of_doubly_defined.ensures.doubly_defined
+    (blocks_double c.args.self.now c.double.new.self c.modes-block.result.block c.args.number
+    (ap (λ (s : Modes). s.block) c.modes-block.ensures ∙ ap (λ (k : Kept). k.table.modes.block) c.self.view_is)
+    (ap (λ (k : Kept). is_defined (Numbered c.modes-block.result.block c.args.number) k.table.definitions) (sym c.self.view_is)
     ∙ sym c.if-is_defined.ensures)
     c.in_ok-double.ensures.doubles)
 
 pub returns-in_ok-define_symbol-clause-defines : goal.returns-in_ok-define_symbol-clause-defines
 returns-in_ok-define_symbol-clause-defines c =
-    blocks_begin c.args.self.now c.define_symbol.new.self c.settings-block.result.block c.args.number
-    (ap (λ (s : Settings). s.block) c.settings-block.ensures ∙ ap (λ (k : Kept). k.table.settings.block) c.self.view_is)
+    blocks_begin c.args.self.now c.define_symbol.new.self c.modes-block.result.block c.args.number
+    (ap (λ (s : Modes). s.block) c.modes-block.ensures ∙ ap (λ (k : Kept). k.table.modes.block) c.self.view_is)
     _ c.labelled-definition.result
-    (ap (λ (k : Kept). is_defined (Numbered c.settings-block.result.block c.args.number) k.table.definitions) (sym c.self.view_is)
+    (ap (λ (k : Kept). is_defined (Numbered c.modes-block.result.block c.args.number) k.table.definitions) (sym c.self.view_is)
     ∙ sym c.if-is_defined.ensures)
-    c.of_new.ensures.doubled
+    c.of_new.ensures.doubly_defined
     (c.labelled-definition.ensures
-    ∙ ap (λ (k : Kept). labelled k.table (Numbered c.settings-block.result.block c.args.number)) c.self.view_is)
+    ∙ ap (λ (k : Kept). labelled k.table (Numbered c.modes-block.result.block c.args.number)) c.self.view_is)
     c.in_ok-define_symbol.ensures.defines
 
 pub returns-in_ok-double-clause-tables : goal.returns-in_ok-double-clause-tables
 returns-in_ok-double-clause-tables c =
-    block_doubles c.args.self.now.table c.double.new.self.table c.settings-block.result.block c.args.number
-    (ap (λ (s : Settings). s.block) c.settings-block.ensures ∙ ap (λ (k : Kept). k.table.settings.block) c.self.view_is)
-    (ap (λ (k : Kept). is_defined (Numbered c.settings-block.result.block c.args.number) k.table.definitions) (sym c.self.view_is)
+    block_doubles c.args.self.now.table c.double.new.self.table c.modes-block.result.block c.args.number
+    (ap (λ (s : Modes). s.block) c.modes-block.ensures ∙ ap (λ (k : Kept). k.table.modes.block) c.self.view_is)
+    (ap (λ (k : Kept). is_defined (Numbered c.modes-block.result.block c.args.number) k.table.definitions) (sym c.self.view_is)
     ∙ sym c.if-is_defined.ensures)
     c.in_ok-double.ensures.tables
 
 pub returns-in_ok-define_symbol-clause-tables : goal.returns-in_ok-define_symbol-clause-tables
 returns-in_ok-define_symbol-clause-tables c =
-    block_begins c.args.self.now.table c.define_symbol.new.self.table c.settings-block.result.block c.args.number
-    (ap (λ (s : Settings). s.block) c.settings-block.ensures ∙ ap (λ (k : Kept). k.table.settings.block) c.self.view_is)
+    block_begins c.args.self.now.table c.define_symbol.new.self.table c.modes-block.result.block c.args.number
+    (ap (λ (s : Modes). s.block) c.modes-block.ensures ∙ ap (λ (k : Kept). k.table.modes.block) c.self.view_is)
     c.labelled-definition.result
-    (ap (λ (k : Kept). is_defined (Numbered c.settings-block.result.block c.args.number) k.table.definitions) (sym c.self.view_is)
+    (ap (λ (k : Kept). is_defined (Numbered c.modes-block.result.block c.args.number) k.table.definitions) (sym c.self.view_is)
     ∙ sym c.if-is_defined.ensures)
     (c.labelled-definition.ensures
-    ∙ ap (λ (k : Kept). labelled k.table (Numbered c.settings-block.result.block c.args.number)) c.self.view_is)
+    ∙ ap (λ (k : Kept). labelled k.table (Numbered c.modes-block.result.block c.args.number)) c.self.view_is)
     c.in_ok-define_symbol.ensures.tables

@@ -1,7 +1,7 @@
 use mir.Val.{bool_byte}
 use Rattle.std.proofs.Common.{◌≡◌, ◌∙◌, ℕ, ◌+◌, Bool, true, false, true≢false, cond, ap, refl, sym}
 use Rattle.m11_placement.specs.Labels.{with_definition}
-use Rattle.m11_placing.proofs.Passes.{name_defined, names_fit, names_full, settings_kept, table_kept}
+use Rattle.m11_placing.proofs.Passes.{name_defined, names_fit, names_full, modes_kept, table_kept}
 use Rattle.m11_placing.proofs.Refusals.{fits_anyway}
 use Rattle.m11_placing.proofs.pass.Pass.define_name.Goals.{else-self-ge-MOST_DEFINED_NAMES-via-then-self-ge-MOST_DEFINED_NAMES+else-not-is_defined, else-self-ge-MOST_DEFINED_NAMES-via-else-self-ge-MOST_DEFINED_NAMES}
 use Rattle.m11_placing.proofs.pass.Pass.define_name.Goals as goal
@@ -16,9 +16,9 @@ returns-clause-defines c =
     c.args.name c.args.definition.now c.insert.new.self _ c.in_ok-is_new.is_new c.requires
     (ap (λ (n : ℕ). c.self.inside.names + n) (c.from.ensures ∙ byte_of c.in_ok-is_new.is_new)) c.in_ok-is_new.ensures.is_new c.in_ok-is_new.ensures.follows
 
-pub returns-clause-settings : goal.returns-clause-settings
-returns-clause-settings c =
-    settings_kept c.self.inside.table c.self.inside.names c.self.inside.local_symbols c.self.inside.sizes c.args.self.now c.self.view_is
+pub returns-clause-modes : goal.returns-clause-modes
+returns-clause-modes c =
+    modes_kept c.self.inside.table c.self.inside.names c.self.inside.local_symbols c.self.inside.sizes c.args.self.now c.self.view_is
     c.insert.new.self (with_definition c.args.definition.now) c.in_ok-is_new.ensures.follows refl
 
 pub returns-clause-tables : goal.returns-clause-tables

@@ -9,7 +9,7 @@ use Rattle.m11_asm_faults.specs.declared.fault.AsmFault.{AsmFault}
 use Rattle.m11_placement.specs.Labels.{with_name}
 use Rattle.m11_placement.specs.Limits.{has_too_many, most_defined_names, most_local_symbols}
 use Rattle.m11_placement.specs.Tables.{Table}
-use Rattle.m11_placing.proofs.Labelling.{doubled_fits, opens_said}
+use Rattle.m11_placing.proofs.Labelling.{doubly_defined_fits, opens_said}
 use Rattle.m11_placing.proofs.Refusals.{fits_anyway, handed_on}
 use Rattle.m11_placing.specs.Faults.{Refuses}
 use Rattle.m11_placing.specs.Passes.{Matches}
@@ -17,7 +17,7 @@ use Rattle.m11_placing.proofs.pass.Pass.define_name_of.Goals as goal
 
 pub returns-in_ok-double-in-Some-clause-defines : goal.returns-in_ok-double-in-Some-clause-defines
 returns-in_ok-double-in-Some-clause-defines c =
-    rw (c.in-Some.is, c.of_doubled.ensures.doubled)
+    rw (c.in-Some.is, c.of_doubly_defined.ensures.doubly_defined)
     (names_double c.args.self.now c.double.new.self c.in-Some.name c.args.is_global
     (ap (λ (k : Kept). is_defined (Named c.in-Some.name) k.table.definitions) (sym c.self.view_is) ∙ sym c.if-is_defined.ensures)
     c.in_ok-double-in-Some.ensures.doubles)
@@ -30,7 +30,7 @@ returns-in_ok-define_new_name-in-Some-2-clause-defines c =
     ∙ ap (λ (n : Name). is_defined (Named n) c.self.inside.table.definitions)
     (ap (λ (o : Option Name). unwrap_or o (0, 0)) (sym c.in-Some-2.is ∙ c.in-Some.is))
     ∙ sym c.if-is_defined.ensures)
-    c.of_new.ensures.doubled
+    c.of_new.ensures.doubly_defined
     c.in_ok-define_new_name-in-Some-2.ensures.defines)
 
 pub returns-in_ok-double-in-Some-clause-tables : goal.returns-in_ok-double-in-Some-clause-tables
@@ -58,7 +58,7 @@ returns-in_err-double-in-Some-clause-limit_first c =
     let S : Kept → Type 0 = λ k. k.local_symbols ≤ most_local_symbols in
     fits_anyway (P c.args.name) c.from_residual.result
     (subst P (sym c.in-Some.is)
-    (doubled_fits c.args.self.now c.in-Some.name c.args.is_global
+    (doubly_defined_fits c.args.self.now c.in-Some.name c.args.is_global
     (ap (λ (k : Kept). is_defined (Named c.in-Some.name) k.table.definitions) (sym c.self.view_is) ∙ sym c.if-is_defined.ensures)
     (subst N c.self.view_is c.self.invariant.0) (subst S c.self.view_is c.self.invariant.1)))
 

@@ -1,6 +1,6 @@
 use Rattle.std.proofs.Common.{◌+◌, refl}
 use Rattle.m11_placement.specs.Labels.{with_definition}
-use Rattle.m11_placing.proofs.Passes.{settings_kept, symbol_defined, table_kept}
+use Rattle.m11_placing.proofs.Passes.{modes_kept, symbol_defined, table_kept}
 use Rattle.m11_placing.proofs.Passes.{symbols_fit}
 use Rattle.m11_placing.proofs.Refusals.{fits_anyway}
 use Rattle.m11_placing.proofs.pass.Pass.define_symbol.Goals as goal
@@ -11,9 +11,9 @@ returns-clause-defines c =
     c.args.block c.args.number c.args.definition.now c.insert.new.self (c.self.inside.local_symbols + 1) c.requires refl
     c.in_ok-insert.ensures.follows
 
-pub returns-clause-settings : goal.returns-clause-settings
-returns-clause-settings c =
-    settings_kept c.self.inside.table c.self.inside.names c.self.inside.local_symbols c.self.inside.sizes c.args.self.now c.self.view_is
+pub returns-clause-modes : goal.returns-clause-modes
+returns-clause-modes c =
+    modes_kept c.self.inside.table c.self.inside.names c.self.inside.local_symbols c.self.inside.sizes c.args.self.now c.self.view_is
     c.insert.new.self (with_definition c.args.definition.now) c.in_ok-insert.ensures.follows refl
 
 pub returns-clause-tables : goal.returns-clause-tables

@@ -10,9 +10,9 @@ use Rattle.m11_table.proofs.table.Table.insert_symbol.Goals as goal
 
 pub returns-clause-follows : goal.returns-clause-follows
 returns-clause-follows c =
-    symbol_follows c.self.inside.names.entries c.self.inside.local_symbols.entries c.self.inside.doubled_names.keys
-    c.self.inside.doubled_symbols.keys c.self.inside.globals.keys c.self.inside.sections.entries c.self.inside.counters
-    c.self.inside.settings c.args.self.now c.self.view_is c.args.block c.args.number c.args.definition.now c.insert.new.self.entries
+    symbol_follows c.self.inside.names.entries c.self.inside.local_symbols.entries c.self.inside.doubly_defined_names.keys
+    c.self.inside.doubly_defined_symbols.keys c.self.inside.globals.keys c.self.inside.sections.entries c.self.inside.counters
+    c.self.inside.modes c.args.self.now c.self.view_is c.args.block c.args.number c.args.definition.now c.insert.new.self.entries
     c.in_ok-before.ensures.entries c.requires
 
 pub returns-clause-is_new : goal.returns-clause-is_new

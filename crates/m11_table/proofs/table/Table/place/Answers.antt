@@ -7,5 +7,5 @@ pub returns : goal.returns
 returns c =
     let P : ℕ → Type 0 = λ n. n < 65536 in
     c.counter_at.ensures
-    ∙ counter_place c.self.inside.settings.section c.self.inside.counters (subst P c.counter_at.ensures c.counter_at.type_inv)
+    ∙ counter_place c.self.inside.modes.section c.self.inside.counters (subst P c.counter_at.ensures c.counter_at.type_inv)
     ∙ ap place c.self.view_is

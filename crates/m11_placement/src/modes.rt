@@ -1,0 +1,21 @@
+//! What holds from a line on until another one changes it. (MACRO-11 Language Reference Manual, "Program section directives", "Local
+//! symbols", "Radix control" and "Listing control directives".)
+
+use m11_scan::Radix;
+
+/// What holds from a line on.
+#[derive(Clone, Copy)]
+pub struct Modes {
+    /// The number of the section.
+    pub section: u16,
+    /// The number of the block of local symbols.
+    pub block: u64,
+    /// The radix of numbers that have none of their own.
+    pub radix: Radix,
+    /// How many `.LIST` without arguments there were.
+    pub listed: u64,
+    /// How many `.NLIST` without arguments.
+    pub unlisted: u64,
+    /// Whether lines of expansions are listed.
+    pub shows_expansions: bool,
+}
