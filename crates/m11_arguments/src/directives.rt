@@ -93,7 +93,7 @@ const WITH_N: [DirectiveRow; 2] = [
 const WITH_R: [DirectiveRow; 1] = [row!(b".REPT ", Directive::Rept)];
 
 /// The directive of a name, in either case; its first six characters count.
-// Inline: each operator comes here, and most are none of these.
+// speed: inline, since each operator comes here, and most are none of these.
 #[inline(always)]
 pub fn directive_named(name: &[u8]) -> Option<Directive>
     ensures { result ≡ spec.directive_named (six_of name.now) }

@@ -47,7 +47,7 @@ pub struct ExpressionEnd {
 }
 
 /// How far the expression at a place of a line reaches. Where none stands there, it ends at that place.
-// Inline: a call would hand two tokens on by memory.
+// speed: a call would hand two tokens on by memory.
 #[inline(always)]
 pub fn expression_end_at(line: &Line, place: usize) -> ExpressionEnd
     requires { place ≤ length line.now.text }
@@ -65,8 +65,8 @@ pub fn expression_end_at(line: &Line, place: usize) -> ExpressionEnd
     }
 }
 
-/// The same, with the token that stands next from that place on: it need not be cut again.
-// Inline for the same reason.
+/// Where the expression at a place ends, whose first token was cut already.
+// speed: a call would hand two tokens on by memory.
 #[inline(always)]
 pub fn expression_end_from(line: &Line, place: usize, token: Token) -> ExpressionEnd
     requires token { IsNext line.now.text place token }
@@ -90,7 +90,7 @@ pub fn expression_end_from(line: &Line, place: usize, token: Token) -> Expressio
     }
 }
 
-// That of an expression whose tokens are cut one after the other.
+// Where an expression ends whose tokens are cut one after the other.
 fn long_expression_end(line: &Line, place: usize) -> ExpressionEnd
     requires { place ≤ length line.now.text }
     ensures end { result.end ≡ expression_end line.now.text place }
@@ -111,7 +111,7 @@ fn long_expression_end(line: &Line, place: usize) -> ExpressionEnd
 
 /// The one token of the expression at a place, where it is one term. Most expressions are, and of those no token need be cut past the next
 /// one.
-// Inline: a call would save and restore more than it asks.
+// speed: a call would save and restore more than it asks.
 #[inline(always)]
 pub fn single_term(line: &Line, place: usize) -> Option<Token>
     requires { place ≤ length line.now.text }
@@ -129,7 +129,8 @@ pub struct SingleTerm {
     pub(crate) next: Option<Token>,
 }
 
-// The term that is the expression at a place, if one is. Inline for the same reason.
+// The term that is the expression at a place, if one is.
+// speed: a call would save and restore more than it asks.
 #[inline(always)]
 pub(crate) fn single_at(line: &Line, place: usize) -> Option<SingleTerm>
     requires { place ≤ length line.now.text }
@@ -143,7 +144,8 @@ pub(crate) fn single_at(line: &Line, place: usize) -> Option<SingleTerm>
     single_from(line, place, token)
 }
 
-// The term that is the expression at a place, if the token that stands next from there on is one. Inline for the same reason.
+// The term that is the expression at a place, if the token that stands next from there on is one.
+// speed: a call would save and restore more than it asks.
 #[inline(always)]
 pub(crate) fn single_from(line: &Line, place: usize, term: Token) -> Option<SingleTerm>
     requires token { IsNext line.now.text place term }

@@ -46,7 +46,8 @@ pub(crate) fn number_at<N: Names>(
     number_by(line, place, single_at(line, place), names, notes)
 }
 
-// The same, with the token that stands next from that place on. Inline: a call would hand tokens on by memory.
+// The number at a place, whose first token was cut already.
+// speed: a call would hand tokens on by memory.
 #[inline(always)]
 pub(crate) fn number_from<N: Names>(
     line: &Line,
@@ -70,7 +71,8 @@ pub(crate) fn number_from<N: Names>(
     number_by(line, place, single_from(line, place, token), names, notes)
 }
 
-// The same, with its one term, where it is one. Inline for the same reason.
+// The number at a place, with its one term where it is one.
+// speed: a call would hand tokens on by memory.
 #[inline(always)]
 fn number_by<N: Names>(
     line: &Line,
@@ -113,7 +115,8 @@ pub(crate) struct Reading {
     pub(crate) end: u8,
 }
 
-// Reads the expression at a place, with its one term where it is one. Its symbols are noted. Inline for the same reason.
+// Reads the expression at a place, with its one term where it is one. Its symbols are noted.
+// speed: a call would hand tokens on by memory.
 #[inline(always)]
 fn read_expression<N: Names>(
     line: &Line,
@@ -146,7 +149,8 @@ fn read_expression<N: Names>(
     }
 }
 
-// Reads any expression, by a call: in the caller, room for its tokens would be cleared also where it is one term. Each token is cut once.
+// Reads any expression. Each token is cut once.
+// speed: a call, since in the caller room for its tokens would be cleared also where it is one term.
 #[inline(never)]
 fn read_tokens<N: Names>(
     line: &Line,
@@ -172,7 +176,7 @@ fn read_tokens<N: Names>(
 }
 
 /// The value of the expression at a place. Where none stands, a term is missing.
-// Inline: a call would hand the value on by memory.
+// speed: a call would hand the value on by memory.
 #[inline(always)]
 pub fn value_at<N: Names>(line: &Line, place: usize, names: &N) -> Value
     requires { place ≤ length line.now.text }
@@ -182,7 +186,7 @@ pub fn value_at<N: Names>(line: &Line, place: usize, names: &N) -> Value
     value_by(line, place, single_term(line, place), names)
 }
 
-/// The same, with its one token where it is found to be one term.
+/// The value of the expression at a place, with its one token where it was found to be one term.
 pub fn value_by<N: Names>(line: &Line, place: usize, term: Option<Token>, names: &N) -> Value
     requires within { place ≤ length line.now.text }
     requires term { IfSome term (λ term. IsAlone line.now.text place term) }
@@ -195,7 +199,8 @@ pub fn value_by<N: Names>(line: &Line, place: usize, term: Option<Token>, names:
     }
 }
 
-// That of any expression, by a call for the same reason.
+// The value of any expression.
+// speed: a call, since in the caller room for its tokens would be cleared also where it is one term.
 #[inline(never)]
 fn long_value<N: Names>(line: &Line, place: usize, names: &N) -> Value
     requires { place ≤ length line.now.text }
@@ -206,7 +211,7 @@ fn long_value<N: Names>(line: &Line, place: usize, names: &N) -> Value
 }
 
 /// Notes the symbols that the expression at a place reads, in order. Error: memory may be refused.
-// Inline as `single_term` is, which is most of it.
+// speed: inline as `single_term` is, which is most of it.
 #[inline(always)]
 pub fn note_symbols(line: &Line, place: usize, notes: &mut Notes) -> Result<(), AllocError>
     requires { place ≤ length line.now.text }
@@ -218,7 +223,8 @@ pub fn note_symbols(line: &Line, place: usize, notes: &mut Notes) -> Result<(), 
     }
 }
 
-// Those of any expression, by a call for the same reason.
+// Notes the symbols of any expression.
+// speed: a call, since in the caller room for its tokens would be cleared also where it is one term.
 #[inline(never)]
 fn note_all(line: &Line, place: usize, notes: &mut Notes) -> Result<(), AllocError>
     requires { place ≤ length line.now.text }

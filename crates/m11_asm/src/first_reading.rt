@@ -19,7 +19,7 @@ pub fn read_first<F: Feed>(alloc: Global, feeds: &mut [F]) -> Result<Symbols, As
     match take_lines(feeds, &mut first) {
         Ok(()) => first.end(),
         Err(fault) => {
-            // by a call, which is proved sooner
+            // proof: a value of several maps that goes in place takes minutes to prove
             drop(first);
             Err(fault)
         }

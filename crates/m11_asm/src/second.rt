@@ -161,7 +161,7 @@ impl Second {
             × (object.new ≡ object.old) × (listing.new ≡ listing.old) × (messages.new ≡ messages.old) }
     {
         let done = self.finish(object, listing, messages);
-        // by a call: where it is let go in place, this function alone takes minutes to prove
+        // proof: where it goes in place, this function alone takes minutes to prove
         drop(self);
         done
     }

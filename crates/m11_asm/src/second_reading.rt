@@ -32,7 +32,7 @@ pub fn read_second<F: Feed, S: Sink, T: Sink, U: Sink>(
     match put_lines(feeds, &mut second, object, listing, messages) {
         Ok(()) => second.end(object, listing, messages),
         Err(fault) => {
-            // by a call, which is proved sooner
+            // proof: a value of several maps that goes in place takes minutes to prove
             drop(second);
             Err(fault)
         }

@@ -146,7 +146,7 @@ impl Writing {
     }
 
     // The head of the object, where it isn't written.
-    // Inline: each placed line comes here, and only the first one finds no head.
+    // speed: inline, since each placed line comes here, and only the first one finds no head.
     #[inline(always)]
     fn begin<S: Sink>(&mut self, object: &mut S) -> Result<(), AsmFault>
         ensures writes { (program : Program) (lines : List Numbered) (listing messages : Output)
@@ -212,7 +212,7 @@ impl Writing {
     }
 
     // A flagged line is reported.
-    // Inline: each placed line comes here, and few are flagged.
+    // speed: inline, since each placed line comes here, and few are flagged.
     #[inline(always)]
     fn report<U: Sink>(
         &mut self,

@@ -194,7 +194,8 @@ fn put_piece<S: Sink>(
     put_closing(alloc, object, text, piece)
 }
 
-// The same of a piece that may close a text, by a call: in the caller, room for a text would be cleared for each piece.
+// Puts a piece that may close a text.
+// speed: a call, since in the caller room for a text would be cleared for each piece.
 #[inline(never)]
 fn put_closing<S: Sink>(
     alloc: Global,

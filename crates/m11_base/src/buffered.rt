@@ -96,7 +96,8 @@ fn take_byte<R: Read>(reader: &mut BufReader<R>) -> Result<Option<u8>, DeviceFau
     }
 }
 
-// The same where the buffer may be empty. It isn't inlined, so that what calls it can be.
+// The next byte, where the buffer may be empty.
+// speed: a call, so that what calls it can be inlined.
 #[inline(never)]
 fn fill_and_take<R: Read>(reader: &mut BufReader<R>) -> Result<Option<u8>, DeviceFault>
     ensures { ReadsByte (reader_remaining R.remaining reader.old) (reader_remaining R.remaining reader.new) result }

@@ -26,7 +26,7 @@ pub fn run<F: Feed, S: Sink>(machine: &mut Machine, limit: u32, feed: &mut F, si
     run_counted(machine, limit, feed, sink).stop
 }
 
-/// The same, with the count of steps.
+/// Makes steps up to the limit or to a stop, and counts them.
 #[inline(never)]
 pub(crate) fn run_counted<F: Feed, S: Sink>(
     machine: &mut Machine,

@@ -35,14 +35,14 @@ pub struct Fields {
 /// The tokens of the expressions in the fields of an instruction, each where the expression is found to be one term.
 #[derive(Clone, Copy)]
 pub struct FieldTerms {
-    /// That of the first field.
+    /// The token of the first field, where it is one term.
     pub first: Option<Token>,
-    /// That of the second one.
+    /// The token of the second field, where it is one term.
     pub second: Option<Token>,
 }
 
 impl FieldTerms {
-    /// Those of fields of which none is known to be one term.
+    /// No field is known to be one term.
     pub fn none() -> FieldTerms
         ensures { (line : Bytes) (fields : List Field) → AreTerms line fields result }
     {
@@ -52,7 +52,7 @@ impl FieldTerms {
         }
     }
 
-    /// Those of the fields after the first one.
+    /// The tokens of the fields after the first one.
     pub fn others(&self) -> FieldTerms
         ensures { (line : Bytes) (fields : List Field) → AreTerms line fields self.now → AreTerms line (others fields) result }
     {

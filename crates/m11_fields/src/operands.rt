@@ -34,7 +34,7 @@ pub struct OperandRead {
 }
 
 /// The operand at a place of a line. Whether an expression is a register is asked of names: those of the lines before.
-// Inline: a call would hand its result on by memory.
+// speed: a call would hand its result on by memory.
 #[inline(always)]
 pub fn operand_at<N: Names>(line: &Line, start: usize, names: &N) -> OperandRead
     requires { start ≤ length line.now.text }
@@ -96,7 +96,8 @@ fn deferred<N: Names>(line: &Line, start: usize, names: &N) -> OperandRead
     }
 }
 
-// What begins with a token, after `@` or without it. Inline for the same reason as what it asks.
+// The operand that begins with a token, after `@` or without it.
+// speed: a call would hand its result on by memory.
 #[inline(always)]
 fn begun_by<N: Names>(
     line: &Line,
@@ -175,7 +176,8 @@ fn opens_after(line: &Line, place: u8, token: Token) -> bool
     is_open(token.sort) && !skipped_between(line, usize::from(place), usize::from(token.start))
 }
 
-// An expression, which begins with a token. Inline: a call would hand tokens on by memory.
+// An expression, which begins with a token.
+// speed: a call would hand tokens on by memory.
 #[inline(always)]
 fn expression<N: Names>(
     line: &Line,
@@ -197,7 +199,8 @@ fn expression<N: Names>(
     reached(line, is_deferred, start, expression_end, names)
 }
 
-// An expression that reaches so far: before `(` it is an index. Inline for the same reason.
+// An expression that reaches so far: before `(` it is an index.
+// speed: a call would hand tokens on by memory.
 #[inline(always)]
 fn reached<N: Names>(
     line: &Line,

@@ -106,7 +106,7 @@ impl First {
                 Ok(Symbols::new(pass, used_symbols, self.facts))
             }
             Err(fault) => {
-                // by a call, which is proved sooner
+                // proof: a value of several maps that goes in place takes minutes to prove
                 drop(self);
                 Err(fault)
             }

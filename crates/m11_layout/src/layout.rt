@@ -99,7 +99,7 @@ impl Layout {
         let mut layout = self;
         match layout.finish() {
             Ok(()) => {
-                // by a call: where it is let go in place, this function alone takes minutes to prove
+                // proof: where it goes in place, this function alone takes minutes to prove
                 drop(layout.rules);
                 plan_of(layout.alloc, layout.bottom, layout.tables)
             }

@@ -83,7 +83,7 @@ pub(crate) fn plan_of(alloc: Global, bottom: u16, tables: Tables) -> Result<Plan
             }
         }
         Err(fault) => {
-            // by calls, which are proved sooner
+            // proof: values of several maps that go in place take minutes to prove
             drop(bases);
             drop(tables);
             Err(fault)

@@ -60,7 +60,7 @@ impl Line {
         self.is_over_long = false;
     }
 
-    /// The same as another line.
+    /// Becomes a copy of another line.
     pub fn copy_from(&mut self, other: &Line)
         ensures { self.new ≡ other.now }
     {
@@ -74,7 +74,8 @@ impl Line {
         }
     }
 
-    /// More characters; those past the limit are dropped. By a call, since most lines are short and are begun as a whole.
+    /// Adds characters; those past the limit are dropped.
+    // speed: a call, since most lines are short and are begun as a whole.
     #[inline(never)]
     pub fn push_all(&mut self, bytes: &[u8])
         ensures { self.new ≡ with_bytes self.old bytes.now }

@@ -76,7 +76,8 @@ impl OpenLine {
         }
     }
 
-    /// Takes a byte that is no line feed. By a call, so that a line without such bytes needs no room for it.
+    /// Takes a byte that is no line feed.
+    // speed: a call, so that a line without such bytes needs no room for it.
     #[inline(never)]
     pub(crate) fn push(&mut self, byte: u8)
         ensures { self.new ≡ with_byte self.old byte }

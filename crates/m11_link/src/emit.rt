@@ -143,7 +143,7 @@ impl Emit {
         ensures stays { is_some map.new ≡ is_some map.old }
     {
         let done = self.finish(tape, map, messages);
-        // by a call: where it is let go in place, this function alone takes minutes to prove
+        // proof: where it goes in place, this function alone takes minutes to prove
         drop(self);
         done
     }

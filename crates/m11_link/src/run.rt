@@ -78,7 +78,7 @@ fn read_first<F: Feed>(alloc: Global, feeds: &mut [F], bottom: u16) -> Result<Pl
     match lay_out(feeds, &mut layout) {
         Ok(()) => layout.end(),
         Err(fault) => {
-            // by a call, which is proved sooner
+            // proof: a value of several maps that goes in place takes minutes to prove
             drop(layout);
             Err(fault)
         }
@@ -137,7 +137,7 @@ fn read_second<F: Feed, S: Sink, T: Sink, U: Sink>(
     match emit_all(feeds, &mut emit, tape, map, messages) {
         Ok(()) => emit.end(tape, map, messages),
         Err(fault) => {
-            // by a call, which is proved sooner
+            // proof: a value of several maps that goes in place takes minutes to prove
             drop(emit);
             Err(fault)
         }

@@ -83,7 +83,8 @@ fn limit_bytes(plan: &Plan) -> ArrayVec<u8, 4>
     bytes
 }
 
-// Puts bytes in the place of those that stand at an index of a text. It is inlined, so that a word is stored at once.
+// Puts bytes in the place of those that stand at an index of a text.
+// speed: inline, so that a word is stored at once.
 #[inline(always)]
 fn replace(text: &mut [u8], index: usize, bytes: &[u8])
     requires { index + length bytes.now ≤ length text.old }

@@ -95,7 +95,7 @@ pub(crate) fn read_all<F: Feed>(
     match read_objects(feeds, &mut layout, noted) {
         Ok(()) => layout.end(),
         Err(fault) => {
-            // by a call, which is proved sooner
+            // proof: a value of several maps that goes in place takes minutes to prove
             drop(layout);
             Err(fault)
         }

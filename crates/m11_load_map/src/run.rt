@@ -43,7 +43,7 @@ fn map_of<F: Feed>(alloc: Global, objects: &mut [F], bottom: u16) -> Result<Vec<
     match read_all(alloc, objects, bottom, &mut noted) {
         Ok(plan) => match map_text(alloc, &plan, noted.as_slice()) {
             Ok(text) => {
-                // by a call, which is proved sooner
+                // proof: a value of several maps that goes in place takes minutes to prove
                 drop(plan);
                 Ok(text)
             }

@@ -120,7 +120,8 @@ fn first_target(command: Command, bytes: &[u8]) -> Result<(Target, &[u8]), Recor
     }
 }
 
-// An entry of a relocation directory. It is inlined, since a walk calls it for each.
+// An entry of a relocation directory.
+// speed: inline, since a walk calls it for each.
 #[tactic(auto, unfolding(crate::specs::Reading::first_relocation))]
 #[inline(always)]
 pub(crate) fn first_relocation(bytes: &[u8]) -> Result<(Relocation, &[u8]), RecordFault>

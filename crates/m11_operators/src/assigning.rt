@@ -53,7 +53,7 @@ pub fn known_value(map: &Map<'_>, table: &Table, line: &Line, start: usize) -> V
     known_value_by(map, table, line, start, single_term(line, start))
 }
 
-/// The same, with its one token where it is found to be one term.
+/// What is known of the value of an assignment, with its one token where it was found to be one term.
 pub fn known_value_by(
     map: &Map<'_>,
     table: &Table,

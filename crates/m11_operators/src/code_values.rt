@@ -46,7 +46,8 @@ fn field_value(line_context: &LineContext, field: Field, term: Option<Token>) ->
     }
 }
 
-// The value in the first of some fields, whose term this is. Inline: a call would hand the value on by memory.
+// The value in the first of some fields, whose term this is.
+// speed: a call would hand the value on by memory.
 #[inline(always)]
 pub(crate) fn value_in(line_context: &LineContext, fields: &[Field], term: Option<Token>) -> Value
     requires { IfSome term (λ term. IsTermIn line_context.now.line fields.now term) }

@@ -87,7 +87,7 @@ pub fn nchr_flags(line: &Line, start: usize) -> ErrorFlags
     }
 }
 
-// Those of what stands after the name.
+// The flags of what stands after the name.
 fn flags_after(line: &Line, end: usize) -> ErrorFlags
     requires { end ≤ length line.now.text }
     ensures { bits_of result
@@ -99,7 +99,7 @@ fn flags_after(line: &Line, end: usize) -> ErrorFlags
     }
 }
 
-// Those of a text that is missing.
+// The flags of a text that is missing.
 fn missing_flags(line: &Line, separator: Separator) -> ErrorFlags
     requires { separator.end ≤ length line.now.text }
     ensures { bits_of result ≡ spec.text_flags line.now.text separator None }

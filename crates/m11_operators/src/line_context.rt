@@ -43,7 +43,7 @@ impl<'a> LineContext<'a> {
         }
     }
 
-    /// The same at another place of the line.
+    /// The context at another place of the line.
     pub fn at(&self, place: u16) -> LineContext<'a>
         ensures { result ≡ standpoint self.now.map self.now.table place self.now.line }
     {
@@ -91,7 +91,7 @@ impl<'a> LineContext<'a> {
         value_from(self.line, start, &names)
     }
 
-    /// The same, with its one token where it is found to be one term.
+    /// The value of the expression at a place of the line, with its one token where it was found to be one term.
     pub fn value_by(&self, start: u8, term: Option<Token>) -> Value
         requires { IfSome term (λ term. IsAlone self.now.line start term) }
         ensures { quantity result ≡ expressions.value_at (line_context_of self.now).known self.now.line start }
@@ -108,7 +108,7 @@ impl<'a> LineContext<'a> {
         value_from(self.line, start, &names)
     }
 
-    /// The same, with its one token where it is found to be one term.
+    /// The value of the expression at a place of the line, in a word, with its one token where it was found to be one term.
     pub fn reference_by(&self, start: u8, term: Option<Token>) -> Value
         requires { IfSome term (λ term. IsAlone self.now.line start term) }
         ensures { quantity result ≡ expressions.value_at (line_context_of self.now).refers self.now.line start }
@@ -132,7 +132,7 @@ pub(crate) fn value_from<N: Names>(line: &Line, start: u8, names: &N) -> Value
     }
 }
 
-// The same, with its one token where it is found to be one term.
+// The value of an expression, with its one token where it was found to be one term.
 fn value_by_term<N: Names>(line: &Line, start: u8, term: Option<Token>, names: &N) -> Value
     requires { IfSome term (λ term. IsAlone line.now.text start term) }
     ensures { quantity result

@@ -52,7 +52,7 @@ pub fn no_fields() -> Fields
     }
 }
 
-/// The same, with the token of what has no fields but one expression, where that is one term.
+/// No fields, with the token of an expression, where that is one term.
 pub fn single_fields(term: Option<Token>) -> Fields
     ensures fields { fields_seen result ≡ no_fields 0 }
     ensures ends { result.end ≡ 0 }
@@ -63,7 +63,7 @@ pub fn single_fields(term: Option<Token>) -> Fields
     fields
 }
 
-// Those of an instruction at a place.
+// The fields of an instruction at a place.
 fn operation_fields(table: &Table, here: u16, line: &Line, start: usize, operation: Op) -> Fields
     requires { start ≤ length line.now.text }
     ensures fields { fields_seen result ≡ instructions.fields table.now here line.now.text start operation }

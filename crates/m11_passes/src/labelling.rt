@@ -49,8 +49,8 @@ pub(crate) fn define_labels(
     }
 }
 
-// Lists the labels of a line, and defines them, by a call: in the caller, room for as many as a line may have would be cleared for each
-// line.
+// Lists the labels of a line, and defines them.
+// speed: a call, since in the caller room for as many as a line may have would be cleared for each line.
 #[inline(never)]
 fn define_listed(
     pass: &mut Pass,

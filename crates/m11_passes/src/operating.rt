@@ -67,7 +67,7 @@ fn use_read(used_symbols: &mut UsedSymbols, notes: &Notes) -> Result<(), AsmFaul
 }
 
 // The symbols that unfolding read, and those that the operator mentions, with the fields that it has by a table.
-// Inline: most lines mention nothing, or the fields of an instruction alone.
+// speed: inline, since most lines use nothing, or what the fields of an instruction use.
 #[inline(always)]
 fn use_line(
     used_symbols: &mut UsedSymbols,
@@ -90,7 +90,7 @@ fn use_line(
     Ok(())
 }
 
-// The same, where what lines mention counts.
+// Notes the symbols that a line uses, where they count.
 #[inline(always)]
 pub(crate) fn count_line(
     counting: &mut Counting,
@@ -203,7 +203,8 @@ fn operate_line(
     }
 }
 
-// What a line changes, whatever stands after its labels, by a call: in the caller, room for a change would be cleared for each line.
+// Changes what a line changes, whatever stands after its labels.
+// speed: a call, since in the caller room for a change would be cleared for each line.
 #[inline(never)]
 fn change_any(
     pass: &mut Pass,

@@ -62,7 +62,7 @@ impl State {
                 put: Put::new(alloc),
             }),
             Err(error) => {
-                // by a call, which is proved sooner
+                // proof: a value of several maps that goes in place takes minutes to prove
                 drop(counting);
                 Err(error)
             }

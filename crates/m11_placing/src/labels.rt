@@ -34,7 +34,7 @@ pub struct LabelFlags {
 }
 
 impl LabelFlags {
-    // Those of nothing.
+    // A line without labels has no flags of them.
     fn none() -> LabelFlags
         ensures doubly_defined { bits_of result.doubly_defined ≡ 0 }
         ensures moved { bits_of result.moved ≡ 0 }
@@ -45,7 +45,7 @@ impl LabelFlags {
         }
     }
 
-    // Those of a label that is defined before it.
+    // The flags of a label that was defined before.
     fn of_doubly_defined() -> LabelFlags
         ensures doubly_defined { bits_of result.doubly_defined ≡ flag_M }
         ensures moved { bits_of result.moved ≡ 0 }
@@ -56,7 +56,7 @@ impl LabelFlags {
         }
     }
 
-    // Those of another one.
+    // The flags of a label that is defined here.
     fn of_new(moved: ErrorFlags) -> LabelFlags
         ensures doubly_defined { bits_of result.doubly_defined ≡ 0 }
         ensures moved { result.moved ≡ moved }

@@ -77,7 +77,7 @@ impl UsedSymbols {
 
     /// What stands after the labels of a line, with the number of actuals of a macro around it and the fields that it has by the table once
     /// its labels stand. Errors as those of `add_all`.
-    // Inline: most lines mention nothing, or the fields of an instruction alone.
+    // speed: inline, since most lines use nothing, or what the fields of an instruction use.
     #[inline(always)]
     pub fn add_action(
         &mut self,
@@ -101,7 +101,8 @@ impl UsedSymbols {
         }
     }
 
-    // The arguments of an operator, inline for the same reason.
+    // The symbols in the arguments of an operator.
+    // speed: inline, since most lines use nothing, or what the fields of an instruction use.
     #[inline(always)]
     fn add_operator(
         &mut self,
@@ -124,7 +125,8 @@ impl UsedSymbols {
         }
     }
 
-    // The name of an assignment and what its value reads, by a call: in the caller, each line would save the registers that it needs.
+    // The name of an assignment and what its value reads.
+    // speed: a call, since in the caller each line would save the registers that it needs.
     #[inline(never)]
     fn add_assignment(
         &mut self,
@@ -150,7 +152,7 @@ impl UsedSymbols {
         }
     }
 
-    // The same, with its one token where it is found to be one term.
+    // What an expression reads, with its one token where it was found to be one term.
     fn read_by(
         &mut self,
         line: &Line,
@@ -236,7 +238,8 @@ impl UsedSymbols {
         }
     }
 
-    // The arguments of a directive, by a call for the same reason.
+    // The symbols in the arguments of a directive.
+    // speed: a call, since in the caller each line would save the registers that it needs.
     #[inline(never)]
     fn add_directive(
         &mut self,
@@ -263,7 +266,8 @@ impl UsedSymbols {
         }
     }
 
-    // The list at a place, by a call: in the caller, room for the elements of one would be cleared for each directive.
+    // The symbols of the list at a place.
+    // speed: a call, since in the caller room for the elements of one would be cleared for each directive.
     #[inline(never)]
     fn add_list(&mut self, line: &Line, start: usize) -> Result<(), AsmFault>
         requires { start ≤ length line.now.text }
@@ -273,7 +277,8 @@ impl UsedSymbols {
         self.add_elements(line, elements.places.as_slice())
     }
 
-    // The names that become global or weak, by a call for the same reason.
+    // The names that become global or weak.
+    // speed: a call, since in the caller room for their list would be cleared for each directive.
     #[inline(never)]
     fn add_exports(&mut self, line: &Line, start: usize) -> Result<(), AsmFault>
         requires { start ≤ length line.now.text }
@@ -296,7 +301,8 @@ impl UsedSymbols {
         }
     }
 
-    // The expressions among the parts of a text, by a call for the same reason.
+    // The symbols of the expressions among the parts of a text.
+    // speed: a call, since in the caller room for the parts would be cleared for each directive.
     #[inline(never)]
     fn add_text(&mut self, line: &Line, start: usize, context: Context) -> Result<(), AsmFault>
         requires { start ≤ length line.now.text }

@@ -88,7 +88,7 @@ impl UsedSymbols {
     ///
     /// Errors: `TooManySymbols` where there would be more than 4,096 names besides those of the registers, and `NoMemory`. Memory may be
     /// refused at a symbol before the one whose name is one too many.
-    // Inline: each line comes here, and most read none.
+    // speed: inline, since each line comes here, and most read none.
     #[inline(always)]
     pub fn add_all(&mut self, symbols: &[Symbol], context: Context) -> Result<(), AsmFault>
         ensures { Adds (in_context context symbols.now) self.old self.new result }

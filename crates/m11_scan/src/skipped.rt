@@ -20,7 +20,8 @@ pub fn skipped_between(line: &Line, start: usize, end: usize) -> bool
     start < end && has_skipped(&line.text()[start..end])
 }
 
-// Whether some piece of a text is a character that begins no token. By a call, so that callers have the comparison above alone in place.
+// Whether some piece of a text is a character that begins no token.
+// speed: a call, so that callers have the comparison above alone in place.
 #[inline(never)]
 fn has_skipped(text: &[u8]) -> bool
     ensures { result ≡ has_skipped text.now }
@@ -43,7 +44,8 @@ fn has_unkept(text: &[u8]) -> bool
     false
 }
 
-// The same of any text, cut piece by piece. By a call, as few texts have to be cut.
+// Whether some piece of any text, which is cut piece by piece, begins no token.
+// speed: a call, since few texts have to be cut.
 #[inline(never)]
 fn is_some_skipped(text: &[u8]) -> bool
     ensures { result ≡ has_skipped text.now }

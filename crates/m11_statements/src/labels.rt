@@ -131,7 +131,7 @@ fn label_at(line: &Line, place: usize) -> Option<Label>
 }
 
 // The label that begins with a token of a line, if one does.
-// Inline: each line comes here, most have none, and a call would hand the answer on by memory.
+// speed: inline, since each line comes here, most have none, and a call would hand the answer on by memory.
 #[inline(always)]
 fn label_by(line: &Line, name: Token) -> Option<Label>
     requires { name.end ≤ length line.now.text }
@@ -149,7 +149,7 @@ fn label_by(line: &Line, name: Token) -> Option<Label>
 }
 
 // The label of a token with the one after it, if they are one.
-// Inline for the same reason.
+// speed: inline, since a call would hand the label on by memory.
 #[inline(always)]
 fn label_of(line: &Line, name: Token, colon: Token) -> Option<Label>
     ensures label { result ≡ spec.label_of (lexeme line.now.text name) (lexeme line.now.text colon) }

@@ -27,7 +27,7 @@ pub fn first_passes_that_agree_have_the_same_symbols()
     names_in_order_are_these_alone();
 }
 
-/// The same of sections.
+/// The entries of sections are those of the definitions.
 pub fn first_passes_that_agree_have_the_same_sections()
     ensures { (one other : DirectoryFacts) → FirstPassesAgree one other → section_entries one ≡ section_entries other }
 {}

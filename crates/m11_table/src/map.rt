@@ -29,14 +29,14 @@ impl<'a> Model for Map<'a> {
 }
 
 impl<'a> Map<'a> {
-    /// That of the first pass: nothing is known.
+    /// The map of the first pass: nothing is known.
     pub fn none() -> Map<'a>
         ensures { result ≡ empty_map }
     {
         Map { table: None }
     }
 
-    /// That of the second pass: what the first one left.
+    /// The map of the second pass: what the first one left.
     pub fn of(table: &'a Table) -> Map<'a>
         ensures { result ≡ map_of table.now }
     {

@@ -60,7 +60,7 @@ impl<'a> Names for NamesAt<'a> {
         self.table.modes().radix
     }
 
-    // Inline: each symbol of an expression comes here, and a call would hand its result on by memory.
+    // speed: inline, since each symbol of an expression comes here, and a call would hand its result on by memory.
     #[inline(always)]
     fn meaning(&self, symbol: Symbol) -> Value {
         match symbol {
@@ -111,7 +111,7 @@ impl<'a> Names for FirmNames<'a> {
         self.table.modes().radix
     }
 
-    // Inline: each symbol of an expression comes here, and a call would hand its result on by memory.
+    // speed: inline, since each symbol of an expression comes here, and a call would hand its result on by memory.
     #[inline(always)]
     fn meaning(&self, symbol: Symbol) -> Value {
         match symbol {
@@ -176,7 +176,7 @@ fn given_or(found: Option<&Entry>, is_doubly_defined: bool, other: Value) -> Val
 }
 
 // The last definition before the line, or else that of the map.
-// Inline: each symbol of an expression comes here, and a call would hand its result on by memory.
+// speed: inline, since each symbol of an expression comes here, and a call would hand its result on by memory.
 #[inline(always)]
 fn meaning_of(map: &Map<'_>, other: Value, table: &Table, key: &Key) -> Value
     ensures { quantity result ≡ meaning_of map.now (quantity other) table.now key.now }
@@ -199,7 +199,7 @@ fn firm_standing(entry: &Entry) -> Standing
 }
 
 // The last definition before the line, as far as it is firm.
-// Inline: each symbol of an expression comes here, and a call would hand its result on by memory.
+// speed: inline, since each symbol of an expression comes here, and a call would hand its result on by memory.
 #[inline(always)]
 fn firm_meaning_of(table: &Table, key: &Key) -> Value
     ensures { quantity result ≡ meaning_of empty_map (absolute 0 flag_U) (firm_table table.now) key.now }

@@ -32,7 +32,7 @@ use std::marker::Model;
 // The attributes of the absolute section.
 const ABSOLUTE_ATTRIBUTES: u8 = 0o104;
 
-// Those of the blank one, and of a section that there isn't.
+// The attributes of the blank section, and of a section that there isn't.
 const BLANK_ATTRIBUTES: u8 = 0o040;
 
 // The bit of REL in the attributes of a section.
@@ -86,7 +86,7 @@ impl Table {
         match table.begin() {
             Ok(()) => Ok(table),
             Err(error) => {
-                // by a call, which is proved sooner
+                // proof: a value of several maps that goes in place takes minutes to prove
                 drop(table);
                 Err(error)
             }
@@ -165,7 +165,7 @@ impl Table {
         self.section_at(usize::from(number))
     }
 
-    // The same of any number.
+    // The section of any number.
     fn section_at(&self, number: usize) -> Section
         ensures { result ≡ numbered number self.now.sections }
     {
@@ -267,7 +267,7 @@ impl Table {
     }
 
     // What is kept of the last definition of a key. Each symbol of an expression asks for it, and it is a third as large.
-    // Inline: a call would hand the key on by memory.
+    // speed: a call would hand the key on by memory.
     #[inline(always)]
     pub(crate) fn entry(&self, key: &Key) -> Option<&Entry>
         ensures { defined_as key.now (option_copied result) ≡ last_definition key.now self.now.definitions }
@@ -284,7 +284,7 @@ impl Table {
         self.names.get(&name)
     }
 
-    // By a call too, so that what finds a name is short.
+    // speed: a call, so that what finds a name is short.
     #[inline(never)]
     fn symbol_entry(&self, block: u64, number: u16) -> Option<&Entry>
         ensures { defined_as (Numbered block number) (option_copied result) ≡ last_definition (Numbered block number) self.now.definitions }
@@ -313,7 +313,7 @@ impl Table {
     }
 
     /// Whether a key is doubled.
-    // Inline: each symbol of an expression comes here, and a call would hand its result on by memory.
+    // speed: inline, since each symbol of an expression comes here, and a call would hand its result on by memory.
     #[inline(always)]
     pub fn is_doubly_defined(&self, key: &Key) -> bool
         ensures { result ≡ has_key key.now self.now.doubly_defined }
@@ -351,7 +351,7 @@ impl Table {
         }
     }
 
-    // The same of a name or of a local symbol.
+    // Whether a name or a local symbol is firm.
     fn is_firm_key(&self, key: &Key) -> bool
         ensures { result ≡ is_firm_in (last_definition key.now self.now.definitions) }
     {

@@ -9,7 +9,8 @@ use m11_arguments::{Directive, directive_of};
 use m11_expansions::{Conditions, Nesting};
 use m11_scan::Line;
 
-// Skips a line, unless it is live. Returns whether it is skipped. Inline: each line of a source comes here, and few are skipped.
+// Skips a line, unless it is live. Returns whether it is skipped.
+// speed: inline, since each line of a source comes here, and few are skipped.
 #[inline(always)]
 pub(crate) fn skip(conditions: &mut Conditions, line: &Line) -> bool
     requires { conditions.old.nested < 4294967295 }
@@ -24,7 +25,8 @@ pub(crate) fn skip(conditions: &mut Conditions, line: &Line) -> bool
     }
 }
 
-// Skips a line, where lines are skipped. By a call, so that no room is made for the reading of a line that is live.
+// Skips a line, where lines are skipped.
+// speed: a call, so that no room is made for the reading of a line that is live.
 #[inline(never)]
 fn skip_inside(conditions: &mut Conditions, line: &Line) -> bool
     requires { conditions.old.nested < 4294967295 }

@@ -83,8 +83,8 @@ impl State {
         self.advance_within(alloc, line)
     }
 
-    // Makes one move, where an expansion may be open or a statement stand before what is left. By a call: the end of an expansion holds
-    // conditions, and room for them would be cleared for each line.
+    // Makes one move, where an expansion may be open or a statement stand before what is left.
+    // speed: a call, since the end of an expansion holds conditions, and room for them would be cleared for each line.
     #[inline(never)]
     fn advance_within(&mut self, alloc: Global, line: &mut Line) -> Result<Moved, UnfoldFault>
         requires kept { IsKept (stage_of self.old) }
@@ -105,7 +105,7 @@ impl State {
     }
 
     // One line is taken, which stood before what is left.
-    // Inline: each line of a source comes here.
+    // speed: inline, since each line of a source comes here.
     #[tactic(auto, using(crate::proofs::Falling::kept_untaken, crate::proofs::Falling::kept_taken))]
     #[inline(always)]
     fn take_line(
@@ -140,7 +140,8 @@ impl State {
         }
     }
 
-    // One line is taken into the body that is open, by a call: room for a body would be cleared for each line.
+    // Takes one line into the body that is open.
+    // speed: a call, since room for a body would be cleared for each line.
     #[inline(never)]
     fn take_body_line(&mut self, alloc: Global, line: &Line) -> Result<(), UnfoldFault>
         requires kept { IsKept (stage_of self.old) }

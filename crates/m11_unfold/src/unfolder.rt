@@ -156,7 +156,8 @@ impl State {
         }
     }
 
-    // The same by moves, until a line becomes live. By a call, since few lines need more than one move.
+    // Makes moves until a line becomes live.
+    // speed: a call, since few lines need more than one move.
     #[inline(never)]
     fn move_on(&mut self, alloc: Global, line: &mut Line) -> Result<Step, UnfoldFault>
         requires { IsKept (stage_of self.old) }

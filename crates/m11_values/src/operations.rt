@@ -76,7 +76,7 @@ fn settled(kind: Option<Kind>, number: u16, flags: ErrorFlags, has_register: boo
     }
 }
 
-// The same value, but a register over 7 is an absolute number and has R.
+// A value as it stands, but a register over 7 is an absolute number and has R.
 fn limited(value: Value) -> Value
     ensures { quantity result ≡ limited (quantity value) }
 {

@@ -37,7 +37,7 @@ impl Value {
         Value::absolute(0, ErrorFlags::Q)
     }
 
-    /// The same value with further flags.
+    /// The value with further flags.
     pub fn with_flags(self, flags: ErrorFlags) -> Value
         ensures { quantity result ≡ with_flags (bits_of flags) (quantity self) }
     {
