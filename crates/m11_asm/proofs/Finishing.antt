@@ -5,29 +5,29 @@ use Rattle.std.specs.Prelude.{OnOk}
 use Rattle.m11_asm_outputs.specs.Object.{AllFit, object_contents}
 use Rattle.m11_asm_faults.specs.declared.fault.AsmFault.{AsmFault}
 use Rattle.m11_asm_outputs.specs.Outputs.{AreFlushed, Gains, Outputs, Write, Writes, assembly}
-use Rattle.m11_first.specs.Facts.{Facts}
-use Rattle.m11_first.specs.First.{Symbols}
-use Rattle.m11_lines.specs.Line.{SourceLine}
-use Rattle.m11_passes.specs.Lines.{Numbered}
-use Rattle.m11_passes.specs.States.{Going, PassState, PassStands}
-use Rattle.m11_pass_laws.proofs.Counting.{at_most}
-use Rattle.m11_placement.specs.Meanings.{Map, map_of}
-use Rattle.m11_placement.specs.Places.{place_in}
-use Rattle.m11_placement.specs.Tables.{Table, place}
-use Rattle.m11_placement.specs.declared.modes.Modes.{Modes}
-use Rattle.m11_placing.specs.UsedSymbols.{Gathered}
-use Rattle.m11_placing.specs.Passes.{Kept}
-use Rattle.m11_table.specs.Alike.{Alike}
-use Rattle.m11_unfolding.specs.Limits.{most_lines}
-use Rattle.m11_unfolding.specs.Stages.{Stage, start}
-use Rattle.m11_writes.proofs.Writing.{writes_then}
+use Rattle.m11_asm_first_pass.specs.Facts.{Facts}
+use Rattle.m11_asm_first_pass.specs.First.{Symbols}
+use Rattle.m11_scan_lines.specs.Line.{SourceLine}
+use Rattle.m11_asm_passes.specs.Lines.{Numbered}
+use Rattle.m11_asm_passes.specs.States.{Going, PassState, PassStands}
+use Rattle.m11_asm_pass_laws.proofs.Counting.{at_most}
+use Rattle.m11_asm_rules.specs.Meanings.{Map, map_of}
+use Rattle.m11_asm_rules.specs.Places.{place_in}
+use Rattle.m11_asm_rules.specs.Tables.{Table, place}
+use Rattle.m11_asm_rules.specs.declared.modes.Modes.{Modes}
+use Rattle.m11_asm_lines.specs.UsedSymbols.{Gathered}
+use Rattle.m11_asm_lines.specs.Passes.{Kept}
+use Rattle.m11_asm_table.specs.Alike.{Alike}
+use Rattle.m11_unfold_rules.specs.Limits.{most_lines}
+use Rattle.m11_unfold_rules.specs.Stages.{Stage, start}
+use Rattle.m11_base_writes.proofs.Writing.{writes_then}
 use Rattle.m11_asm.specs.Program.{Program, program_in, program_kept}
 use Rattle.m11_asm.specs.Second.{GoesOn, SecondEnds, SecondStands, SecondState, ended_with}
 use Rattle.m11_asm.specs.Writing.{Writing, WritingStands, most_counted}
 use Rattle.m11_asm.specs.Written.{flagged_count, flagged_in, is_flagged, last_place, last_writes, flags_after, pieces_in, written}
 use Rattle.m11_asm.specs.declared.done.AsmDone.{AsmDone}
 use Rattle.m11_asm.proofs.LinesWritten.{nothing_written}
-use Rattle.m11_placing.specs.declared.counting.Counting.TheVariants.{Definitions}
+use Rattle.m11_asm_lines.specs.declared.counting.Counting.TheVariants.{Definitions}
 
 -- ---- before the first line
 

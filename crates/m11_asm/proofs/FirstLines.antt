@@ -5,19 +5,19 @@ use Rattle.m11_asm_faults.specs.Faults.{of_lines}
 use Rattle.m11_asm_faults.specs.declared.fault.AsmFault.{AsmFault}
 use Rattle.m11_asm_faults.specs.declared.fault.AsmFault.TheVariants as fault
 use Rattle.m11_base.specs.Feed.{NoneFailed, Text}
-use Rattle.m11_first.specs.First.{FirstFails, FirstStands, FirstState, FirstTakes, Symbols, symbols_of}
-use Rattle.m11_first.proofs.Counting.{one_longer}
-use Rattle.m11_lines.specs.Line.{SourceLine}
-use Rattle.m11_lines.specs.Lines.{most_lines}
-use Rattle.m11_lines.specs.Reader.{LineReading, ReadsNext, place, unread}
-use Rattle.m11_lines.specs.declared.fault.LineFault.{LineFault}
-use Rattle.m11_lines.specs.declared.fault.LineFault.TheVariants.{Read, TooMuchSource, TooManyLines}
-use Rattle.m11_passes.specs.Lines as lines
-use Rattle.m11_passes.specs.Lines.{with_line}
-use Rattle.m11_placement.specs.Meanings.{empty_map}
-use Rattle.m11_readings.specs.Extents.{GaveLines}
-use Rattle.m11_readings.specs.Readings.{Reading}
-use Rattle.m11_unfolding.specs.Stages.{start}
+use Rattle.m11_asm_first_pass.specs.First.{FirstFails, FirstStands, FirstState, FirstTakes, Symbols, symbols_of}
+use Rattle.m11_asm_first_pass.proofs.Counting.{one_longer}
+use Rattle.m11_scan_lines.specs.Line.{SourceLine}
+use Rattle.m11_scan_lines.specs.Lines.{most_lines}
+use Rattle.m11_scan_lines.specs.Reader.{LineReading, ReadsNext, place, unread}
+use Rattle.m11_scan_lines.specs.declared.fault.LineFault.{LineFault}
+use Rattle.m11_scan_lines.specs.declared.fault.LineFault.TheVariants.{Read, TooMuchSource, TooManyLines}
+use Rattle.m11_asm_passes.specs.Lines as lines
+use Rattle.m11_asm_passes.specs.Lines.{with_line}
+use Rattle.m11_asm_rules.specs.Meanings.{empty_map}
+use Rattle.m11_scan_line_laws.specs.Extents.{GaveLines}
+use Rattle.m11_scan_line_laws.specs.Readings.{Reading}
+use Rattle.m11_unfold_rules.specs.Stages.{start}
 use Rattle.m11_asm.specs.Written.{Ended}
 use Rattle.m11_asm.specs.Extents as extents
 use Rattle.m11_asm.specs.Extents.{GivesToEnd, GivesToFault, HaveGiven}
@@ -26,7 +26,7 @@ use Rattle.m11_asm.specs.Outcome as outcome
 use Rattle.m11_asm.specs.Outcome.{Ends, Refuses, Unended}
 use Rattle.m11_asm.specs.Passes.{Pass, ReadsFirst, pass_of}
 use Rattle.m11_asm.proofs.LinesRead.{Begun, SoFar, all_read, begun, failed, few_read, one_more, too_many, too_much, given_all, given_till, lines_given, past_bytes, past_lines, reader_begins}
-use Rattle.m11_placing.specs.Counting.{none_used}
+use Rattle.m11_asm_lines.specs.Counting.{none_used}
 
 -- where `.END` isn't live, nothing is left of the lines
 pub first_unended : (source : List SourceLine) (first : FirstState) → (stands : FirstStands source first) → first.has_ended ≡ false

@@ -2,11 +2,11 @@
 use Rattle.std.proofs.Common.{◌≤◌, ℕ, List, length, Result, Ok, Err, refl, sym, subst, inr}
 use Rattle.m11_asm_faults.specs.declared.fault.AsmFault.{AsmFault}
 use Rattle.m11_asm_outputs.specs.Outputs.{AreFlushed, Gains, Outputs, Write}
-use Rattle.m11_first.specs.First.{Symbols}
-use Rattle.m11_passes.specs.Lines.{Numbered, givens}
-use Rattle.m11_placement.specs.Limits.{most_sections}
-use Rattle.m11_placement.specs.Meanings.{empty_map}
-use Rattle.m11_readings.specs.Readings.{Reading}
+use Rattle.m11_asm_first_pass.specs.First.{Symbols}
+use Rattle.m11_asm_passes.specs.Lines.{Numbered, givens}
+use Rattle.m11_asm_rules.specs.Limits.{most_sections}
+use Rattle.m11_asm_rules.specs.Meanings.{empty_map}
+use Rattle.m11_scan_line_laws.specs.Readings.{Reading}
 use Rattle.m11_asm.specs.Program.{Program, program_in, program_of}
 use Rattle.m11_asm.specs.Written.{program_writes}
 use Rattle.m11_asm.specs.declared.done.AsmDone.{AsmDone}
@@ -19,7 +19,7 @@ use Rattle.m11_asm.specs.Run.{AsmRuns, AsmRunsOr}
 use Rattle.m11_asm.proofs.FirstLines.{first_gives, first_reads}
 use Rattle.m11_asm.proofs.ProgramsAlike.{AlikePrograms, gives_alike, reads_alike}
 use Rattle.m11_asm.proofs.ProgramsAgree.{LawsOfFirstPasses, programs_alike}
-use Rattle.m11_placing.specs.Counting.{none_used}
+use Rattle.m11_asm_lines.specs.Counting.{none_used}
 
 module _ {F : Type 0} (first : Pass F) (laws : LawsOfFirstPasses) (symbols : Symbols)
     (few : length symbols.kept.table.sections ≤ most_sections) (gives : GivesSymbols first (Ok symbols)) where

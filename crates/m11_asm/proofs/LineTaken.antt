@@ -5,18 +5,18 @@ use Rattle.std.specs.Result.{result_err}
 use Rattle.m11_asm_faults.specs.declared.fault.AsmFault.{AsmFault}
 use Rattle.m11_asm_faults.specs.declared.fault.AsmFault.TheVariants as fault
 use Rattle.m11_asm_outputs.specs.Outputs.{Outputs}
-use Rattle.m11_first.proofs.Counting.{one_longer}
-use Rattle.m11_lines.specs.Line.{SourceLine}
-use Rattle.m11_lines.specs.Lines.{most_lines}
-use Rattle.m11_passes.specs.Lines as lines
-use Rattle.m11_passes.specs.Lines.{Numbered, with_line}
-use Rattle.m11_passes.specs.States.{Going, PassState, PassStands, fed}
-use Rattle.m11_placement.specs.Meanings.{Map}
-use Rattle.m11_placing.specs.declared.counting.Counting.{Counting}
+use Rattle.m11_asm_first_pass.proofs.Counting.{one_longer}
+use Rattle.m11_scan_lines.specs.Line.{SourceLine}
+use Rattle.m11_scan_lines.specs.Lines.{most_lines}
+use Rattle.m11_asm_passes.specs.Lines as lines
+use Rattle.m11_asm_passes.specs.Lines.{Numbered, with_line}
+use Rattle.m11_asm_passes.specs.States.{Going, PassState, PassStands, fed}
+use Rattle.m11_asm_rules.specs.Meanings.{Map}
+use Rattle.m11_asm_lines.specs.declared.counting.Counting.{Counting}
 use Rattle.m11_asm.specs.Program.{Program}
 use Rattle.m11_asm.specs.Second.{LineCall, SecondFails, SecondStands, SecondState, SecondTakes, Taken, TakesAll, TakesLeft}
 use Rattle.m11_asm.specs.Writing.{Writing}
-use Rattle.m11_placing.specs.declared.counting.Counting.TheVariants.{Definitions}
+use Rattle.m11_asm_lines.specs.declared.counting.Counting.TheVariants.{Definitions}
 
 -- the law of the calls of a pass
 abbrev pub Feeds : Type 0

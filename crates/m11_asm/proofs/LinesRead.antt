@@ -3,16 +3,16 @@ use Rattle.std.proofs.Common.{◌≡◌, ◌∙◌, ◌≤◌, ℕ, List, [], �
 use Rattle.std.proofs.lemmas.List.{length-map}
 use Rattle.std.proofs.lemmas.List.Sums.{length-filter}
 use Rattle.m11_base.specs.Feed.{Text}
-use Rattle.m11_lines.specs.Line.{SourceLine, line_of}
-use Rattle.m11_lines.specs.Lines.{RawLine, is_line, line_text, lines_in, most_lines}
-use Rattle.m11_lines.specs.Reader.{LineReading, ReadsNext, place, unread}
-use Rattle.m11_lines.specs.declared.fault.LineFault.TheVariants.{Read, TooMuchSource, TooManyLines}
-use Rattle.m11_readings.specs.Calls.{BeginReading, HasRead, start}
-use Rattle.m11_readings.specs.Readings.{Reading, lines_of, reading_of}
-use Rattle.m11_readings.specs.Extents.{GaveAll, GaveLines, GavePast, GaveTill}
-use Rattle.m11_readings.proofs.Feeds as feeds
-use Rattle.m11_readings.proofs.HowFar as how_far
-use Rattle.m11_readings.proofs.Reached.{begins, goes_on}
+use Rattle.m11_scan_lines.specs.Line.{SourceLine, line_of}
+use Rattle.m11_scan_lines.specs.Lines.{RawLine, is_line, line_text, lines_in, most_lines}
+use Rattle.m11_scan_lines.specs.Reader.{LineReading, ReadsNext, place, unread}
+use Rattle.m11_scan_lines.specs.declared.fault.LineFault.TheVariants.{Read, TooMuchSource, TooManyLines}
+use Rattle.m11_scan_line_laws.specs.Calls.{BeginReading, HasRead, start}
+use Rattle.m11_scan_line_laws.specs.Readings.{Reading, lines_of, reading_of}
+use Rattle.m11_scan_line_laws.specs.Extents.{GaveAll, GaveLines, GavePast, GaveTill}
+use Rattle.m11_scan_line_laws.proofs.Feeds as feeds
+use Rattle.m11_scan_line_laws.proofs.HowFar as how_far
+use Rattle.m11_scan_line_laws.proofs.Reached.{begins, goes_on}
 use Rattle.m11_asm.specs.Passes.{Pass, Reads, ReadsTill, pass_of}
 
 -- the lines begin a reading of what the feeds give

@@ -5,14 +5,14 @@ use Rattle.std.proofs.lemmas.List.Concat.{flat_map-append}
 use Rattle.std.proofs.lemmas.List.Sums.{sum_by-append, sum_by-cons}
 use Rattle.std.specs.List.{flat_map}
 use Rattle.m11_asm_outputs.specs.Outputs.{Write}
-use Rattle.m11_object_text.specs.declared.pieces.Piece.{Piece}
-use Rattle.m11_unfolding.specs.Unfolding.{Given}
-use Rattle.m11_placement.specs.Lines.{after_line, pieces}
-use Rattle.m11_placement.specs.Meanings.{Map}
-use Rattle.m11_placement.specs.Placements.{Placed, after_lines, placed, placed_from, placement}
-use Rattle.m11_placement.specs.Tables.{Table, first_table}
-use Rattle.m11_passes.specs.Lines as lines
-use Rattle.m11_passes.specs.Lines.{Numbered, givens, table_at}
+use Rattle.m11_obj_texts.specs.declared.pieces.Piece.{Piece}
+use Rattle.m11_unfold_rules.specs.Unfolding.{Given}
+use Rattle.m11_asm_rules.specs.Lines.{after_line, pieces}
+use Rattle.m11_asm_rules.specs.Meanings.{Map}
+use Rattle.m11_asm_rules.specs.Placements.{Placed, after_lines, placed, placed_from, placement}
+use Rattle.m11_asm_rules.specs.Tables.{Table, first_table}
+use Rattle.m11_asm_passes.specs.Lines as lines
+use Rattle.m11_asm_passes.specs.Lines.{Numbered, givens, table_at}
 use Rattle.m11_asm.specs.Program.{Program}
 use Rattle.m11_asm.specs.Written.{flagged_in, head_before, is_flagged, flags_after, flags_at, line_writes, pieces_in, pieces_of, written, written_after}
 

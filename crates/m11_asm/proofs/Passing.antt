@@ -3,27 +3,27 @@ use Rattle.std.proofs.Common.{◌≡◌, ℕ, Bool, true, false, List, [], ◌�
 use Rattle.m11_asm_faults.specs.declared.fault.AsmFault.{AsmFault}
 use Rattle.m11_asm_faults.specs.declared.fault.AsmFault.TheVariants as fault
 use Rattle.m11_asm_outputs.specs.Outputs.{Gains, Outputs, Stops, StopsBetween, Write, assembly}
-use Rattle.m11_lines.specs.Line.{SourceLine}
-use Rattle.m11_object_text.specs.declared.pieces.PieceContent.{PieceContent}
-use Rattle.m11_passes.specs.Lines.{Numbered, numbered, table_at}
-use Rattle.m11_passes.specs.Placed.{IsPlaced, live_in}
-use Rattle.m11_passes.specs.Reaching.{PlacesLine, Reaches, Refused}
-use Rattle.m11_passes.specs.Refusals.{given_by}
-use Rattle.m11_passes.specs.States.{Going, PassStands}
-use Rattle.m11_passes.specs.Turns.{SaysPlaced, Turns}
-use Rattle.m11_passes.specs.declared.placed.PlacedLine.{PlacedLine}
-use Rattle.m11_passes.specs.declared.turns.Turn.{Turn}
-use Rattle.m11_passes.specs.declared.turns.Turn.TheVariants.{NeedLine, End, Line}
-use Rattle.m11_placement.specs.Contents.{Put}
-use Rattle.m11_placement.specs.Meanings.{Map}
-use Rattle.m11_placing.specs.declared.counting.Counting.{Counting}
-use Rattle.m11_writes.proofs.Writing.{gains_then, stops_after}
+use Rattle.m11_scan_lines.specs.Line.{SourceLine}
+use Rattle.m11_obj_texts.specs.declared.pieces.PieceContent.{PieceContent}
+use Rattle.m11_asm_passes.specs.Lines.{Numbered, numbered, table_at}
+use Rattle.m11_asm_passes.specs.Placed.{IsPlaced, live_in}
+use Rattle.m11_asm_passes.specs.Reaching.{PlacesLine, Reaches, Refused}
+use Rattle.m11_asm_passes.specs.Refusals.{given_by}
+use Rattle.m11_asm_passes.specs.States.{Going, PassStands}
+use Rattle.m11_asm_passes.specs.Turns.{SaysPlaced, Turns}
+use Rattle.m11_asm_passes.specs.declared.placed.PlacedLine.{PlacedLine}
+use Rattle.m11_asm_passes.specs.declared.turns.Turn.{Turn}
+use Rattle.m11_asm_passes.specs.declared.turns.Turn.TheVariants.{NeedLine, End, Line}
+use Rattle.m11_asm_rules.specs.Contents.{Put}
+use Rattle.m11_asm_rules.specs.Meanings.{Map}
+use Rattle.m11_asm_lines.specs.declared.counting.Counting.{Counting}
+use Rattle.m11_base_writes.proofs.Writing.{gains_then, stops_after}
 use Rattle.m11_asm.specs.Program.{Program}
 use Rattle.m11_asm.specs.Second.{SecondFails, Taken, TakesAll, TakesLeft}
 use Rattle.m11_asm.specs.Writing.{Writing, WritingStands}
 use Rattle.m11_asm.specs.Written.{head_before, line_writes, written}
 use Rattle.m11_asm.proofs.LinesWritten.{next_writes, written_more}
-use Rattle.m11_placing.specs.declared.counting.Counting.TheVariants.{Definitions}
+use Rattle.m11_asm_lines.specs.declared.counting.Counting.TheVariants.{Definitions}
 
 -- the law of the calls of a pass
 abbrev pub TurnsSo : Type 0

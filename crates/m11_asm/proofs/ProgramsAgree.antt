@@ -1,21 +1,21 @@
 -- What a first pass keeps of a source says the same as the source's lines.
 use Rattle.std.proofs.Common.{◌≡◌, ◌≤◌, length, List, ap, arith}
 use Rattle.m11_base.specs.Rad50.{Name}
-use Rattle.m11_directory.specs.FirstPass.{DirectoryFacts}
-use Rattle.m11_directory.specs.Laws as directory
-use Rattle.m11_directory.specs.Names.{has_name}
-use Rattle.m11_directory.specs.Rows.{directory_rows}
-use Rattle.m11_first.specs.Facts.{Facts}
-use Rattle.m11_first.specs.First.{FirstState, Taken, symbols_of}
-use Rattle.m11_lines.specs.Line.{SourceLine}
-use Rattle.m11_pass_laws.proofs.MapsAlike.{maps_same}
-use Rattle.m11_passes.specs.Lines.{Numbered, givens}
-use Rattle.m11_placement.specs.Limits.{most_sections}
-use Rattle.m11_placing.specs.Counting.{gathered_in}
-use Rattle.m11_placing.specs.UsedSymbols.{Gathered}
+use Rattle.m11_asm_directory.specs.FirstPass.{DirectoryFacts}
+use Rattle.m11_asm_directory.specs.Laws as directory
+use Rattle.m11_asm_directory.specs.Names.{has_name}
+use Rattle.m11_asm_directory.specs.Rows.{directory_rows}
+use Rattle.m11_asm_first_pass.specs.Facts.{Facts}
+use Rattle.m11_asm_first_pass.specs.First.{FirstState, Taken, symbols_of}
+use Rattle.m11_scan_lines.specs.Line.{SourceLine}
+use Rattle.m11_asm_pass_laws.proofs.MapsAlike.{maps_same}
+use Rattle.m11_asm_passes.specs.Lines.{Numbered, givens}
+use Rattle.m11_asm_rules.specs.Limits.{most_sections}
+use Rattle.m11_asm_lines.specs.Counting.{gathered_in}
+use Rattle.m11_asm_lines.specs.UsedSymbols.{Gathered}
 use Rattle.m11_asm.specs.Program.{all_names, used_in, program_in, program_kept, program_of, directory_facts_in, directory_facts_of}
-use Rattle.m11_symbols.specs.Sections.{section_entries}
-use Rattle.m11_symbols.specs.Symbols.{symbol_entries}
+use Rattle.m11_asm_symbol_list.specs.Sections.{section_entries}
+use Rattle.m11_asm_symbol_list.specs.Symbols.{symbol_entries}
 use Rattle.m11_asm.proofs.ProgramsAlike.{AlikePrograms}
 
 -- the laws of first passes that say the same: they have the same rows, names and sections

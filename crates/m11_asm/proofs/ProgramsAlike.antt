@@ -9,41 +9,41 @@ use Rattle.m11_asm_faults.specs.declared.fault.AsmFault.TheVariants as fault
 use Rattle.m11_asm_outputs.specs.Object.{content_writes, head_contents, records_closed_by}
 use Rattle.m11_asm_outputs.specs.Outputs.{Gains, Outputs, StopsBetween, StopsIn, Write}
 use Rattle.m11_base.specs.Devices.{Bytes}
-use Rattle.m11_lines.specs.Line.{SourceLine}
-use Rattle.m11_listed.specs.Listed.{all_to_listing, lines_of, listing_writes}
-use Rattle.m11_listing.specs.Listing.{listed_lines}
-use Rattle.m11_listing.specs.declared.items.Item.{Item}
-use Rattle.m11_listing.specs.declared.symbol_table.SectionEntry.{SectionEntry}
-use Rattle.m11_listing.specs.declared.symbol_table.SymbolEntry.{SymbolEntry}
-use Rattle.m11_pass_laws.specs.Maps.{MapsAgree}
-use Rattle.m11_pass_laws.proofs.LiveLines.{exceeds_same, pass_lines_same, table_at_same}
-use Rattle.m11_pass_laws.proofs.MapsAlike.{after_line_same, all_flags_same, items_same, pieces_same}
-use Rattle.m11_object_text.specs.declared.directory.DirectoryRow.{DirectoryRow}
-use Rattle.m11_object_text.specs.declared.pieces.Piece.{Piece}
-use Rattle.m11_passes.specs.Lines.{Numbered, PassLines, givens, table_at}
-use Rattle.m11_passes.specs.Placed.{all_flags}
-use Rattle.m11_passes.specs.Reaching.{Exceeds}
-use Rattle.m11_placement.specs.Exports.{transfer_flags}
-use Rattle.m11_placement.specs.Items.{is_listed}
-use Rattle.m11_placement.specs.Lines.{after_line, action, pieces, put_place, stands}
-use Rattle.m11_placement.specs.Placements.{placed_from}
-use Rattle.m11_placement.specs.Sources.{directed, end_in}
-use Rattle.m11_placement.specs.Tables.{Table, first_table, place}
-use Rattle.m11_readings.specs.Readings.{Reading}
+use Rattle.m11_scan_lines.specs.Line.{SourceLine}
+use Rattle.m11_asm_listing_writes.specs.Listed.{all_to_listing, lines_of, listing_writes}
+use Rattle.m11_asm_listing.specs.Listing.{listed_lines}
+use Rattle.m11_asm_listing.specs.declared.items.Item.{Item}
+use Rattle.m11_asm_listing.specs.declared.symbol_table.SectionEntry.{SectionEntry}
+use Rattle.m11_asm_listing.specs.declared.symbol_table.SymbolEntry.{SymbolEntry}
+use Rattle.m11_asm_pass_laws.specs.Maps.{MapsAgree}
+use Rattle.m11_asm_pass_laws.proofs.LiveLines.{exceeds_same, pass_lines_same, table_at_same}
+use Rattle.m11_asm_pass_laws.proofs.MapsAlike.{after_line_same, all_flags_same, items_same, pieces_same}
+use Rattle.m11_obj_texts.specs.declared.directory.DirectoryRow.{DirectoryRow}
+use Rattle.m11_obj_texts.specs.declared.pieces.Piece.{Piece}
+use Rattle.m11_asm_passes.specs.Lines.{Numbered, PassLines, givens, table_at}
+use Rattle.m11_asm_passes.specs.Placed.{all_flags}
+use Rattle.m11_asm_passes.specs.Reaching.{Exceeds}
+use Rattle.m11_asm_rules.specs.Exports.{transfer_flags}
+use Rattle.m11_asm_rules.specs.Items.{is_listed}
+use Rattle.m11_asm_rules.specs.Lines.{after_line, action, pieces, put_place, stands}
+use Rattle.m11_asm_rules.specs.Placements.{placed_from}
+use Rattle.m11_asm_rules.specs.Sources.{directed, end_in}
+use Rattle.m11_asm_rules.specs.Tables.{Table, first_table, place}
+use Rattle.m11_scan_line_laws.specs.Readings.{Reading}
 use Rattle.m11_scan.specs.ErrorFlags.{flags_text}
 use Rattle.m11_asm.specs.Program.{Program}
 use Rattle.m11_asm.specs.Written.{Ended, added_writes, closing_writes, flagged_count, flagged_in, head_before, is_flagged, last_place, last_writes, flags_after, flags_at, line_writes, message_writes, pieces_in, pieces_of, program_writes, written, written_after}
 use Rattle.m11_asm.specs.declared.done.AsmDone.{AsmDone}
-use Rattle.m11_unfolding.specs.Stages.{Stage}
-use Rattle.m11_unfolding.specs.Unfolding.{Given}
-use Rattle.m11_values.specs.Quantities.{Quantity}
+use Rattle.m11_unfold_rules.specs.Stages.{Stage}
+use Rattle.m11_unfold_rules.specs.Unfolding.{Given}
+use Rattle.m11_scan_values.specs.Quantities.{Quantity}
 use Rattle.m11_asm.specs.Extents as extents
 use Rattle.m11_asm.specs.Extents.{GivesToEnd, GivesToFault, GivesToStop, SecondGives}
 use Rattle.m11_asm.specs.Outcome as outcome
 use Rattle.m11_asm.specs.Outcome.{Ends, Refuses, Unended}
 use Rattle.m11_asm.specs.Passes as passes
 use Rattle.m11_asm.specs.Passes.{AreWrites, Pass, ReadsSecond, StopsAmongWrites}
-use Rattle.m11_placing.specs.declared.counting.Counting.TheVariants.{Definitions}
+use Rattle.m11_asm_lines.specs.declared.counting.Counting.TheVariants.{Definitions}
 
 pub record AlikePrograms (one other : Program) : Type 0 where
   pub maps : MapsAgree one.map other.map

@@ -11,35 +11,35 @@ use Rattle.m11_obj.specs.Records.{EndOfModule}
 use Rattle.m11_asm_outputs.specs.Outputs.{Gains, Outputs, Stops, Write, Writes, assembly, to_messages}
 use Rattle.m11_base.specs.Devices.{Bytes}
 use Rattle.m11_base.specs.Rad50.{Name}
-use Rattle.m11_directory.specs.Rows.{directory_rows}
-use Rattle.m11_first.specs.Facts.{Facts}
-use Rattle.m11_listed.specs.Listed.{all_to_listing, listing_writes}
-use Rattle.m11_listing.specs.Messages.{message_line}
-use Rattle.m11_listing.specs.SymbolTable.{last_lines}
-use Rattle.m11_listing.specs.declared.symbol_table.SectionEntry.{SectionEntry}
-use Rattle.m11_listing.specs.declared.symbol_table.SymbolEntry.{SymbolEntry}
-use Rattle.m11_object_text.specs.Texts.{TextParts}
-use Rattle.m11_object_text.specs.declared.directory.DirectoryRow.{DirectoryRow}
-use Rattle.m11_object_text.specs.declared.pieces.Piece.{Piece}
-use Rattle.m11_object_text.specs.declared.pieces.PieceContent.{PieceContent}
-use Rattle.m11_passes.specs.Lines.{Numbered, table_at}
-use Rattle.m11_passes.specs.Placed.{IsPlaced, all_flags}
-use Rattle.m11_passes.specs.declared.placed.PlacedLine.{PlacedLine}
-use Rattle.m11_placement.specs.Contents.{Put, pieces_from}
-use Rattle.m11_placement.specs.Exports.{transfer_flags}
-use Rattle.m11_placement.specs.Lines.{Action, action, pieces, put_place, stands}
-use Rattle.m11_placement.specs.Sources.{directed_in, end_in}
-use Rattle.m11_placement.specs.Tables.{Table, section_name}
-use Rattle.m11_placing.specs.Actions.{action_seen}
-use Rattle.m11_placing.specs.UsedSymbols.{Gathered}
-use Rattle.m11_placing.specs.Passes.{Kept}
+use Rattle.m11_asm_directory.specs.Rows.{directory_rows}
+use Rattle.m11_asm_first_pass.specs.Facts.{Facts}
+use Rattle.m11_asm_listing_writes.specs.Listed.{all_to_listing, listing_writes}
+use Rattle.m11_asm_listing.specs.Messages.{message_line}
+use Rattle.m11_asm_listing.specs.SymbolTable.{last_lines}
+use Rattle.m11_asm_listing.specs.declared.symbol_table.SectionEntry.{SectionEntry}
+use Rattle.m11_asm_listing.specs.declared.symbol_table.SymbolEntry.{SymbolEntry}
+use Rattle.m11_obj_texts.specs.Texts.{TextParts}
+use Rattle.m11_obj_texts.specs.declared.directory.DirectoryRow.{DirectoryRow}
+use Rattle.m11_obj_texts.specs.declared.pieces.Piece.{Piece}
+use Rattle.m11_obj_texts.specs.declared.pieces.PieceContent.{PieceContent}
+use Rattle.m11_asm_passes.specs.Lines.{Numbered, table_at}
+use Rattle.m11_asm_passes.specs.Placed.{IsPlaced, all_flags}
+use Rattle.m11_asm_passes.specs.declared.placed.PlacedLine.{PlacedLine}
+use Rattle.m11_asm_rules.specs.Contents.{Put, pieces_from}
+use Rattle.m11_asm_rules.specs.Exports.{transfer_flags}
+use Rattle.m11_asm_rules.specs.Lines.{Action, action, pieces, put_place, stands}
+use Rattle.m11_asm_rules.specs.Sources.{directed_in, end_in}
+use Rattle.m11_asm_rules.specs.Tables.{Table, section_name}
+use Rattle.m11_asm_lines.specs.Actions.{action_seen}
+use Rattle.m11_asm_lines.specs.UsedSymbols.{Gathered}
+use Rattle.m11_asm_lines.specs.Passes.{Kept}
 use Rattle.m11_scan.specs.ErrorFlags.{flags_text}
 use Rattle.m11_scan.specs.Views.{bits_of}
-use Rattle.m11_symbols.specs.Sections.{section_entries}
-use Rattle.m11_symbols.specs.Symbols.{symbol_entries}
-use Rattle.m11_unfolding.specs.Taking.{Live}
-use Rattle.m11_values.specs.Quantities.{Quantity}
-use Rattle.m11_writes.proofs.Writing.{gains_nothing, stops_after, stops_before, writes_then}
+use Rattle.m11_asm_symbol_list.specs.Sections.{section_entries}
+use Rattle.m11_asm_symbol_list.specs.Symbols.{symbol_entries}
+use Rattle.m11_unfold_rules.specs.Taking.{Live}
+use Rattle.m11_scan_values.specs.Quantities.{Quantity}
+use Rattle.m11_base_writes.proofs.Writing.{gains_nothing, stops_after, stops_before, writes_then}
 use Rattle.m11_asm.specs.Program.{Program, all_names, program_kept, directory_facts_in}
 use Rattle.m11_asm.specs.Writing.{Writing, WritingStands, begun, counted, counted_last, is_some_line, most_counted, opened}
 use Rattle.m11_asm.specs.Written.{added_to_both, added_writes, closing_writes, flagged_count, flagged_in, head_before, is_flagged, flag_E, flags_at, line_writes, message_writes, pieces_in}

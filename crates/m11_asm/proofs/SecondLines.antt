@@ -7,20 +7,20 @@ use Rattle.m11_asm_faults.specs.declared.fault.AsmFault.{AsmFault}
 use Rattle.m11_asm_faults.specs.declared.fault.AsmFault.TheVariants as fault
 use Rattle.m11_asm_outputs.specs.Outputs.{AreFlushed, Outputs, StopsBetween, StopsIn, Write, Writes, assembly}
 use Rattle.m11_base.specs.Feed.{Text}
-use Rattle.m11_lines.specs.Line.{SourceLine}
-use Rattle.m11_lines.specs.Lines.{most_lines}
-use Rattle.m11_lines.specs.Reader.{LineReading, ReadsNext, place, unread}
-use Rattle.m11_lines.specs.declared.fault.LineFault.{LineFault}
-use Rattle.m11_lines.specs.declared.fault.LineFault.TheVariants.{Read, TooMuchSource, TooManyLines}
-use Rattle.m11_passes.specs.Lines as lines
-use Rattle.m11_readings.specs.Extents.{GaveLines}
-use Rattle.m11_readings.specs.Readings.{Reading}
+use Rattle.m11_scan_lines.specs.Line.{SourceLine}
+use Rattle.m11_scan_lines.specs.Lines.{most_lines}
+use Rattle.m11_scan_lines.specs.Reader.{LineReading, ReadsNext, place, unread}
+use Rattle.m11_scan_lines.specs.declared.fault.LineFault.{LineFault}
+use Rattle.m11_scan_lines.specs.declared.fault.LineFault.TheVariants.{Read, TooMuchSource, TooManyLines}
+use Rattle.m11_asm_passes.specs.Lines as lines
+use Rattle.m11_scan_line_laws.specs.Extents.{GaveLines}
+use Rattle.m11_scan_line_laws.specs.Readings.{Reading}
 use Rattle.m11_asm.specs.Program.{Program}
 use Rattle.m11_asm.specs.Second.{SecondEnds, SecondFails, SecondStands, SecondState, SecondTakes, StopsAmong, ended_with}
 use Rattle.m11_asm.specs.Written.{Ended, flagged_count, pieces_in, program_writes, written}
 use Rattle.m11_asm.specs.declared.done.AsmDone.{AsmDone}
-use Rattle.m11_unfolding.specs.Stages.{start}
-use Rattle.m11_writes.proofs.Writing.{refused_between}
+use Rattle.m11_unfold_rules.specs.Stages.{start}
+use Rattle.m11_base_writes.proofs.Writing.{refused_between}
 use Rattle.m11_asm.specs.Extents as extents
 use Rattle.m11_asm.specs.Extents.{GivesToEnd, GivesToStop, HaveGiven, SecondGives}
 use Rattle.m11_asm.specs.FirstReading.{IsTakenUp}
@@ -30,7 +30,7 @@ use Rattle.m11_asm.specs.Passes as passes
 use Rattle.m11_asm.specs.Passes.{Pass, StopsAmongWrites, pass_of}
 use Rattle.m11_asm.specs.SecondReading.{PutsAll, SecondTaken}
 use Rattle.m11_asm.proofs.LinesRead.{Begun, SoFar, all_read, begun, failed, few_read, given_all, given_till, lines_given, one_more, past_bytes, past_lines, reader_begins, too_many, too_much}
-use Rattle.m11_placing.specs.declared.counting.Counting.TheVariants.{Definitions}
+use Rattle.m11_asm_lines.specs.declared.counting.Counting.TheVariants.{Definitions}
 
 -- where `.END` isn't live, nothing is left of the lines
 second_unended : (program : Program) (source : List SourceLine) (old now : Outputs) (second : SecondState)

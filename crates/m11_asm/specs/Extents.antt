@@ -3,20 +3,20 @@
 use Rattle.std.specs.Prelude.{◌≡◌, ◌⊎◌, Bool, true, false, List, Result, Ok, Err}
 use Rattle.m11_asm_faults.specs.declared.fault.AsmFault.{AsmFault}
 use Rattle.m11_asm_faults.specs.declared.fault.AsmFault.TheVariants as fault
-use Rattle.m11_lines.specs.Line.{SourceLine}
-use Rattle.m11_lines.specs.declared.fault.LineFault.{LineFault}
-use Rattle.m11_passes.specs.Lines.{Numbered, PassLines, givens}
-use Rattle.m11_passes.specs.Reaching.{Exceeds}
-use Rattle.m11_placement.specs.Meanings.{Map, empty_map}
-use Rattle.m11_placing.specs.Counting.{none_used}
-use Rattle.m11_placing.specs.declared.counting.Counting.{Counting}
-use Rattle.m11_placing.specs.declared.counting.Counting.TheVariants.{Definitions}
-use Rattle.m11_readings.specs.Extents.{GaveAll, GaveLines, GavePast, GaveTill}
+use Rattle.m11_scan_lines.specs.Line.{SourceLine}
+use Rattle.m11_scan_lines.specs.declared.fault.LineFault.{LineFault}
+use Rattle.m11_asm_passes.specs.Lines.{Numbered, PassLines, givens}
+use Rattle.m11_asm_passes.specs.Reaching.{Exceeds}
+use Rattle.m11_asm_rules.specs.Meanings.{Map, empty_map}
+use Rattle.m11_asm_lines.specs.Counting.{none_used}
+use Rattle.m11_asm_lines.specs.declared.counting.Counting.{Counting}
+use Rattle.m11_asm_lines.specs.declared.counting.Counting.TheVariants.{Definitions}
+use Rattle.m11_scan_line_laws.specs.Extents.{GaveAll, GaveLines, GavePast, GaveTill}
 use Rattle.m11_asm.specs.Outcome.{Unended}
 use Rattle.m11_asm.specs.Passes.{Pass}
 use Rattle.m11_asm.specs.Program.{Program, program_of}
 use Rattle.m11_asm.specs.declared.done.AsmDone.{AsmDone}
-use Rattle.m11_unfolding.specs.Stages.{Stage}
+use Rattle.m11_unfold_rules.specs.Stages.{Stage}
 
 -- the feeds gave just these lines where `.END` became live in the last of them, and else all that they had, which is these lines
 abbrev pub HaveGiven : {F : Type 0} → Pass F → List SourceLine → Bool → Type 0

@@ -1,13 +1,13 @@
 -- The first pass over feeds, call by call. (This project's own.)
 use Rattle.std.specs.Prelude.{◌≡◌, Bool, true, false, List, ◌++◌, None, Result, Ok, Err}
 use Rattle.m11_asm_faults.specs.declared.fault.AsmFault.{AsmFault}
-use Rattle.m11_first.specs.First.{FirstStands, FirstState, Symbols, symbols_of}
-use Rattle.m11_lines.specs.Line.{SourceLine}
-use Rattle.m11_placement.specs.Meanings.{empty_map}
-use Rattle.m11_readings.specs.Readings.{Reading}
+use Rattle.m11_asm_first_pass.specs.First.{FirstStands, FirstState, Symbols, symbols_of}
+use Rattle.m11_scan_lines.specs.Line.{SourceLine}
+use Rattle.m11_asm_rules.specs.Meanings.{empty_map}
+use Rattle.m11_scan_line_laws.specs.Readings.{Reading}
 use Rattle.m11_asm.specs.Extents.{GivesToFault, HaveGiven}
 use Rattle.m11_asm.specs.Passes.{Pass, Reads, ReadsFirst}
-use Rattle.m11_placing.specs.Counting.{none_used}
+use Rattle.m11_asm_lines.specs.Counting.{none_used}
 
 -- these lines of a reading were taken: up to that in which `.END` became live, or all of them
 abbrev pub IsTakenUp : Reading → List SourceLine → Bool → Type 0

@@ -5,18 +5,18 @@ use Rattle.std.specs.Prelude.{◌≡◌, ℕ, true, false, List, [], ◌++◌, l
 use Rattle.m11_asm_faults.specs.Faults.{of_lines}
 use Rattle.m11_asm_faults.specs.declared.fault.AsmFault.{AsmFault}
 use Rattle.m11_asm_outputs.specs.Outputs.{Write}
-use Rattle.m11_lines.specs.Line.{SourceLine}
-use Rattle.m11_lines.specs.declared.fault.LineFault.{LineFault}
-use Rattle.m11_passes.specs.Lines.{Numbered, PassLines, givens}
-use Rattle.m11_passes.specs.Reaching.{Exceeds}
-use Rattle.m11_placement.specs.Meanings.{Map, empty_map}
-use Rattle.m11_placing.specs.Counting.{none_used}
-use Rattle.m11_placing.specs.declared.counting.Counting.{Counting}
-use Rattle.m11_placing.specs.declared.counting.Counting.TheVariants.{Definitions}
-use Rattle.m11_readings.specs.Readings.{Reading}
+use Rattle.m11_scan_lines.specs.Line.{SourceLine}
+use Rattle.m11_scan_lines.specs.declared.fault.LineFault.{LineFault}
+use Rattle.m11_asm_passes.specs.Lines.{Numbered, PassLines, givens}
+use Rattle.m11_asm_passes.specs.Reaching.{Exceeds}
+use Rattle.m11_asm_rules.specs.Meanings.{Map, empty_map}
+use Rattle.m11_asm_lines.specs.Counting.{none_used}
+use Rattle.m11_asm_lines.specs.declared.counting.Counting.{Counting}
+use Rattle.m11_asm_lines.specs.declared.counting.Counting.TheVariants.{Definitions}
+use Rattle.m11_scan_line_laws.specs.Readings.{Reading}
 use Rattle.m11_asm.specs.Program.{Program, program_of}
 use Rattle.m11_asm.specs.Written.{Ended, flagged_count, program_writes, written}
-use Rattle.m11_unfolding.specs.Stages.{Stage}
+use Rattle.m11_unfold_rules.specs.Stages.{Stage}
 
 -- ---- the live lines of a source, under a map and by which names count
 

@@ -5,17 +5,17 @@ use Rattle.m11_asm_faults.specs.declared.fault.AsmFault.{AsmFault}
 use Rattle.m11_asm_faults.specs.declared.fault.AsmFault.TheVariants as fault
 use Rattle.m11_asm_outputs.specs.Outputs.{AreFlushed, Gains, Outputs, StopsBetween, StopsIn, Write}
 use Rattle.m11_base.specs.Feed.{NoneFailed, Text}
-use Rattle.m11_lines.specs.Line.{SourceLine}
-use Rattle.m11_passes.specs.Lines.{Numbered, PassLines}
-use Rattle.m11_placement.specs.Meanings.{empty_map}
-use Rattle.m11_placing.specs.Counting.{none_used}
-use Rattle.m11_placing.specs.declared.counting.Counting.TheVariants.{Definitions}
-use Rattle.m11_readings.specs.Calls.{FailReading, HaveReading}
-use Rattle.m11_readings.specs.Readings.{Reading}
+use Rattle.m11_scan_lines.specs.Line.{SourceLine}
+use Rattle.m11_asm_passes.specs.Lines.{Numbered, PassLines}
+use Rattle.m11_asm_rules.specs.Meanings.{empty_map}
+use Rattle.m11_asm_lines.specs.Counting.{none_used}
+use Rattle.m11_asm_lines.specs.declared.counting.Counting.TheVariants.{Definitions}
+use Rattle.m11_scan_line_laws.specs.Calls.{FailReading, HaveReading}
+use Rattle.m11_scan_line_laws.specs.Readings.{Reading}
 use Rattle.m11_asm.specs.Program.{Program}
 use Rattle.m11_asm.specs.Written.{Ended, flagged_count, pieces_in, program_writes, written}
 use Rattle.m11_asm.specs.declared.done.AsmDone.{AsmDone}
-use Rattle.m11_unfolding.specs.Stages.{Stage}
+use Rattle.m11_unfold_rules.specs.Stages.{Stage}
 use Rattle.m11_asm.specs.Outcome.{Ends, Refuses, Unended}
 
 -- the feeds of a pass, before it and after it: what is known of the text of each, and its count of failures

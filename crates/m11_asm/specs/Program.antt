@@ -2,25 +2,25 @@
 -- directive" and "Table of contents and symbol table". That a source is read twice, is this project's own.)
 use Rattle.std.specs.Prelude.{List, ◌++◌, Option, slice_index}
 use Rattle.m11_base.specs.Rad50.{Name}
-use Rattle.m11_directory.specs.FirstPass.{DirectoryFacts}
-use Rattle.m11_directory.specs.Rows.{directory_rows}
-use Rattle.m11_first.specs.Facts.{Facts, facts_of}
-use Rattle.m11_first.specs.First.{Symbols}
-use Rattle.m11_listing.specs.declared.symbol_table.SectionEntry.{SectionEntry}
-use Rattle.m11_listing.specs.declared.symbol_table.SymbolEntry.{SymbolEntry}
-use Rattle.m11_object_text.specs.declared.directory.DirectoryRow.{DirectoryRow}
-use Rattle.m11_passes.specs.Lines.{counting_after}
-use Rattle.m11_placement.specs.Meanings.{Map, empty_map, map_of}
-use Rattle.m11_placement.specs.Placements.{program_map, table_after}
-use Rattle.m11_placement.specs.Places.{size_in}
-use Rattle.m11_placement.specs.Tables.{first_table}
-use Rattle.m11_placing.specs.Counting.{gathered_in, none_used}
-use Rattle.m11_placing.specs.UsedSymbols.{Gathered}
-use Rattle.m11_placing.specs.Passes.{Kept}
-use Rattle.m11_symbols.specs.Sections.{section_entries}
-use Rattle.m11_symbols.specs.Symbols.{symbol_entries}
-use Rattle.m11_unfolding.specs.Unfolding.{Given}
-use Rattle.m11_values.specs.Quantities.{Quantity}
+use Rattle.m11_asm_directory.specs.FirstPass.{DirectoryFacts}
+use Rattle.m11_asm_directory.specs.Rows.{directory_rows}
+use Rattle.m11_asm_first_pass.specs.Facts.{Facts, facts_of}
+use Rattle.m11_asm_first_pass.specs.First.{Symbols}
+use Rattle.m11_asm_listing.specs.declared.symbol_table.SectionEntry.{SectionEntry}
+use Rattle.m11_asm_listing.specs.declared.symbol_table.SymbolEntry.{SymbolEntry}
+use Rattle.m11_obj_texts.specs.declared.directory.DirectoryRow.{DirectoryRow}
+use Rattle.m11_asm_passes.specs.Lines.{counting_after}
+use Rattle.m11_asm_rules.specs.Meanings.{Map, empty_map, map_of}
+use Rattle.m11_asm_rules.specs.Placements.{program_map, table_after}
+use Rattle.m11_asm_rules.specs.Places.{size_in}
+use Rattle.m11_asm_rules.specs.Tables.{first_table}
+use Rattle.m11_asm_lines.specs.Counting.{gathered_in, none_used}
+use Rattle.m11_asm_lines.specs.UsedSymbols.{Gathered}
+use Rattle.m11_asm_lines.specs.Passes.{Kept}
+use Rattle.m11_asm_symbol_list.specs.Sections.{section_entries}
+use Rattle.m11_asm_symbol_list.specs.Symbols.{symbol_entries}
+use Rattle.m11_unfold_rules.specs.Unfolding.{Given}
+use Rattle.m11_scan_values.specs.Quantities.{Quantity}
 
 pub record Program : Type 0 where
   -- what its lines give their names in the end, and which names they mention

@@ -2,7 +2,7 @@
 use Rattle.std.specs.Prelude.{◌≡◌, ◌⊎◌, List, Result, Ok, Err}
 use Rattle.m11_asm_faults.specs.declared.fault.AsmFault.{AsmFault}
 use Rattle.m11_asm_outputs.specs.Outputs.{Outputs}
-use Rattle.m11_passes.specs.Lines.{Numbered, givens}
+use Rattle.m11_asm_passes.specs.Lines.{Numbered, givens}
 use Rattle.m11_asm.specs.Program.{program_of}
 use Rattle.m11_asm.specs.declared.done.AsmDone.{AsmDone}
 use Rattle.m11_asm.specs.Passes.{Pass, ReadsFirst, ReadsSecond}

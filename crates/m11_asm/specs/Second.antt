@@ -3,14 +3,14 @@
 use Rattle.std.specs.Prelude.{◌≡◌, ◌⊎◌, ℕ, ◌+◌, Bool, true, false, List, [], ◌∷◌, ◌++◌, length, Option, None, Result, Ok, Err, IfOk, OnOk}
 use Rattle.m11_asm_faults.specs.declared.fault.AsmFault.{AsmFault}
 use Rattle.m11_asm_faults.specs.declared.fault.AsmFault.TheVariants as fault
-use Rattle.m11_lines.specs.Line.{SourceLine}
-use Rattle.m11_lines.specs.Lines.{most_lines}
-use Rattle.m11_unfolding.specs.Stages.{Stage}
-use Rattle.m11_placement.specs.Meanings.{Map}
-use Rattle.m11_passes.specs.Lines.{Numbered, PassLines}
-use Rattle.m11_passes.specs.Reaching.{Exceeds}
-use Rattle.m11_passes.specs.States.{Going, PassState, PassStands}
-use Rattle.m11_placing.specs.declared.counting.Counting.TheVariants.{Definitions}
+use Rattle.m11_scan_lines.specs.Line.{SourceLine}
+use Rattle.m11_scan_lines.specs.Lines.{most_lines}
+use Rattle.m11_unfold_rules.specs.Stages.{Stage}
+use Rattle.m11_asm_rules.specs.Meanings.{Map}
+use Rattle.m11_asm_passes.specs.Lines.{Numbered, PassLines}
+use Rattle.m11_asm_passes.specs.Reaching.{Exceeds}
+use Rattle.m11_asm_passes.specs.States.{Going, PassState, PassStands}
+use Rattle.m11_asm_lines.specs.declared.counting.Counting.TheVariants.{Definitions}
 use Rattle.m11_asm_outputs.specs.Object.{AllFit, object_contents}
 use Rattle.m11_asm_outputs.specs.Outputs.{AreFlushed, Gains, Outputs, StopsBetween, StopsIn, Write, Writes}
 use Rattle.m11_asm.specs.Program.{Program}

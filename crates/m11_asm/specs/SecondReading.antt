@@ -2,8 +2,8 @@
 use Rattle.std.specs.Prelude.{List, Result, Ok, Err}
 use Rattle.m11_asm_faults.specs.declared.fault.AsmFault.{AsmFault}
 use Rattle.m11_asm_outputs.specs.Outputs.{Outputs}
-use Rattle.m11_lines.specs.Line.{SourceLine}
-use Rattle.m11_readings.specs.Readings.{Reading}
+use Rattle.m11_scan_lines.specs.Line.{SourceLine}
+use Rattle.m11_scan_line_laws.specs.Readings.{Reading}
 use Rattle.m11_asm.specs.Program.{Program}
 use Rattle.m11_asm.specs.Second.{SecondStands, SecondState}
 use Rattle.m11_asm.specs.Extents.{HaveGiven, SecondGives}

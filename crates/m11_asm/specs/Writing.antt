@@ -1,12 +1,12 @@
 -- What is kept of what was written. (This project's own.)
 use Rattle.std.specs.Prelude.{◌≡◌, ℕ, ◌+◌, min, Bool, true, false, if◌then◌else◌, List, [], ◌∷◌, Option}
-use Rattle.m11_listing.specs.declared.symbol_table.SectionEntry.{SectionEntry}
-use Rattle.m11_listing.specs.declared.symbol_table.SymbolEntry.{SymbolEntry}
-use Rattle.m11_object_text.specs.Texts.{TextParts}
-use Rattle.m11_object_text.specs.declared.directory.DirectoryRow.{DirectoryRow}
-use Rattle.m11_values.specs.Quantities.{Quantity}
+use Rattle.m11_asm_listing.specs.declared.symbol_table.SectionEntry.{SectionEntry}
+use Rattle.m11_asm_listing.specs.declared.symbol_table.SymbolEntry.{SymbolEntry}
+use Rattle.m11_obj_texts.specs.Texts.{TextParts}
+use Rattle.m11_obj_texts.specs.declared.directory.DirectoryRow.{DirectoryRow}
+use Rattle.m11_scan_values.specs.Quantities.{Quantity}
 use Rattle.m11_asm_outputs.specs.Object.{AllFit, IsOpenAfter, closed_records, head_contents}
-use Rattle.m11_passes.specs.Lines.{Numbered}
+use Rattle.m11_asm_passes.specs.Lines.{Numbered}
 use Rattle.m11_asm.specs.Program.{Program}
 use Rattle.m11_asm.specs.Written.{flagged_in, is_flagged, flag_E, pieces_in}
 

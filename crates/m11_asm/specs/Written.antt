@@ -6,25 +6,25 @@ use Rattle.std.specs.Prelude.{ℕ, ◌+◌, ◌==◌, not, Bool, if◌then◌els
 use Rattle.std.specs.Int.RustNames.{bit_or}
 use Rattle.std.specs.List.{flat_map}
 use Rattle.m11_base.specs.Devices.{Bytes}
-use Rattle.m11_listed.specs.Listed.{added_lines, all_to_listing, listing_writes}
-use Rattle.m11_listing.specs.Messages.{count_line, message_line}
-use Rattle.m11_listing.specs.SymbolTable.{last_lines}
-use Rattle.m11_listing.specs.declared.symbol_table.SectionEntry.{SectionEntry}
-use Rattle.m11_listing.specs.declared.symbol_table.SymbolEntry.{SymbolEntry}
+use Rattle.m11_asm_listing_writes.specs.Listed.{added_lines, all_to_listing, listing_writes}
+use Rattle.m11_asm_listing.specs.Messages.{count_line, message_line}
+use Rattle.m11_asm_listing.specs.SymbolTable.{last_lines}
+use Rattle.m11_asm_listing.specs.declared.symbol_table.SectionEntry.{SectionEntry}
+use Rattle.m11_asm_listing.specs.declared.symbol_table.SymbolEntry.{SymbolEntry}
 use Rattle.m11_obj.specs.Records.{EndOfModule}
-use Rattle.m11_object_text.specs.declared.pieces.Piece.{Piece}
+use Rattle.m11_obj_texts.specs.declared.pieces.Piece.{Piece}
 use Rattle.m11_scan.specs.ErrorFlags.{flags_text}
-use Rattle.m11_unfolding.specs.Unfolding.{Given}
-use Rattle.m11_placement.specs.Exports.{transfer_flags}
-use Rattle.m11_placement.specs.Lines.{pieces}
-use Rattle.m11_placement.specs.Meanings.{Map}
-use Rattle.m11_placement.specs.Placements.{Placed, placement}
-use Rattle.m11_placement.specs.Sources.{directed, end_in}
-use Rattle.m11_placement.specs.Tables.{Table, place}
+use Rattle.m11_unfold_rules.specs.Unfolding.{Given}
+use Rattle.m11_asm_rules.specs.Exports.{transfer_flags}
+use Rattle.m11_asm_rules.specs.Lines.{pieces}
+use Rattle.m11_asm_rules.specs.Meanings.{Map}
+use Rattle.m11_asm_rules.specs.Placements.{Placed, placement}
+use Rattle.m11_asm_rules.specs.Sources.{directed, end_in}
+use Rattle.m11_asm_rules.specs.Tables.{Table, place}
 use Rattle.m11_asm_outputs.specs.Object.{content_writes, head_contents, last_records, records_closed_by}
 use Rattle.m11_asm_outputs.specs.Outputs.{Write, flushes, to_messages}
-use Rattle.m11_passes.specs.Lines.{Numbered, givens, table_at}
-use Rattle.m11_passes.specs.Placed.{all_flags}
+use Rattle.m11_asm_passes.specs.Lines.{Numbered, givens, table_at}
+use Rattle.m11_asm_passes.specs.Placed.{all_flags}
 use Rattle.m11_asm.specs.Program.{Program}
 
 -- ---- messages

@@ -3,12 +3,12 @@
 ghost use Rattle.std.specs.Prelude.{[]};
 ghost use Rattle.m11_asm.specs.FirstReading.{GivesSymbols, TakesLines};
 ghost use Rattle.m11_asm.specs.Passes.{pass_of};
-ghost use Rattle.m11_first.specs.First.{FirstStands};
+ghost use Rattle.m11_asm_first_pass.specs.First.{FirstStands};
 
 use m11_asm_faults::AsmFault;
+use m11_asm_first_pass::{First, Symbols};
 use m11_base::Feed;
-use m11_first::{First, Symbols};
-use m11_lines::LineReader;
+use m11_scan_lines::LineReader;
 use std::alloc::Global;
 
 /// Reads the sources up to the line in which `.END` becomes live, or to the end of the last one.

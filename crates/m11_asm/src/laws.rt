@@ -5,7 +5,7 @@ ghost use Rattle.m11_asm.specs.Outcome.{Assembled, HasOutcome};
 ghost use Rattle.m11_asm.specs.Passes.{Pass, Reads};
 ghost use Rattle.m11_asm.specs.Run.{AsmRuns};
 ghost use Rattle.m11_asm_outputs.specs.Outputs.{AreFlushed, Gains, Outputs, Write};
-ghost use Rattle.m11_readings.specs.Readings.{Reading};
+ghost use Rattle.m11_scan_line_laws.specs.Readings.{Reading};
 ghost use Rattle.m11_asm.specs.declared.done.AsmDone.{AsmDone};
 
 /// A run that is Ok writes exactly what the outcome of its two readings says, holds nothing of it back in object and listing, and counts

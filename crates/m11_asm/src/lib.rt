@@ -16,6 +16,6 @@ mod writing;
 pub use done::AsmDone;
 pub use laws::a_run_writes_the_outcome_of_its_sources;
 pub use m11_asm_faults::{AsmFault, AsmOutput};
-pub use m11_first::{First, Symbols};
+pub use m11_asm_first_pass::{First, Symbols};
 pub use run::asm_run;
 pub use second::Second;

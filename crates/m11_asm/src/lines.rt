@@ -2,16 +2,16 @@
 
 ghost use Rattle.std.specs.Prelude.{◌≡◌, None, [], List, IfOk, false, length};
 ghost use Rattle.m11_asm_outputs.specs.Outputs.{Outputs, outputs_of};
-ghost use Rattle.m11_lines.specs.Line.{SourceLine};
-ghost use Rattle.m11_passes.specs.Lines.{Numbered};
+ghost use Rattle.m11_scan_lines.specs.Line.{SourceLine};
+ghost use Rattle.m11_asm_passes.specs.Lines.{Numbered};
 ghost use Rattle.m11_asm.specs.Program.{Program};
 ghost use Rattle.m11_asm.specs.Second.{Taken, TakesLeft};
 
 use crate::writing::Writing;
 use m11_asm_faults::AsmFault;
+use m11_asm_passes::{PlacedLine, SourcePass, Turn, the_calls_place_the_lines_of_a_source};
+use m11_asm_table::Map;
 use m11_base::Sink;
-use m11_passes::{PlacedLine, SourcePass, Turn, the_calls_place_the_lines_of_a_source};
-use m11_table::Map;
 
 /// Places what is left to take, and writes it: whether `.END` became live. The number is that of the last line that was read. Lines are
 /// placed in `placed`, one after the other.

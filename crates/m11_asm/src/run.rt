@@ -9,12 +9,12 @@ ghost use Rattle.m11_asm_outputs.specs.Outputs.{outputs_of};
 use crate::done::AsmDone;
 use crate::first_reading::read_first;
 use crate::second_reading::read_second;
+use m11_asm_directory::first_passes_that_agree_have_the_same_rows;
 use m11_asm_faults::AsmFault;
-use m11_base::{Feed, Sink};
-use m11_directory::first_passes_that_agree_have_the_same_rows;
-use m11_symbols::{
+use m11_asm_symbol_list::{
     first_passes_that_agree_have_the_same_sections, first_passes_that_agree_have_the_same_symbols,
 };
+use m11_base::{Feed, Sink};
 use std::alloc::Global;
 
 /// Assembles sources, one after another as one text, into an object module, a listing where there is one, and messages. Each source is

@@ -3,7 +3,7 @@
 ghost use Rattle.std.specs.Prelude.{◌≡◌, [], List, Some, Err, IfOk};
 ghost use Rattle.std.specs.Result.{result_err};
 ghost use Rattle.m11_asm_outputs.specs.Outputs.{Gains, Outputs, outputs_of};
-ghost use Rattle.m11_lines.specs.Line.{SourceLine};
+ghost use Rattle.m11_scan_lines.specs.Line.{SourceLine};
 ghost use Rattle.m11_asm.specs.Program.{Program, program_in};
 ghost use Rattle.m11_asm.specs.Second.{SecondEnds, SecondStands, SecondTakes};
 
@@ -11,12 +11,12 @@ use crate::done::AsmDone;
 use crate::lines::take_left;
 use crate::writing::Writing;
 use m11_asm_faults::AsmFault;
+use m11_asm_first_pass::{Symbols, number_after};
+use m11_asm_lines::{Counting, Pass};
+use m11_asm_passes::{PlacedLine, SourcePass, the_calls_place_the_lines_of_a_source};
+use m11_asm_table::Map;
 use m11_base::{Latch, Sink};
-use m11_first::{Symbols, number_after};
-use m11_passes::{PlacedLine, SourcePass, the_calls_place_the_lines_of_a_source};
-use m11_placing::{Counting, Pass};
 use m11_scan::Line;
-use m11_table::Map;
 use std::alloc::{AllocError, Global};
 use std::marker::Model;
 
@@ -38,7 +38,7 @@ pub struct Second {
 }
 
 impl Model for Second {
-    ghost use Rattle.m11_placement.specs.Meanings.{map_of};
+    ghost use Rattle.m11_asm_rules.specs.Meanings.{map_of};
     ghost use Rattle.m11_asm.specs.Second.{GoesOn, SecondState};
 
     ghost Value = { SecondState };

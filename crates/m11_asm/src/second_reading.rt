@@ -10,9 +10,9 @@ ghost use Rattle.m11_asm.specs.Second.{SecondStands};
 use crate::done::AsmDone;
 use crate::second::Second;
 use m11_asm_faults::AsmFault;
+use m11_asm_first_pass::Symbols;
 use m11_base::{Feed, Sink};
-use m11_first::Symbols;
-use m11_lines::LineReader;
+use m11_scan_lines::LineReader;
 use std::alloc::Global;
 
 /// Reads the sources again, up to the line in which `.END` becomes live or to the end of the last one, and writes what they give.

@@ -6,45 +6,45 @@ ghost use Rattle.std.specs.Prelude.{◌≡◌, ◌≤◌, ◌++◌, ◌∷◌, [
 ghost use Rattle.m11_asm_outputs.specs.Object.{AllFit, IsOpenAfter, content_writes, head_contents, last_records, object_contents, records_closed_by};
 ghost use Rattle.m11_obj.specs.Records.{EndOfModule};
 ghost use Rattle.m11_asm_outputs.specs.Outputs.{AreFlushed, Writes, flushes, outputs, outputs_of, to_messages};
-ghost use Rattle.m11_directory.specs.FirstPass.{directory_facts};
-ghost use Rattle.m11_listed.specs.Listed.{listing_writes};
-ghost use Rattle.m11_listing.specs.Messages.{count_line};
-ghost use Rattle.m11_object_text.specs.declared.pieces.Piece.{Piece};
-ghost use Rattle.m11_passes.specs.Lines.{Numbered, table_at};
-ghost use Rattle.m11_passes.specs.Placed.{IsPlaced};
-ghost use Rattle.m11_placement.specs.Contents.{Put, pieces_from};
-ghost use Rattle.m11_placement.specs.Exports as exports;
-ghost use Rattle.m11_placement.specs.Meanings.{Map};
-ghost use Rattle.m11_placement.specs.Sources.{directed_in, end_in};
-ghost use Rattle.m11_placement.specs.Tables.{Table};
-ghost use Rattle.m11_placing.specs.Actions.{action_seen};
+ghost use Rattle.m11_asm_directory.specs.FirstPass.{directory_facts};
+ghost use Rattle.m11_asm_listing_writes.specs.Listed.{listing_writes};
+ghost use Rattle.m11_asm_listing.specs.Messages.{count_line};
+ghost use Rattle.m11_obj_texts.specs.declared.pieces.Piece.{Piece};
+ghost use Rattle.m11_asm_passes.specs.Lines.{Numbered, table_at};
+ghost use Rattle.m11_asm_passes.specs.Placed.{IsPlaced};
+ghost use Rattle.m11_asm_rules.specs.Contents.{Put, pieces_from};
+ghost use Rattle.m11_asm_rules.specs.Exports as exports;
+ghost use Rattle.m11_asm_rules.specs.Meanings.{Map};
+ghost use Rattle.m11_asm_rules.specs.Sources.{directed_in, end_in};
+ghost use Rattle.m11_asm_rules.specs.Tables.{Table};
+ghost use Rattle.m11_asm_lines.specs.Actions.{action_seen};
 ghost use Rattle.m11_scan.specs.Views.{bits_of};
 ghost use Rattle.m11_asm.specs.Program.{Program, program_kept, directory_facts_in};
 ghost use Rattle.m11_asm.specs.Writing.{WritingStands, begun, counted, counted_last, most_counted, opened};
 ghost use Rattle.m11_asm.specs.Written.{added_writes, closing_writes, flagged_count, head_before, last_place, last_writes, line_writes, message_writes, pieces_in};
-ghost use Rattle.m11_unfolding.specs.Unfolding.{Given};
-ghost use Rattle.m11_values.specs.Quantities.{quantity};
-ghost use Rattle.m11_writes.specs.Outputs.{Output, optional_output, output_of};
+ghost use Rattle.m11_unfold_rules.specs.Unfolding.{Given};
+ghost use Rattle.m11_scan_values.specs.Quantities.{quantity};
+ghost use Rattle.m11_base_writes.specs.Outputs.{Output, optional_output, output_of};
 
 use crate::done::AsmDone;
 use bitflags::Flags;
+use m11_asm_directory::{FirstPass, directory_rows};
 use m11_asm_faults::AsmFault;
+use m11_asm_first_pass::Facts;
+use m11_asm_lines::{Action, Pass, UsedSymbols};
+use m11_asm_listing::{Item, SectionEntry, SymbolEntry};
+use m11_asm_listing_writes::{put_listed, put_placed, put_symbol_table};
+use m11_asm_operators::transfer_flags;
 use m11_asm_outputs::{
     flush_files, open_text, put_count, put_flagged, put_head, put_last, put_pieces,
 };
+use m11_asm_passes::PlacedLine;
+use m11_asm_rules::{Directive, Operator};
+use m11_asm_symbol_list::{section_entries, symbol_entries};
 use m11_base::Sink;
-use m11_directory::{FirstPass, directory_rows};
-use m11_first::Facts;
-use m11_listed::{put_listed, put_placed, put_symbol_table};
-use m11_listing::{Item, SectionEntry, SymbolEntry};
-use m11_object_text::{DirectoryRow, OpenText, PieceContent};
-use m11_operators::transfer_flags;
-use m11_passes::PlacedLine;
-use m11_placement::{Directive, Operator};
-use m11_placing::{Action, Pass, UsedSymbols};
+use m11_obj_texts::{DirectoryRow, OpenText, PieceContent};
 use m11_scan::ErrorFlags;
-use m11_symbols::{section_entries, symbol_entries};
-use m11_values::Value;
+use m11_scan_values::Value;
 use std::alloc::{AllocError, Global};
 use std::marker::Model;
 use std::mem;
@@ -71,7 +71,7 @@ pub struct Writing {
 impl Model for Writing {
     ghost use Rattle.std.specs.Prelude.{option_map};
     ghost use Rattle.m11_asm.specs.Writing as spec;
-    ghost use Rattle.m11_values.specs.Quantities.{quantity};
+    ghost use Rattle.m11_scan_values.specs.Quantities.{quantity};
 
     ghost Value = { spec.Writing };
 

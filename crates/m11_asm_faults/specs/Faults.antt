@@ -1,10 +1,10 @@
 -- The faults of an assembly, each with its number and its name, and the names of the outputs. (This project's own: no
 -- manual speaks of them. The printed line of a fault is made of these.)
 use Rattle.std.specs.Prelude.{ℕ, List, codes}
-use Rattle.m11_lines.specs.declared.fault.LineFault.{LineFault}
-use Rattle.m11_lines.specs.declared.fault.LineFault.TheVariants as line
-use Rattle.m11_unfolding.specs.declared.fault.UnfoldFault.{UnfoldFault}
-use Rattle.m11_unfolding.specs.declared.fault.UnfoldFault.TheVariants as unfolded
+use Rattle.m11_scan_lines.specs.declared.fault.LineFault.{LineFault}
+use Rattle.m11_scan_lines.specs.declared.fault.LineFault.TheVariants as line
+use Rattle.m11_unfold_rules.specs.declared.fault.UnfoldFault.{UnfoldFault}
+use Rattle.m11_unfold_rules.specs.declared.fault.UnfoldFault.TheVariants as unfolded
 use Rattle.m11_asm_faults.specs.declared.fault.AsmFault.{AsmFault}
 use Rattle.m11_asm_faults.specs.declared.fault.AsmFault.TheVariants.{Read, Write, TooManySymbols, TooManySections, Unfold, TooMuchSource, NoMemory}
 use Rattle.m11_asm_faults.specs.declared.fault.AsmOutput.{AsmOutput}

@@ -4,8 +4,8 @@ ghost use Rattle.std.specs.Prelude.{◌≡◌};
 ghost use Rattle.m11_asm_faults.specs.Faults.{of_lines, of_unfolding};
 ghost use Rattle.m11_asm_faults.specs.declared.fault.AsmFault.TheVariants.{NoMemory};
 
-use m11_lines::LineFault;
-use m11_unfolding::UnfoldFault;
+use m11_scan_lines::LineFault;
+use m11_unfold_rules::UnfoldFault;
 use std::alloc::{AllocError, AllocFailed};
 use thiserror::Error;
 

@@ -1,12 +1,12 @@
 -- Each word of a value says where its target lies.
 use Rattle.std.proofs.Common.{◌≡◌, ℕ, ◌+◌, ◌-◌, ◌<◌, ◌%◌, Bool, true, false, refl, ap, arith}
-use Rattle.m11_blocks.specs.Frames.{word_bytes}
+use Rattle.m11_obj_blocks.specs.Frames.{word_bytes}
 use Rattle.m11_link_text.specs.Findings.{Findings}
 use Rattle.m11_link_text.specs.Relocation.{following, less, modulo}
-use Rattle.m11_object_text.specs.declared.pieces.PieceContent.TheVariants.{Word}
-use Rattle.m11_placement.specs.Relocations.{Here, InObject, InSection, Origin, Zero, is_moved, origin_of, relocation_by, row_of, stored, stored_as}
-use Rattle.m11_placement.specs.Tables.{Table}
-use Rattle.m11_values.specs.Quantities.{Quantity}
+use Rattle.m11_obj_texts.specs.declared.pieces.PieceContent.TheVariants.{Word}
+use Rattle.m11_asm_rules.specs.Relocations.{Here, InObject, InSection, Origin, Zero, is_moved, origin_of, relocation_by, row_of, stored, stored_as}
+use Rattle.m11_asm_rules.specs.Tables.{Table}
+use Rattle.m11_scan_values.specs.Quantities.{Quantity}
 use Rattle.m11_asm_laws.specs.Linked.{linked_bytes}
 use Rattle.m11_asm_laws.specs.Targets.{AreWords, LiesAt, address_of, stored_address}
 use Rattle.m11_asm_laws.proofs.Rows.{displaced_global_row, displaced_section_row, global_row, section_row}

@@ -3,8 +3,8 @@ use Rattle.std.specs.Prelude.{◌≡◌, ℕ, ◌+◌, ◌<◌, Bool, true, fals
 use Rattle.m11_base.specs.Rad50.{Name}
 use Rattle.m11_link_text.specs.Findings.{Findings}
 use Rattle.m11_link_text.specs.Relocation.{following, less, modulo, symbol}
-use Rattle.m11_placement.specs.Relocations.{Here, InObject, InSection, Origin, Zero, is_moved}
-use Rattle.m11_placement.specs.Tables.{Table}
+use Rattle.m11_asm_rules.specs.Relocations.{Here, InObject, InSection, Origin, Zero, is_moved}
+use Rattle.m11_asm_rules.specs.Tables.{Table}
 
 -- the address of a number that counts from an origin
 abbrev pub address_of : Findings → ℕ → ℕ → Origin → ℕ → ℕ

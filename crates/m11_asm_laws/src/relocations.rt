@@ -2,14 +2,14 @@
 
 ghost use Rattle.std.specs.Prelude.{◌≡◌, ℕ, ◌+◌, ◌<◌, ◌%◌, Bool, [], ◌∷◌};
 ghost use Rattle.m11_base.specs.Rad50.{Name};
-ghost use Rattle.m11_blocks.specs.Frames.{word_bytes};
+ghost use Rattle.m11_obj_blocks.specs.Frames.{word_bytes};
 ghost use Rattle.m11_link_text.specs.Findings.{Findings};
 ghost use Rattle.m11_link_text.specs.Relocation.{following, less, modulo, symbol};
-ghost use Rattle.m11_object_text.specs.declared.pieces.PieceContent.TheVariants.{Word};
-ghost use Rattle.m11_object_text.specs.declared.pieces.RelocationKind.TheVariants as kind;
-ghost use Rattle.m11_placement.specs.Relocations.{origin_of, stored};
-ghost use Rattle.m11_placement.specs.Tables.{Table};
-ghost use Rattle.m11_values.specs.Quantities.{Quantity};
+ghost use Rattle.m11_obj_texts.specs.declared.pieces.PieceContent.TheVariants.{Word};
+ghost use Rattle.m11_obj_texts.specs.declared.pieces.RelocationKind.TheVariants as kind;
+ghost use Rattle.m11_asm_rules.specs.Relocations.{origin_of, stored};
+ghost use Rattle.m11_asm_rules.specs.Tables.{Table};
+ghost use Rattle.m11_scan_values.specs.Quantities.{Quantity};
 ghost use Rattle.m11_asm_laws.specs.Linked.{linked_byte, linked_bytes, linked_word};
 ghost use Rattle.m11_asm_laws.specs.Targets.{AreWords, LiesAt, address_of, stored_address};
 

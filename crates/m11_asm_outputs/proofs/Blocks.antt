@@ -3,10 +3,10 @@ use Rattle.std.proofs.Common.{◌≡◌, ℕ, List, [], ◌∷◌, ◌++◌, map
 use Rattle.arrayvec.specs.ArrayVec.{ArrayVec}
 use Rattle.m11_asm_faults.specs.declared.fault.AsmFault.{AsmFault}
 use Rattle.m11_base.specs.Devices.{Bytes}
-use Rattle.m11_blocks.specs.Frames.{block}
+use Rattle.m11_obj_blocks.specs.Frames.{block}
 use Rattle.m11_obj.specs.Records.{Content, EndOfGsd, record_data}
-use Rattle.m11_object_text.specs.Blocks.{AreRecords}
-use Rattle.m11_object_text.specs.declared.directory.DirectoryRow.{DirectoryRow}
+use Rattle.m11_obj_texts.specs.Blocks.{AreRecords}
+use Rattle.m11_obj_texts.specs.declared.directory.DirectoryRow.{DirectoryRow}
 use Rattle.m11_asm_outputs.specs.Object.{block_writes, content_writes, head_contents, records_filled_by, rest_records}
 use Rattle.m11_asm_outputs.specs.Outputs.{Gains, Outputs, Stops, Write, Writes, to_object}
 use Rattle.m11_asm_outputs.proofs.Fitting.{head_in_two}

@@ -5,7 +5,7 @@ use Rattle.m11_asm_faults.specs.declared.fault.AsmFault.{AsmFault}
 use Rattle.m11_obj.specs.Records.{Content}
 use Rattle.m11_asm_outputs.specs.Object.{content_write, content_writes}
 use Rattle.m11_asm_outputs.specs.Outputs.{Outputs, Write, Gains, Stops, Writes, assembly}
-use Rattle.m11_writes.proofs.Writing.{gains_nothing, stops_before, writes_then}
+use Rattle.m11_base_writes.proofs.Writing.{gains_nothing, stops_before, writes_then}
 
 -- what is left to write leads to all writes
 abbrev pub Leads : Type 0 → Outputs → Outputs → List Write → List Write → Type 0

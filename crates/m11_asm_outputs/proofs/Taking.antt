@@ -3,7 +3,7 @@
 use Rattle.std.proofs.Common.{◌≡◌, List, [], ◌∷◌, ◌++◌, refl, sym, ap, subst, ◌∙◌, append_assoc, append-nil}
 use Rattle.m11_asm_faults.specs.declared.fault.AsmFault.{AsmFault}
 use Rattle.m11_obj.specs.Records.{Content}
-use Rattle.m11_writes.specs.Outputs.{Output}
+use Rattle.m11_base_writes.specs.Outputs.{Output}
 use Rattle.m11_asm_outputs.specs.Object.{added, content_writes, AllFit}
 use Rattle.m11_asm_outputs.specs.Outputs.{Outputs, Gains, Stops}
 use Rattle.m11_asm_outputs.proofs.Fitting.{all_fit-append, fit_as}

@@ -5,9 +5,9 @@ use Rattle.m11_asm_faults.specs.declared.fault.AsmFault.{AsmFault}
 use Rattle.m11_asm_faults.specs.declared.fault.AsmFault.TheVariants as fault
 use Rattle.m11_asm_faults.specs.declared.fault.AsmOutput.{AsmOutput}
 use Rattle.m11_asm_faults.specs.declared.fault.AsmOutput.TheVariants.{Object, Listing, Messages}
-use Rattle.m11_writes.specs.Outputs.{Output, Puts, no_output}
-use Rattle.m11_writes.specs.Writes.{gained}
-use Rattle.m11_writes.proofs.Writing.{keeps, put_writes}
+use Rattle.m11_base_writes.specs.Outputs.{Output, Puts, no_output}
+use Rattle.m11_base_writes.specs.Writes.{gained}
+use Rattle.m11_base_writes.proofs.Writing.{keeps, put_writes}
 use Rattle.m11_asm_outputs.specs.Outputs.{Outputs, Writes, assembly, is_output, outputs, to_listing, to_messages, to_object}
 
 pub to_the_object : {A : Type 0} (a b listing messages : Output) (bytes : List ℕ) (result : Result A AsmFault)

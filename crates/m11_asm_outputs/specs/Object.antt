@@ -4,15 +4,15 @@
 use Rattle.std.specs.Prelude.{◌≡◌, ℕ, ◌-◌, List, [], ◌∷◌, ◌++◌, length, take, drop, map, Option, None, Ok}
 use Rattle.std.specs.List.{AllByRecursion, flat_map}
 use Rattle.arrayvec.specs.ArrayVec.{ArrayVec}
-use Rattle.m11_blocks.specs.Frames.{block}
+use Rattle.m11_obj_blocks.specs.Frames.{block}
 use Rattle.m11_obj.specs.Reading.{content_of}
 use Rattle.m11_obj.specs.Records.{Content, EndOfGsd, EndOfModule, Fits, record_data}
 use Rattle.m11_obj.specs.declared.gsd.GsdEntry.{GsdEntry}
-use Rattle.m11_object_text.specs.Directory as directory
-use Rattle.m11_object_text.specs.OpenText as text
-use Rattle.m11_object_text.specs.Texts.{TextParts, cutting, texts_after, records_of, text_records}
-use Rattle.m11_object_text.specs.declared.directory.DirectoryRow.{DirectoryRow}
-use Rattle.m11_object_text.specs.declared.pieces.Piece.{Piece}
+use Rattle.m11_obj_texts.specs.Directory as directory
+use Rattle.m11_obj_texts.specs.OpenText as text
+use Rattle.m11_obj_texts.specs.Texts.{TextParts, cutting, texts_after, records_of, text_records}
+use Rattle.m11_obj_texts.specs.declared.directory.DirectoryRow.{DirectoryRow}
+use Rattle.m11_obj_texts.specs.declared.pieces.Piece.{Piece}
 use Rattle.m11_asm_outputs.specs.Outputs.{Write, to_object}
 
 -- ---- the whole object

@@ -1,5 +1,5 @@
 -- The outputs of an assembly, and writes to them in one order. (This project's own. What becomes of such writes stands
--- in m11_writes.)
+-- in m11_base_writes.)
 use Rattle.std.specs.Prelude.{◌≡◌, Bool, true, false, List, [], ◌∷◌, Option, Some, None, Result, refl}
 use Rattle.m11_asm_faults.specs.declared.fault.AsmFault.{AsmFault}
 use Rattle.m11_asm_faults.specs.declared.fault.AsmFault.TheVariants as fault
@@ -7,8 +7,8 @@ use Rattle.m11_asm_faults.specs.declared.fault.AsmOutput.{AsmOutput}
 use Rattle.m11_asm_faults.specs.declared.fault.AsmOutput.TheVariants.{Object, Listing, Messages}
 use Rattle.m11_base.specs.Devices.{Bytes}
 use Rattle.m11_base.specs.declared.sink.Sink.{Ghosts}
-use Rattle.m11_writes.specs.Outputs.{Output, optional_output, output_of}
-use Rattle.m11_writes.specs.Writes as writes
+use Rattle.m11_base_writes.specs.Outputs.{Output, optional_output, output_of}
+use Rattle.m11_base_writes.specs.Writes as writes
 
 -- ---- outputs
 

@@ -1,16 +1,16 @@
 //! The lines of the messages.
 
 ghost use Rattle.std.specs.Prelude.{◌≤◌, ◌≢◌, [], ◌∷◌, length, IfErr};
-ghost use Rattle.m11_listing.specs.Messages.{count_line, message_line};
+ghost use Rattle.m11_asm_listing.specs.Messages.{count_line, message_line};
 ghost use Rattle.m11_scan.specs.ErrorFlags.{flags_text};
 ghost use Rattle.m11_scan.specs.Views.{bits_of};
-ghost use Rattle.m11_writes.specs.Outputs.{Output, output_of};
+ghost use Rattle.m11_base_writes.specs.Outputs.{Output, output_of};
 ghost use Rattle.m11_asm_outputs.specs.Outputs.{Writes, outputs, to_messages};
 
 use crate::outputs::put_message;
 use m11_asm_faults::AsmFault;
+use m11_asm_listing::{count_line, message_line};
 use m11_base::Sink;
-use m11_listing::{count_line, message_line};
 use m11_scan::ErrorFlags;
 
 /// The message on a flagged line: its flags, its number and its text, which has at most 132 bytes.

@@ -4,13 +4,13 @@ ghost use Rattle.std.specs.Prelude.{◌≡◌, ◌<◌, List, [], ◌∷◌, ◌
 ghost use Rattle.std.specs.List.{AllByRecursion};
 ghost use Rattle.std.specs.Option.{option_to_list};
 ghost use Rattle.m11_obj.specs.Records.{Content, EndOfGsd, EndOfModule};
-ghost use Rattle.m11_object_text.specs.Blocks.{AreRecords};
-ghost use Rattle.m11_object_text.specs.OpenText.{records_in};
-ghost use Rattle.m11_object_text.specs.Texts.{records_of};
-ghost use Rattle.m11_object_text.specs.declared.directory.DirectoryRow.{DirectoryRow};
-ghost use Rattle.m11_object_text.specs.declared.pieces.Piece.{Piece};
-ghost use Rattle.m11_placement.specs.Contents.{content_size, further, pieces_from};
-ghost use Rattle.m11_writes.specs.Outputs.{Output, output_of};
+ghost use Rattle.m11_obj_texts.specs.Blocks.{AreRecords};
+ghost use Rattle.m11_obj_texts.specs.OpenText.{records_in};
+ghost use Rattle.m11_obj_texts.specs.Texts.{records_of};
+ghost use Rattle.m11_obj_texts.specs.declared.directory.DirectoryRow.{DirectoryRow};
+ghost use Rattle.m11_obj_texts.specs.declared.pieces.Piece.{Piece};
+ghost use Rattle.m11_asm_rules.specs.Contents.{content_size, further, pieces_from};
+ghost use Rattle.m11_base_writes.specs.Outputs.{Output, output_of};
 ghost use Rattle.m11_asm_outputs.specs.Object.{AllFit, BlockFits, IsOpenAfter, WaitsAfter, block_writes, content_writes, head_contents, last_records, records_closed_by, records_filled_by, rest_records};
 ghost use Rattle.m11_asm_outputs.specs.Outputs.{Writes, outputs};
 
@@ -18,7 +18,7 @@ use crate::outputs::put_record;
 use m11_asm_faults::AsmFault;
 use m11_base::{Name, Sink};
 use m11_obj::{Block, Record};
-use m11_object_text::{DirectoryRow, OpenDirectory, OpenText, Piece, PieceContent, Text};
+use m11_obj_texts::{DirectoryRow, OpenDirectory, OpenText, Piece, PieceContent, Text};
 use std::alloc::Global;
 
 /// What stands before the texts: the records of a directory of these rows, and its end.

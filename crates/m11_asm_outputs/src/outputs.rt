@@ -1,14 +1,14 @@
 //! Writes to the outputs of an assembly, each whole or with its fault.
 
 ghost use Rattle.std.specs.Prelude.{◌≡◌, [], ◌∷◌, ◌≢◌, is_some, IfErr, OnOk};
-ghost use Rattle.m11_blocks.specs.Frames.{block};
-ghost use Rattle.m11_writes.specs.Outputs.{Output, optional_output, output_of};
+ghost use Rattle.m11_obj_blocks.specs.Frames.{block};
+ghost use Rattle.m11_base_writes.specs.Outputs.{Output, optional_output, output_of};
 ghost use Rattle.m11_asm_outputs.specs.Outputs.{AreFlushed, Writes, flushes, outputs, to_listing, to_messages, to_object};
 
 use m11_asm_faults::{AsmFault, AsmOutput};
 use m11_base::Sink;
+use m11_base_writes::{flush_or_fail, put_or_fail};
 use m11_obj::{Block, block_bytes};
-use m11_writes::{flush_or_fail, put_or_fail};
 use std::alloc::Global;
 
 /// The block of a record of this content, to the object. Faults: `Write` of the object, and `NoMemory` before the block.

@@ -6,9 +6,9 @@ use Rattle.m11_asm_faults.specs.declared.fault.AsmFault.{AsmFault}
 use Rattle.m11_asm_faults.specs.declared.fault.AsmFault.TheVariants as fault
 use Rattle.m11_asm_outputs.specs.Outputs.{Outputs}
 use Rattle.m11_base.specs.Feed.{Text}
-use Rattle.m11_passes.specs.Lines.{Numbered, givens}
-use Rattle.m11_readings.specs.Calls.{FailReading, HaveReading}
-use Rattle.m11_readings.specs.Readings.{Reading}
+use Rattle.m11_asm_passes.specs.Lines.{Numbered, givens}
+use Rattle.m11_scan_line_laws.specs.Calls.{FailReading, HaveReading}
+use Rattle.m11_scan_line_laws.specs.Readings.{Reading}
 use Rattle.m11_asm.specs.Program.{Program, program_of}
 use Rattle.m11_asm.specs.declared.done.AsmDone.{AsmDone}
 use Rattle.m11_cli.proofs.Sources.{give, none, one, seen}

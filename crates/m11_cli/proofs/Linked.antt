@@ -5,14 +5,14 @@ use Rattle.m11_base.specs.Devices.{Bytes}
 use Rattle.m11_base.specs.Feed.{NoneFailed, Text}
 use Rattle.m11_base.specs.Sink.{handed_on}
 use Rattle.m11_base.specs.declared.sink.Sink.{Ghosts}
-use Rattle.m11_files.specs.Opens.{Files, IsEmptiedSome, keeping_some}
-use Rattle.m11_layout.specs.Plan.{Planned}
-use Rattle.m11_layout.specs.declared.fault.LinkFault.{LinkFault}
-use Rattle.m11_layout.specs.declared.fault.LinkFault.TheVariants as fault
+use Rattle.m11_base_files.specs.Opens.{Files, IsEmptiedSome, keeping_some}
+use Rattle.m11_link_layout.specs.Plan.{Planned}
+use Rattle.m11_link_layout.specs.declared.fault.LinkFault.{LinkFault}
+use Rattle.m11_link_layout.specs.declared.fault.LinkFault.TheVariants as fault
 use Rattle.m11_link.specs.FirstPass.{ReadsFirst, pass_of}
 use Rattle.m11_link.specs.Objects.{Item, GiveItems, FailAfter}
 use Rattle.m11_link.specs.SecondPass.{ReadsSecond, LinkRuns}
-use Rattle.m11_writes.specs.Outputs.{Output, optional_output, output_of}
+use Rattle.m11_base_writes.specs.Outputs.{Output, optional_output, output_of}
 use Rattle.m11_link.specs.Outputs.{Outputs}
 use Rattle.m11_link.specs.declared.emit.LinkDone.{LinkDone}
 use Rattle.m11_cli.specs.Driver.{got, known}

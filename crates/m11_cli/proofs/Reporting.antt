@@ -5,14 +5,14 @@ use Rattle.std.specs.Prelude.{OnErr, OnOk}
 use Rattle.std.specs.Io.KnownBytes.{Appends}
 use Rattle.m11_base.specs.Devices.{Rises}
 use Rattle.m11_base.specs.Sink.{AppendsBeginning}
-use Rattle.m11_machine.specs.Dialogue.{Output}
+use Rattle.m11_cpu_machine.specs.Dialogue.{Output}
 use Rattle.clap.specs.Words.{Text}
 use Rattle.m11_cli.specs.Driver.{Carries, HasOutcome, Store, Streams, Reports, ReportsSome}
-use Rattle.m11_tasks.specs.Tasks.{Plans}
+use Rattle.m11_cli_tasks.specs.Tasks.{Plans}
 use Rattle.m11_cli.specs.declared.outcome.Outcome.{Outcome}
 use Rattle.m11_cli.specs.declared.outcome.Outcome.TheVariants.{Usage, Asm, Link, Sim, NotOpened}
-use Rattle.m11_tasks.specs.declared.tasks.Task.{Task}
-use Rattle.m11_tasks.specs.declared.tasks.Task.TheVariants as task
+use Rattle.m11_cli_tasks.specs.declared.tasks.Task.{Task}
+use Rattle.m11_cli_tasks.specs.declared.tasks.Task.TheVariants as task
 
 -- a put that returned success or failure
 pub reports : {X E : Type 0} (r : Result X E) (text : List ℕ) (old new : Output)

@@ -1,8 +1,8 @@
 -- What is said of feeds is said of their texts and counts of failures.
 use Rattle.std.proofs.Common.{ℕ, List, [], ◌∷◌, map, Option}
 use Rattle.m11_base.specs.Feed.{Text, GiveAll, NoneFailed, OneFailed}
-use Rattle.m11_machine.specs.Dialogue.{Input, input_of}
-use Rattle.m11_files.specs.Opens.{Files, AreFiles}
+use Rattle.m11_cpu_machine.specs.Dialogue.{Input, input_of}
+use Rattle.m11_base_files.specs.Opens.{Files, AreFiles}
 
 module _ {F : Type 0} (text : F → Option Text) (faults : F → ℕ) where
   abbrev pub seen : List F → List Input

@@ -1,13 +1,13 @@
 -- Words that the system does not give. (This project's own.)
 use Rattle.std.specs.Prelude.{◌≡◌, ◌⊎◌, ℕ}
-use Rattle.m11_machine.specs.Dialogue.{Output}
+use Rattle.m11_cpu_machine.specs.Dialogue.{Output}
 use Rattle.m11_cli.specs.Driver.{Reports}
 use Rattle.m11_cli.specs.FaultLines.{line_of}
 use Rattle.m11_cli.specs.declared.outcome.Outcome.TheVariants.{Usage}
-use Rattle.m11_tasks.specs.Arguments.{refusal_line}
-use Rattle.m11_tasks.specs.declared.arguments.WordsFault.{WordsFault}
-use Rattle.m11_tasks.specs.declared.arguments.WordsFault.TheVariants.{NoMemory, NotText}
-use Rattle.m11_tasks.specs.declared.usage.UsageFault.TheVariants as usage
+use Rattle.m11_cli_tasks.specs.Arguments.{refusal_line}
+use Rattle.m11_cli_tasks.specs.declared.arguments.WordsFault.{WordsFault}
+use Rattle.m11_cli_tasks.specs.declared.arguments.WordsFault.TheVariants.{NoMemory, NotText}
+use Rattle.m11_cli_tasks.specs.declared.usage.UsageFault.TheVariants as usage
 
 abbrev pub words_status : WordsFault → ℕ
 words_status NoMemory = 5

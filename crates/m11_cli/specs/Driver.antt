@@ -11,32 +11,32 @@ use Rattle.m11_base.specs.declared.sink.Sink.{Ghosts}
 use Rattle.m11_asm.specs.Passes as assembling
 use Rattle.m11_asm.specs.Run.{AsmRuns}
 use Rattle.m11_asm_outputs.specs.Outputs as assembled
-use Rattle.m11_machine.specs.Dialogue.{Input, Output, both, input_of, output_of}
+use Rattle.m11_cpu_machine.specs.Dialogue.{Input, Output, both, input_of, output_of}
 use Rattle.m11_cpu.specs.Simulation.{Simulates, request_of, run_devices}
 use Rattle.m11_cpu.specs.declared.fault.SimFault.{SimFault}
 use Rattle.m11_cpu.specs.declared.fault.SimFault.TheVariants as sim-fault
 use Rattle.m11_cpu.specs.declared.simulation.SimDone.{SimDone}
-use Rattle.m11_layout.specs.declared.fault.LinkFault.{LinkFault}
-use Rattle.m11_layout.specs.declared.fault.LinkFault.TheVariants as link-fault
+use Rattle.m11_link_layout.specs.declared.fault.LinkFault.{LinkFault}
+use Rattle.m11_link_layout.specs.declared.fault.LinkFault.TheVariants as link-fault
 use Rattle.m11_link.specs.SecondPass as linking
 use Rattle.m11_link.specs.Outputs.{Outputs, outputs_of}
 use Rattle.m11_link.specs.declared.emit.LinkDone.{LinkDone}
 use Rattle.m11_asm.specs.declared.done.AsmDone.{AsmDone}
 use Rattle.m11_cli.specs.FaultLines.{line_of, open_line}
-use Rattle.m11_files.specs.Opens.{Files, AreFiles, Holds, IsEmptied, IsEmptiedSome, creating, keeping, keeping_some}
-use Rattle.m11_tasks.specs.Opened.{CreatesSome, StopsAt, asm_inputs, asm_outputs, link_inputs, link_outputs, sim_inputs}
-use Rattle.m11_tasks.specs.Tasks.{Plans}
+use Rattle.m11_base_files.specs.Opens.{Files, AreFiles, Holds, IsEmptied, IsEmptiedSome, creating, keeping, keeping_some}
+use Rattle.m11_cli_tasks.specs.Opened.{CreatesSome, StopsAt, asm_inputs, asm_outputs, link_inputs, link_outputs, sim_inputs}
+use Rattle.m11_cli_tasks.specs.Tasks.{Plans}
 use Rattle.m11_cli.specs.declared.outcome.Outcome.{Outcome}
 use Rattle.m11_cli.specs.declared.outcome.Outcome.TheVariants.{Usage, Asm, Link, Sim, NotOpened}
-use Rattle.m11_tasks.specs.declared.tasks.AsmTask.{AsmTask}
-use Rattle.m11_tasks.specs.declared.tasks.LinkTask.{LinkTask}
-use Rattle.m11_tasks.specs.declared.tasks.SimTask.{SimTask}
-use Rattle.m11_tasks.specs.declared.tasks.Task.{Task}
-use Rattle.m11_tasks.specs.declared.tasks.Task.TheVariants as task
-use Rattle.m11_tasks.specs.declared.usage.UsageFault.{UsageFault}
-use Rattle.m11_tasks.specs.declared.usage.UsageFault.TheVariants.{Help, Words}
+use Rattle.m11_cli_tasks.specs.declared.tasks.AsmTask.{AsmTask}
+use Rattle.m11_cli_tasks.specs.declared.tasks.LinkTask.{LinkTask}
+use Rattle.m11_cli_tasks.specs.declared.tasks.SimTask.{SimTask}
+use Rattle.m11_cli_tasks.specs.declared.tasks.Task.{Task}
+use Rattle.m11_cli_tasks.specs.declared.tasks.Task.TheVariants as task
+use Rattle.m11_cli_tasks.specs.declared.usage.UsageFault.{UsageFault}
+use Rattle.m11_cli_tasks.specs.declared.usage.UsageFault.TheVariants.{Help, Words}
 use Rattle.m11_link.specs.FirstPass.{pass_of}
-use Rattle.m11_writes.specs.Outputs as written
+use Rattle.m11_base_writes.specs.Outputs as written
 
 -- ---- what a process has
 

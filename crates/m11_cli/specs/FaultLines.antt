@@ -11,19 +11,19 @@ use Rattle.m11_base.specs.Devices.{Bytes}
 use Rattle.m11_cpu.specs.Fault.{sim_fault_name, sim_fault_number}
 use Rattle.m11_cpu.specs.declared.fault.SimFault.{SimFault}
 use Rattle.m11_cpu.specs.declared.fault.SimFault.TheVariants as sim
-use Rattle.m11_layout.specs.Fault.{link_fault_name, link_fault_number}
-use Rattle.m11_layout.specs.declared.fault.LinkFault.{LinkFault}
-use Rattle.m11_layout.specs.declared.fault.LinkFault.TheVariants as link
-use Rattle.m11_layout.specs.declared.fault.LinkOutput.{LinkOutput}
-use Rattle.m11_layout.specs.declared.fault.LinkOutput.TheVariants.{Tape, Map, Messages}
-use Rattle.m11_blocks.specs.Blocks.{block_fault_name, block_fault_number}
+use Rattle.m11_link_layout.specs.Fault.{link_fault_name, link_fault_number}
+use Rattle.m11_link_layout.specs.declared.fault.LinkFault.{LinkFault}
+use Rattle.m11_link_layout.specs.declared.fault.LinkFault.TheVariants as link
+use Rattle.m11_link_layout.specs.declared.fault.LinkOutput.{LinkOutput}
+use Rattle.m11_link_layout.specs.declared.fault.LinkOutput.TheVariants.{Tape, Map, Messages}
+use Rattle.m11_obj_blocks.specs.Blocks.{block_fault_name, block_fault_number}
 use Rattle.m11_obj.specs.Fault.{record_fault_name, record_fault_number}
-use Rattle.m11_tasks.specs.Usage.{usage_name, usage_number}
+use Rattle.m11_cli_tasks.specs.Usage.{usage_name, usage_number}
 use Rattle.m11_cli.specs.declared.outcome.Outcome.{Outcome}
 use Rattle.m11_cli.specs.declared.outcome.Outcome.TheVariants.{Usage, Asm, Link, Sim, NotOpened}
-use Rattle.m11_tasks.specs.declared.usage.UsageFault.{UsageFault}
-use Rattle.m11_tasks.specs.declared.usage.UsageFault.TheVariants.{Help, Words}
-use Rattle.m11_unfolding.specs.Fault as unfolded
+use Rattle.m11_cli_tasks.specs.declared.usage.UsageFault.{UsageFault}
+use Rattle.m11_cli_tasks.specs.declared.usage.UsageFault.TheVariants.{Help, Words}
+use Rattle.m11_unfold_rules.specs.Fault as unfolded
 
 -- a line of words: a blank is 040, a line feed 012
 abbrev pub line : List Bytes → Bytes

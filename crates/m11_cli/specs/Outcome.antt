@@ -8,16 +8,16 @@ use Rattle.m11_cpu.specs.declared.fault.LoadFault.{LoadFault}
 use Rattle.m11_cpu.specs.declared.fault.LoadFault.TheVariants as load
 use Rattle.m11_cpu.specs.declared.fault.SimFault.{SimFault}
 use Rattle.m11_cpu.specs.declared.fault.SimFault.TheVariants as sim
-use Rattle.m11_machine.specs.declared.stop.Stop.{Stop}
-use Rattle.m11_machine.specs.declared.stop.Stop.TheVariants as stop
-use Rattle.m11_layout.specs.declared.fault.LinkFault.{LinkFault}
-use Rattle.m11_layout.specs.declared.fault.LinkFault.TheVariants as link
-use Rattle.m11_blocks.specs.declared.tape_fault.TapeFault.{TapeFault}
-use Rattle.m11_blocks.specs.declared.tape_fault.TapeFault.TheVariants as tape
+use Rattle.m11_cpu_machine.specs.declared.stop.Stop.{Stop}
+use Rattle.m11_cpu_machine.specs.declared.stop.Stop.TheVariants as stop
+use Rattle.m11_link_layout.specs.declared.fault.LinkFault.{LinkFault}
+use Rattle.m11_link_layout.specs.declared.fault.LinkFault.TheVariants as link
+use Rattle.m11_obj_blocks.specs.declared.tape_fault.TapeFault.{TapeFault}
+use Rattle.m11_obj_blocks.specs.declared.tape_fault.TapeFault.TheVariants as tape
 use Rattle.m11_cli.specs.declared.outcome.Outcome.{Outcome}
 use Rattle.m11_cli.specs.declared.outcome.Outcome.TheVariants.{Usage, Asm, Link, Sim, NotOpened}
-use Rattle.m11_tasks.specs.declared.usage.UsageFault.{UsageFault}
-use Rattle.m11_tasks.specs.declared.usage.UsageFault.TheVariants.{Help, Words, BadOctal, OddAddress, BadAddress, NoMemory}
+use Rattle.m11_cli_tasks.specs.declared.usage.UsageFault.{UsageFault}
+use Rattle.m11_cli_tasks.specs.declared.usage.UsageFault.TheVariants.{Help, Words, BadOctal, OddAddress, BadAddress, NoMemory}
 
 -- the status of a command line that gave no task
 abbrev pub usage_status : UsageFault → ℕ

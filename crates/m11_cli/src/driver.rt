@@ -1,31 +1,31 @@
 //! All of the program's work, over whatever opens files, feeds and takes bytes.
 
 ghost use Rattle.std.specs.Prelude.{◌≡◌, map};
-ghost use Rattle.m11_machine.specs.Dialogue.{Input, Output, both, input_of, output_of};
+ghost use Rattle.m11_cpu_machine.specs.Dialogue.{Input, Output, both, input_of, output_of};
 ghost use Rattle.m11_cpu.specs.Simulation.{Simulates, request_of, run_devices};
 ghost use Rattle.m11_cli.specs.Driver.{Assembles, Carries, HasOutcome, Explains, Links, Obeys, Store, Reports, ReportsSome, store, streams};
 ghost use Rattle.m11_cli.specs.FaultLines.{line_of, open_line};
 ghost use Rattle.m11_base.specs.Sink.{handed_on};
-ghost use Rattle.m11_files.specs.Opens.{AreFiles, IsEmptied, IsEmptiedSome, creating, keeping_some};
-ghost use Rattle.m11_tasks.specs.Opened.{asm_inputs, asm_outputs, link_inputs, link_outputs};
+ghost use Rattle.m11_base_files.specs.Opens.{AreFiles, IsEmptied, IsEmptiedSome, creating, keeping_some};
+ghost use Rattle.m11_cli_tasks.specs.Opened.{asm_inputs, asm_outputs, link_inputs, link_outputs};
 ghost use Rattle.m11_cli.specs.Outcome.{LeavesConsole, status_of};
-ghost use Rattle.m11_tasks.specs.Tasks.{IsDoable};
+ghost use Rattle.m11_cli_tasks.specs.Tasks.{IsDoable};
 ghost use Rattle.m11_cli.specs.Arguments.{ReportsOfWords, words_status};
 ghost use Rattle.m11_cli.specs.declared.outcome.Outcome.{Outcome};
 ghost use Rattle.m11_cli.specs.declared.outcome.Outcome.TheVariants.{NotOpened};
-ghost use Rattle.m11_tasks.specs.declared.tasks.Task.TheVariants.{Asm, Link, Sim};
+ghost use Rattle.m11_cli_tasks.specs.declared.tasks.Task.TheVariants.{Asm, Link, Sim};
 
 use crate::fault_lines::{fault_line, not_opened_line};
 use crate::outcome::{Outcome, status};
 use m11_asm::{AsmDone, AsmFault, asm_run};
 use m11_base::{Feed, Sink, put_all};
-use m11_cpu::{SimDone, SimFault, sim_run};
-use m11_files::Opens;
-use m11_link::{LinkDone, LinkFault, link_run};
-use m11_tasks::{
+use m11_base_files::Opens;
+use m11_cli_tasks::{
     AsmFiles, AsmTask, LinkFiles, LinkTask, OpenFault, SimTask, Task, UsageFault, WordsFault,
     open_asm_files, open_link_files, open_sim_file, plan, refusal_line,
 };
+use m11_cpu::{SimDone, SimFault, sim_run};
+use m11_link::{LinkDone, LinkFault, link_run};
 use std::alloc::Global;
 use std::convert::AsStr;
 

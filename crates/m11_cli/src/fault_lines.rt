@@ -7,17 +7,17 @@ ghost use Rattle.m11_base.specs.Devices.{Rises};
 ghost use Rattle.m11_base.specs.Sink.{AppendsBeginning};
 ghost use Rattle.m11_cpu.specs.declared.fault.LoadFault.TheVariants.{Tape};
 ghost use Rattle.m11_cpu.specs.declared.fault.SimFault.TheVariants.{Load};
-ghost use Rattle.m11_layout.specs.declared.fault.LinkFault.TheVariants.{Block, Record};
+ghost use Rattle.m11_link_layout.specs.declared.fault.LinkFault.TheVariants.{Block, Record};
 ghost use Rattle.m11_cli.specs.FaultLines.{asm_line, line_of, link_line, open_line, sim_line, usage_line};
 
 use crate::outcome::Outcome;
 use m11_asm::{AsmFault, AsmOutput};
 use m11_base::{PutFault, Sink, put_all};
+use m11_cli_tasks::UsageFault;
 use m11_cpu::{LoadFault, SimFault};
 use m11_link::{LinkFault, LinkOutput};
 use m11_obj::{BlockFault, RecordFault, TapeFault};
-use m11_tasks::UsageFault;
-use m11_unfolding::UnfoldFault;
+use m11_unfold_rules::UnfoldFault;
 
 /// Puts the line of the outcome's fault: `?M11`, the command, the fault's number and its name, and
 /// for a write the output's name, as `?M11 ASM 2 Write OBJECT`, for an unfolding the limit that was

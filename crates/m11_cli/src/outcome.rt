@@ -4,10 +4,10 @@ ghost use Rattle.std.specs.Prelude.{◌≡◌};
 ghost use Rattle.m11_cli.specs.Outcome.{asm_status, link_status, sim_status, status_of, stop_status};
 
 use m11_asm::{AsmDone, AsmFault};
+use m11_cli_tasks::UsageFault;
 use m11_cpu::{LoadFault, SimDone, SimFault, Stop};
 use m11_link::{LinkDone, LinkFault};
 use m11_obj::TapeFault;
-use m11_tasks::UsageFault;
 
 /// The outcome of a command.
 #[derive(Debug, Drop)]

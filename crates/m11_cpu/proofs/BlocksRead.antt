@@ -1,15 +1,15 @@
 -- The blocks of a tape, read one after another.
 use Rattle.std.proofs.Common.{◌≡◌, ℕ, List, [], ◌∷◌, ◌++◌, length, Result, Ok, refl, sym, ap, subst, ◌∙◌, append_assoc}
 use Rattle.std.proofs.lemmas.List.{append-nil}
-use Rattle.m11_blocks.specs.declared.tape_fault.TapeFault.{TapeFault}
-use Rattle.m11_blocks.specs.declared.tape_part.TapePart.{TapePart}
-use Rattle.m11_blocks.specs.declared.tape_part.TapePart.TheVariants.{Data, Start}
-use Rattle.m11_blocks.specs.declared.tape_part.TapeStage.{TapeStage}
-use Rattle.m11_blocks.specs.declared.tape_part.TapeStage.TheVariants.{BeforeBlock, InBlock, AtEnd, AfterFault}
-use Rattle.m11_blocks.specs.Limited.{Place, Took, Read, Reads}
-use Rattle.m11_blocks.specs.Tapes.{IsTape, AreRead, total_of, first_part, next_part, data_byte, stage_after, ReadsPart, ReadsNext}
-use Rattle.m11_blocks.proofs.ReadSteps.{bytes_then, rest_is, value_is}
-use Rattle.m11_blocks.proofs.TapeFrames.{tape_framed}
+use Rattle.m11_obj_blocks.specs.declared.tape_fault.TapeFault.{TapeFault}
+use Rattle.m11_obj_blocks.specs.declared.tape_part.TapePart.{TapePart}
+use Rattle.m11_obj_blocks.specs.declared.tape_part.TapePart.TheVariants.{Data, Start}
+use Rattle.m11_obj_blocks.specs.declared.tape_part.TapeStage.{TapeStage}
+use Rattle.m11_obj_blocks.specs.declared.tape_part.TapeStage.TheVariants.{BeforeBlock, InBlock, AtEnd, AfterFault}
+use Rattle.m11_obj_blocks.specs.Limited.{Place, Took, Read, Reads}
+use Rattle.m11_obj_blocks.specs.Tapes.{IsTape, AreRead, total_of, first_part, next_part, data_byte, stage_after, ReadsPart, ReadsNext}
+use Rattle.m11_obj_blocks.proofs.ReadSteps.{bytes_then, rest_is, value_is}
+use Rattle.m11_obj_blocks.proofs.TapeFrames.{tape_framed}
 use Rattle.m11_cpu.specs.Loading.{part_after, Hold}
 
 abbrev Reader : Type 0

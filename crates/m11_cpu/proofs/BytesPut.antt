@@ -5,7 +5,7 @@ use Rattle.std.proofs.lemmas.Bool.{cases_lt}
 use Rattle.std.proofs.lemmas.List.{take-append-drop, length-append, length-take-le}
 use Rattle.std.proofs.Math.ListN.{set}
 use Rattle.std.proofs.Math.Seq.{set-append_seam, drop-cons}
-use Rattle.m11_machine.specs.Memory.{with_byte}
+use Rattle.m11_cpu_machine.specs.Memory.{with_byte}
 use Rattle.m11_cpu.specs.Loading.{with_bytes, AreInside, stored}
 
 pub none_put : (address : ℕ) (memory : List ℕ) → with_bytes address [] memory ≡ memory

@@ -1,14 +1,14 @@
 -- The data of a block, given byte by byte and put into memory.
 use Rattle.std.proofs.Common.{◌≡◌, ℕ, ◌+◌, ◌-◌, ◌%◌, ◌<◌, ◌≤◌, List, [], ◌∷◌, ◌++◌, length, sum, Result, Ok, Err, refl, sym, ap, ◌∙◌, arith}
 use Rattle.std.proofs.lemmas.List.{length-append}
-use Rattle.m11_blocks.specs.declared.tape_fault.TapeFault.{TapeFault}
-use Rattle.m11_blocks.specs.declared.tape_part.TapeStage.{TapeStage}
-use Rattle.m11_blocks.specs.declared.tape_part.TapeStage.TheVariants.{InBlock, AfterFault}
-use Rattle.m11_blocks.specs.Limited.{Place, Took, Stops}
-use Rattle.m11_blocks.specs.Tapes.{tape_header, total_of, data_byte, opened, stage_within, left_of, why_of, ReadsPart, ReadsByte}
-use Rattle.m11_blocks.proofs.Limits.{took_nothing, took_then}
-use Rattle.m11_blocks.proofs.TapeFrames.{opened_more, opened_all}
-use Rattle.m11_machine.specs.Memory.{with_byte}
+use Rattle.m11_obj_blocks.specs.declared.tape_fault.TapeFault.{TapeFault}
+use Rattle.m11_obj_blocks.specs.declared.tape_part.TapeStage.{TapeStage}
+use Rattle.m11_obj_blocks.specs.declared.tape_part.TapeStage.TheVariants.{InBlock, AfterFault}
+use Rattle.m11_obj_blocks.specs.Limited.{Place, Took, Stops}
+use Rattle.m11_obj_blocks.specs.Tapes.{tape_header, total_of, data_byte, opened, stage_within, left_of, why_of, ReadsPart, ReadsByte}
+use Rattle.m11_obj_blocks.proofs.Limits.{took_nothing, took_then}
+use Rattle.m11_obj_blocks.proofs.TapeFrames.{opened_more, opened_all}
+use Rattle.m11_cpu_machine.specs.Memory.{with_byte}
 use Rattle.m11_cpu.specs.Loading.{with_bytes, AreInside, PutSome, GivesOutside}
 use Rattle.m11_cpu.proofs.BytesPut.{none_put, one_put, none_inside, one_inside}
 use Rattle.m11_cpu.proofs.BlocksRead.{byte_took}

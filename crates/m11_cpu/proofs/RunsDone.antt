@@ -1,16 +1,16 @@
 -- Runs, step by step.
 use Rattle.std.proofs.Common.{◌≡◌, ℕ, zero, suc, ◌+◌, ◌-◌, ◌<◌, ◌≤◌, refl, sym, subst, arith}
-use Rattle.m11_machine.specs.declared.machine.Machine.{Machine}
+use Rattle.m11_cpu_machine.specs.declared.machine.Machine.{Machine}
 use Rattle.m11_cpu.specs.declared.runs.Ran.{Ran}
-use Rattle.m11_machine.specs.declared.stop.Stop.{Stop}
-use Rattle.m11_machine.specs.declared.stop.Stop.TheVariants.{Limit}
-use Rattle.m11_machine.specs.declared.stop.Turn.{Turn}
-use Rattle.m11_machine.specs.declared.stop.Turn.TheVariants.{Next, Stopped}
-use Rattle.m11_machine.specs.Dialogue.{Comes, Devices, Dialogue, Does}
+use Rattle.m11_cpu_machine.specs.declared.stop.Stop.{Stop}
+use Rattle.m11_cpu_machine.specs.declared.stop.Stop.TheVariants.{Limit}
+use Rattle.m11_cpu_machine.specs.declared.stop.Turn.{Turn}
+use Rattle.m11_cpu_machine.specs.declared.stop.Turn.TheVariants.{Next, Stopped}
+use Rattle.m11_cpu_machine.specs.Dialogue.{Comes, Devices, Dialogue, Does}
 use Rattle.m11_cpu_quick.specs.Quick.{StepsAtOnce}
 use Rattle.m11_cpu.specs.Runs.{run, run_counted}
-use Rattle.m11_machine.specs.Steps.{step}
-use Rattle.m11_machine.proofs.Dialogues.{comes, then_does}
+use Rattle.m11_cpu_machine.specs.Steps.{step}
+use Rattle.m11_cpu_machine.proofs.Dialogues.{comes, then_does}
 
 abbrev pub ran : Stop → ℕ → Ran
 ran stop steps = record { stop = stop; steps = steps }

@@ -4,11 +4,11 @@ use Rattle.std.specs.Prelude.{unwrap_or}
 use Rattle.m11_cpu.specs.declared.fault.LoadFault.{LoadFault}
 use Rattle.m11_cpu.specs.declared.fault.SimFault.{SimFault}
 use Rattle.m11_cpu.specs.declared.fault.SimFault.TheVariants.{Load, Write, NoMemory}
-use Rattle.m11_machine.specs.declared.machine.Machine.{Machine}
+use Rattle.m11_cpu_machine.specs.declared.machine.Machine.{Machine}
 use Rattle.m11_cpu.specs.declared.runs.Ran.{Ran}
-use Rattle.m11_machine.specs.Dialogue.{Devices, Does, Input, Output}
+use Rattle.m11_cpu_machine.specs.Dialogue.{Devices, Does, Input, Output}
 use Rattle.m11_cpu.specs.Loading.{LoadsInto}
-use Rattle.m11_machine.specs.Machine.{new_machine, psw_in}
+use Rattle.m11_cpu_machine.specs.Machine.{new_machine, psw_in}
 use Rattle.m11_cpu.specs.Messages.{PutsMessages, messages_of}
 use Rattle.m11_cpu.specs.Simulation.{HasRun, Request, RunDevices, Simulates, run_devices, started}
 

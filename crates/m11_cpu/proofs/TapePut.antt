@@ -1,15 +1,15 @@
 -- The blocks of a tape, given and put into memory one after another.
 use Rattle.std.proofs.Common.{◌≡◌, ℕ, ◌<◌, List, [], ◌∷◌, ◌++◌, length, Option, Result, Ok, Err, refl, sym, ap, subst, ◌∙◌, arith, inl, inr}
-use Rattle.m11_blocks.specs.declared.tape_fault.TapeFault.{TapeFault}
-use Rattle.m11_blocks.specs.declared.tape_fault.TapeFault.TheVariants as fault
-use Rattle.m11_blocks.specs.declared.tape_part.TapePart.{TapePart}
-use Rattle.m11_blocks.specs.declared.tape_part.TapePart.TheVariants.{Data, Start}
-use Rattle.m11_blocks.specs.declared.tape_part.TapeStage.{TapeStage}
-use Rattle.m11_blocks.specs.declared.tape_part.TapeStage.TheVariants.{BeforeBlock, InBlock, AtEnd, AfterFault}
-use Rattle.m11_blocks.specs.Limited.{Place, place, most_bytes, Took, Read, Reads, Stops}
-use Rattle.m11_blocks.specs.Tapes.{total_of, first_part, data_byte, stage_after, left_of, why_of, ReadsPart, ReadsNext}
+use Rattle.m11_obj_blocks.specs.declared.tape_fault.TapeFault.{TapeFault}
+use Rattle.m11_obj_blocks.specs.declared.tape_fault.TapeFault.TheVariants as fault
+use Rattle.m11_obj_blocks.specs.declared.tape_part.TapePart.{TapePart}
+use Rattle.m11_obj_blocks.specs.declared.tape_part.TapePart.TheVariants.{Data, Start}
+use Rattle.m11_obj_blocks.specs.declared.tape_part.TapeStage.{TapeStage}
+use Rattle.m11_obj_blocks.specs.declared.tape_part.TapeStage.TheVariants.{BeforeBlock, InBlock, AtEnd, AfterFault}
+use Rattle.m11_obj_blocks.specs.Limited.{Place, place, most_bytes, Took, Read, Reads, Stops}
+use Rattle.m11_obj_blocks.specs.Tapes.{total_of, first_part, data_byte, stage_after, left_of, why_of, ReadsPart, ReadsNext}
 use Rattle.m11_base.specs.Feed.{Text}
-use Rattle.m11_blocks.proofs.Limits.{took_nothing, took_then}
+use Rattle.m11_obj_blocks.proofs.Limits.{took_nothing, took_then}
 use Rattle.m11_cpu.specs.declared.fault.LoadFault.{LoadFault}
 use Rattle.m11_cpu.specs.declared.fault.LoadFault.TheVariants.{Tape, OutsideMemory}
 use Rattle.m11_cpu.specs.Loading.{with_bytes, AreInside, part_after, PutBlocks, PutSome, LoadsTape, InsideData, Loads, LoadsFrom, PutsData, CountsFailure}

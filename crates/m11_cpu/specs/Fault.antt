@@ -2,7 +2,7 @@
 -- The printed line of a fault is made of these.)
 use Rattle.std.specs.Prelude.{ℕ, codes}
 use Rattle.m11_base.specs.Devices.{Bytes}
-use Rattle.m11_blocks.specs.Tapes.{tape_fault_name, tape_fault_number}
+use Rattle.m11_obj_blocks.specs.Tapes.{tape_fault_name, tape_fault_number}
 use Rattle.m11_cpu.specs.declared.fault.LoadFault.{LoadFault}
 use Rattle.m11_cpu.specs.declared.fault.LoadFault.TheVariants.{Tape, OutsideMemory}
 use Rattle.m11_cpu.specs.declared.fault.SimFault.{SimFault}

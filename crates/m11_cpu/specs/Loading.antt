@@ -5,14 +5,14 @@ use Rattle.std.specs.Prelude.{◌≡◌, ℕ, ◌+◌, ◌<◌, ◌≤◌, List,
 use Rattle.std.specs.List.{AllByRecursion}
 use Rattle.m11_base.specs.Devices.{Bytes, Rises}
 use Rattle.m11_base.specs.Feed.{Text}
-use Rattle.m11_blocks.specs.Limited.{Place, place, Took, Read, Reads, Stops, most_bytes}
-use Rattle.m11_blocks.specs.Tapes.{IsTape, total_of, first_part, next_part, data_byte, why_of}
-use Rattle.m11_blocks.specs.declared.tape_fault.TapeFault.{TapeFault}
-use Rattle.m11_blocks.specs.declared.tape_fault.TapeFault.TheVariants as fault
-use Rattle.m11_blocks.specs.declared.tape_part.TapePart.{TapePart}
-use Rattle.m11_blocks.specs.declared.tape_part.TapePart.TheVariants.{Data, Start}
+use Rattle.m11_obj_blocks.specs.Limited.{Place, place, Took, Read, Reads, Stops, most_bytes}
+use Rattle.m11_obj_blocks.specs.Tapes.{IsTape, total_of, first_part, next_part, data_byte, why_of}
+use Rattle.m11_obj_blocks.specs.declared.tape_fault.TapeFault.{TapeFault}
+use Rattle.m11_obj_blocks.specs.declared.tape_fault.TapeFault.TheVariants as fault
+use Rattle.m11_obj_blocks.specs.declared.tape_part.TapePart.{TapePart}
+use Rattle.m11_obj_blocks.specs.declared.tape_part.TapePart.TheVariants.{Data, Start}
 use Rattle.m11_cpu.specs.declared.fault.LoadFault.{LoadFault}
-use Rattle.m11_machine.specs.declared.machine.Machine.{Machine}
+use Rattle.m11_cpu_machine.specs.declared.machine.Machine.{Machine}
 use Rattle.m11_cpu.specs.declared.fault.LoadFault.TheVariants.{Tape, OutsideMemory}
 
 -- ---- what is put into memory

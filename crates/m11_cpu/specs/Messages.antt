@@ -7,8 +7,8 @@ use Rattle.std.specs.Io.KnownBytes.{Appends}
 use Rattle.m11_base.specs.Devices.{Bytes, Rises}
 use Rattle.m11_base.specs.Octal.{octal_text}
 use Rattle.m11_base.specs.Sink.{AppendsBeginning}
-use Rattle.m11_machine.specs.Stop.{stop_name}
-use Rattle.m11_machine.specs.declared.stop.Stop.{Stop}
+use Rattle.m11_cpu_machine.specs.Stop.{stop_name}
+use Rattle.m11_cpu_machine.specs.declared.stop.Stop.{Stop}
 use Rattle.m11_cpu.specs.declared.fault.SimFault.{SimFault}
 use Rattle.m11_cpu.specs.declared.fault.SimFault.TheVariants.{Load, Write, NoMemory}
 

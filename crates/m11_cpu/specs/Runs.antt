@@ -1,13 +1,13 @@
 -- Runs: steps, until one stops or a limit is reached. (This project's own.)
 use Rattle.std.specs.Prelude.{ℕ, zero, suc, ◌+◌}
-use Rattle.m11_machine.specs.Dialogue.{Dialogue, Comes, after}
-use Rattle.m11_machine.specs.Steps.{step}
-use Rattle.m11_machine.specs.declared.machine.Machine.{Machine}
+use Rattle.m11_cpu_machine.specs.Dialogue.{Dialogue, Comes, after}
+use Rattle.m11_cpu_machine.specs.Steps.{step}
+use Rattle.m11_cpu_machine.specs.declared.machine.Machine.{Machine}
 use Rattle.m11_cpu.specs.declared.runs.Ran.{Ran}
-use Rattle.m11_machine.specs.declared.stop.Stop.{Stop}
-use Rattle.m11_machine.specs.declared.stop.Stop.TheVariants.{Limit}
-use Rattle.m11_machine.specs.declared.stop.Turn.{Turn}
-use Rattle.m11_machine.specs.declared.stop.Turn.TheVariants.{Next, Stopped}
+use Rattle.m11_cpu_machine.specs.declared.stop.Stop.{Stop}
+use Rattle.m11_cpu_machine.specs.declared.stop.Stop.TheVariants.{Limit}
+use Rattle.m11_cpu_machine.specs.declared.stop.Turn.{Turn}
+use Rattle.m11_cpu_machine.specs.declared.stop.Turn.TheVariants.{Next, Stopped}
 
 -- one more step was begun before these
 abbrev pub one_more : Ran → Ran

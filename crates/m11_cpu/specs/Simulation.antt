@@ -4,18 +4,18 @@ use Rattle.std.specs.Io.KnownBytes.{Appends}
 use Rattle.m11_base.specs.Devices.{Bytes, Rises}
 use Rattle.m11_base.specs.Sink.{AppendsBeginning}
 use Rattle.m11_base.specs.declared.operand.Register.TheVariants.{Pc}
-use Rattle.m11_machine.specs.Dialogue.{Dialogue, Comes, Devices, Does, Input, Output}
+use Rattle.m11_cpu_machine.specs.Dialogue.{Dialogue, Comes, Devices, Does, Input, Output}
 use Rattle.m11_cpu.specs.Loading.{LoadsInto}
-use Rattle.m11_machine.specs.Machine.{new_machine, psw_in, with_register}
+use Rattle.m11_cpu_machine.specs.Machine.{new_machine, psw_in, with_register}
 use Rattle.m11_cpu.specs.Messages.{messages_of}
 use Rattle.m11_cpu.specs.Runs.{run_counted}
 use Rattle.m11_cpu.specs.declared.fault.LoadFault.{LoadFault}
 use Rattle.m11_cpu.specs.declared.fault.SimFault.{SimFault}
 use Rattle.m11_cpu.specs.declared.fault.SimFault.TheVariants.{Load, Write, NoMemory}
-use Rattle.m11_machine.specs.declared.machine.Machine.{Machine}
+use Rattle.m11_cpu_machine.specs.declared.machine.Machine.{Machine}
 use Rattle.m11_cpu.specs.declared.runs.Ran.{Ran}
 use Rattle.m11_cpu.specs.declared.simulation.SimDone.{SimDone}
-use Rattle.m11_machine.specs.declared.stop.Stop.TheVariants.{NoStart}
+use Rattle.m11_cpu_machine.specs.declared.stop.Stop.TheVariants.{NoStart}
 
 -- an even address starts the program there, and an odd one starts nothing
 unfoldable pub started : ℕ → ℕ → Machine → Dialogue (Ran × Machine)

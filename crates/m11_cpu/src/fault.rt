@@ -4,7 +4,7 @@ ghost use Rattle.std.specs.Prelude.{◌≡◌};
 ghost use Rattle.m11_cpu.specs.declared.fault.LoadFault.TheVariants.{Tape};
 ghost use Rattle.m11_cpu.specs.declared.fault.SimFault.TheVariants.{Load, NoMemory};
 
-use m11_blocks::TapeFault;
+use m11_obj_blocks::TapeFault;
 use std::alloc::{AllocError, AllocFailed};
 use thiserror::Error;
 

@@ -10,6 +10,6 @@ mod simulation;
 
 pub use fault::{LoadFault, SimFault};
 pub use loading::load;
-pub use m11_machine::{LastingStop, Machine, ProcessorStatus, Stop, Turn};
+pub use m11_cpu_machine::{LastingStop, Machine, ProcessorStatus, Stop, Turn};
 pub use runs::run;
 pub use simulation::{SimDone, sim_run};

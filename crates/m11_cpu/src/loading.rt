@@ -2,15 +2,15 @@
 
 ghost use Rattle.std.specs.Prelude.{◌≡◌, ◌<◌, ◌%◌, length, sum, MatchResult, ⊤};
 ghost use Rattle.m11_base.specs.Devices.{Bytes};
-ghost use Rattle.m11_blocks.specs.Limited.{place};
-ghost use Rattle.m11_blocks.specs.Tapes.{tape_header, total_of};
-ghost use Rattle.m11_blocks.specs.declared.tape_part.TapeStage.TheVariants.{InBlock};
+ghost use Rattle.m11_obj_blocks.specs.Limited.{place};
+ghost use Rattle.m11_obj_blocks.specs.Tapes.{tape_header, total_of};
+ghost use Rattle.m11_obj_blocks.specs.declared.tape_part.TapeStage.TheVariants.{InBlock};
 ghost use Rattle.m11_cpu.specs.Loading.{CountsFailure, LoadsFrom, LoadsInto, PutsData};
 
 use crate::fault::LoadFault;
 use m11_base::Feed;
-use m11_blocks::{TapePart, TapeReader};
-use m11_machine::{Machine, Memory};
+use m11_cpu_machine::{Machine, Memory};
+use m11_obj_blocks::{TapePart, TapeReader};
 
 /// Puts the data of one tape into memory, a later byte over an earlier one, and returns the transfer address: where
 /// it is even the program starts there, and an odd one starts nothing. After the transfer block nothing is read.

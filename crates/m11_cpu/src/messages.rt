@@ -9,7 +9,7 @@ use crate::fault::SimFault;
 use arrayvec::ArrayVec;
 use itoa::Buffer;
 use m11_base::{Sink, octal6, put_all};
-use m11_machine::Stop;
+use m11_cpu_machine::Stop;
 
 // A stop's line has at most 36 characters, of which the contracts know that they are at most 66, since `itoa` has room for a number of 40
 // digits. The line of registers has 91.

@@ -1,11 +1,11 @@
 //! Runs: steps, until one stops or a limit is reached.
 
-ghost use Rattle.m11_machine.specs.Dialogue.{Does, both};
+ghost use Rattle.m11_cpu_machine.specs.Dialogue.{Does, both};
 ghost use Rattle.m11_cpu.specs.Runs.{run, run_counted};
 
 use m11_base::{Feed, Sink};
+use m11_cpu_machine::{Machine, Stop, Turn};
 use m11_cpu_quick::{KindTable, quick_steps};
-use m11_machine::{Machine, Stop, Turn};
 
 /// The outcome of a run.
 #[derive(Clone, Copy)]

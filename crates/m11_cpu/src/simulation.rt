@@ -1,8 +1,8 @@
 //! A whole run: a tape is loaded and started, and its stop is reported.
 
 ghost use Rattle.std.specs.Prelude.{◌≤◌};
-ghost use Rattle.m11_machine.specs.Dialogue.{Does, both, input_of, output_of};
-ghost use Rattle.m11_machine.specs.Memory.{least_words, most_words};
+ghost use Rattle.m11_cpu_machine.specs.Dialogue.{Does, both, input_of, output_of};
+ghost use Rattle.m11_cpu_machine.specs.Memory.{least_words, most_words};
 ghost use Rattle.m11_cpu.specs.Simulation.{Simulates, request_of, run_devices, started};
 
 use crate::fault::SimFault;
@@ -10,7 +10,7 @@ use crate::loading::load;
 use crate::messages::put_messages;
 use crate::runs::{Ran, run_counted};
 use m11_base::{Feed, Sink};
-use m11_machine::{Machine, Stop};
+use m11_cpu_machine::{Machine, Stop};
 use std::alloc::Global;
 
 /// The outcome of a run whose stop was reported: the stop, from which the command takes its status.
@@ -68,7 +68,7 @@ pub fn sim_run<T: Feed, I: Feed, O: Sink, M: Sink>(
 }
 
 // Runs from an even address on. An odd one starts nothing.
-#[tactic(auto, using(m11_machine::proofs::Dialogues::dialogues), unfolding(crate::specs::Simulation::started))]
+#[tactic(auto, using(m11_cpu_machine::proofs::Dialogues::dialogues), unfolding(crate::specs::Simulation::started))]
 fn started<F: Feed, S: Sink>(
     machine: &mut Machine,
     address: u16,

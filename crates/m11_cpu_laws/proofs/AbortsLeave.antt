@@ -17,29 +17,29 @@ use Rattle.m11_base.specs.declared.operand.Register.{Register}
 use Rattle.m11_base.specs.declared.operand.Register.TheVariants.{Pc, R5, Sp}
 use Rattle.m11_base.specs.declared.operand.Size.{Size}
 use Rattle.m11_base.specs.declared.operand.Size.TheVariants.{Word, Byte}
-use Rattle.m11_arithmetic.specs.declared.results.Computed.{Computed}
-use Rattle.m11_machine.specs.Access.{is_inside, is_odd, send, sent, store_byte, store_device, store_odd, store_register, store_word}
-use Rattle.m11_machine.specs.Acts.{Act, ◌>>=◌}
-use Rattle.m11_machine.specs.Console.{device_at}
-use Rattle.m11_machine.specs.DestinationUse.{use_by_double, use_by_single}
-use Rattle.m11_machine.specs.DoubleOperands.{double_by, change_double, change_exclusive, double, double_at, exclusive_or, move_to, store_moved, compare}
-use Rattle.m11_machine.specs.Execution.{execute, numbered, on_register, then_next, bare, return_from_trap}
-use Rattle.m11_machine.specs.Extended.{extended}
-use Rattle.m11_machine.specs.Jumps.{call, enter, push, return_by, target, jump, mark, pop}
-use Rattle.m11_machine.specs.Machine.{register_of, with_register}
-use Rattle.m11_machine.specs.Addressing.{fetch, fetch_operand, next_word, place_of, put_result, store, back}
-use Rattle.m11_machine.specs.SingleOperands.{single_by, change_at, change_single, single, write, test_operand}
-use Rattle.m11_machine.specs.Steps.{instruction}
+use Rattle.m11_cpu_arithmetic.specs.declared.results.Computed.{Computed}
+use Rattle.m11_cpu_machine.specs.Access.{is_inside, is_odd, send, sent, store_byte, store_device, store_odd, store_register, store_word}
+use Rattle.m11_cpu_machine.specs.Acts.{Act, ◌>>=◌}
+use Rattle.m11_cpu_machine.specs.Console.{device_at}
+use Rattle.m11_cpu_machine.specs.DestinationUse.{use_by_double, use_by_single}
+use Rattle.m11_cpu_machine.specs.DoubleOperands.{double_by, change_double, change_exclusive, double, double_at, exclusive_or, move_to, store_moved, compare}
+use Rattle.m11_cpu_machine.specs.Execution.{execute, numbered, on_register, then_next, bare, return_from_trap}
+use Rattle.m11_cpu_machine.specs.Extended.{extended}
+use Rattle.m11_cpu_machine.specs.Jumps.{call, enter, push, return_by, target, jump, mark, pop}
+use Rattle.m11_cpu_machine.specs.Machine.{register_of, with_register}
+use Rattle.m11_cpu_machine.specs.Addressing.{fetch, fetch_operand, next_word, place_of, put_result, store, back}
+use Rattle.m11_cpu_machine.specs.SingleOperands.{single_by, change_at, change_single, single, write, test_operand}
+use Rattle.m11_cpu_machine.specs.Steps.{instruction}
 use Rattle.m11_cpu_laws.specs.Writes.{AbortLeaves, IsElseAsBefore}
-use Rattle.m11_machine.specs.declared.abort.Abort.{Abort}
-use Rattle.m11_machine.specs.declared.console.DeviceRegister.{DeviceRegister}
-use Rattle.m11_machine.specs.declared.console.DeviceRegister.TheVariants.{ReceiverStatus, ReceiverBuffer, TransmitterStatus, TransmitterBuffer, ProcessorStatus}
-use Rattle.m11_machine.specs.declared.console.Receiver.{Receiver}
-use Rattle.m11_machine.specs.declared.destination_use.DestinationUse.{DestinationUse}
-use Rattle.m11_machine.specs.declared.destination_use.DestinationUse.TheVariants as use_of
-use Rattle.m11_machine.specs.declared.machine.Machine.{Machine}
-use Rattle.m11_machine.specs.declared.addressing.OperandLocation.{OperandLocation}
-use Rattle.m11_machine.specs.declared.addressing.OperandLocation.TheVariants.{InRegister, InMemory}
+use Rattle.m11_cpu_machine.specs.declared.abort.Abort.{Abort}
+use Rattle.m11_cpu_machine.specs.declared.console.DeviceRegister.{DeviceRegister}
+use Rattle.m11_cpu_machine.specs.declared.console.DeviceRegister.TheVariants.{ReceiverStatus, ReceiverBuffer, TransmitterStatus, TransmitterBuffer, ProcessorStatus}
+use Rattle.m11_cpu_machine.specs.declared.console.Receiver.{Receiver}
+use Rattle.m11_cpu_machine.specs.declared.destination_use.DestinationUse.{DestinationUse}
+use Rattle.m11_cpu_machine.specs.declared.destination_use.DestinationUse.TheVariants as use_of
+use Rattle.m11_cpu_machine.specs.declared.machine.Machine.{Machine}
+use Rattle.m11_cpu_machine.specs.declared.addressing.OperandLocation.{OperandLocation}
+use Rattle.m11_cpu_machine.specs.declared.addressing.OperandLocation.TheVariants.{InRegister, InMemory}
 use Rattle.m11_cpu_laws.proofs.Loads.{code_keeps, fetch_keeps, jump_target_keeps, operand_keeps, pop_keeps, source_keeps}
 use Rattle.m11_cpu_laws.proofs.Parts.{Always, at_bind, at_comes, at_cond, at_map, at_sends, Keeps}
 

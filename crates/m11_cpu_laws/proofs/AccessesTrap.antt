@@ -2,13 +2,13 @@
 use Rattle.std.proofs.Common.{◌≡◌, ℕ, Bool, true, false, List, [], ◌∷◌, ◌++◌, append-nil, Result, Ok, Err, refl, sym, ◌∙◌, subst, ap, inl, inr, true≢false}
 use Rattle.std.specs.Prelude.{is_ok, ◌⊎◌}
 use Rattle.m11_base.specs.declared.operand.Size.{Size}
-use Rattle.m11_machine.specs.Access.{load_byte, load_word, store_byte, store_word}
-use Rattle.m11_machine.specs.Acts.{Act, unless_aborted, ◌>>=◌}
-use Rattle.m11_machine.specs.Dialogue.{Comes, Dialogue, Exchange, Leads}
-use Rattle.m11_machine.specs.declared.abort.Abort.{Abort}
-use Rattle.m11_machine.specs.declared.abort.Abort.TheVariants.{Traps}
-use Rattle.m11_machine.specs.declared.abort.Vector.TheVariants.{BusError}
-use Rattle.m11_machine.specs.declared.machine.Machine.{Machine}
+use Rattle.m11_cpu_machine.specs.Access.{load_byte, load_word, store_byte, store_word}
+use Rattle.m11_cpu_machine.specs.Acts.{Act, unless_aborted, ◌>>=◌}
+use Rattle.m11_cpu_machine.specs.Dialogue.{Comes, Dialogue, Exchange, Leads}
+use Rattle.m11_cpu_machine.specs.declared.abort.Abort.{Abort}
+use Rattle.m11_cpu_machine.specs.declared.abort.Abort.TheVariants.{Traps}
+use Rattle.m11_cpu_machine.specs.declared.abort.Vector.TheVariants.{BusError}
+use Rattle.m11_cpu_machine.specs.declared.machine.Machine.{Machine}
 use Rattle.m11_cpu_laws.specs.Accesses.{Access, after_act, EndsAt4, FindsNothing, is_nothing, SomeFindsNothing, TrapsAtThese}
 use Rattle.m11_cpu_laws.specs.Addresses.{no_byte_at, no_word_at, traps_through_4}
 use Rattle.m11_cpu_laws.proofs.AddressesTrap.{load_byte_bad, load_byte_traps, load_word_bad, load_word_traps, store_byte_bad, store_byte_traps, store_word_bad, store_word_traps}

@@ -11,27 +11,27 @@ use Rattle.m11_base.specs.declared.operand.Register.{Register}
 use Rattle.m11_base.specs.declared.operand.Register.TheVariants.{Pc}
 use Rattle.m11_base.specs.declared.operand.Size.{Size}
 use Rattle.m11_base.specs.declared.operand.Size.TheVariants.{Word}
-use Rattle.m11_machine.specs.Access.{high_byte_of, is_inside, is_odd, load_byte, load_device, load_register, load_word, nothing_taken, receive, received, receiver_status, send, sent, store_byte, store_device, store_register, store_word}
-use Rattle.m11_machine.specs.Acts.{value, ◌>>=◌}
-use Rattle.m11_machine.specs.Console.{device_at, is_waiting}
-use Rattle.m11_machine.specs.Dialogue.{Comes, Dialogue, Reply, Gives, Ends, Fails}
-use Rattle.m11_machine.specs.Execution.{execute, on_register, then_next}
-use Rattle.m11_machine.specs.Jumps.{address_of, call, enter, jump, push, target}
-use Rattle.m11_machine.specs.Machine.{register_of, with_register}
-use Rattle.m11_machine.specs.Addressing.{place_by, place_of}
-use Rattle.m11_machine.specs.SingleOperands.{single}
-use Rattle.m11_machine.specs.Status.{psw_of}
-use Rattle.m11_machine.specs.Traps.{push_state, trap, trap_pushed}
-use Rattle.m11_machine.specs.declared.abort.Abort.{Abort}
-use Rattle.m11_machine.specs.declared.abort.Abort.TheVariants.{Traps, Stops}
-use Rattle.m11_machine.specs.declared.abort.Vector.{Vector}
-use Rattle.m11_machine.specs.declared.abort.Vector.TheVariants.{BusError, Reserved}
-use Rattle.m11_machine.specs.declared.console.DeviceRegister.{DeviceRegister}
-use Rattle.m11_machine.specs.declared.console.DeviceRegister.TheVariants.{ReceiverStatus, ReceiverBuffer, TransmitterStatus, TransmitterBuffer, ProcessorStatus}
-use Rattle.m11_machine.specs.declared.machine.Machine.{Machine}
-use Rattle.m11_machine.specs.declared.stop.LastingStop.{LastingStop}
-use Rattle.m11_machine.specs.declared.stop.LastingStop.TheVariants.{StackFault, InputFault, OutputFault}
-use Rattle.m11_machine.specs.declared.stop.Turn.{Turn}
+use Rattle.m11_cpu_machine.specs.Access.{high_byte_of, is_inside, is_odd, load_byte, load_device, load_register, load_word, nothing_taken, receive, received, receiver_status, send, sent, store_byte, store_device, store_register, store_word}
+use Rattle.m11_cpu_machine.specs.Acts.{value, ◌>>=◌}
+use Rattle.m11_cpu_machine.specs.Console.{device_at, is_waiting}
+use Rattle.m11_cpu_machine.specs.Dialogue.{Comes, Dialogue, Reply, Gives, Ends, Fails}
+use Rattle.m11_cpu_machine.specs.Execution.{execute, on_register, then_next}
+use Rattle.m11_cpu_machine.specs.Jumps.{address_of, call, enter, jump, push, target}
+use Rattle.m11_cpu_machine.specs.Machine.{register_of, with_register}
+use Rattle.m11_cpu_machine.specs.Addressing.{place_by, place_of}
+use Rattle.m11_cpu_machine.specs.SingleOperands.{single}
+use Rattle.m11_cpu_machine.specs.Status.{psw_of}
+use Rattle.m11_cpu_machine.specs.Traps.{push_state, trap, trap_pushed}
+use Rattle.m11_cpu_machine.specs.declared.abort.Abort.{Abort}
+use Rattle.m11_cpu_machine.specs.declared.abort.Abort.TheVariants.{Traps, Stops}
+use Rattle.m11_cpu_machine.specs.declared.abort.Vector.{Vector}
+use Rattle.m11_cpu_machine.specs.declared.abort.Vector.TheVariants.{BusError, Reserved}
+use Rattle.m11_cpu_machine.specs.declared.console.DeviceRegister.{DeviceRegister}
+use Rattle.m11_cpu_machine.specs.declared.console.DeviceRegister.TheVariants.{ReceiverStatus, ReceiverBuffer, TransmitterStatus, TransmitterBuffer, ProcessorStatus}
+use Rattle.m11_cpu_machine.specs.declared.machine.Machine.{Machine}
+use Rattle.m11_cpu_machine.specs.declared.stop.LastingStop.{LastingStop}
+use Rattle.m11_cpu_machine.specs.declared.stop.LastingStop.TheVariants.{StackFault, InputFault, OutputFault}
+use Rattle.m11_cpu_machine.specs.declared.stop.Turn.{Turn}
 use Rattle.m11_cpu_laws.specs.Addresses.{cannot_push, has_register, is_stack_fault, is_through_4, no_byte_at, no_word_at, TrapFaults, traps_through_4, TrapsThrough10, TrapsWhere}
 use Rattle.m11_cpu_laws.specs.Failures.{device_stop}
 use Rattle.m11_cpu_laws.specs.Writes.{push_address, stack_deepened}

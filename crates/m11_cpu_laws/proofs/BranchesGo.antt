@@ -2,24 +2,24 @@
 use Rattle.std.proofs.Common.{◌≡◌, ◌≢◌, ℕ, ◌+◌, ◌-◌, ◌*◌, ◌%◌, ◌<◌, ◌==◌, suc, Bool, true, false, cond, length, Result, Ok, refl, sym, ◌∙◌, ap, subst, arith}
 use Rattle.std.specs.Prelude.{ℤ, pos, negsuc, nat_lt, ◌≤◌}
 use Rattle.std.proofs.lemmas.Bool.{ltb-false, ltb-true, ne_eqb}
-use Rattle.m11_arithmetic.specs.Branches.{is_taken}
-use Rattle.m11_arithmetic.specs.Sizes.{modulo}
+use Rattle.m11_cpu_arithmetic.specs.Branches.{is_taken}
+use Rattle.m11_cpu_arithmetic.specs.Sizes.{modulo}
 use Rattle.m11_base.specs.Operand.{register_number}
 use Rattle.m11_base.specs.declared.instruction.BranchOp.{BranchOp}
 use Rattle.m11_base.specs.declared.instruction.Insn.TheVariants as insn
 use Rattle.m11_base.specs.declared.instruction.NumberOp.TheVariants.{Mark}
 use Rattle.m11_base.specs.declared.operand.Register.{Register}
 use Rattle.m11_base.specs.declared.operand.Register.TheVariants.{R5, Sp, Pc}
-use Rattle.m11_machine.specs.Dialogue.{Comes, Dialogue}
-use Rattle.m11_machine.specs.Execution.{execute, numbered}
-use Rattle.m11_machine.specs.Jumps.{mark, pop, words_on}
-use Rattle.m11_machine.specs.Machine.{advanced, register_of, with_register}
-use Rattle.m11_machine.specs.declared.abort.Abort.{Abort}
-use Rattle.m11_machine.specs.declared.execution.Ending.{Ending}
-use Rattle.m11_machine.specs.declared.execution.Ending.TheVariants as ending
-use Rattle.m11_machine.specs.declared.machine.Machine.{Machine}
-use Rattle.m11_machine.proofs.AtOnce.{bind_at, cond_not}
-use Rattle.m11_machine.proofs.RegistersPut.{put_same}
+use Rattle.m11_cpu_machine.specs.Dialogue.{Comes, Dialogue}
+use Rattle.m11_cpu_machine.specs.Execution.{execute, numbered}
+use Rattle.m11_cpu_machine.specs.Jumps.{mark, pop, words_on}
+use Rattle.m11_cpu_machine.specs.Machine.{advanced, register_of, with_register}
+use Rattle.m11_cpu_machine.specs.declared.abort.Abort.{Abort}
+use Rattle.m11_cpu_machine.specs.declared.execution.Ending.{Ending}
+use Rattle.m11_cpu_machine.specs.declared.execution.Ending.TheVariants as ending
+use Rattle.m11_cpu_machine.specs.declared.machine.Machine.{Machine}
+use Rattle.m11_cpu_machine.proofs.AtOnce.{bind_at, cond_not}
+use Rattle.m11_cpu_machine.proofs.RegistersPut.{put_same}
 use Rattle.m11_cpu_laws.specs.Branching.{BranchGoes, Leaves, MarkGoes, SobGoes}
 use Rattle.m11_cpu_laws.specs.Operands.{less, memory_at}
 use Rattle.m11_cpu_laws.specs.Returns.{IsWordInside}

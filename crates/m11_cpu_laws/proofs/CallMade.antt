@@ -4,12 +4,12 @@ use Rattle.m11_base.specs.Instructions.{row_of, rows}
 use Rattle.m11_base.specs.declared.operand.Mode.TheVariants as mode
 use Rattle.m11_base.specs.declared.operand.Register.{Register}
 use Rattle.m11_base.specs.declared.operand.Register.TheVariants.{R0, R1, R2, R3, R4, R5, Sp, Pc}
-use Rattle.m11_machine.specs.Acts.{◌>>=◌}
-use Rattle.m11_machine.specs.Jumps.{target}
-use Rattle.m11_machine.specs.Machine.{advanced, register_of}
-use Rattle.m11_machine.specs.Addressing.{place_of}
-use Rattle.m11_machine.specs.Status.{status_of}
-use Rattle.m11_machine.specs.declared.machine.Machine.{Machine}
+use Rattle.m11_cpu_machine.specs.Acts.{◌>>=◌}
+use Rattle.m11_cpu_machine.specs.Jumps.{target}
+use Rattle.m11_cpu_machine.specs.Machine.{advanced, register_of}
+use Rattle.m11_cpu_machine.specs.Addressing.{place_of}
+use Rattle.m11_cpu_machine.specs.Status.{status_of}
+use Rattle.m11_cpu_machine.specs.declared.machine.Machine.{Machine}
 use Rattle.m11_cpu_laws.specs.Returns.{CallIsMade, PlainCallIsMade}
 
 -- by the low byte of the code

@@ -6,21 +6,21 @@ use Rattle.m11_base.specs.declared.instruction.RegisterOp.TheVariants.{Jsr}
 use Rattle.m11_base.specs.declared.operand.Operand.{Operand}
 use Rattle.m11_base.specs.declared.operand.Register.{Register}
 use Rattle.m11_base.specs.declared.operand.Register.TheVariants.{Sp, Pc}
-use Rattle.m11_machine.specs.Dialogue.{Comes, Dialogue, Exchange, Leads}
-use Rattle.m11_machine.specs.Execution.{execute, on_register}
-use Rattle.m11_machine.specs.Jumps.{call, enter, pop, push, return_by, target}
-use Rattle.m11_machine.specs.Machine.{advanced, register_of, with_register}
-use Rattle.m11_machine.specs.Memory.{word_at}
+use Rattle.m11_cpu_machine.specs.Dialogue.{Comes, Dialogue, Exchange, Leads}
+use Rattle.m11_cpu_machine.specs.Execution.{execute, on_register}
+use Rattle.m11_cpu_machine.specs.Jumps.{call, enter, pop, push, return_by, target}
+use Rattle.m11_cpu_machine.specs.Machine.{advanced, register_of, with_register}
+use Rattle.m11_cpu_machine.specs.Memory.{word_at}
 use Rattle.m11_cpu_laws.specs.Returns.{call_length, CallReturns, CallsReturn, IsAt, IsCall, IsWordInside}
-use Rattle.m11_machine.specs.Steps.{step, turned}
+use Rattle.m11_cpu_machine.specs.Steps.{step, turned}
 use Rattle.m11_cpu_laws.specs.Writes.{push_address}
-use Rattle.m11_machine.specs.declared.execution.Ending.TheVariants as ending
-use Rattle.m11_machine.specs.declared.machine.Machine.{Machine}
-use Rattle.m11_machine.specs.declared.stop.Turn.{Turn}
-use Rattle.m11_machine.specs.declared.stop.Turn.TheVariants.{Next}
-use Rattle.m11_machine.proofs.AtOnce.{bind_at, turned_next}
+use Rattle.m11_cpu_machine.specs.declared.execution.Ending.TheVariants as ending
+use Rattle.m11_cpu_machine.specs.declared.machine.Machine.{Machine}
+use Rattle.m11_cpu_machine.specs.declared.stop.Turn.{Turn}
+use Rattle.m11_cpu_machine.specs.declared.stop.Turn.TheVariants.{Next}
+use Rattle.m11_cpu_machine.proofs.AtOnce.{bind_at, turned_next}
 use Rattle.m11_cpu_laws.proofs.StepsInMemory.{bind_leads, leads_then, pop_inside, push_inside, pushed, step_at, step_by}
-use Rattle.m11_machine.proofs.RegistersPut.{put_same}
+use Rattle.m11_cpu_machine.proofs.RegistersPut.{put_same}
 use Rattle.m11_cpu_laws.proofs.WordsPut.{length_put, put_length, put_other, word_put}
 use Rattle.m11_cpu_laws.proofs.TargetsFormed.{call_counts, call_forms, CounterAt, Formed}
 

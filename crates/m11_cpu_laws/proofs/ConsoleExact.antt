@@ -2,7 +2,7 @@
 use Rattle.std.proofs.Common.{◌≡◌, ℕ, Bool, true, false, List, [], ◌∷◌, ◌++◌, Option, Some, None, refl, sym, ◌∙◌, subst, ap, append_assoc}
 use Rattle.std.proofs.KnownBytes.{Appends-nil, Appends-trans}
 use Rattle.m11_base.specs.Feed.{Text, GivesByte, GivesEnd, GivesFailure, GivesBytes}
-use Rattle.m11_machine.specs.Dialogue.{Devices, Exchange, Asked, Sent, Reply, Gives, Ends, Fails, Did, Happened, Happens, Input, Output, Replies, DialogueTakes}
+use Rattle.m11_cpu_machine.specs.Dialogue.{Devices, Exchange, Asked, Sent, Reply, Gives, Ends, Fails, Did, Happened, Happens, Input, Output, Replies, DialogueTakes}
 use Rattle.m11_cpu_laws.specs.Laws.{given, taken, GainedJust, GaveJust}
 
 gave_nothing : (t : Option Text) → GivesBytes t t []

@@ -14,21 +14,21 @@ use Rattle.m11_base.specs.declared.operand.Operand.{Operand}
 use Rattle.m11_base.specs.declared.operand.Register.{Register}
 use Rattle.m11_base.specs.declared.operand.Size.{Size}
 use Rattle.m11_base.specs.declared.operand.Size.TheVariants.{Word}
-use Rattle.m11_machine.specs.Acts.{Act, unless_aborted, ◌>>=◌}
-use Rattle.m11_machine.specs.Dialogue.{Comes, Dialogue}
-use Rattle.m11_machine.specs.DoubleOperands.{change_exclusive, double, double_at, exclusive_or}
-use Rattle.m11_machine.specs.Execution.{execute, numbered, on_register, then_next}
-use Rattle.m11_machine.specs.Extended.{extended}
-use Rattle.m11_machine.specs.Jumps.{call, enter, push, return_by, target}
-use Rattle.m11_machine.specs.Machine.{register_of}
-use Rattle.m11_machine.specs.Addressing.{fetch_operand, next_word, place_of}
-use Rattle.m11_machine.specs.SingleOperands.{change_at, change_single, single, write}
-use Rattle.m11_machine.specs.Steps.{instruction}
+use Rattle.m11_cpu_machine.specs.Acts.{Act, unless_aborted, ◌>>=◌}
+use Rattle.m11_cpu_machine.specs.Dialogue.{Comes, Dialogue}
+use Rattle.m11_cpu_machine.specs.DoubleOperands.{change_exclusive, double, double_at, exclusive_or}
+use Rattle.m11_cpu_machine.specs.Execution.{execute, numbered, on_register, then_next}
+use Rattle.m11_cpu_machine.specs.Extended.{extended}
+use Rattle.m11_cpu_machine.specs.Jumps.{call, enter, push, return_by, target}
+use Rattle.m11_cpu_machine.specs.Machine.{register_of}
+use Rattle.m11_cpu_machine.specs.Addressing.{fetch_operand, next_word, place_of}
+use Rattle.m11_cpu_machine.specs.SingleOperands.{change_at, change_single, single, write}
+use Rattle.m11_cpu_machine.specs.Steps.{instruction}
 use Rattle.m11_cpu_laws.specs.Writes.{destination_bytes, one_pushed, operand_bytes, place_bytes, push_address, stack_deepened, written_by, written_bytes}
-use Rattle.m11_machine.specs.declared.abort.Abort.{Abort}
-use Rattle.m11_machine.specs.declared.execution.Ending.TheVariants as ending
-use Rattle.m11_machine.specs.declared.machine.Machine.{Machine}
-use Rattle.m11_machine.specs.declared.addressing.OperandLocation.{OperandLocation}
+use Rattle.m11_cpu_machine.specs.declared.abort.Abort.{Abort}
+use Rattle.m11_cpu_machine.specs.declared.execution.Ending.TheVariants as ending
+use Rattle.m11_cpu_machine.specs.declared.machine.Machine.{Machine}
+use Rattle.m11_cpu_machine.specs.declared.addressing.OperandLocation.{OperandLocation}
 use Rattle.m11_cpu_laws.proofs.Following.{Follows, follows_bind, follows_now, follows_then}
 use Rattle.m11_cpu_laws.proofs.MemoryKept.{bare_quiet, branched_same, compare_quiet, counted_same, extended_quiet, jump_quiet, Kept, kept_same, mark_quiet, place_quiet, return_quiet, Same, source_quiet, target_quiet, test_quiet, code_quiet}
 use Rattle.m11_cpu_laws.proofs.Parts.{Always, at_bind, at_comes, at_map, Keeps, keeps_bind}

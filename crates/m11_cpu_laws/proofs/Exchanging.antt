@@ -1,14 +1,14 @@
 -- What holds of the exchanges of each way through a dialogue, part by part.
 use Rattle.std.proofs.Common.{◌≡◌, Bool, true, false, cond, List, [], ◌∷◌, ◌++◌, append-nil, refl, sym, subst, Option, Some, None, Result, Ok, Err, ℕ}
-use Rattle.m11_machine.specs.Acts.{Act, unless_aborted, ◌>>=◌}
-use Rattle.m11_machine.specs.Dialogue.{after, Asked, Comes, Dialogue, Ends, Exchange, Fails, Gives, Leads, Sent}
-use Rattle.m11_machine.specs.Stop.{stop_of}
-use Rattle.m11_machine.specs.declared.abort.Abort.{Abort}
-use Rattle.m11_machine.specs.declared.abort.Abort.TheVariants.{Traps, Stops}
-use Rattle.m11_machine.specs.declared.console.Receiver.{Receiver}
-use Rattle.m11_machine.specs.declared.machine.Machine.{Machine}
-use Rattle.m11_machine.specs.declared.stop.LastingStop.{LastingStop}
-use Rattle.m11_machine.specs.declared.stop.Stop.{Stop}
+use Rattle.m11_cpu_machine.specs.Acts.{Act, unless_aborted, ◌>>=◌}
+use Rattle.m11_cpu_machine.specs.Dialogue.{after, Asked, Comes, Dialogue, Ends, Exchange, Fails, Gives, Leads, Sent}
+use Rattle.m11_cpu_machine.specs.Stop.{stop_of}
+use Rattle.m11_cpu_machine.specs.declared.abort.Abort.{Abort}
+use Rattle.m11_cpu_machine.specs.declared.abort.Abort.TheVariants.{Traps, Stops}
+use Rattle.m11_cpu_machine.specs.declared.console.Receiver.{Receiver}
+use Rattle.m11_cpu_machine.specs.declared.machine.Machine.{Machine}
+use Rattle.m11_cpu_machine.specs.declared.stop.LastingStop.{LastingStop}
+use Rattle.m11_cpu_machine.specs.declared.stop.Stop.{Stop}
 use Rattle.m11_cpu_laws.specs.Failures.{StopsAtFailure}
 use Rattle.m11_cpu_laws.specs.Laws.{given}
 use Rattle.m11_cpu_laws.specs.Receiving.{AsksBeforeEnd, ReceiverChanges, last_given}

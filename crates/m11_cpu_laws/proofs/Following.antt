@@ -1,11 +1,11 @@
 -- A dialogue that goes along with another one: by the same exchanges that one yields its value at some point.
 use Rattle.std.proofs.Common.{◌≡◌, List, [], ◌++◌, refl, sym, ◌∙◌, ap, append_assoc, Result, Ok, Err}
-use Rattle.m11_machine.specs.Acts.{Act, unless_aborted, ◌>>=◌}
-use Rattle.m11_machine.specs.Dialogue.{after, Comes, Dialogue, Exchange, Leads}
+use Rattle.m11_cpu_machine.specs.Acts.{Act, unless_aborted, ◌>>=◌}
+use Rattle.m11_cpu_machine.specs.Dialogue.{after, Comes, Dialogue, Exchange, Leads}
 use Rattle.m11_cpu_laws.specs.Exchanges.{ComesWithin}
-use Rattle.m11_machine.specs.declared.abort.Abort.{Abort}
-use Rattle.m11_machine.specs.declared.machine.Machine.{Machine}
-use Rattle.m11_machine.proofs.Dialogues.{leads_after}
+use Rattle.m11_cpu_machine.specs.declared.abort.Abort.{Abort}
+use Rattle.m11_cpu_machine.specs.declared.machine.Machine.{Machine}
+use Rattle.m11_cpu_machine.proofs.Dialogues.{leads_after}
 use Rattle.m11_cpu_laws.proofs.Parts.{Always, at_comes, Keeps, parts}
 
 pub record Found {B : Type 0} (p : Dialogue B) (es : List Exchange) (P : B → Type 0) : Type 0 where

@@ -20,24 +20,24 @@ use Rattle.m11_base.specs.declared.operand.Register.{Register}
 use Rattle.m11_base.specs.declared.operand.Register.TheVariants.{Pc, R5, Sp}
 use Rattle.m11_base.specs.declared.operand.Size.{Size}
 use Rattle.m11_base.specs.declared.operand.Size.TheVariants.{Word, Byte}
-use Rattle.m11_arithmetic.specs.declared.results.Computed.{Computed}
-use Rattle.m11_machine.specs.Access.{load_byte, load_word, store_byte, store_word}
-use Rattle.m11_machine.specs.Acts.{Act, ◌>>=◌}
-use Rattle.m11_machine.specs.Addressing.{deferred, fetch, fetch_operand, indexed, next_word, place_by, place_of, put_result, stepped_back, store}
-use Rattle.m11_machine.specs.Dialogue.{Comes, Exchange, Leads}
-use Rattle.m11_machine.specs.DoubleOperands.{change_double, change_exclusive, compare, double, double_at, exclusive_or, move_to, store_moved}
-use Rattle.m11_machine.specs.Execution.{bare, execute, numbered, on_register, return_from_trap}
-use Rattle.m11_machine.specs.Extended.{extended}
-use Rattle.m11_machine.specs.Jumps.{address_of, call, enter, jump, mark, pop, push, return_by, target}
-use Rattle.m11_machine.specs.Machine.{advanced, register_of, with_register}
-use Rattle.m11_machine.specs.SingleOperands.{change_at, change_single, single, test_operand, write}
-use Rattle.m11_machine.specs.declared.abort.Abort.{Abort}
-use Rattle.m11_machine.specs.declared.abort.Abort.TheVariants.{Traps}
-use Rattle.m11_machine.specs.declared.abort.Vector.TheVariants.{Reserved}
-use Rattle.m11_machine.specs.declared.addressing.OperandLocation.{OperandLocation}
-use Rattle.m11_machine.specs.declared.addressing.OperandLocation.TheVariants.{InRegister, InMemory}
-use Rattle.m11_machine.specs.declared.machine.Machine.{Machine}
-use Rattle.m11_machine.proofs.RegistersPut.{put_same}
+use Rattle.m11_cpu_arithmetic.specs.declared.results.Computed.{Computed}
+use Rattle.m11_cpu_machine.specs.Access.{load_byte, load_word, store_byte, store_word}
+use Rattle.m11_cpu_machine.specs.Acts.{Act, ◌>>=◌}
+use Rattle.m11_cpu_machine.specs.Addressing.{deferred, fetch, fetch_operand, indexed, next_word, place_by, place_of, put_result, stepped_back, store}
+use Rattle.m11_cpu_machine.specs.Dialogue.{Comes, Exchange, Leads}
+use Rattle.m11_cpu_machine.specs.DoubleOperands.{change_double, change_exclusive, compare, double, double_at, exclusive_or, move_to, store_moved}
+use Rattle.m11_cpu_machine.specs.Execution.{bare, execute, numbered, on_register, return_from_trap}
+use Rattle.m11_cpu_machine.specs.Extended.{extended}
+use Rattle.m11_cpu_machine.specs.Jumps.{address_of, call, enter, jump, mark, pop, push, return_by, target}
+use Rattle.m11_cpu_machine.specs.Machine.{advanced, register_of, with_register}
+use Rattle.m11_cpu_machine.specs.SingleOperands.{change_at, change_single, single, test_operand, write}
+use Rattle.m11_cpu_machine.specs.declared.abort.Abort.{Abort}
+use Rattle.m11_cpu_machine.specs.declared.abort.Abort.TheVariants.{Traps}
+use Rattle.m11_cpu_machine.specs.declared.abort.Vector.TheVariants.{Reserved}
+use Rattle.m11_cpu_machine.specs.declared.addressing.OperandLocation.{OperandLocation}
+use Rattle.m11_cpu_machine.specs.declared.addressing.OperandLocation.TheVariants.{InRegister, InMemory}
+use Rattle.m11_cpu_machine.specs.declared.machine.Machine.{Machine}
+use Rattle.m11_cpu_machine.proofs.RegistersPut.{put_same}
 use Rattle.m11_cpu_laws.specs.Accesses.{Access, accesses_of, after_act, CodeTraps, FindsNothing, InstructionTraps, is_nothing, operand_accesses, pointers, pointers_by, SomeFindsNothing, TrapsAtThese, word_at_first}
 use Rattle.m11_cpu_laws.specs.Addresses.{no_byte_at, no_word_at}
 use Rattle.m11_cpu_laws.specs.Writes.{push_address, stack_deepened}

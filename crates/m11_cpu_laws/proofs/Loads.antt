@@ -8,20 +8,20 @@ use Rattle.m11_base.specs.declared.operand.Register.{Register}
 use Rattle.m11_base.specs.declared.operand.Register.TheVariants.{Sp, Pc}
 use Rattle.m11_base.specs.declared.operand.Size.{Size}
 use Rattle.m11_base.specs.declared.operand.Size.TheVariants.{Word, Byte}
-use Rattle.m11_machine.specs.Access.{is_inside, is_odd, load_byte, load_device, load_register, load_word, receive, received, receiver_status}
-use Rattle.m11_machine.specs.Acts.{value, ◌>>=◌}
-use Rattle.m11_machine.specs.Console.{device_at, is_waiting}
-use Rattle.m11_machine.specs.Dialogue.{Reply, Gives, Ends, Fails}
-use Rattle.m11_machine.specs.Jumps.{address_of, pop, target}
-use Rattle.m11_machine.specs.Machine.{register_of, with_register}
-use Rattle.m11_machine.specs.Addressing.{deferred, fetch, fetch_operand, forward, indexed, next_word, place_by, place_of}
+use Rattle.m11_cpu_machine.specs.Access.{is_inside, is_odd, load_byte, load_device, load_register, load_word, receive, received, receiver_status}
+use Rattle.m11_cpu_machine.specs.Acts.{value, ◌>>=◌}
+use Rattle.m11_cpu_machine.specs.Console.{device_at, is_waiting}
+use Rattle.m11_cpu_machine.specs.Dialogue.{Reply, Gives, Ends, Fails}
+use Rattle.m11_cpu_machine.specs.Jumps.{address_of, pop, target}
+use Rattle.m11_cpu_machine.specs.Machine.{register_of, with_register}
+use Rattle.m11_cpu_machine.specs.Addressing.{deferred, fetch, fetch_operand, forward, indexed, next_word, place_by, place_of}
 use Rattle.m11_cpu_laws.specs.Returns.{is_stepping}
-use Rattle.m11_machine.specs.declared.console.DeviceRegister.{DeviceRegister}
-use Rattle.m11_machine.specs.declared.console.DeviceRegister.TheVariants.{ReceiverStatus, ReceiverBuffer, TransmitterStatus, TransmitterBuffer, ProcessorStatus}
-use Rattle.m11_machine.specs.declared.console.Receiver.{Receiver}
-use Rattle.m11_machine.specs.declared.machine.Machine.{Machine}
-use Rattle.m11_machine.specs.declared.addressing.OperandLocation.{OperandLocation}
-use Rattle.m11_machine.specs.declared.addressing.OperandLocation.TheVariants.{InRegister, InMemory}
+use Rattle.m11_cpu_machine.specs.declared.console.DeviceRegister.{DeviceRegister}
+use Rattle.m11_cpu_machine.specs.declared.console.DeviceRegister.TheVariants.{ReceiverStatus, ReceiverBuffer, TransmitterStatus, TransmitterBuffer, ProcessorStatus}
+use Rattle.m11_cpu_machine.specs.declared.console.Receiver.{Receiver}
+use Rattle.m11_cpu_machine.specs.declared.machine.Machine.{Machine}
+use Rattle.m11_cpu_machine.specs.declared.addressing.OperandLocation.{OperandLocation}
+use Rattle.m11_cpu_machine.specs.declared.addressing.OperandLocation.TheVariants.{InRegister, InMemory}
 use Rattle.m11_cpu_laws.proofs.Parts.{at_asks, at_comes, at_cond, Keeps, keeps_bind}
 
 -- what the receiver may change without

@@ -2,13 +2,13 @@
 use Rattle.std.proofs.Common.{◌≡◌, ℕ, ◌==◌, Bool, true, false, cond, List, Option, Some, None, Result, Ok, refl}
 use Rattle.std.specs.Prelude.{not, ◌&&◌}
 use Rattle.std.proofs.lemmas.Bool.{eqb-true}
-use Rattle.m11_machine.specs.Access.{is_inside, is_odd, load_byte, load_device, load_register, load_word, receiver_status}
-use Rattle.m11_machine.specs.Console.{device_at, is_waiting, receiver_bits}
-use Rattle.m11_machine.specs.Dialogue.{Comes, Dialogue, Exchange, Leads}
-use Rattle.m11_machine.specs.declared.abort.Abort.{Abort}
-use Rattle.m11_machine.specs.declared.console.DeviceRegister.{DeviceRegister}
-use Rattle.m11_machine.specs.declared.console.DeviceRegister.TheVariants.{ReceiverStatus, ReceiverBuffer, TransmitterStatus, TransmitterBuffer, ProcessorStatus}
-use Rattle.m11_machine.specs.declared.machine.Machine.{Machine}
+use Rattle.m11_cpu_machine.specs.Access.{is_inside, is_odd, load_byte, load_device, load_register, load_word, receiver_status}
+use Rattle.m11_cpu_machine.specs.Console.{device_at, is_waiting, receiver_bits}
+use Rattle.m11_cpu_machine.specs.Dialogue.{Comes, Dialogue, Exchange, Leads}
+use Rattle.m11_cpu_machine.specs.declared.abort.Abort.{Abort}
+use Rattle.m11_cpu_machine.specs.declared.console.DeviceRegister.{DeviceRegister}
+use Rattle.m11_cpu_machine.specs.declared.console.DeviceRegister.TheVariants.{ReceiverStatus, ReceiverBuffer, TransmitterStatus, TransmitterBuffer, ProcessorStatus}
+use Rattle.m11_cpu_machine.specs.declared.machine.Machine.{Machine}
 use Rattle.m11_cpu_laws.specs.Receiving.{LoadReceives}
 use Rattle.m11_cpu_laws.proofs.Exchanging.{Every, every_comes}
 use Rattle.m11_cpu_laws.proofs.PartsReport.{still_open}

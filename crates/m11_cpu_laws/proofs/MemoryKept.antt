@@ -14,21 +14,21 @@ use Rattle.m11_base.specs.declared.operand.Register.{Register}
 use Rattle.m11_base.specs.declared.operand.Register.TheVariants.{R5, Sp, Pc}
 use Rattle.m11_base.specs.declared.operand.Size.{Size}
 use Rattle.m11_base.specs.declared.operand.Size.TheVariants.{Word}
-use Rattle.m11_arithmetic.specs.Branches.{is_taken}
-use Rattle.m11_arithmetic.specs.Extended.{division_of}
-use Rattle.m11_arithmetic.specs.declared.results.Division.{Division}
-use Rattle.m11_arithmetic.specs.declared.results.Division.TheVariants.{Done, Refused}
-use Rattle.m11_machine.specs.DoubleOperands.{compare}
-use Rattle.m11_machine.specs.Execution.{bare, return_from_trap}
-use Rattle.m11_machine.specs.Extended.{after_division, extended, extended_by, low_word_of}
-use Rattle.m11_machine.specs.Jumps.{branched, counted_down, jump, mark, pop, return_by, target, words_on}
-use Rattle.m11_machine.specs.Machine.{register_of, with_register}
-use Rattle.m11_machine.specs.Memory.{byte_at, with_byte, with_word}
-use Rattle.m11_machine.specs.Addressing.{back, fetch, fetch_operand, next_word, place_of}
-use Rattle.m11_machine.specs.SingleOperands.{test_operand}
+use Rattle.m11_cpu_arithmetic.specs.Branches.{is_taken}
+use Rattle.m11_cpu_arithmetic.specs.Extended.{division_of}
+use Rattle.m11_cpu_arithmetic.specs.declared.results.Division.{Division}
+use Rattle.m11_cpu_arithmetic.specs.declared.results.Division.TheVariants.{Done, Refused}
+use Rattle.m11_cpu_machine.specs.DoubleOperands.{compare}
+use Rattle.m11_cpu_machine.specs.Execution.{bare, return_from_trap}
+use Rattle.m11_cpu_machine.specs.Extended.{after_division, extended, extended_by, low_word_of}
+use Rattle.m11_cpu_machine.specs.Jumps.{branched, counted_down, jump, mark, pop, return_by, target, words_on}
+use Rattle.m11_cpu_machine.specs.Machine.{register_of, with_register}
+use Rattle.m11_cpu_machine.specs.Memory.{byte_at, with_byte, with_word}
+use Rattle.m11_cpu_machine.specs.Addressing.{back, fetch, fetch_operand, next_word, place_of}
+use Rattle.m11_cpu_machine.specs.SingleOperands.{test_operand}
 use Rattle.m11_cpu_laws.specs.Writes.{IsNoneOf, word_bytes}
-use Rattle.m11_machine.specs.declared.machine.Machine.{Machine}
-use Rattle.m11_machine.specs.declared.addressing.OperandLocation.{OperandLocation}
+use Rattle.m11_cpu_machine.specs.declared.machine.Machine.{Machine}
+use Rattle.m11_cpu_machine.specs.declared.addressing.OperandLocation.{OperandLocation}
 use Rattle.m11_cpu_laws.proofs.Loads.{code_keeps, fetch_keeps, jump_target_keeps, operand_keeps, pop_keeps, source_keeps}
 use Rattle.m11_cpu_laws.proofs.Parts.{at_comes, Keeps, keeps_bind}
 

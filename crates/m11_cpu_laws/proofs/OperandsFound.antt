@@ -5,14 +5,14 @@ use Rattle.m11_base.specs.declared.operand.Register.{Register}
 use Rattle.m11_base.specs.declared.operand.Register.TheVariants.{Pc}
 use Rattle.m11_base.specs.declared.operand.Size.{Size}
 use Rattle.m11_base.specs.declared.operand.Size.TheVariants.{Word, Byte}
-use Rattle.m11_machine.specs.Access.{load_word}
-use Rattle.m11_machine.specs.Addressing.{deferred, fetch, fetch_operand, indexed, next_word, place_of}
-use Rattle.m11_machine.specs.Dialogue.{Comes}
-use Rattle.m11_machine.specs.Machine.{advanced, register_of}
-use Rattle.m11_machine.specs.declared.addressing.OperandLocation.TheVariants.{InMemory}
-use Rattle.m11_machine.specs.declared.machine.Machine.{Machine}
-use Rattle.m11_machine.proofs.AtOnce.{bind_at}
-use Rattle.m11_machine.proofs.RegistersPut.{put_same}
+use Rattle.m11_cpu_machine.specs.Access.{load_word}
+use Rattle.m11_cpu_machine.specs.Addressing.{deferred, fetch, fetch_operand, indexed, next_word, place_of}
+use Rattle.m11_cpu_machine.specs.Dialogue.{Comes}
+use Rattle.m11_cpu_machine.specs.Machine.{advanced, register_of}
+use Rattle.m11_cpu_machine.specs.declared.addressing.OperandLocation.TheVariants.{InMemory}
+use Rattle.m11_cpu_machine.specs.declared.machine.Machine.{Machine}
+use Rattle.m11_cpu_machine.proofs.AtOnce.{bind_at}
+use Rattle.m11_cpu_machine.proofs.RegistersPut.{put_same}
 use Rattle.m11_cpu_laws.specs.Operands.{EightModes, FormsOfCounter, indexed_at, IsFoundAt, memory_at, operand_by}
 use Rattle.m11_cpu_laws.specs.Returns.{IsWordInside}
 use Rattle.m11_cpu_laws.proofs.StepsInMemory.{load_inside, next_inside}

@@ -1,10 +1,10 @@
 -- What is common to every way through a dialogue, part by part.
 use Rattle.std.proofs.Common.{Bool, true, false, cond, List, [], ◌∷◌, refl, sym, subst, ap, Result, Ok, Err, ℕ}
-use Rattle.m11_machine.specs.Acts.{Act, unless_aborted, ◌>>=◌}
-use Rattle.m11_machine.specs.Dialogue.{after, Asked, Asks, Comes, Dialogue, Exchange, Leads, Reply, Sends, Sent}
+use Rattle.m11_cpu_machine.specs.Acts.{Act, unless_aborted, ◌>>=◌}
+use Rattle.m11_cpu_machine.specs.Dialogue.{after, Asked, Asks, Comes, Dialogue, Exchange, Leads, Reply, Sends, Sent}
 use Rattle.m11_cpu_laws.specs.Exchanges.{ComesWithin}
-use Rattle.m11_machine.specs.declared.abort.Abort.{Abort}
-use Rattle.m11_machine.specs.declared.machine.Machine.{Machine}
+use Rattle.m11_cpu_machine.specs.declared.abort.Abort.{Abort}
+use Rattle.m11_cpu_machine.specs.declared.machine.Machine.{Machine}
 use Rattle.m11_cpu_laws.proofs.StopsStand.{at_once}
 
 -- ---- a dialogue and the one after it

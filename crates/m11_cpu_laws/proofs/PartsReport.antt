@@ -22,35 +22,35 @@ use Rattle.m11_base.specs.declared.operand.Register.{Register}
 use Rattle.m11_base.specs.declared.operand.Register.TheVariants.{Pc, R5, Sp}
 use Rattle.m11_base.specs.declared.operand.Size.{Size}
 use Rattle.m11_base.specs.declared.operand.Size.TheVariants.{Word, Byte}
-use Rattle.m11_arithmetic.specs.Branches.{is_taken}
-use Rattle.m11_arithmetic.specs.Extended.{division_of}
-use Rattle.m11_arithmetic.specs.declared.results.Computed.{Computed}
-use Rattle.m11_arithmetic.specs.declared.results.Division.{Division}
-use Rattle.m11_arithmetic.specs.declared.results.Division.TheVariants.{Done, Refused}
-use Rattle.m11_machine.specs.Access.{high_byte_of, is_inside, is_odd, load_byte, load_device, load_register, load_word, nothing_taken, receive, received, receiver_status, send, sent, store_byte, store_device, store_register, store_word}
-use Rattle.m11_machine.specs.Acts.{Act, value, ◌>>=◌}
-use Rattle.m11_machine.specs.Console.{device_at, is_waiting, receiver_bits}
-use Rattle.m11_machine.specs.DestinationUse.{use_by_double, use_by_single}
-use Rattle.m11_machine.specs.Dialogue.{Asked, Comes, Dialogue, Ends, Exchange, Fails, Gives, Leads, Reply, Sent}
-use Rattle.m11_machine.specs.DoubleOperands.{change_double, change_exclusive, compare, double, double_at, double_by, exclusive_or, move_to, store_moved}
-use Rattle.m11_machine.specs.Execution.{bare, execute, numbered, on_register, return_from_trap, then_next}
-use Rattle.m11_machine.specs.Extended.{after_division, extended, extended_by, low_word_of}
-use Rattle.m11_machine.specs.Jumps.{address_of, branched, call, counted_down, enter, jump, mark, pop, push, return_by, target, words_on}
-use Rattle.m11_machine.specs.Machine.{finished, is_status, register_of, with_condition_codes, with_register}
-use Rattle.m11_machine.specs.Addressing.{back, deferred, fetch, fetch_operand, forward, indexed, next_word, place_by, place_of, put_result, store}
-use Rattle.m11_machine.specs.SingleOperands.{change_at, change_single, single, single_by, test_operand, write}
-use Rattle.m11_machine.specs.Steps.{instruction}
-use Rattle.m11_machine.specs.declared.abort.Abort.{Abort}
-use Rattle.m11_machine.specs.declared.console.DeviceRegister.{DeviceRegister}
-use Rattle.m11_machine.specs.declared.console.DeviceRegister.TheVariants.{ReceiverStatus, ReceiverBuffer, TransmitterStatus, TransmitterBuffer, ProcessorStatus}
-use Rattle.m11_machine.specs.declared.console.Receiver.{Receiver}
-use Rattle.m11_machine.specs.declared.destination_use.DestinationUse.{DestinationUse}
-use Rattle.m11_machine.specs.declared.destination_use.DestinationUse.TheVariants as use_of
-use Rattle.m11_machine.specs.declared.execution.Ending.TheVariants as ending
-use Rattle.m11_machine.specs.declared.machine.Machine.{Machine}
-use Rattle.m11_machine.specs.declared.addressing.OperandLocation.{OperandLocation}
-use Rattle.m11_machine.specs.declared.addressing.OperandLocation.TheVariants.{InRegister, InMemory}
-use Rattle.m11_machine.specs.declared.stop.LastingStop.{LastingStop}
+use Rattle.m11_cpu_arithmetic.specs.Branches.{is_taken}
+use Rattle.m11_cpu_arithmetic.specs.Extended.{division_of}
+use Rattle.m11_cpu_arithmetic.specs.declared.results.Computed.{Computed}
+use Rattle.m11_cpu_arithmetic.specs.declared.results.Division.{Division}
+use Rattle.m11_cpu_arithmetic.specs.declared.results.Division.TheVariants.{Done, Refused}
+use Rattle.m11_cpu_machine.specs.Access.{high_byte_of, is_inside, is_odd, load_byte, load_device, load_register, load_word, nothing_taken, receive, received, receiver_status, send, sent, store_byte, store_device, store_register, store_word}
+use Rattle.m11_cpu_machine.specs.Acts.{Act, value, ◌>>=◌}
+use Rattle.m11_cpu_machine.specs.Console.{device_at, is_waiting, receiver_bits}
+use Rattle.m11_cpu_machine.specs.DestinationUse.{use_by_double, use_by_single}
+use Rattle.m11_cpu_machine.specs.Dialogue.{Asked, Comes, Dialogue, Ends, Exchange, Fails, Gives, Leads, Reply, Sent}
+use Rattle.m11_cpu_machine.specs.DoubleOperands.{change_double, change_exclusive, compare, double, double_at, double_by, exclusive_or, move_to, store_moved}
+use Rattle.m11_cpu_machine.specs.Execution.{bare, execute, numbered, on_register, return_from_trap, then_next}
+use Rattle.m11_cpu_machine.specs.Extended.{after_division, extended, extended_by, low_word_of}
+use Rattle.m11_cpu_machine.specs.Jumps.{address_of, branched, call, counted_down, enter, jump, mark, pop, push, return_by, target, words_on}
+use Rattle.m11_cpu_machine.specs.Machine.{finished, is_status, register_of, with_condition_codes, with_register}
+use Rattle.m11_cpu_machine.specs.Addressing.{back, deferred, fetch, fetch_operand, forward, indexed, next_word, place_by, place_of, put_result, store}
+use Rattle.m11_cpu_machine.specs.SingleOperands.{change_at, change_single, single, single_by, test_operand, write}
+use Rattle.m11_cpu_machine.specs.Steps.{instruction}
+use Rattle.m11_cpu_machine.specs.declared.abort.Abort.{Abort}
+use Rattle.m11_cpu_machine.specs.declared.console.DeviceRegister.{DeviceRegister}
+use Rattle.m11_cpu_machine.specs.declared.console.DeviceRegister.TheVariants.{ReceiverStatus, ReceiverBuffer, TransmitterStatus, TransmitterBuffer, ProcessorStatus}
+use Rattle.m11_cpu_machine.specs.declared.console.Receiver.{Receiver}
+use Rattle.m11_cpu_machine.specs.declared.destination_use.DestinationUse.{DestinationUse}
+use Rattle.m11_cpu_machine.specs.declared.destination_use.DestinationUse.TheVariants as use_of
+use Rattle.m11_cpu_machine.specs.declared.execution.Ending.TheVariants as ending
+use Rattle.m11_cpu_machine.specs.declared.machine.Machine.{Machine}
+use Rattle.m11_cpu_machine.specs.declared.addressing.OperandLocation.{OperandLocation}
+use Rattle.m11_cpu_machine.specs.declared.addressing.OperandLocation.TheVariants.{InRegister, InMemory}
+use Rattle.m11_cpu_machine.specs.declared.stop.LastingStop.{LastingStop}
 use Rattle.m11_cpu_laws.proofs.Exchanging.{abort_stop, every_comes, once, quiet, Talked, Reports, reports_bind, reports_cond}
 
 -- ---- loads

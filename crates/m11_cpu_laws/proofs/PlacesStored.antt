@@ -6,23 +6,23 @@ use Rattle.m11_base.specs.declared.instruction.DoubleOp.TheVariants.{Mov}
 use Rattle.m11_base.specs.declared.instruction.SingleOp.{SingleOp}
 use Rattle.m11_base.specs.declared.operand.Size.{Size}
 use Rattle.m11_base.specs.declared.operand.Size.TheVariants.{Word, Byte}
-use Rattle.m11_arithmetic.specs.Doubles.{double_result}
-use Rattle.m11_arithmetic.specs.declared.results.Computed.{Computed}
-use Rattle.m11_machine.specs.Access.{is_inside, is_odd, send, sent, store_byte, store_device, store_odd, store_register, store_word}
-use Rattle.m11_machine.specs.Acts.{Act, ◌>>=◌}
-use Rattle.m11_machine.specs.Console.{device_at}
-use Rattle.m11_machine.specs.Dialogue.{Comes}
-use Rattle.m11_machine.specs.DoubleOperands.{change_double, change_exclusive, move_to, store_moved}
-use Rattle.m11_machine.specs.Machine.{finished, is_status, with_condition_codes}
-use Rattle.m11_machine.specs.Addressing.{fetch, put_result, store}
-use Rattle.m11_machine.specs.SingleOperands.{change_at}
+use Rattle.m11_cpu_arithmetic.specs.Doubles.{double_result}
+use Rattle.m11_cpu_arithmetic.specs.declared.results.Computed.{Computed}
+use Rattle.m11_cpu_machine.specs.Access.{is_inside, is_odd, send, sent, store_byte, store_device, store_odd, store_register, store_word}
+use Rattle.m11_cpu_machine.specs.Acts.{Act, ◌>>=◌}
+use Rattle.m11_cpu_machine.specs.Console.{device_at}
+use Rattle.m11_cpu_machine.specs.Dialogue.{Comes}
+use Rattle.m11_cpu_machine.specs.DoubleOperands.{change_double, change_exclusive, move_to, store_moved}
+use Rattle.m11_cpu_machine.specs.Machine.{finished, is_status, with_condition_codes}
+use Rattle.m11_cpu_machine.specs.Addressing.{fetch, put_result, store}
+use Rattle.m11_cpu_machine.specs.SingleOperands.{change_at}
 use Rattle.m11_cpu_laws.specs.Writes.{place_bytes, word_bytes, written_by}
-use Rattle.m11_machine.specs.declared.abort.Abort.{Abort}
-use Rattle.m11_machine.specs.declared.console.DeviceRegister.{DeviceRegister}
-use Rattle.m11_machine.specs.declared.console.DeviceRegister.TheVariants.{ReceiverStatus, ReceiverBuffer, TransmitterStatus, TransmitterBuffer, ProcessorStatus}
-use Rattle.m11_machine.specs.declared.machine.Machine.{Machine}
-use Rattle.m11_machine.specs.declared.addressing.OperandLocation.{OperandLocation}
-use Rattle.m11_machine.specs.declared.addressing.OperandLocation.TheVariants.{InRegister, InMemory}
+use Rattle.m11_cpu_machine.specs.declared.abort.Abort.{Abort}
+use Rattle.m11_cpu_machine.specs.declared.console.DeviceRegister.{DeviceRegister}
+use Rattle.m11_cpu_machine.specs.declared.console.DeviceRegister.TheVariants.{ReceiverStatus, ReceiverBuffer, TransmitterStatus, TransmitterBuffer, ProcessorStatus}
+use Rattle.m11_cpu_machine.specs.declared.machine.Machine.{Machine}
+use Rattle.m11_cpu_machine.specs.declared.addressing.OperandLocation.{OperandLocation}
+use Rattle.m11_cpu_machine.specs.declared.addressing.OperandLocation.TheVariants.{InRegister, InMemory}
 use Rattle.m11_cpu_laws.proofs.MemoryKept.{fetch_quiet, Kept, kept_byte, kept_same, kept_word, Same}
 use Rattle.m11_cpu_laws.proofs.Parts.{Always, at_bind, at_comes, at_cond, at_sends}
 

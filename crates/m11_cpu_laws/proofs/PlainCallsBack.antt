@@ -4,16 +4,16 @@ use Rattle.m11_base.specs.Operand.{register_number}
 use Rattle.m11_base.specs.declared.instruction.Insn.TheVariants as insn
 use Rattle.m11_base.specs.declared.operand.Operand.{Operand}
 use Rattle.m11_base.specs.declared.operand.Register.TheVariants.{Sp, Pc}
-use Rattle.m11_machine.specs.Dialogue.{Comes, Exchange, Leads}
-use Rattle.m11_machine.specs.Execution.{execute}
-use Rattle.m11_machine.specs.Jumps.{pop, return_by, target}
-use Rattle.m11_machine.specs.Machine.{advanced, register_of, with_register}
-use Rattle.m11_machine.specs.Memory.{word_at}
-use Rattle.m11_machine.specs.Steps.{step}
-use Rattle.m11_machine.specs.declared.machine.Machine.{Machine}
-use Rattle.m11_machine.specs.declared.stop.Turn.TheVariants.{Next}
-use Rattle.m11_machine.proofs.AtOnce.{bind_at}
-use Rattle.m11_machine.proofs.RegistersPut.{put_same}
+use Rattle.m11_cpu_machine.specs.Dialogue.{Comes, Exchange, Leads}
+use Rattle.m11_cpu_machine.specs.Execution.{execute}
+use Rattle.m11_cpu_machine.specs.Jumps.{pop, return_by, target}
+use Rattle.m11_cpu_machine.specs.Machine.{advanced, register_of, with_register}
+use Rattle.m11_cpu_machine.specs.Memory.{word_at}
+use Rattle.m11_cpu_machine.specs.Steps.{step}
+use Rattle.m11_cpu_machine.specs.declared.machine.Machine.{Machine}
+use Rattle.m11_cpu_machine.specs.declared.stop.Turn.TheVariants.{Next}
+use Rattle.m11_cpu_machine.proofs.AtOnce.{bind_at}
+use Rattle.m11_cpu_machine.proofs.RegistersPut.{put_same}
 use Rattle.m11_cpu_laws.specs.Returns.{call_length, IsAt, IsPlainCall, IsWordInside, PlainCallReturns, PlainCallsReturn}
 use Rattle.m11_cpu_laws.specs.Writes.{push_address}
 use Rattle.m11_cpu_laws.proofs.CallsBack.{call_leads, entered, enters}

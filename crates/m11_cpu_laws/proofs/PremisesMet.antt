@@ -4,22 +4,22 @@ use Rattle.m11_base.specs.Instructions.{row_of, rows}
 use Rattle.m11_base.specs.declared.operand.Mode.TheVariants as mode
 use Rattle.m11_base.specs.declared.operand.Register.{Register}
 use Rattle.m11_base.specs.declared.operand.Register.TheVariants.{R0, R1, R2, R3, R4, R5, Sp, Pc}
-use Rattle.m11_machine.specs.Access.{load_device, load_word, receive, receiver_status, send, store_byte, store_device, store_word}
-use Rattle.m11_machine.specs.Acts.{value, ◌>>=◌}
-use Rattle.m11_machine.specs.Addressing.{deferred, fetch, fetch_operand, next_word, place_of, store}
-use Rattle.m11_machine.specs.Dialogue.{Leads}
-use Rattle.m11_machine.specs.DoubleOperands.{double, double_at, move_to, store_moved}
-use Rattle.m11_machine.specs.Execution.{execute, numbered}
-use Rattle.m11_machine.specs.Jumps.{push}
-use Rattle.m11_machine.specs.Machine.{advanced, register_of, with_register}
-use Rattle.m11_machine.specs.Memory.{with_word}
+use Rattle.m11_cpu_machine.specs.Access.{load_device, load_word, receive, receiver_status, send, store_byte, store_device, store_word}
+use Rattle.m11_cpu_machine.specs.Acts.{value, ◌>>=◌}
+use Rattle.m11_cpu_machine.specs.Addressing.{deferred, fetch, fetch_operand, next_word, place_of, store}
+use Rattle.m11_cpu_machine.specs.Dialogue.{Leads}
+use Rattle.m11_cpu_machine.specs.DoubleOperands.{double, double_at, move_to, store_moved}
+use Rattle.m11_cpu_machine.specs.Execution.{execute, numbered}
+use Rattle.m11_cpu_machine.specs.Jumps.{push}
+use Rattle.m11_cpu_machine.specs.Machine.{advanced, register_of, with_register}
+use Rattle.m11_cpu_machine.specs.Memory.{with_word}
 use Rattle.m11_cpu.specs.Runs.{run_counted}
-use Rattle.m11_machine.specs.SingleOperands.{single, test_operand}
-use Rattle.m11_machine.specs.Status.{status_of}
-use Rattle.m11_machine.specs.Steps.{ended, instruction, step, turned}
-use Rattle.m11_machine.specs.Traps.{push_state, trap}
-use Rattle.m11_machine.specs.declared.machine.Machine.{Machine}
-use Rattle.m11_machine.specs.declared.stop.LastingStop.TheVariants.{InputFault, OutputFault, StackFault}
+use Rattle.m11_cpu_machine.specs.SingleOperands.{single, test_operand}
+use Rattle.m11_cpu_machine.specs.Status.{status_of}
+use Rattle.m11_cpu_machine.specs.Steps.{ended, instruction, step, turned}
+use Rattle.m11_cpu_machine.specs.Traps.{push_state, trap}
+use Rattle.m11_cpu_machine.specs.declared.machine.Machine.{Machine}
+use Rattle.m11_cpu_machine.specs.declared.stop.LastingStop.TheVariants.{InputFault, OutputFault, StackFault}
 use Rattle.m11_cpu_laws.specs.Witnesses.{AsksInVain, RunIsJoined, SendsInVain, StatusIsStored, StepIsTraced, TrapIsMade, TrapsInVain}
 
 -- a machine at address 0 with these bytes, this stack pointer and this status

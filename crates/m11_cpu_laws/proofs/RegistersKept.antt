@@ -23,25 +23,25 @@ use Rattle.m11_base.specs.declared.operand.Register.{Register}
 use Rattle.m11_base.specs.declared.operand.Register.TheVariants.{Pc, R5, Sp}
 use Rattle.m11_base.specs.declared.operand.Size.{Size}
 use Rattle.m11_base.specs.declared.operand.Size.TheVariants.{Word, Byte}
-use Rattle.m11_arithmetic.specs.Branches.{is_taken}
-use Rattle.m11_arithmetic.specs.Extended.{division_of}
-use Rattle.m11_arithmetic.specs.declared.results.Computed.{Computed}
-use Rattle.m11_arithmetic.specs.declared.results.Division.{Division}
-use Rattle.m11_arithmetic.specs.declared.results.Division.TheVariants.{Done, Refused}
-use Rattle.m11_machine.specs.Access.{is_inside, is_odd, load_word, store_byte, store_device, store_word}
-use Rattle.m11_machine.specs.Acts.{Act, ◌>>=◌}
-use Rattle.m11_machine.specs.Console.{device_at}
-use Rattle.m11_machine.specs.DoubleOperands.{change_double, change_exclusive, compare, double, double_at, exclusive_or, move_to, store_moved}
-use Rattle.m11_machine.specs.Execution.{bare, execute, numbered, on_register, return_from_trap, then_next}
-use Rattle.m11_machine.specs.Extended.{after_division, extended, extended_by, low_word_of}
-use Rattle.m11_machine.specs.Jumps.{branched, call, counted_down, enter, jump, mark, pop, push, return_by, target, words_on}
-use Rattle.m11_machine.specs.Machine.{finished, is_status, register_of, with_condition_codes, with_register}
-use Rattle.m11_machine.specs.Addressing.{back, deferred, fetch, fetch_operand, forward, indexed, next_word, place_by, place_of, put_result, store}
-use Rattle.m11_machine.specs.SingleOperands.{change_at, change_single, single, test_operand, write}
-use Rattle.m11_machine.specs.declared.abort.Abort.{Abort}
-use Rattle.m11_machine.specs.declared.machine.Machine.{Machine}
-use Rattle.m11_machine.specs.declared.addressing.OperandLocation.{OperandLocation}
-use Rattle.m11_machine.specs.declared.addressing.OperandLocation.TheVariants.{InRegister, InMemory}
+use Rattle.m11_cpu_arithmetic.specs.Branches.{is_taken}
+use Rattle.m11_cpu_arithmetic.specs.Extended.{division_of}
+use Rattle.m11_cpu_arithmetic.specs.declared.results.Computed.{Computed}
+use Rattle.m11_cpu_arithmetic.specs.declared.results.Division.{Division}
+use Rattle.m11_cpu_arithmetic.specs.declared.results.Division.TheVariants.{Done, Refused}
+use Rattle.m11_cpu_machine.specs.Access.{is_inside, is_odd, load_word, store_byte, store_device, store_word}
+use Rattle.m11_cpu_machine.specs.Acts.{Act, ◌>>=◌}
+use Rattle.m11_cpu_machine.specs.Console.{device_at}
+use Rattle.m11_cpu_machine.specs.DoubleOperands.{change_double, change_exclusive, compare, double, double_at, exclusive_or, move_to, store_moved}
+use Rattle.m11_cpu_machine.specs.Execution.{bare, execute, numbered, on_register, return_from_trap, then_next}
+use Rattle.m11_cpu_machine.specs.Extended.{after_division, extended, extended_by, low_word_of}
+use Rattle.m11_cpu_machine.specs.Jumps.{branched, call, counted_down, enter, jump, mark, pop, push, return_by, target, words_on}
+use Rattle.m11_cpu_machine.specs.Machine.{finished, is_status, register_of, with_condition_codes, with_register}
+use Rattle.m11_cpu_machine.specs.Addressing.{back, deferred, fetch, fetch_operand, forward, indexed, next_word, place_by, place_of, put_result, store}
+use Rattle.m11_cpu_machine.specs.SingleOperands.{change_at, change_single, single, test_operand, write}
+use Rattle.m11_cpu_machine.specs.declared.abort.Abort.{Abort}
+use Rattle.m11_cpu_machine.specs.declared.machine.Machine.{Machine}
+use Rattle.m11_cpu_machine.specs.declared.addressing.OperandLocation.{OperandLocation}
+use Rattle.m11_cpu_machine.specs.declared.addressing.OperandLocation.TheVariants.{InRegister, InMemory}
 use Rattle.m11_cpu_laws.specs.Registers.{by_destination, by_extended, changed_by, is_direct, stepped, stepped_or_stored}
 use Rattle.m11_cpu_laws.specs.Returns.{is_stepping}
 use Rattle.m11_cpu_laws.specs.Writes.{IsNoneOf, stores_double, stores_single}

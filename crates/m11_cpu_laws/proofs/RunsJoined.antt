@@ -1,16 +1,16 @@
 -- A run of more steps is a run of some and then one of the others.
 use Rattle.std.proofs.Common.{◌≡◌, ℕ, zero, suc, ◌+◌, List, [], ◌∷◌, ◌++◌, refl, sym, ◌∙◌, subst, ap, ap₂, append_assoc, append-nil, arith}
-use Rattle.m11_machine.specs.declared.machine.Machine.{Machine}
+use Rattle.m11_cpu_machine.specs.declared.machine.Machine.{Machine}
 use Rattle.m11_cpu.specs.declared.runs.Ran.{Ran}
-use Rattle.m11_machine.specs.declared.stop.Stop.{Stop}
-use Rattle.m11_machine.specs.declared.stop.Stop.TheVariants.{Limit}
-use Rattle.m11_machine.specs.declared.stop.Turn.{Turn}
-use Rattle.m11_machine.specs.declared.stop.Turn.TheVariants.{Next, Stopped}
-use Rattle.m11_machine.specs.Dialogue.{after, Asked, Asks, Comes, Dialogue, Exchange, Leads, Sends, Sent}
+use Rattle.m11_cpu_machine.specs.declared.stop.Stop.{Stop}
+use Rattle.m11_cpu_machine.specs.declared.stop.Stop.TheVariants.{Limit}
+use Rattle.m11_cpu_machine.specs.declared.stop.Turn.{Turn}
+use Rattle.m11_cpu_machine.specs.declared.stop.Turn.TheVariants.{Next, Stopped}
+use Rattle.m11_cpu_machine.specs.Dialogue.{after, Asked, Asks, Comes, Dialogue, Exchange, Leads, Sends, Sent}
 use Rattle.m11_cpu_laws.specs.Laws.{AreJoined, StopStands}
 use Rattle.m11_cpu.specs.Runs.{following, one_more, run_counted}
-use Rattle.m11_machine.specs.Steps.{step}
-use Rattle.m11_machine.proofs.Dialogues.{leads_after}
+use Rattle.m11_cpu_machine.specs.Steps.{step}
+use Rattle.m11_cpu_machine.proofs.Dialogues.{leads_after}
 use Rattle.m11_cpu_laws.proofs.StopsStand.{at_once, step_stands}
 
 -- a dialogue and the one after it, by the exchanges of each

@@ -1,22 +1,22 @@
 -- Which traps stop a step by STACK FAULT.
 use Rattle.std.proofs.Common.{◌≡◌, Bool, true, false, cond, List, Option, Some, None, Result, Ok, Err, refl, sym, subst, ap, ◌∙◌}
 use Rattle.std.specs.Prelude.{◌&&◌}
-use Rattle.m11_machine.specs.Dialogue.{Comes, Exchange, Leads}
-use Rattle.m11_machine.specs.Steps.{ended, instruction, step, step_unless, turned}
-use Rattle.m11_machine.specs.Stop.{stop_of}
-use Rattle.m11_machine.specs.Traps.{stopped_by, trap}
-use Rattle.m11_machine.specs.declared.abort.Abort.{Abort}
-use Rattle.m11_machine.specs.declared.abort.Abort.TheVariants.{Traps, Stops}
-use Rattle.m11_machine.specs.declared.abort.Vector.{Vector}
-use Rattle.m11_machine.specs.declared.abort.Vector.TheVariants.{Breakpoint}
-use Rattle.m11_machine.specs.declared.execution.Ending.{Ending}
-use Rattle.m11_machine.specs.declared.execution.Ending.TheVariants as ending
-use Rattle.m11_machine.specs.declared.machine.Machine.{Machine}
-use Rattle.m11_machine.specs.declared.stop.LastingStop.{LastingStop}
-use Rattle.m11_machine.specs.declared.stop.LastingStop.TheVariants as lasting
-use Rattle.m11_machine.specs.declared.stop.Stop.TheVariants.{Halt, StackFault, Wait}
-use Rattle.m11_machine.specs.declared.stop.Turn.{Turn}
-use Rattle.m11_machine.specs.declared.stop.Turn.TheVariants.{Next, Stopped}
+use Rattle.m11_cpu_machine.specs.Dialogue.{Comes, Exchange, Leads}
+use Rattle.m11_cpu_machine.specs.Steps.{ended, instruction, step, step_unless, turned}
+use Rattle.m11_cpu_machine.specs.Stop.{stop_of}
+use Rattle.m11_cpu_machine.specs.Traps.{stopped_by, trap}
+use Rattle.m11_cpu_machine.specs.declared.abort.Abort.{Abort}
+use Rattle.m11_cpu_machine.specs.declared.abort.Abort.TheVariants.{Traps, Stops}
+use Rattle.m11_cpu_machine.specs.declared.abort.Vector.{Vector}
+use Rattle.m11_cpu_machine.specs.declared.abort.Vector.TheVariants.{Breakpoint}
+use Rattle.m11_cpu_machine.specs.declared.execution.Ending.{Ending}
+use Rattle.m11_cpu_machine.specs.declared.execution.Ending.TheVariants as ending
+use Rattle.m11_cpu_machine.specs.declared.machine.Machine.{Machine}
+use Rattle.m11_cpu_machine.specs.declared.stop.LastingStop.{LastingStop}
+use Rattle.m11_cpu_machine.specs.declared.stop.LastingStop.TheVariants as lasting
+use Rattle.m11_cpu_machine.specs.declared.stop.Stop.TheVariants.{Halt, StackFault, Wait}
+use Rattle.m11_cpu_machine.specs.declared.stop.Turn.{Turn}
+use Rattle.m11_cpu_machine.specs.declared.stop.Turn.TheVariants.{Next, Stopped}
 use Rattle.m11_cpu_laws.specs.Addresses.{cannot_push, cannot_trap, is_stack_fault, StepFaulted, StepFaults, TrapFaulted}
 use Rattle.m11_cpu_laws.specs.Failures.{device_stop, StopsAtFailure}
 use Rattle.m11_cpu_laws.proofs.AddressesTrap.{trap_faults}

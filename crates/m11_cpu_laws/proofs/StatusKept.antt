@@ -20,37 +20,37 @@ use Rattle.m11_base.specs.declared.operand.Register.{Register}
 use Rattle.m11_base.specs.declared.operand.Register.TheVariants.{Sp}
 use Rattle.m11_base.specs.declared.operand.Size.{Size}
 use Rattle.m11_base.specs.declared.operand.Size.TheVariants.{Word, Byte}
-use Rattle.m11_arithmetic.specs.Branches.{is_taken}
-use Rattle.m11_arithmetic.specs.Extended.{division_of}
-use Rattle.m11_arithmetic.specs.declared.results.Computed.{Computed}
-use Rattle.m11_arithmetic.specs.declared.results.Division.{Division}
-use Rattle.m11_arithmetic.specs.declared.results.Division.TheVariants.{Done, Refused}
-use Rattle.m11_machine.specs.Access.{is_inside, is_odd, send, sent, store_byte, store_device, store_register, store_word}
-use Rattle.m11_machine.specs.Acts.{Act}
-use Rattle.m11_machine.specs.Addressing.{back, fetch, fetch_operand, place_of, put_result, store}
-use Rattle.m11_machine.specs.Console.{device_at}
-use Rattle.m11_machine.specs.Dialogue.{Exchange, Leads}
-use Rattle.m11_machine.specs.DoubleOperands.{change_double, change_exclusive, compare, double, double_at, exclusive_or, move_to, store_moved}
-use Rattle.m11_machine.specs.Execution.{bare, execute, numbered, on_register, then_next}
-use Rattle.m11_machine.specs.Extended.{after_division, extended, extended_by, low_word_of}
-use Rattle.m11_machine.specs.Jumps.{branched, call, counted_down, enter, jump, mark, pop, push, return_by, target}
-use Rattle.m11_machine.specs.Machine.{finished, is_status, register_of, with_condition_codes}
-use Rattle.m11_machine.specs.SingleOperands.{change_at, change_single, single, test_operand, write}
-use Rattle.m11_machine.specs.Status.{status_of}
-use Rattle.m11_machine.specs.Memory.{word_at}
-use Rattle.m11_machine.specs.Traps.{push_state, trap, trap_pushed, vector_address}
-use Rattle.m11_machine.specs.declared.abort.Abort.{Abort}
-use Rattle.m11_machine.specs.declared.abort.Abort.TheVariants.{Traps, Stops}
-use Rattle.m11_machine.specs.declared.abort.Vector.{Vector}
-use Rattle.m11_machine.specs.declared.addressing.OperandLocation.{OperandLocation}
-use Rattle.m11_machine.specs.declared.addressing.OperandLocation.TheVariants.{InRegister, InMemory}
-use Rattle.m11_machine.specs.declared.console.DeviceRegister.{DeviceRegister}
-use Rattle.m11_machine.specs.declared.console.DeviceRegister.TheVariants.{ReceiverStatus, ReceiverBuffer, TransmitterStatus, TransmitterBuffer, ProcessorStatus}
-use Rattle.m11_machine.specs.declared.execution.Ending.{Ending}
-use Rattle.m11_machine.specs.declared.machine.Machine.{Machine}
-use Rattle.m11_machine.specs.declared.stop.LastingStop.TheVariants.{StackFault, InputFault, OutputFault}
-use Rattle.m11_machine.specs.declared.stop.Turn.{Turn}
-use Rattle.m11_machine.specs.declared.stop.Turn.TheVariants.{Next}
+use Rattle.m11_cpu_arithmetic.specs.Branches.{is_taken}
+use Rattle.m11_cpu_arithmetic.specs.Extended.{division_of}
+use Rattle.m11_cpu_arithmetic.specs.declared.results.Computed.{Computed}
+use Rattle.m11_cpu_arithmetic.specs.declared.results.Division.{Division}
+use Rattle.m11_cpu_arithmetic.specs.declared.results.Division.TheVariants.{Done, Refused}
+use Rattle.m11_cpu_machine.specs.Access.{is_inside, is_odd, send, sent, store_byte, store_device, store_register, store_word}
+use Rattle.m11_cpu_machine.specs.Acts.{Act}
+use Rattle.m11_cpu_machine.specs.Addressing.{back, fetch, fetch_operand, place_of, put_result, store}
+use Rattle.m11_cpu_machine.specs.Console.{device_at}
+use Rattle.m11_cpu_machine.specs.Dialogue.{Exchange, Leads}
+use Rattle.m11_cpu_machine.specs.DoubleOperands.{change_double, change_exclusive, compare, double, double_at, exclusive_or, move_to, store_moved}
+use Rattle.m11_cpu_machine.specs.Execution.{bare, execute, numbered, on_register, then_next}
+use Rattle.m11_cpu_machine.specs.Extended.{after_division, extended, extended_by, low_word_of}
+use Rattle.m11_cpu_machine.specs.Jumps.{branched, call, counted_down, enter, jump, mark, pop, push, return_by, target}
+use Rattle.m11_cpu_machine.specs.Machine.{finished, is_status, register_of, with_condition_codes}
+use Rattle.m11_cpu_machine.specs.SingleOperands.{change_at, change_single, single, test_operand, write}
+use Rattle.m11_cpu_machine.specs.Status.{status_of}
+use Rattle.m11_cpu_machine.specs.Memory.{word_at}
+use Rattle.m11_cpu_machine.specs.Traps.{push_state, trap, trap_pushed, vector_address}
+use Rattle.m11_cpu_machine.specs.declared.abort.Abort.{Abort}
+use Rattle.m11_cpu_machine.specs.declared.abort.Abort.TheVariants.{Traps, Stops}
+use Rattle.m11_cpu_machine.specs.declared.abort.Vector.{Vector}
+use Rattle.m11_cpu_machine.specs.declared.addressing.OperandLocation.{OperandLocation}
+use Rattle.m11_cpu_machine.specs.declared.addressing.OperandLocation.TheVariants.{InRegister, InMemory}
+use Rattle.m11_cpu_machine.specs.declared.console.DeviceRegister.{DeviceRegister}
+use Rattle.m11_cpu_machine.specs.declared.console.DeviceRegister.TheVariants.{ReceiverStatus, ReceiverBuffer, TransmitterStatus, TransmitterBuffer, ProcessorStatus}
+use Rattle.m11_cpu_machine.specs.declared.execution.Ending.{Ending}
+use Rattle.m11_cpu_machine.specs.declared.machine.Machine.{Machine}
+use Rattle.m11_cpu_machine.specs.declared.stop.LastingStop.TheVariants.{StackFault, InputFault, OutputFault}
+use Rattle.m11_cpu_machine.specs.declared.stop.Turn.{Turn}
+use Rattle.m11_cpu_machine.specs.declared.stop.Turn.TheVariants.{Next}
 use Rattle.m11_cpu_laws.specs.StatusWord.{loads_trace, TrapsLoad}
 use Rattle.m11_cpu_laws.proofs.Loads.{fetch_keeps, jump_target_keeps, operand_keeps, pop_keeps, source_keeps}
 use Rattle.m11_cpu_laws.proofs.Parts.{Always, at_after, at_comes, at_cond, at_sends, Keeps, keeps_bind}

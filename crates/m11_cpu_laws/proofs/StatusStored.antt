@@ -14,27 +14,27 @@ use Rattle.m11_base.specs.declared.operand.Register.{Register}
 use Rattle.m11_base.specs.declared.operand.Register.TheVariants.{Pc}
 use Rattle.m11_base.specs.declared.operand.Size.{Size}
 use Rattle.m11_base.specs.declared.operand.Size.TheVariants.{Word, Byte}
-use Rattle.m11_arithmetic.specs.Doubles.{double_result, exclusive_or_result}
-use Rattle.m11_arithmetic.specs.Singles.{single_result}
-use Rattle.m11_arithmetic.specs.declared.results.Computed.{Computed}
-use Rattle.m11_machine.specs.Access.{is_inside, load_byte, load_device, load_word, store_byte, store_device, store_word}
-use Rattle.m11_machine.specs.Acts.{Act, unless_aborted, ◌>>=◌}
-use Rattle.m11_machine.specs.Addressing.{fetch, fetch_operand, place_of, put_result, store}
-use Rattle.m11_machine.specs.Dialogue.{Comes, Dialogue, Exchange, Leads}
-use Rattle.m11_machine.specs.DoubleOperands.{change_double, change_exclusive, double, double_at, exclusive_or, move_to, store_moved}
-use Rattle.m11_machine.specs.Execution.{bare, execute, on_register, return_from_trap}
-use Rattle.m11_machine.specs.Jumps.{call, enter, pop, push, target}
-use Rattle.m11_machine.specs.Machine.{psw_in, register_of, with_condition_codes, with_register}
-use Rattle.m11_machine.specs.SingleOperands.{change_at, change_single, single, write}
-use Rattle.m11_machine.specs.Status.{status_of}
-use Rattle.m11_machine.specs.declared.abort.Abort.{Abort}
-use Rattle.m11_machine.specs.declared.addressing.OperandLocation.{OperandLocation}
-use Rattle.m11_machine.specs.declared.addressing.OperandLocation.TheVariants.{InMemory}
-use Rattle.m11_machine.specs.declared.execution.Ending.TheVariants as ending
-use Rattle.m11_machine.specs.declared.machine.Machine.{Machine}
-use Rattle.m11_machine.specs.declared.status.ProcessorStatus.{ProcessorStatus}
-use Rattle.m11_machine.proofs.AtOnce.{bind_at, cond_not}
-use Rattle.m11_machine.proofs.Dialogues.{leads_after}
+use Rattle.m11_cpu_arithmetic.specs.Doubles.{double_result, exclusive_or_result}
+use Rattle.m11_cpu_arithmetic.specs.Singles.{single_result}
+use Rattle.m11_cpu_arithmetic.specs.declared.results.Computed.{Computed}
+use Rattle.m11_cpu_machine.specs.Access.{is_inside, load_byte, load_device, load_word, store_byte, store_device, store_word}
+use Rattle.m11_cpu_machine.specs.Acts.{Act, unless_aborted, ◌>>=◌}
+use Rattle.m11_cpu_machine.specs.Addressing.{fetch, fetch_operand, place_of, put_result, store}
+use Rattle.m11_cpu_machine.specs.Dialogue.{Comes, Dialogue, Exchange, Leads}
+use Rattle.m11_cpu_machine.specs.DoubleOperands.{change_double, change_exclusive, double, double_at, exclusive_or, move_to, store_moved}
+use Rattle.m11_cpu_machine.specs.Execution.{bare, execute, on_register, return_from_trap}
+use Rattle.m11_cpu_machine.specs.Jumps.{call, enter, pop, push, target}
+use Rattle.m11_cpu_machine.specs.Machine.{psw_in, register_of, with_condition_codes, with_register}
+use Rattle.m11_cpu_machine.specs.SingleOperands.{change_at, change_single, single, write}
+use Rattle.m11_cpu_machine.specs.Status.{status_of}
+use Rattle.m11_cpu_machine.specs.declared.abort.Abort.{Abort}
+use Rattle.m11_cpu_machine.specs.declared.addressing.OperandLocation.{OperandLocation}
+use Rattle.m11_cpu_machine.specs.declared.addressing.OperandLocation.TheVariants.{InMemory}
+use Rattle.m11_cpu_machine.specs.declared.execution.Ending.TheVariants as ending
+use Rattle.m11_cpu_machine.specs.declared.machine.Machine.{Machine}
+use Rattle.m11_cpu_machine.specs.declared.status.ProcessorStatus.{ProcessorStatus}
+use Rattle.m11_cpu_machine.proofs.AtOnce.{bind_at, cond_not}
+use Rattle.m11_cpu_machine.proofs.Dialogues.{leads_after}
 use Rattle.m11_cpu_laws.specs.StatusWord.{CallsAtStatus, DoublesAtStatus, EndsAs, EndsBeforeDevices, ExclusivesAtStatus, ReturnsLoad, SinglesAtStatus, with_status_word}
 use Rattle.m11_cpu_laws.specs.Writes.{push_address, stack_deepened, stores_double, stores_single}
 use Rattle.m11_cpu_laws.proofs.StepsInMemory.{bind_leads}

@@ -3,23 +3,23 @@ use Rattle.std.proofs.Common.{◌≡◌, ℕ, ◌%◌, ◌<◌, ◌==◌, Bool, 
 use Rattle.m11_base.specs.Instructions.{instruction_of}
 use Rattle.m11_base.specs.declared.instruction.Insn.{Insn}
 use Rattle.m11_base.specs.declared.operand.Register.TheVariants.{Sp, Pc}
-use Rattle.m11_machine.specs.Access.{is_inside, is_odd, load_word, store_word}
-use Rattle.m11_machine.specs.Acts.{Act, unless_aborted, ◌>>=◌}
-use Rattle.m11_machine.specs.Dialogue.{after, Comes, Dialogue, Exchange, Leads}
-use Rattle.m11_machine.specs.Execution.{execute}
-use Rattle.m11_machine.specs.Jumps.{pop, push}
-use Rattle.m11_machine.specs.Machine.{advanced, register_of}
-use Rattle.m11_machine.specs.Memory.{with_word, word_at}
-use Rattle.m11_machine.specs.Addressing.{next_word}
-use Rattle.m11_machine.specs.Steps.{instruction, step, step_unless, turned}
-use Rattle.m11_machine.specs.declared.abort.Abort.{Abort}
-use Rattle.m11_machine.specs.declared.execution.Ending.{Ending}
-use Rattle.m11_machine.specs.declared.execution.Ending.TheVariants as ending
-use Rattle.m11_machine.specs.declared.machine.Machine.{Machine}
-use Rattle.m11_machine.specs.declared.stop.LastingStop.{LastingStop}
-use Rattle.m11_machine.specs.declared.stop.Turn.TheVariants.{Next}
-use Rattle.m11_machine.proofs.AtOnce.{bind_at, cond_not, turned_next}
-use Rattle.m11_machine.proofs.Dialogues.{leads_after}
+use Rattle.m11_cpu_machine.specs.Access.{is_inside, is_odd, load_word, store_word}
+use Rattle.m11_cpu_machine.specs.Acts.{Act, unless_aborted, ◌>>=◌}
+use Rattle.m11_cpu_machine.specs.Dialogue.{after, Comes, Dialogue, Exchange, Leads}
+use Rattle.m11_cpu_machine.specs.Execution.{execute}
+use Rattle.m11_cpu_machine.specs.Jumps.{pop, push}
+use Rattle.m11_cpu_machine.specs.Machine.{advanced, register_of}
+use Rattle.m11_cpu_machine.specs.Memory.{with_word, word_at}
+use Rattle.m11_cpu_machine.specs.Addressing.{next_word}
+use Rattle.m11_cpu_machine.specs.Steps.{instruction, step, step_unless, turned}
+use Rattle.m11_cpu_machine.specs.declared.abort.Abort.{Abort}
+use Rattle.m11_cpu_machine.specs.declared.execution.Ending.{Ending}
+use Rattle.m11_cpu_machine.specs.declared.execution.Ending.TheVariants as ending
+use Rattle.m11_cpu_machine.specs.declared.machine.Machine.{Machine}
+use Rattle.m11_cpu_machine.specs.declared.stop.LastingStop.{LastingStop}
+use Rattle.m11_cpu_machine.specs.declared.stop.Turn.TheVariants.{Next}
+use Rattle.m11_cpu_machine.proofs.AtOnce.{bind_at, cond_not, turned_next}
+use Rattle.m11_cpu_machine.proofs.Dialogues.{leads_after}
 use Rattle.m11_cpu_laws.specs.Returns.{IsAt, IsWordInside}
 use Rattle.m11_cpu_laws.specs.Writes.{push_address, stack_deepened}
 

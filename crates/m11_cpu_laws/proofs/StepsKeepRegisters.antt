@@ -5,26 +5,26 @@ use Rattle.m11_base.specs.Operand.{register_number}
 use Rattle.m11_base.specs.declared.instruction.Insn.{Insn}
 use Rattle.m11_base.specs.declared.operand.Register.{Register}
 use Rattle.m11_base.specs.declared.operand.Register.TheVariants.{Pc, Sp}
-use Rattle.m11_machine.specs.Acts.{unless_aborted, ◌>>=◌}
-use Rattle.m11_machine.specs.Dialogue.{Comes, Exchange, Leads}
-use Rattle.m11_machine.specs.Execution.{execute}
-use Rattle.m11_machine.specs.Jumps.{push}
-use Rattle.m11_machine.specs.Machine.{register_of}
-use Rattle.m11_machine.specs.Addressing.{next_word}
-use Rattle.m11_machine.specs.Status.{psw_of}
-use Rattle.m11_machine.specs.Steps.{ended, instruction, step, step_unless, turned}
-use Rattle.m11_machine.specs.Traps.{push_state, stopped_by, trap, trap_pushed}
-use Rattle.m11_machine.specs.declared.abort.Abort.{Abort}
-use Rattle.m11_machine.specs.declared.abort.Abort.TheVariants.{Traps, Stops}
-use Rattle.m11_machine.specs.declared.abort.Vector.{Vector}
-use Rattle.m11_machine.specs.declared.abort.Vector.TheVariants.{Breakpoint}
-use Rattle.m11_machine.specs.declared.execution.Ending.{Ending}
-use Rattle.m11_machine.specs.declared.execution.Ending.TheVariants as ending
-use Rattle.m11_machine.specs.declared.machine.Machine.{Machine}
-use Rattle.m11_machine.specs.declared.stop.LastingStop.{LastingStop}
-use Rattle.m11_machine.specs.declared.stop.Stop.TheVariants.{Halt, Wait}
-use Rattle.m11_machine.specs.declared.stop.Turn.{Turn}
-use Rattle.m11_machine.specs.declared.stop.Turn.TheVariants.{Next, Stopped}
+use Rattle.m11_cpu_machine.specs.Acts.{unless_aborted, ◌>>=◌}
+use Rattle.m11_cpu_machine.specs.Dialogue.{Comes, Exchange, Leads}
+use Rattle.m11_cpu_machine.specs.Execution.{execute}
+use Rattle.m11_cpu_machine.specs.Jumps.{push}
+use Rattle.m11_cpu_machine.specs.Machine.{register_of}
+use Rattle.m11_cpu_machine.specs.Addressing.{next_word}
+use Rattle.m11_cpu_machine.specs.Status.{psw_of}
+use Rattle.m11_cpu_machine.specs.Steps.{ended, instruction, step, step_unless, turned}
+use Rattle.m11_cpu_machine.specs.Traps.{push_state, stopped_by, trap, trap_pushed}
+use Rattle.m11_cpu_machine.specs.declared.abort.Abort.{Abort}
+use Rattle.m11_cpu_machine.specs.declared.abort.Abort.TheVariants.{Traps, Stops}
+use Rattle.m11_cpu_machine.specs.declared.abort.Vector.{Vector}
+use Rattle.m11_cpu_machine.specs.declared.abort.Vector.TheVariants.{Breakpoint}
+use Rattle.m11_cpu_machine.specs.declared.execution.Ending.{Ending}
+use Rattle.m11_cpu_machine.specs.declared.execution.Ending.TheVariants as ending
+use Rattle.m11_cpu_machine.specs.declared.machine.Machine.{Machine}
+use Rattle.m11_cpu_machine.specs.declared.stop.LastingStop.{LastingStop}
+use Rattle.m11_cpu_machine.specs.declared.stop.Stop.TheVariants.{Halt, Wait}
+use Rattle.m11_cpu_machine.specs.declared.stop.Turn.{Turn}
+use Rattle.m11_cpu_machine.specs.declared.stop.Turn.TheVariants.{Next, Stopped}
 use Rattle.m11_cpu_laws.specs.Registers.{changed_after, changed_by, changed_by_code, RegistersStay, StepRegisters}
 use Rattle.m11_cpu_laws.proofs.Exchanging.{once}
 use Rattle.m11_cpu_laws.proofs.Following.{within_more}

@@ -1,26 +1,26 @@
 -- What a step asks and sends, and which stop it yields.
 use Rattle.std.proofs.Common.{◌≡◌, Bool, true, false, cond, List, [], ◌∷◌, ◌++◌, append-nil, Option, Some, None, Result, Ok, Err, refl, sym, ◌∙◌, subst}
 use Rattle.m11_base.specs.declared.operand.Register.TheVariants.{Pc}
-use Rattle.m11_machine.specs.Dialogue.{Asked, Comes, Ends, Exchange, Fails, Gives, Leads, Sent}
-use Rattle.m11_machine.specs.Jumps.{push}
-use Rattle.m11_machine.specs.Machine.{register_of}
-use Rattle.m11_machine.specs.Status.{psw_of}
-use Rattle.m11_machine.specs.Steps.{ended, instruction, step, step_unless, turned}
-use Rattle.m11_machine.specs.Stop.{stop_of}
-use Rattle.m11_machine.specs.Traps.{push_state, stopped_by, trap, trap_pushed, vectored}
-use Rattle.m11_machine.specs.declared.abort.Abort.{Abort}
-use Rattle.m11_machine.specs.declared.abort.Abort.TheVariants.{Traps, Stops}
-use Rattle.m11_machine.specs.declared.abort.Vector.{Vector}
-use Rattle.m11_machine.specs.declared.abort.Vector.TheVariants.{Breakpoint}
-use Rattle.m11_machine.specs.declared.console.Receiver.{Receiver}
-use Rattle.m11_machine.specs.declared.execution.Ending.{Ending}
-use Rattle.m11_machine.specs.declared.execution.Ending.TheVariants as ending
-use Rattle.m11_machine.specs.declared.machine.Machine.{Machine}
-use Rattle.m11_machine.specs.declared.stop.LastingStop.{LastingStop}
-use Rattle.m11_machine.specs.declared.stop.LastingStop.TheVariants.{StackFault, InputFault, OutputFault}
-use Rattle.m11_machine.specs.declared.stop.Stop.TheVariants as stop
-use Rattle.m11_machine.specs.declared.stop.Turn.{Turn}
-use Rattle.m11_machine.specs.declared.stop.Turn.TheVariants.{Next, Stopped}
+use Rattle.m11_cpu_machine.specs.Dialogue.{Asked, Comes, Ends, Exchange, Fails, Gives, Leads, Sent}
+use Rattle.m11_cpu_machine.specs.Jumps.{push}
+use Rattle.m11_cpu_machine.specs.Machine.{register_of}
+use Rattle.m11_cpu_machine.specs.Status.{psw_of}
+use Rattle.m11_cpu_machine.specs.Steps.{ended, instruction, step, step_unless, turned}
+use Rattle.m11_cpu_machine.specs.Stop.{stop_of}
+use Rattle.m11_cpu_machine.specs.Traps.{push_state, stopped_by, trap, trap_pushed, vectored}
+use Rattle.m11_cpu_machine.specs.declared.abort.Abort.{Abort}
+use Rattle.m11_cpu_machine.specs.declared.abort.Abort.TheVariants.{Traps, Stops}
+use Rattle.m11_cpu_machine.specs.declared.abort.Vector.{Vector}
+use Rattle.m11_cpu_machine.specs.declared.abort.Vector.TheVariants.{Breakpoint}
+use Rattle.m11_cpu_machine.specs.declared.console.Receiver.{Receiver}
+use Rattle.m11_cpu_machine.specs.declared.execution.Ending.{Ending}
+use Rattle.m11_cpu_machine.specs.declared.execution.Ending.TheVariants as ending
+use Rattle.m11_cpu_machine.specs.declared.machine.Machine.{Machine}
+use Rattle.m11_cpu_machine.specs.declared.stop.LastingStop.{LastingStop}
+use Rattle.m11_cpu_machine.specs.declared.stop.LastingStop.TheVariants.{StackFault, InputFault, OutputFault}
+use Rattle.m11_cpu_machine.specs.declared.stop.Stop.TheVariants as stop
+use Rattle.m11_cpu_machine.specs.declared.stop.Turn.{Turn}
+use Rattle.m11_cpu_machine.specs.declared.stop.Turn.TheVariants.{Next, Stopped}
 use Rattle.m11_cpu_laws.specs.Failures.{device_stop, GoesOn, StopsAtFailure}
 use Rattle.m11_cpu_laws.specs.Receiving.{ReceiverChanges}
 use Rattle.m11_cpu_laws.proofs.Exchanging.{abort_stop, every_after, every_comes, every_map, Every, failures_joined, heard_joined, hears_nothing, once, Talked, Reports, reports_bind}

@@ -2,27 +2,27 @@
 use Rattle.std.proofs.Common.{◌≡◌, ℕ, ◌+◌, ◌%◌, Bool, true, false, cond, List, [], ◌++◌, Option, Some, None, Result, Ok, Err, refl, subst}
 use Rattle.std.specs.Prelude.{slice_index}
 use Rattle.m11_base.specs.declared.operand.Register.TheVariants.{Pc}
-use Rattle.m11_machine.specs.Access.{is_inside, is_odd, send, sent, store_device, store_register, store_word}
-use Rattle.m11_machine.specs.Console.{device_at}
-use Rattle.m11_machine.specs.Dialogue.{Comes, Exchange, Leads}
-use Rattle.m11_machine.specs.Jumps.{push}
-use Rattle.m11_machine.specs.Machine.{register_of}
-use Rattle.m11_machine.specs.Status.{psw_of}
-use Rattle.m11_machine.specs.Steps.{ended, instruction, step, step_unless, turned}
-use Rattle.m11_machine.specs.Traps.{push_state, trap, trap_pushed}
+use Rattle.m11_cpu_machine.specs.Access.{is_inside, is_odd, send, sent, store_device, store_register, store_word}
+use Rattle.m11_cpu_machine.specs.Console.{device_at}
+use Rattle.m11_cpu_machine.specs.Dialogue.{Comes, Exchange, Leads}
+use Rattle.m11_cpu_machine.specs.Jumps.{push}
+use Rattle.m11_cpu_machine.specs.Machine.{register_of}
+use Rattle.m11_cpu_machine.specs.Status.{psw_of}
+use Rattle.m11_cpu_machine.specs.Steps.{ended, instruction, step, step_unless, turned}
+use Rattle.m11_cpu_machine.specs.Traps.{push_state, trap, trap_pushed}
 use Rattle.m11_cpu_laws.specs.Writes.{one_pushed, push_address, pushed_after, stack_deepened, StaysBut, StepWrites, two_pushed, word_bytes, written_by, written_bytes}
-use Rattle.m11_machine.specs.declared.abort.Abort.{Abort}
-use Rattle.m11_machine.specs.declared.abort.Abort.TheVariants.{Traps, Stops}
-use Rattle.m11_machine.specs.declared.abort.Vector.{Vector}
-use Rattle.m11_machine.specs.declared.abort.Vector.TheVariants.{Breakpoint}
-use Rattle.m11_machine.specs.declared.console.DeviceRegister.{DeviceRegister}
-use Rattle.m11_machine.specs.declared.console.DeviceRegister.TheVariants.{ReceiverStatus, ReceiverBuffer, TransmitterStatus, TransmitterBuffer, ProcessorStatus}
-use Rattle.m11_machine.specs.declared.execution.Ending.{Ending}
-use Rattle.m11_machine.specs.declared.execution.Ending.TheVariants as ending
-use Rattle.m11_machine.specs.declared.machine.Machine.{Machine}
-use Rattle.m11_machine.specs.declared.stop.LastingStop.{LastingStop}
-use Rattle.m11_machine.specs.declared.stop.Turn.{Turn}
-use Rattle.m11_machine.specs.declared.stop.Turn.TheVariants as turn
+use Rattle.m11_cpu_machine.specs.declared.abort.Abort.{Abort}
+use Rattle.m11_cpu_machine.specs.declared.abort.Abort.TheVariants.{Traps, Stops}
+use Rattle.m11_cpu_machine.specs.declared.abort.Vector.{Vector}
+use Rattle.m11_cpu_machine.specs.declared.abort.Vector.TheVariants.{Breakpoint}
+use Rattle.m11_cpu_machine.specs.declared.console.DeviceRegister.{DeviceRegister}
+use Rattle.m11_cpu_machine.specs.declared.console.DeviceRegister.TheVariants.{ReceiverStatus, ReceiverBuffer, TransmitterStatus, TransmitterBuffer, ProcessorStatus}
+use Rattle.m11_cpu_machine.specs.declared.execution.Ending.{Ending}
+use Rattle.m11_cpu_machine.specs.declared.execution.Ending.TheVariants as ending
+use Rattle.m11_cpu_machine.specs.declared.machine.Machine.{Machine}
+use Rattle.m11_cpu_machine.specs.declared.stop.LastingStop.{LastingStop}
+use Rattle.m11_cpu_machine.specs.declared.stop.Turn.{Turn}
+use Rattle.m11_cpu_machine.specs.declared.stop.Turn.TheVariants as turn
 use Rattle.m11_cpu_laws.proofs.AbortsLeave.{abort_leaves}
 use Rattle.m11_cpu_laws.proofs.DestinationsWritten.{instruction_follows}
 use Rattle.m11_cpu_laws.proofs.Following.{within_more}

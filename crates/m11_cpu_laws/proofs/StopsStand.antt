@@ -1,21 +1,21 @@
 -- Which stops stand after a step.
 use Rattle.std.proofs.Common.{◌≡◌, Bool, true, false, cond, List, [], ◌∷◌, Option, Some, None, Result, Ok, Err, refl, sym, subst}
-use Rattle.m11_machine.specs.declared.abort.Abort.{Abort}
-use Rattle.m11_machine.specs.declared.abort.Abort.TheVariants.{Traps, Stops}
-use Rattle.m11_machine.specs.declared.abort.Vector.{Vector}
-use Rattle.m11_machine.specs.declared.abort.Vector.TheVariants.{Breakpoint}
-use Rattle.m11_machine.specs.declared.execution.Ending.{Ending}
-use Rattle.m11_machine.specs.declared.execution.Ending.TheVariants as ending
-use Rattle.m11_machine.specs.declared.machine.Machine.{Machine}
-use Rattle.m11_machine.specs.declared.stop.LastingStop.{LastingStop}
-use Rattle.m11_machine.specs.declared.stop.LastingStop.TheVariants.{StackFault, InputFault, OutputFault}
-use Rattle.m11_machine.specs.declared.stop.Turn.{Turn}
-use Rattle.m11_machine.specs.declared.stop.Turn.TheVariants.{Next, Stopped}
-use Rattle.m11_machine.specs.Dialogue.{after, Asked, Asks, Comes, Dialogue, Exchange, Leads, Sends, Sent}
+use Rattle.m11_cpu_machine.specs.declared.abort.Abort.{Abort}
+use Rattle.m11_cpu_machine.specs.declared.abort.Abort.TheVariants.{Traps, Stops}
+use Rattle.m11_cpu_machine.specs.declared.abort.Vector.{Vector}
+use Rattle.m11_cpu_machine.specs.declared.abort.Vector.TheVariants.{Breakpoint}
+use Rattle.m11_cpu_machine.specs.declared.execution.Ending.{Ending}
+use Rattle.m11_cpu_machine.specs.declared.execution.Ending.TheVariants as ending
+use Rattle.m11_cpu_machine.specs.declared.machine.Machine.{Machine}
+use Rattle.m11_cpu_machine.specs.declared.stop.LastingStop.{LastingStop}
+use Rattle.m11_cpu_machine.specs.declared.stop.LastingStop.TheVariants.{StackFault, InputFault, OutputFault}
+use Rattle.m11_cpu_machine.specs.declared.stop.Turn.{Turn}
+use Rattle.m11_cpu_machine.specs.declared.stop.Turn.TheVariants.{Next, Stopped}
+use Rattle.m11_cpu_machine.specs.Dialogue.{after, Asked, Asks, Comes, Dialogue, Exchange, Leads, Sends, Sent}
 use Rattle.m11_cpu_laws.specs.Laws.{StopStands}
-use Rattle.m11_machine.specs.Steps.{ended, instruction, step, step_unless, turned}
-use Rattle.m11_machine.specs.Stop.{stop_of}
-use Rattle.m11_machine.specs.Traps.{push_state, stopped_by, trap, trap_pushed}
+use Rattle.m11_cpu_machine.specs.Steps.{ended, instruction, step, step_unless, turned}
+use Rattle.m11_cpu_machine.specs.Stop.{stop_of}
+use Rattle.m11_cpu_machine.specs.Traps.{push_state, stopped_by, trap, trap_pushed}
 
 -- what comes after a dialogue, by the exchanges that are left
 pub after_it : {A B : Type 0} (d : Dialogue A) (next : A → Dialogue B) (es : List Exchange) (y : B)

@@ -8,19 +8,19 @@ use Rattle.m11_base.specs.declared.operand.Operand.{Operand}
 use Rattle.m11_base.specs.declared.operand.Register.{Register}
 use Rattle.m11_base.specs.declared.operand.Register.TheVariants.{Sp, Pc}
 use Rattle.m11_base.specs.declared.operand.Size.TheVariants.{Word}
-use Rattle.m11_machine.specs.Access.{load_word}
-use Rattle.m11_machine.specs.Jumps.{address_of, target}
-use Rattle.m11_machine.specs.Machine.{advanced, register_of, with_register}
-use Rattle.m11_machine.specs.Addressing.{deferred, indexed, next_word, place_by, place_of}
+use Rattle.m11_cpu_machine.specs.Access.{load_word}
+use Rattle.m11_cpu_machine.specs.Jumps.{address_of, target}
+use Rattle.m11_cpu_machine.specs.Machine.{advanced, register_of, with_register}
+use Rattle.m11_cpu_machine.specs.Addressing.{deferred, indexed, next_word, place_by, place_of}
 use Rattle.m11_cpu_laws.specs.Returns.{call_length, IsRunning, length_by, over_back, over_forward, steps}
-use Rattle.m11_machine.specs.declared.abort.Abort.{Abort}
-use Rattle.m11_machine.specs.declared.console.Receiver.{Receiver}
-use Rattle.m11_machine.specs.declared.machine.Machine.{Machine}
-use Rattle.m11_machine.specs.declared.addressing.OperandLocation.{OperandLocation}
-use Rattle.m11_machine.specs.declared.addressing.OperandLocation.TheVariants.{InRegister, InMemory}
+use Rattle.m11_cpu_machine.specs.declared.abort.Abort.{Abort}
+use Rattle.m11_cpu_machine.specs.declared.console.Receiver.{Receiver}
+use Rattle.m11_cpu_machine.specs.declared.machine.Machine.{Machine}
+use Rattle.m11_cpu_machine.specs.declared.addressing.OperandLocation.{OperandLocation}
+use Rattle.m11_cpu_machine.specs.declared.addressing.OperandLocation.TheVariants.{InRegister, InMemory}
 use Rattle.m11_cpu_laws.proofs.Loads.{deferred_keeps, place_keeps, target_keeps, word_keeps}
 use Rattle.m11_cpu_laws.proofs.Parts.{Always, at_bind, at_comes, at_map, Keeps}
-use Rattle.m11_machine.proofs.RegistersPut.{put_same}
+use Rattle.m11_cpu_machine.proofs.RegistersPut.{put_same}
 use Rattle.m11_cpu_laws.proofs.WordsPut.{put_length, put_other}
 
 -- what it leaves of the machine

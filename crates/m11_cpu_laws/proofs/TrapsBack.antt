@@ -7,28 +7,28 @@ use Rattle.m11_base.specs.declared.instruction.Insn.TheVariants as insn
 use Rattle.m11_base.specs.declared.instruction.NumberOp.TheVariants.{Emt, Trap}
 use Rattle.m11_base.specs.declared.operand.Register.{Register}
 use Rattle.m11_base.specs.declared.operand.Register.TheVariants.{Sp, Pc}
-use Rattle.m11_machine.specs.Acts.{◌>>=◌}
-use Rattle.m11_machine.specs.Dialogue.{after, Comes, Dialogue}
-use Rattle.m11_machine.specs.Execution.{bare, execute, numbered, return_from_trap}
-use Rattle.m11_machine.specs.Jumps.{pop, push}
-use Rattle.m11_machine.specs.Machine.{advanced, register_of, with_register}
-use Rattle.m11_machine.specs.Memory.{word_at}
+use Rattle.m11_cpu_machine.specs.Acts.{◌>>=◌}
+use Rattle.m11_cpu_machine.specs.Dialogue.{after, Comes, Dialogue}
+use Rattle.m11_cpu_machine.specs.Execution.{bare, execute, numbered, return_from_trap}
+use Rattle.m11_cpu_machine.specs.Jumps.{pop, push}
+use Rattle.m11_cpu_machine.specs.Machine.{advanced, register_of, with_register}
+use Rattle.m11_cpu_machine.specs.Memory.{word_at}
 use Rattle.m11_cpu_laws.specs.Returns.{HasRoom, IsAt, IsRunning, IsWordInside, TrapInstructionsReturn, TrapIsOver, TrapReturns, vector_of}
-use Rattle.m11_machine.specs.Status.{bit, psw_of, status_of}
-use Rattle.m11_machine.specs.Steps.{step, turned}
-use Rattle.m11_machine.specs.Traps.{push_state, trap, trap_pushed, vector_address, vectored}
+use Rattle.m11_cpu_machine.specs.Status.{bit, psw_of, status_of}
+use Rattle.m11_cpu_machine.specs.Steps.{step, turned}
+use Rattle.m11_cpu_machine.specs.Traps.{push_state, trap, trap_pushed, vector_address, vectored}
 use Rattle.m11_cpu_laws.specs.Writes.{push_address, stack_deepened}
-use Rattle.m11_machine.specs.declared.abort.Abort.{Abort}
-use Rattle.m11_machine.specs.declared.abort.Abort.TheVariants.{Traps}
-use Rattle.m11_machine.specs.declared.abort.Vector.{Vector}
-use Rattle.m11_machine.specs.declared.abort.Vector.TheVariants as vector
-use Rattle.m11_machine.specs.declared.execution.Ending.{Ending}
-use Rattle.m11_machine.specs.declared.machine.Machine.{Machine}
-use Rattle.m11_machine.specs.declared.status.ProcessorStatus.{ProcessorStatus}
-use Rattle.m11_machine.specs.declared.stop.Turn.TheVariants.{Next}
-use Rattle.m11_machine.proofs.AtOnce.{bind_at}
+use Rattle.m11_cpu_machine.specs.declared.abort.Abort.{Abort}
+use Rattle.m11_cpu_machine.specs.declared.abort.Abort.TheVariants.{Traps}
+use Rattle.m11_cpu_machine.specs.declared.abort.Vector.{Vector}
+use Rattle.m11_cpu_machine.specs.declared.abort.Vector.TheVariants as vector
+use Rattle.m11_cpu_machine.specs.declared.execution.Ending.{Ending}
+use Rattle.m11_cpu_machine.specs.declared.machine.Machine.{Machine}
+use Rattle.m11_cpu_machine.specs.declared.status.ProcessorStatus.{ProcessorStatus}
+use Rattle.m11_cpu_machine.specs.declared.stop.Turn.TheVariants.{Next}
+use Rattle.m11_cpu_machine.proofs.AtOnce.{bind_at}
 use Rattle.m11_cpu_laws.proofs.StepsInMemory.{pop_inside, push_inside, pushed, step_at, step_by}
-use Rattle.m11_machine.proofs.RegistersPut.{put_same}
+use Rattle.m11_cpu_machine.proofs.RegistersPut.{put_same}
 use Rattle.m11_cpu_laws.proofs.WordsPut.{length_put, put_length, put_other, word_put, word_put_other}
 
 -- ---- the processor status

@@ -14,16 +14,16 @@ use Rattle.m11_base.specs.declared.operand.Register.{Register}
 use Rattle.m11_base.specs.declared.operand.Register.TheVariants.{Sp, Pc}
 use Rattle.m11_base.specs.declared.operand.Size.{Size}
 use Rattle.m11_base.specs.declared.operand.Size.TheVariants.{Word, Byte}
-use Rattle.m11_machine.specs.Acts.{Act, ◌>>=◌}
-use Rattle.m11_machine.specs.Addressing.{fetch_operand, indexed, next_word, place_of, stepped_back}
-use Rattle.m11_machine.specs.Dialogue.{Comes, Dialogue, Exchange, Leads}
-use Rattle.m11_machine.specs.Execution.{execute}
-use Rattle.m11_machine.specs.Jumps.{address_of, pop, target}
-use Rattle.m11_machine.specs.Machine.{register_of}
-use Rattle.m11_machine.specs.declared.abort.Abort.{Abort}
-use Rattle.m11_machine.specs.declared.abort.Abort.TheVariants.{Traps}
-use Rattle.m11_machine.specs.declared.abort.Vector.TheVariants.{BusError}
-use Rattle.m11_machine.specs.declared.machine.Machine.{Machine}
+use Rattle.m11_cpu_machine.specs.Acts.{Act, ◌>>=◌}
+use Rattle.m11_cpu_machine.specs.Addressing.{fetch_operand, indexed, next_word, place_of, stepped_back}
+use Rattle.m11_cpu_machine.specs.Dialogue.{Comes, Dialogue, Exchange, Leads}
+use Rattle.m11_cpu_machine.specs.Execution.{execute}
+use Rattle.m11_cpu_machine.specs.Jumps.{address_of, pop, target}
+use Rattle.m11_cpu_machine.specs.Machine.{register_of}
+use Rattle.m11_cpu_machine.specs.declared.abort.Abort.{Abort}
+use Rattle.m11_cpu_machine.specs.declared.abort.Abort.TheVariants.{Traps}
+use Rattle.m11_cpu_machine.specs.declared.abort.Vector.TheVariants.{BusError}
+use Rattle.m11_cpu_machine.specs.declared.machine.Machine.{Machine}
 use Rattle.m11_cpu_laws.specs.Addresses.{no_byte_at, no_word_at}
 use Rattle.m11_cpu_laws.specs.Writes.{push_address}
 

@@ -3,14 +3,14 @@
 use Rattle.std.specs.Prelude.{◌≡◌, ℕ, ◌+◌, true, false, List, [], ◌∷◌, ◌++◌, Option, Some, None, ⊤}
 use Rattle.std.specs.Io.KnownBytes.{Appends}
 use Rattle.m11_base.specs.Feed.{GivesBytes}
-use Rattle.m11_machine.specs.Dialogue.{Exchange, Asked, Sent, Gives, Ends, Fails, Input, Leads, Output}
+use Rattle.m11_cpu_machine.specs.Dialogue.{Exchange, Asked, Sent, Gives, Ends, Fails, Input, Leads, Output}
 use Rattle.m11_cpu.specs.Runs.{run_counted}
-use Rattle.m11_machine.specs.declared.machine.Machine.{Machine}
+use Rattle.m11_cpu_machine.specs.declared.machine.Machine.{Machine}
 use Rattle.m11_cpu.specs.declared.runs.Ran.{Ran}
-use Rattle.m11_machine.specs.declared.stop.LastingStop.TheVariants as lasting
-use Rattle.m11_machine.specs.declared.stop.Stop.TheVariants.{Halt, Limit, Wait, StackFault, NoStart, InputFault, OutputFault}
-use Rattle.m11_machine.specs.declared.stop.Turn.{Turn}
-use Rattle.m11_machine.specs.declared.stop.Turn.TheVariants.{Next, Stopped}
+use Rattle.m11_cpu_machine.specs.declared.stop.LastingStop.TheVariants as lasting
+use Rattle.m11_cpu_machine.specs.declared.stop.Stop.TheVariants.{Halt, Limit, Wait, StackFault, NoStart, InputFault, OutputFault}
+use Rattle.m11_cpu_machine.specs.declared.stop.Turn.{Turn}
+use Rattle.m11_cpu_machine.specs.declared.stop.Turn.TheVariants.{Next, Stopped}
 
 -- ---- the console
 

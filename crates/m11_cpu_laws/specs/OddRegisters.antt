@@ -1,16 +1,16 @@
 -- The extended set by an odd register, which is both words of its pair: R1, R3, R5 and the program counter. (PDP-11/40
 -- Processor Handbook, "Extended instruction set". That DIV and ASHC take an odd register so is this project's own.)
 use Rattle.std.specs.Prelude.{◌≡◌, ℕ, ◌%◌, ◌==◌, Bool, true, length}
-use Rattle.m11_arithmetic.specs.Extended.{division_of, product_of}
-use Rattle.m11_arithmetic.specs.Shifts.{shift_pair_result}
-use Rattle.m11_arithmetic.specs.declared.results.Division.TheVariants.{Done, Refused}
+use Rattle.m11_cpu_arithmetic.specs.Extended.{division_of, product_of}
+use Rattle.m11_cpu_arithmetic.specs.Shifts.{shift_pair_result}
+use Rattle.m11_cpu_arithmetic.specs.declared.results.Division.TheVariants.{Done, Refused}
 use Rattle.m11_base.specs.Operand.{register_number}
 use Rattle.m11_base.specs.declared.instruction.ConditionCodes.{ConditionCodes}
 use Rattle.m11_base.specs.declared.instruction.ExtendedOp.TheVariants.{Mul, Div, Ashc}
 use Rattle.m11_base.specs.declared.operand.Register.{Register}
-use Rattle.m11_machine.specs.Extended.{extended_by}
-use Rattle.m11_machine.specs.Machine.{register_of}
-use Rattle.m11_machine.specs.declared.machine.Machine.{Machine}
+use Rattle.m11_cpu_machine.specs.Extended.{extended_by}
+use Rattle.m11_cpu_machine.specs.Machine.{register_of}
+use Rattle.m11_cpu_machine.specs.declared.machine.Machine.{Machine}
 
 abbrev pub is_odd_register : Register → Bool
 is_odd_register register = register_number register % 2 == 1

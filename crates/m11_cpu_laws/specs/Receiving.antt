@@ -1,9 +1,9 @@
 -- What the receiver of the console hears over a step. (SIMH PDP-11 manual, console terminal; what is said of the end of
 -- the input is this project's own.)
 use Rattle.std.specs.Prelude.{◌≡◌, ◌≢◌, ℕ, Bool, true, false, List, [], ◌∷◌}
-use Rattle.m11_machine.specs.Dialogue.{Exchange, Asked, Sent, Gives, Ends, Fails}
-use Rattle.m11_machine.specs.declared.console.Receiver.{Receiver}
-use Rattle.m11_machine.specs.declared.machine.Machine.{Machine}
+use Rattle.m11_cpu_machine.specs.Dialogue.{Exchange, Asked, Sent, Gives, Ends, Fails}
+use Rattle.m11_cpu_machine.specs.declared.console.Receiver.{Receiver}
+use Rattle.m11_cpu_machine.specs.declared.machine.Machine.{Machine}
 use Rattle.m11_cpu_laws.specs.Laws.{given}
 
 -- from whether the end was returned before, by these exchanges, to whether it was returned after them: nothing is asked

@@ -15,16 +15,16 @@ use Rattle.m11_base.specs.declared.operand.Mode.TheVariants as mode
 use Rattle.m11_base.specs.declared.operand.Operand.{Operand}
 use Rattle.m11_base.specs.declared.operand.Register.{Register}
 use Rattle.m11_base.specs.declared.operand.Register.TheVariants.{Pc, R5, Sp}
-use Rattle.m11_machine.specs.Dialogue.{Exchange}
-use Rattle.m11_machine.specs.Extended.{low_word_of}
-use Rattle.m11_machine.specs.Machine.{register_of}
-use Rattle.m11_machine.specs.Addressing.{next_word}
-use Rattle.m11_machine.specs.Steps.{instruction}
-use Rattle.m11_machine.specs.declared.abort.Abort.{Abort}
-use Rattle.m11_machine.specs.declared.abort.Abort.TheVariants.{Traps, Stops}
-use Rattle.m11_machine.specs.declared.execution.Ending.{Ending}
-use Rattle.m11_machine.specs.declared.execution.Ending.TheVariants as ending
-use Rattle.m11_machine.specs.declared.machine.Machine.{Machine}
+use Rattle.m11_cpu_machine.specs.Dialogue.{Exchange}
+use Rattle.m11_cpu_machine.specs.Extended.{low_word_of}
+use Rattle.m11_cpu_machine.specs.Machine.{register_of}
+use Rattle.m11_cpu_machine.specs.Addressing.{next_word}
+use Rattle.m11_cpu_machine.specs.Steps.{instruction}
+use Rattle.m11_cpu_machine.specs.declared.abort.Abort.{Abort}
+use Rattle.m11_cpu_machine.specs.declared.abort.Abort.TheVariants.{Traps, Stops}
+use Rattle.m11_cpu_machine.specs.declared.execution.Ending.{Ending}
+use Rattle.m11_cpu_machine.specs.declared.execution.Ending.TheVariants as ending
+use Rattle.m11_cpu_machine.specs.declared.machine.Machine.{Machine}
 use Rattle.m11_cpu_laws.specs.Exchanges.{ComesWithin}
 use Rattle.m11_cpu_laws.specs.Returns.{is_stepping}
 use Rattle.m11_cpu_laws.specs.Writes.{IsNoneOf, stores_double, stores_single}

@@ -12,16 +12,16 @@ use Rattle.m11_base.specs.declared.operand.Mode.TheVariants as mode
 use Rattle.m11_base.specs.declared.operand.Operand.{Operand}
 use Rattle.m11_base.specs.declared.operand.Register.{Register}
 use Rattle.m11_base.specs.declared.operand.Register.TheVariants.{Sp, Pc}
-use Rattle.m11_machine.specs.Dialogue.{Comes, Exchange, Leads}
-use Rattle.m11_machine.specs.Jumps.{target}
-use Rattle.m11_machine.specs.Machine.{advanced, memory_size, psw_in, register_of}
-use Rattle.m11_machine.specs.Memory.{word_at}
-use Rattle.m11_machine.specs.Steps.{step}
-use Rattle.m11_machine.specs.Traps.{trap, vector_address}
-use Rattle.m11_machine.specs.declared.abort.Vector.{Vector}
-use Rattle.m11_machine.specs.declared.abort.Vector.TheVariants as vector
-use Rattle.m11_machine.specs.declared.machine.Machine.{Machine}
-use Rattle.m11_machine.specs.declared.stop.Turn.TheVariants.{Next}
+use Rattle.m11_cpu_machine.specs.Dialogue.{Comes, Exchange, Leads}
+use Rattle.m11_cpu_machine.specs.Jumps.{target}
+use Rattle.m11_cpu_machine.specs.Machine.{advanced, memory_size, psw_in, register_of}
+use Rattle.m11_cpu_machine.specs.Memory.{word_at}
+use Rattle.m11_cpu_machine.specs.Steps.{step}
+use Rattle.m11_cpu_machine.specs.Traps.{trap, vector_address}
+use Rattle.m11_cpu_machine.specs.declared.abort.Vector.{Vector}
+use Rattle.m11_cpu_machine.specs.declared.abort.Vector.TheVariants as vector
+use Rattle.m11_cpu_machine.specs.declared.machine.Machine.{Machine}
+use Rattle.m11_cpu_machine.specs.declared.stop.Turn.TheVariants.{Next}
 use Rattle.m11_cpu_laws.specs.Writes.{MakesSteps, push_address, stack_deepened}
 
 -- ---- machines that run a program

@@ -14,23 +14,23 @@ use Rattle.m11_base.specs.declared.operand.Register.{Register}
 use Rattle.m11_base.specs.declared.operand.Register.TheVariants.{Pc}
 use Rattle.m11_base.specs.declared.operand.Size.{Size}
 use Rattle.m11_base.specs.declared.operand.Size.TheVariants.{Word, Byte}
-use Rattle.m11_arithmetic.specs.Doubles.{double_result, exclusive_or_result}
-use Rattle.m11_arithmetic.specs.Singles.{single_result}
-use Rattle.m11_arithmetic.specs.declared.results.Computed.{Computed}
-use Rattle.m11_machine.specs.Addressing.{fetch_operand, place_of}
-use Rattle.m11_machine.specs.Dialogue.{Exchange, Leads}
-use Rattle.m11_machine.specs.Execution.{execute}
-use Rattle.m11_machine.specs.Jumps.{pop, target}
-use Rattle.m11_machine.specs.Machine.{memory_size, psw_in, register_of, with_condition_codes, with_register}
-use Rattle.m11_machine.specs.Memory.{word_at}
-use Rattle.m11_machine.specs.Status.{status_of, status_written}
-use Rattle.m11_machine.specs.Traps.{trap, vector_address}
-use Rattle.m11_machine.specs.declared.abort.Vector.{Vector}
-use Rattle.m11_machine.specs.declared.addressing.OperandLocation.TheVariants.{InMemory}
-use Rattle.m11_machine.specs.declared.execution.Ending.{Ending}
-use Rattle.m11_machine.specs.declared.execution.Ending.TheVariants as ending
-use Rattle.m11_machine.specs.declared.machine.Machine.{Machine}
-use Rattle.m11_machine.specs.declared.stop.Turn.TheVariants.{Next}
+use Rattle.m11_cpu_arithmetic.specs.Doubles.{double_result, exclusive_or_result}
+use Rattle.m11_cpu_arithmetic.specs.Singles.{single_result}
+use Rattle.m11_cpu_arithmetic.specs.declared.results.Computed.{Computed}
+use Rattle.m11_cpu_machine.specs.Addressing.{fetch_operand, place_of}
+use Rattle.m11_cpu_machine.specs.Dialogue.{Exchange, Leads}
+use Rattle.m11_cpu_machine.specs.Execution.{execute}
+use Rattle.m11_cpu_machine.specs.Jumps.{pop, target}
+use Rattle.m11_cpu_machine.specs.Machine.{memory_size, psw_in, register_of, with_condition_codes, with_register}
+use Rattle.m11_cpu_machine.specs.Memory.{word_at}
+use Rattle.m11_cpu_machine.specs.Status.{status_of, status_written}
+use Rattle.m11_cpu_machine.specs.Traps.{trap, vector_address}
+use Rattle.m11_cpu_machine.specs.declared.abort.Vector.{Vector}
+use Rattle.m11_cpu_machine.specs.declared.addressing.OperandLocation.TheVariants.{InMemory}
+use Rattle.m11_cpu_machine.specs.declared.execution.Ending.{Ending}
+use Rattle.m11_cpu_machine.specs.declared.execution.Ending.TheVariants as ending
+use Rattle.m11_cpu_machine.specs.declared.machine.Machine.{Machine}
+use Rattle.m11_cpu_machine.specs.declared.stop.Turn.TheVariants.{Next}
 use Rattle.m11_cpu_laws.specs.Writes.{push_address, stack_deepened, stores_double, stores_single}
 
 -- the memory ends before the addresses of devices

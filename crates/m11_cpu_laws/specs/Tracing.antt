@@ -5,20 +5,20 @@ use Rattle.m11_base.specs.Instructions.{instruction_of}
 use Rattle.m11_base.specs.declared.instruction.BareOp.TheVariants as bare
 use Rattle.m11_base.specs.declared.instruction.Insn.{Insn}
 use Rattle.m11_base.specs.declared.instruction.Insn.TheVariants as insn
-use Rattle.m11_machine.specs.Dialogue.{Exchange, Leads}
-use Rattle.m11_machine.specs.Execution.{execute}
-use Rattle.m11_machine.specs.Addressing.{next_word}
-use Rattle.m11_machine.specs.Steps.{instruction, step}
-use Rattle.m11_machine.specs.Stop.{stop_of}
-use Rattle.m11_machine.specs.Traps.{trap}
-use Rattle.m11_machine.specs.declared.abort.Abort.{Abort}
-use Rattle.m11_machine.specs.declared.abort.Abort.TheVariants.{Traps, Stops}
-use Rattle.m11_machine.specs.declared.abort.Vector.TheVariants.{Breakpoint}
-use Rattle.m11_machine.specs.declared.execution.Ending.{Ending}
-use Rattle.m11_machine.specs.declared.machine.Machine.{Machine}
-use Rattle.m11_machine.specs.declared.stop.Stop.TheVariants.{Halt, Wait}
-use Rattle.m11_machine.specs.declared.stop.Turn.{Turn}
-use Rattle.m11_machine.specs.declared.stop.Turn.TheVariants.{Next, Stopped}
+use Rattle.m11_cpu_machine.specs.Dialogue.{Exchange, Leads}
+use Rattle.m11_cpu_machine.specs.Execution.{execute}
+use Rattle.m11_cpu_machine.specs.Addressing.{next_word}
+use Rattle.m11_cpu_machine.specs.Steps.{instruction, step}
+use Rattle.m11_cpu_machine.specs.Stop.{stop_of}
+use Rattle.m11_cpu_machine.specs.Traps.{trap}
+use Rattle.m11_cpu_machine.specs.declared.abort.Abort.{Abort}
+use Rattle.m11_cpu_machine.specs.declared.abort.Abort.TheVariants.{Traps, Stops}
+use Rattle.m11_cpu_machine.specs.declared.abort.Vector.TheVariants.{Breakpoint}
+use Rattle.m11_cpu_machine.specs.declared.execution.Ending.{Ending}
+use Rattle.m11_cpu_machine.specs.declared.machine.Machine.{Machine}
+use Rattle.m11_cpu_machine.specs.declared.stop.Stop.TheVariants.{Halt, Wait}
+use Rattle.m11_cpu_machine.specs.declared.stop.Turn.{Turn}
+use Rattle.m11_cpu_machine.specs.declared.stop.Turn.TheVariants.{Next, Stopped}
 
 -- nothing more is asked or sent, and the step yields this turn and this machine
 abbrev pub IsOver : Turn → Machine → List Exchange → Turn × Machine → Type 0

@@ -5,15 +5,15 @@ use Rattle.m11_base.specs.declared.instruction.NumberOp.TheVariants.{Emt}
 use Rattle.m11_base.specs.declared.instruction.BareOp.TheVariants.{Rti}
 use Rattle.m11_base.specs.declared.operand.Operand.{Operand}
 use Rattle.m11_base.specs.declared.operand.Size.TheVariants.{Word}
-use Rattle.m11_machine.specs.Addressing.{fetch_operand, place_of}
-use Rattle.m11_machine.specs.Dialogue.{Asked, Comes, Exchange, Fails, Leads, Sent}
+use Rattle.m11_cpu_machine.specs.Addressing.{fetch_operand, place_of}
+use Rattle.m11_cpu_machine.specs.Dialogue.{Asked, Comes, Exchange, Fails, Leads, Sent}
 use Rattle.m11_cpu.specs.Runs.{run_counted}
-use Rattle.m11_machine.specs.Steps.{step}
-use Rattle.m11_machine.specs.declared.addressing.OperandLocation.TheVariants.{InMemory}
-use Rattle.m11_machine.specs.declared.machine.Machine.{Machine}
-use Rattle.m11_machine.specs.declared.stop.Stop.TheVariants.{InputFault, Limit, OutputFault, StackFault}
-use Rattle.m11_machine.specs.declared.stop.Turn.{Turn}
-use Rattle.m11_machine.specs.declared.stop.Turn.TheVariants.{Next, Stopped}
+use Rattle.m11_cpu_machine.specs.Steps.{step}
+use Rattle.m11_cpu_machine.specs.declared.addressing.OperandLocation.TheVariants.{InMemory}
+use Rattle.m11_cpu_machine.specs.declared.machine.Machine.{Machine}
+use Rattle.m11_cpu_machine.specs.declared.stop.Stop.TheVariants.{InputFault, Limit, OutputFault, StackFault}
+use Rattle.m11_cpu_machine.specs.declared.stop.Turn.{Turn}
+use Rattle.m11_cpu_machine.specs.declared.stop.Turn.TheVariants.{Next, Stopped}
 use Rattle.m11_cpu_laws.specs.Returns.{HasRoom, IsAt, IsRunning}
 use Rattle.m11_cpu_laws.specs.StatusWord.{EndsBeforeDevices}
 use Rattle.m11_cpu_laws.specs.Writes.{MakesSteps}

@@ -13,19 +13,19 @@ use Rattle.m11_base.specs.declared.operand.Operand.{Operand}
 use Rattle.m11_base.specs.declared.operand.Register.TheVariants.{Sp}
 use Rattle.m11_base.specs.declared.operand.Size.{Size}
 use Rattle.m11_base.specs.declared.operand.Size.TheVariants.{Word, Byte}
-use Rattle.m11_machine.specs.Acts.{Act, ◌>>=◌}
-use Rattle.m11_machine.specs.Dialogue.{Comes, Exchange}
-use Rattle.m11_machine.specs.Jumps.{target}
-use Rattle.m11_machine.specs.Machine.{byte_in, memory_size, register_of, with_register}
-use Rattle.m11_machine.specs.Addressing.{fetch_operand, next_word, place_of}
-use Rattle.m11_machine.specs.Steps.{instruction}
-use Rattle.m11_machine.specs.declared.abort.Abort.{Abort}
-use Rattle.m11_machine.specs.declared.abort.Abort.TheVariants.{Traps, Stops}
-use Rattle.m11_machine.specs.declared.execution.Ending.{Ending}
-use Rattle.m11_machine.specs.declared.execution.Ending.TheVariants as ending
-use Rattle.m11_machine.specs.declared.machine.Machine.{Machine}
-use Rattle.m11_machine.specs.declared.addressing.OperandLocation.{OperandLocation}
-use Rattle.m11_machine.specs.declared.addressing.OperandLocation.TheVariants.{InRegister, InMemory}
+use Rattle.m11_cpu_machine.specs.Acts.{Act, ◌>>=◌}
+use Rattle.m11_cpu_machine.specs.Dialogue.{Comes, Exchange}
+use Rattle.m11_cpu_machine.specs.Jumps.{target}
+use Rattle.m11_cpu_machine.specs.Machine.{byte_in, memory_size, register_of, with_register}
+use Rattle.m11_cpu_machine.specs.Addressing.{fetch_operand, next_word, place_of}
+use Rattle.m11_cpu_machine.specs.Steps.{instruction}
+use Rattle.m11_cpu_machine.specs.declared.abort.Abort.{Abort}
+use Rattle.m11_cpu_machine.specs.declared.abort.Abort.TheVariants.{Traps, Stops}
+use Rattle.m11_cpu_machine.specs.declared.execution.Ending.{Ending}
+use Rattle.m11_cpu_machine.specs.declared.execution.Ending.TheVariants as ending
+use Rattle.m11_cpu_machine.specs.declared.machine.Machine.{Machine}
+use Rattle.m11_cpu_machine.specs.declared.addressing.OperandLocation.{OperandLocation}
+use Rattle.m11_cpu_machine.specs.declared.addressing.OperandLocation.TheVariants.{InRegister, InMemory}
 use Rattle.m11_cpu_laws.specs.Exchanges.{ComesWithin}
 
 -- ---- what stays

@@ -3,7 +3,7 @@
 ghost use Rattle.std.specs.Prelude.{ℕ};
 ghost use Rattle.m11_base.specs.declared.instruction.BranchOp.{BranchOp};
 ghost use Rattle.m11_base.specs.declared.operand.Register.{Register};
-ghost use Rattle.m11_machine.specs.declared.machine.Machine.{Machine};
+ghost use Rattle.m11_cpu_machine.specs.declared.machine.Machine.{Machine};
 ghost use Rattle.m11_cpu_laws.specs.Branching.{BranchGoes, MarkGoes, SobGoes};
 
 /// A branch that is taken goes as many words on or back from the word after it as its number says, and one that isn't taken

@@ -1,12 +1,12 @@
 //! What a step has to do with its devices.
 
 ghost use Rattle.std.specs.Prelude.{List, ℕ, Result};
-ghost use Rattle.m11_machine.specs.Access.{load_byte, load_word};
-ghost use Rattle.m11_machine.specs.Dialogue.{Exchange, Leads};
-ghost use Rattle.m11_machine.specs.Steps.{step};
-ghost use Rattle.m11_machine.specs.declared.abort.Abort.{Abort};
-ghost use Rattle.m11_machine.specs.declared.machine.Machine.{Machine};
-ghost use Rattle.m11_machine.specs.declared.stop.Turn.{Turn};
+ghost use Rattle.m11_cpu_machine.specs.Access.{load_byte, load_word};
+ghost use Rattle.m11_cpu_machine.specs.Dialogue.{Exchange, Leads};
+ghost use Rattle.m11_cpu_machine.specs.Steps.{step};
+ghost use Rattle.m11_cpu_machine.specs.declared.abort.Abort.{Abort};
+ghost use Rattle.m11_cpu_machine.specs.declared.machine.Machine.{Machine};
+ghost use Rattle.m11_cpu_machine.specs.declared.stop.Turn.{Turn};
 ghost use Rattle.m11_cpu_laws.specs.Failures.{device_stop, GoesOn, StopsAtFailure};
 ghost use Rattle.m11_cpu_laws.specs.Receiving.{ReceiverChanges, LoadReceives};
 ghost use Rattle.m11_cpu_laws.specs.Writes.{MakesSteps};

@@ -1,13 +1,13 @@
 //! Laws of the console, of stops and of runs.
 
 ghost use Rattle.std.specs.Prelude.{◌≡◌, List, ℕ, Some};
-ghost use Rattle.m11_machine.specs.Dialogue.{Comes, Devices, Exchange, Happened, Leads};
-ghost use Rattle.m11_machine.specs.Steps.{step};
-ghost use Rattle.m11_machine.specs.Stop.{stop_of};
-ghost use Rattle.m11_machine.specs.declared.machine.Machine.{Machine};
-ghost use Rattle.m11_machine.specs.declared.stop.LastingStop.{LastingStop};
-ghost use Rattle.m11_machine.specs.declared.stop.Turn.{Turn};
-ghost use Rattle.m11_machine.specs.declared.stop.Turn.TheVariants.{Stopped};
+ghost use Rattle.m11_cpu_machine.specs.Dialogue.{Comes, Devices, Exchange, Happened, Leads};
+ghost use Rattle.m11_cpu_machine.specs.Steps.{step};
+ghost use Rattle.m11_cpu_machine.specs.Stop.{stop_of};
+ghost use Rattle.m11_cpu_machine.specs.declared.machine.Machine.{Machine};
+ghost use Rattle.m11_cpu_machine.specs.declared.stop.LastingStop.{LastingStop};
+ghost use Rattle.m11_cpu_machine.specs.declared.stop.Turn.{Turn};
+ghost use Rattle.m11_cpu_machine.specs.declared.stop.Turn.TheVariants.{Stopped};
 ghost use Rattle.m11_cpu_laws.specs.Laws.{AreJoined, GainedJust, GaveJust, StopStands, given, taken};
 
 /// Whatever is asked and sent: the input gave just the bytes that it replied with, in order, and the output

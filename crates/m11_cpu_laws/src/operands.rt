@@ -3,7 +3,7 @@
 ghost use Rattle.std.specs.Prelude.{◌≡◌, length};
 ghost use Rattle.m11_base.specs.declared.operand.Register.{Register};
 ghost use Rattle.m11_base.specs.declared.operand.Size.{Size};
-ghost use Rattle.m11_machine.specs.declared.machine.Machine.{Machine};
+ghost use Rattle.m11_cpu_machine.specs.declared.machine.Machine.{Machine};
 ghost use Rattle.m11_cpu_laws.specs.Operands.{EightModes, FormsOfCounter};
 
 /// Each mode finds its operand where the table of the handbook says, and steps its register so: the eight modes of any

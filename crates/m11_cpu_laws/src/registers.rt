@@ -5,16 +5,16 @@ ghost use Rattle.m11_base.specs.Operand.{register_number};
 ghost use Rattle.m11_base.specs.declared.instruction.Insn.{Insn};
 ghost use Rattle.m11_base.specs.declared.operand.Register.{Register};
 ghost use Rattle.m11_base.specs.declared.operand.Register.TheVariants.{Sp};
-ghost use Rattle.m11_machine.specs.Dialogue.{Exchange, Leads};
-ghost use Rattle.m11_machine.specs.Execution.{execute};
-ghost use Rattle.m11_machine.specs.Addressing.{next_word};
-ghost use Rattle.m11_machine.specs.Steps.{step};
-ghost use Rattle.m11_machine.specs.Traps.{trap};
-ghost use Rattle.m11_machine.specs.declared.abort.Abort.{Abort};
-ghost use Rattle.m11_machine.specs.declared.abort.Vector.{Vector};
-ghost use Rattle.m11_machine.specs.declared.execution.Ending.{Ending};
-ghost use Rattle.m11_machine.specs.declared.machine.Machine.{Machine};
-ghost use Rattle.m11_machine.specs.declared.stop.Turn.{Turn};
+ghost use Rattle.m11_cpu_machine.specs.Dialogue.{Exchange, Leads};
+ghost use Rattle.m11_cpu_machine.specs.Execution.{execute};
+ghost use Rattle.m11_cpu_machine.specs.Addressing.{next_word};
+ghost use Rattle.m11_cpu_machine.specs.Steps.{step};
+ghost use Rattle.m11_cpu_machine.specs.Traps.{trap};
+ghost use Rattle.m11_cpu_machine.specs.declared.abort.Abort.{Abort};
+ghost use Rattle.m11_cpu_machine.specs.declared.abort.Vector.{Vector};
+ghost use Rattle.m11_cpu_machine.specs.declared.execution.Ending.{Ending};
+ghost use Rattle.m11_cpu_machine.specs.declared.machine.Machine.{Machine};
+ghost use Rattle.m11_cpu_machine.specs.declared.stop.Turn.{Turn};
 ghost use Rattle.m11_cpu_laws.specs.OddRegisters.{OddRegisters};
 ghost use Rattle.m11_cpu_laws.specs.Registers.{changed_by, RegistersStay, StepRegisters};
 ghost use Rattle.m11_cpu_laws.specs.Writes.{MakesSteps};
@@ -39,7 +39,7 @@ pub fn registers_stay()
 
 /// An odd register is both words of its pair. MUL leaves the low word of the product in it, DIV takes it for both words of the
 /// dividend and leaves the remainder, and ASHC shifts it twice over and leaves the low word. What these are is said by
-/// the laws of m11_arithmetic. (PDP-11/40 Processor Handbook, "Extended instruction set".)
+/// the laws of m11_cpu_arithmetic. (PDP-11/40 Processor Handbook, "Extended instruction set".)
 #[tactic(auto, using(crate::proofs::BothWords::odd_registers))]
 pub fn odd_registers_are_both_words()
     ensures { (register : Register) (source : ℕ) (m : Machine) → OddRegisters register source m }

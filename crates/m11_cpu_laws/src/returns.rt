@@ -3,8 +3,8 @@
 ghost use Rattle.m11_base.specs.declared.instruction.Insn.{Insn};
 ghost use Rattle.m11_base.specs.declared.operand.Operand.{Operand};
 ghost use Rattle.m11_base.specs.declared.operand.Register.{Register};
-ghost use Rattle.m11_machine.specs.declared.abort.Vector.{Vector};
-ghost use Rattle.m11_machine.specs.declared.machine.Machine.{Machine};
+ghost use Rattle.m11_cpu_machine.specs.declared.abort.Vector.{Vector};
+ghost use Rattle.m11_cpu_machine.specs.declared.machine.Machine.{Machine};
 ghost use Rattle.m11_cpu_laws.specs.Returns.{CallIsMade, CallsReturn, HasRoom, IsRunning, PlainCallIsMade, PlainCallsReturn, TrapInstructionsReturn, TrapReturns};
 
 /// A call comes back. The machine makes steps, and T is clear; JSR is by one of the registers 0 to 5, its operand steps

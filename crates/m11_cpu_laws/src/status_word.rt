@@ -8,12 +8,12 @@ ghost use Rattle.m11_base.specs.declared.instruction.SingleOp.{SingleOp};
 ghost use Rattle.m11_base.specs.declared.operand.Operand.{Operand};
 ghost use Rattle.m11_base.specs.declared.operand.Register.{Register};
 ghost use Rattle.m11_base.specs.declared.operand.Size.{Size};
-ghost use Rattle.m11_machine.specs.Dialogue.{Exchange, Leads};
-ghost use Rattle.m11_machine.specs.Execution.{execute};
-ghost use Rattle.m11_machine.specs.declared.abort.Abort.{Abort};
-ghost use Rattle.m11_machine.specs.declared.abort.Vector.{Vector};
-ghost use Rattle.m11_machine.specs.declared.execution.Ending.{Ending};
-ghost use Rattle.m11_machine.specs.declared.machine.Machine.{Machine};
+ghost use Rattle.m11_cpu_machine.specs.Dialogue.{Exchange, Leads};
+ghost use Rattle.m11_cpu_machine.specs.Execution.{execute};
+ghost use Rattle.m11_cpu_machine.specs.declared.abort.Abort.{Abort};
+ghost use Rattle.m11_cpu_machine.specs.declared.abort.Vector.{Vector};
+ghost use Rattle.m11_cpu_machine.specs.declared.execution.Ending.{Ending};
+ghost use Rattle.m11_cpu_machine.specs.declared.machine.Machine.{Machine};
 ghost use Rattle.m11_cpu_laws.specs.StatusWord.{CallsAtStatus, DoublesAtStatus, ExclusivesAtStatus, loads_trace, ReturnsLoad, SinglesAtStatus, TrapsLoad};
 
 /// The processor status word is what is stored to it. Where the destination of an instruction is at 177776, a word or a

@@ -1,6 +1,6 @@
 //! What follows an instruction in its step.
 
-ghost use Rattle.m11_machine.specs.declared.machine.Machine.{Machine};
+ghost use Rattle.m11_cpu_machine.specs.declared.machine.Machine.{Machine};
 ghost use Rattle.m11_cpu_laws.specs.Tracing.{InstructionAborts, InstructionEnds};
 ghost use Rattle.m11_cpu_laws.specs.Writes.{MakesSteps};
 

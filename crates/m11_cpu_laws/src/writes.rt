@@ -1,12 +1,12 @@
 //! Which bytes of memory a step may write.
 
 ghost use Rattle.std.specs.Prelude.{List};
-ghost use Rattle.m11_machine.specs.Dialogue.{Exchange, Leads};
-ghost use Rattle.m11_machine.specs.Steps.{step};
-ghost use Rattle.m11_machine.specs.Traps.{trap};
-ghost use Rattle.m11_machine.specs.declared.abort.Vector.{Vector};
-ghost use Rattle.m11_machine.specs.declared.machine.Machine.{Machine};
-ghost use Rattle.m11_machine.specs.declared.stop.Turn.{Turn};
+ghost use Rattle.m11_cpu_machine.specs.Dialogue.{Exchange, Leads};
+ghost use Rattle.m11_cpu_machine.specs.Steps.{step};
+ghost use Rattle.m11_cpu_machine.specs.Traps.{trap};
+ghost use Rattle.m11_cpu_machine.specs.declared.abort.Vector.{Vector};
+ghost use Rattle.m11_cpu_machine.specs.declared.machine.Machine.{Machine};
+ghost use Rattle.m11_cpu_machine.specs.declared.stop.Turn.{Turn};
 ghost use Rattle.m11_cpu_laws.specs.Writes.{MakesSteps, StaysBut, StepWrites, two_pushed};
 
 /// Each byte of memory stays over a step, and so does the size of the memory, but for two kinds of bytes. The first are

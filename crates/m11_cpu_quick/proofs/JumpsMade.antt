@@ -2,26 +2,26 @@
 use Rattle.std.proofs.Common.{◌≡◌, ℕ, ◌+◌, ◌-◌, ◌*◌, ◌%◌, ◌<◌, ◌==◌, Bool, true, false, cond, refl, sym, ◌∙◌, ap, subst, List, length, arith, ℤ}
 use Rattle.std.proofs.lemmas.List.{set-set}
 use Rattle.std.specs.Prelude.{slice_set, Result, Ok}
-use Rattle.m11_arithmetic.specs.Branches.{is_taken}
+use Rattle.m11_cpu_arithmetic.specs.Branches.{is_taken}
 use Rattle.m11_base.specs.Operand.{register_number}
 use Rattle.m11_base.specs.declared.instruction.BranchOp.{BranchOp}
 use Rattle.m11_base.specs.declared.operand.Operand.{Operand}
 use Rattle.m11_base.specs.declared.operand.Register.{Register}
 use Rattle.m11_base.specs.declared.operand.Register.TheVariants.{Sp, Pc}
 use Rattle.m11_base.specs.declared.operand.Size.TheVariants.{Word}
-use Rattle.m11_machine.specs.Access.{store_word}
-use Rattle.m11_machine.specs.Addressing.{place_of, stepped_back}
-use Rattle.m11_machine.specs.Dialogue.{Comes, Dialogue}
-use Rattle.m11_machine.specs.Acts.{Act, ◌>>=◌}
-use Rattle.m11_machine.specs.Jumps.{branched, call, counted_down, enter, jump, pop, push, return_by, target, words_on}
-use Rattle.m11_machine.specs.Memory.{word_at}
-use Rattle.m11_machine.specs.Machine.{advanced, register_of, with_register}
+use Rattle.m11_cpu_machine.specs.Access.{store_word}
+use Rattle.m11_cpu_machine.specs.Addressing.{place_of, stepped_back}
+use Rattle.m11_cpu_machine.specs.Dialogue.{Comes, Dialogue}
+use Rattle.m11_cpu_machine.specs.Acts.{Act, ◌>>=◌}
+use Rattle.m11_cpu_machine.specs.Jumps.{branched, call, counted_down, enter, jump, pop, push, return_by, target, words_on}
+use Rattle.m11_cpu_machine.specs.Memory.{word_at}
+use Rattle.m11_cpu_machine.specs.Machine.{advanced, register_of, with_register}
 use Rattle.m11_cpu_quick.specs.Near.{is_plain, plain_at}
 use Rattle.m11_cpu_quick.specs.Beside.{shown, stored}
-use Rattle.m11_machine.specs.declared.abort.Abort.{Abort}
-use Rattle.m11_machine.specs.declared.addressing.OperandLocation.TheVariants.{InMemory}
-use Rattle.m11_machine.specs.declared.machine.Machine.{Machine}
-use Rattle.m11_machine.proofs.AtOnce.{bind_at}
+use Rattle.m11_cpu_machine.specs.declared.abort.Abort.{Abort}
+use Rattle.m11_cpu_machine.specs.declared.addressing.OperandLocation.TheVariants.{InMemory}
+use Rattle.m11_cpu_machine.specs.declared.machine.Machine.{Machine}
+use Rattle.m11_cpu_machine.proofs.AtOnce.{bind_at}
 use Rattle.m11_cpu_quick.proofs.QuickDone.{word_loads, word_stores}
 use Rattle.m11_cpu_quick.proofs.OperandsFound.{counter_put, counter_read, held, other_put, other_register, with_held}
 

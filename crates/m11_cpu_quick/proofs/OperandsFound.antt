@@ -9,15 +9,15 @@ use Rattle.m11_base.specs.declared.operand.Register.TheVariants.{R0, R1, R2, R3,
 use Rattle.m11_base.specs.declared.operand.Size.{Size}
 use Rattle.m11_base.specs.declared.operand.Size.TheVariants.{Word, Byte}
 use Rattle.m11_base.specs.declared.operand.Mode.TheVariants as mode
-use Rattle.m11_machine.specs.Addressing.{fetch, fetch_operand, place_of, step_of, stepped_back}
-use Rattle.m11_machine.specs.Dialogue.{Comes, Dialogue}
+use Rattle.m11_cpu_machine.specs.Addressing.{fetch, fetch_operand, place_of, step_of, stepped_back}
+use Rattle.m11_cpu_machine.specs.Dialogue.{Comes, Dialogue}
 use Rattle.m11_cpu_quick.specs.Forms.{bytes_of}
-use Rattle.m11_machine.specs.Machine.{register_of, with_register, advanced}
+use Rattle.m11_cpu_machine.specs.Machine.{register_of, with_register, advanced}
 use Rattle.m11_cpu_quick.specs.Near.{is_plain, plain_at}
 use Rattle.m11_cpu_quick.specs.Beside.{low, shown}
-use Rattle.m11_machine.specs.declared.abort.Abort.{Abort}
-use Rattle.m11_machine.specs.declared.addressing.OperandLocation.TheVariants.{InMemory, InRegister}
-use Rattle.m11_machine.specs.declared.machine.Machine.{Machine}
+use Rattle.m11_cpu_machine.specs.declared.abort.Abort.{Abort}
+use Rattle.m11_cpu_machine.specs.declared.addressing.OperandLocation.TheVariants.{InMemory, InRegister}
+use Rattle.m11_cpu_machine.specs.declared.machine.Machine.{Machine}
 use Rattle.m11_cpu_quick.proofs.QuickDone.{by_decrement, by_increment, by_index, by_pointer, by_register, in_register, index_at, place_fetched, plain_fetched}
 
 pub is_counter : (register : Register) → register_number register ≡ 7 → register ≡ Pc

@@ -15,30 +15,30 @@ use Rattle.m11_base.specs.declared.operand.Register.{Register}
 use Rattle.m11_base.specs.declared.operand.Register.TheVariants.{Pc}
 use Rattle.m11_base.specs.declared.operand.Size.{Size}
 use Rattle.m11_base.specs.declared.operand.Size.TheVariants.{Word, Byte}
-use Rattle.m11_machine.specs.Access.{is_odd, load_word, load_byte, store_word, store_byte}
-use Rattle.m11_machine.specs.Acts.{Act, ◌>>=◌}
-use Rattle.m11_machine.specs.DestinationUse.{use_by_double, use_by_single}
-use Rattle.m11_machine.specs.Dialogue.{after, Comes, Dialogue}
-use Rattle.m11_machine.specs.DoubleOperands.{change_double, compare, double_at, double_by, move_to}
-use Rattle.m11_machine.specs.Execution.{execute}
-use Rattle.m11_machine.specs.Machine.{advanced, register_of, with_register}
-use Rattle.m11_machine.specs.Memory.{byte_at, with_byte, with_word, word_at}
+use Rattle.m11_cpu_machine.specs.Access.{is_odd, load_word, load_byte, store_word, store_byte}
+use Rattle.m11_cpu_machine.specs.Acts.{Act, ◌>>=◌}
+use Rattle.m11_cpu_machine.specs.DestinationUse.{use_by_double, use_by_single}
+use Rattle.m11_cpu_machine.specs.Dialogue.{after, Comes, Dialogue}
+use Rattle.m11_cpu_machine.specs.DoubleOperands.{change_double, compare, double_at, double_by, move_to}
+use Rattle.m11_cpu_machine.specs.Execution.{execute}
+use Rattle.m11_cpu_machine.specs.Machine.{advanced, register_of, with_register}
+use Rattle.m11_cpu_machine.specs.Memory.{byte_at, with_byte, with_word, word_at}
 use Rattle.m11_cpu_quick.specs.Near.{NearKeeps, is_plain, plain_at}
-use Rattle.m11_machine.specs.Addressing.{deferred, fetch, fetch_operand, indexed, next_word, place_by, place_of, stepped_back, step_of, store}
+use Rattle.m11_cpu_machine.specs.Addressing.{deferred, fetch, fetch_operand, indexed, next_word, place_by, place_of, stepped_back, step_of, store}
 use Rattle.m11_cpu_quick.specs.Quick.{QuickRuns, StepsAtOnce}
-use Rattle.m11_machine.specs.SingleOperands.{change_single, single, single_by, test_operand, write}
-use Rattle.m11_machine.specs.Steps.{instruction, step, step_unless, turned}
-use Rattle.m11_machine.specs.declared.abort.Abort.{Abort}
-use Rattle.m11_machine.specs.declared.destination_use.DestinationUse.{DestinationUse}
-use Rattle.m11_machine.specs.declared.destination_use.DestinationUse.TheVariants.{Writes, Reads, Changes}
-use Rattle.m11_machine.specs.declared.execution.Ending.{Ending}
-use Rattle.m11_machine.specs.declared.execution.Ending.TheVariants as ending
-use Rattle.m11_machine.specs.declared.machine.Machine.{Machine}
-use Rattle.m11_machine.specs.declared.addressing.OperandLocation.{OperandLocation}
-use Rattle.m11_machine.specs.declared.addressing.OperandLocation.TheVariants.{InRegister, InMemory}
-use Rattle.m11_machine.specs.declared.stop.LastingStop.{LastingStop}
-use Rattle.m11_machine.specs.declared.stop.Turn.TheVariants.{Next}
-use Rattle.m11_machine.proofs.AtOnce.{bind_at, turned_next}
+use Rattle.m11_cpu_machine.specs.SingleOperands.{change_single, single, single_by, test_operand, write}
+use Rattle.m11_cpu_machine.specs.Steps.{instruction, step, step_unless, turned}
+use Rattle.m11_cpu_machine.specs.declared.abort.Abort.{Abort}
+use Rattle.m11_cpu_machine.specs.declared.destination_use.DestinationUse.{DestinationUse}
+use Rattle.m11_cpu_machine.specs.declared.destination_use.DestinationUse.TheVariants.{Writes, Reads, Changes}
+use Rattle.m11_cpu_machine.specs.declared.execution.Ending.{Ending}
+use Rattle.m11_cpu_machine.specs.declared.execution.Ending.TheVariants as ending
+use Rattle.m11_cpu_machine.specs.declared.machine.Machine.{Machine}
+use Rattle.m11_cpu_machine.specs.declared.addressing.OperandLocation.{OperandLocation}
+use Rattle.m11_cpu_machine.specs.declared.addressing.OperandLocation.TheVariants.{InRegister, InMemory}
+use Rattle.m11_cpu_machine.specs.declared.stop.LastingStop.{LastingStop}
+use Rattle.m11_cpu_machine.specs.declared.stop.Turn.TheVariants.{Next}
+use Rattle.m11_cpu_machine.proofs.AtOnce.{bind_at, turned_next}
 
 chosen : {A : Type 0} (odd inside : Bool) (a b c : A) → (not odd && inside) ≡ true → cond odd a (cond inside b c) ≡ b
 chosen false true a b c e = refl

@@ -3,10 +3,10 @@ use Rattle.std.proofs.Common.{◌≡◌, ℕ, ◌+◌, ◌%◌, ◌<◌, ◌≤�
 use Rattle.std.proofs.lemmas.Bool.{false≢true}
 use Rattle.std.proofs.lemmas.Bool.Decides.{nat_tests}
 use Rattle.std.specs.Prelude.{nat_lt, Result, Ok}
-use Rattle.m11_machine.specs.Access.{is_odd}
-use Rattle.m11_arithmetic.specs.Doubles.{double_result}
-use Rattle.m11_arithmetic.specs.Singles.{single_result}
-use Rattle.m11_arithmetic.specs.declared.results.Computed.{Computed}
+use Rattle.m11_cpu_machine.specs.Access.{is_odd}
+use Rattle.m11_cpu_arithmetic.specs.Doubles.{double_result}
+use Rattle.m11_cpu_arithmetic.specs.Singles.{single_result}
+use Rattle.m11_cpu_arithmetic.specs.declared.results.Computed.{Computed}
 use Rattle.m11_base.specs.Operand.{register_number}
 use Rattle.m11_base.specs.declared.instruction.ConditionCodes.{ConditionCodes}
 use Rattle.m11_base.specs.declared.instruction.DoubleOp.{DoubleOp}
@@ -16,25 +16,25 @@ use Rattle.m11_base.specs.declared.operand.Operand.{Operand}
 use Rattle.m11_base.specs.declared.instruction.ExtendedOp.TheVariants.{Mul}
 use Rattle.m11_base.specs.declared.operand.Register.{Register}
 use Rattle.m11_base.specs.declared.operand.Register.TheVariants.{R0, R1, R2, R3, R4, R5, Sp, Pc}
-use Rattle.m11_arithmetic.specs.Extended.{product_of}
-use Rattle.m11_arithmetic.specs.declared.results.Pair.{Pair}
-use Rattle.m11_machine.specs.Extended.{extended, low_word_of}
+use Rattle.m11_cpu_arithmetic.specs.Extended.{product_of}
+use Rattle.m11_cpu_arithmetic.specs.declared.results.Pair.{Pair}
+use Rattle.m11_cpu_machine.specs.Extended.{extended, low_word_of}
 use Rattle.m11_base.specs.declared.operand.Size.{Size}
 use Rattle.m11_base.specs.declared.operand.Size.TheVariants.{Word, Byte}
-use Rattle.m11_machine.specs.Addressing.{fetch, fetch_operand, place_of, put_result, store, without_low_byte}
-use Rattle.m11_machine.specs.DestinationUse.{use_by_double}
-use Rattle.m11_machine.specs.Dialogue.{Comes, Dialogue}
-use Rattle.m11_machine.specs.declared.destination_use.DestinationUse.TheVariants.{Writes}
-use Rattle.m11_machine.specs.DoubleOperands.{change_double, compare, move_to, sign_extended, store_moved}
-use Rattle.m11_machine.specs.Machine.{finished, with_condition_codes, with_register}
+use Rattle.m11_cpu_machine.specs.Addressing.{fetch, fetch_operand, place_of, put_result, store, without_low_byte}
+use Rattle.m11_cpu_machine.specs.DestinationUse.{use_by_double}
+use Rattle.m11_cpu_machine.specs.Dialogue.{Comes, Dialogue}
+use Rattle.m11_cpu_machine.specs.declared.destination_use.DestinationUse.TheVariants.{Writes}
+use Rattle.m11_cpu_machine.specs.DoubleOperands.{change_double, compare, move_to, sign_extended, store_moved}
+use Rattle.m11_cpu_machine.specs.Machine.{finished, with_condition_codes, with_register}
 use Rattle.m11_cpu_quick.specs.Near.{is_plain}
 use Rattle.m11_cpu_quick.specs.Beside.{low, moved, shown, stored, with_low}
-use Rattle.m11_machine.specs.SingleOperands.{change_at, change_single, test_operand, write}
-use Rattle.m11_machine.specs.declared.abort.Abort.{Abort}
-use Rattle.m11_machine.specs.declared.addressing.OperandLocation.{OperandLocation}
-use Rattle.m11_machine.specs.declared.addressing.OperandLocation.TheVariants.{InMemory, InRegister}
-use Rattle.m11_machine.specs.declared.machine.Machine.{Machine}
-use Rattle.m11_machine.proofs.AtOnce.{bind_at, cond_not}
+use Rattle.m11_cpu_machine.specs.SingleOperands.{change_at, change_single, test_operand, write}
+use Rattle.m11_cpu_machine.specs.declared.abort.Abort.{Abort}
+use Rattle.m11_cpu_machine.specs.declared.addressing.OperandLocation.{OperandLocation}
+use Rattle.m11_cpu_machine.specs.declared.addressing.OperandLocation.TheVariants.{InMemory, InRegister}
+use Rattle.m11_cpu_machine.specs.declared.machine.Machine.{Machine}
+use Rattle.m11_cpu_machine.proofs.AtOnce.{bind_at, cond_not}
 use Rattle.m11_cpu_quick.proofs.OperandsFound.{held, other_put, other_register, with_held}
 use Rattle.m11_cpu_quick.proofs.QuickDone.{byte_stored, word_stored}
 

@@ -23,20 +23,20 @@ use Rattle.m11_base.specs.declared.operand.Register.TheVariants.{Pc}
 use Rattle.m11_base.specs.declared.operand.Size.{Size}
 use Rattle.m11_base.specs.declared.operand.Size.TheVariants.{Word}
 use Rattle.m11_base.specs.declared.instruction.ExtendedOp.TheVariants.{Mul}
-use Rattle.m11_machine.specs.Dialogue.{Comes}
-use Rattle.m11_machine.specs.Extended.{extended}
-use Rattle.m11_machine.specs.DoubleOperands.{double}
-use Rattle.m11_machine.specs.Execution.{conditions_applied, execute, on_register}
-use Rattle.m11_machine.specs.Jumps.{branched, call, counted_down, jump, return_by}
-use Rattle.m11_machine.specs.Machine.{register_of}
+use Rattle.m11_cpu_machine.specs.Dialogue.{Comes}
+use Rattle.m11_cpu_machine.specs.Extended.{extended}
+use Rattle.m11_cpu_machine.specs.DoubleOperands.{double}
+use Rattle.m11_cpu_machine.specs.Execution.{conditions_applied, execute, on_register}
+use Rattle.m11_cpu_machine.specs.Jumps.{branched, call, counted_down, jump, return_by}
+use Rattle.m11_cpu_machine.specs.Machine.{register_of}
 use Rattle.m11_cpu_quick.specs.Near.{NearEnds, NearKeeps, Yields, is_plain, plain_at}
 use Rattle.m11_cpu_quick.specs.Beside.{shown}
 use Rattle.m11_cpu_quick.specs.Quick.{QuickRuns, StepsAtOnce}
-use Rattle.m11_machine.specs.SingleOperands.{single}
-use Rattle.m11_machine.specs.Steps.{step}
-use Rattle.m11_machine.specs.declared.execution.Ending.TheVariants as ending
-use Rattle.m11_machine.specs.declared.machine.Machine.{Machine}
-use Rattle.m11_machine.specs.declared.stop.Turn.TheVariants.{Next}
+use Rattle.m11_cpu_machine.specs.SingleOperands.{single}
+use Rattle.m11_cpu_machine.specs.Steps.{step}
+use Rattle.m11_cpu_machine.specs.declared.execution.Ending.TheVariants as ending
+use Rattle.m11_cpu_machine.specs.declared.machine.Machine.{Machine}
+use Rattle.m11_cpu_machine.specs.declared.stop.Turn.TheVariants.{Next}
 use Rattle.m11_cpu_quick.proofs.OperandsFound.{counter_put, counter_read}
 use Rattle.m11_cpu_quick.proofs.QuickDone.{bind_comes, one_more_step, step_made}
 

@@ -2,10 +2,10 @@
 use Rattle.std.specs.Prelude.{ℕ, ◌+◌, ◌%◌, List, slice_set}
 use Rattle.m11_base.specs.declared.operand.Size.{Size}
 use Rattle.m11_base.specs.declared.operand.Size.TheVariants.{Word, Byte}
-use Rattle.m11_machine.specs.Addressing.{without_low_byte}
-use Rattle.m11_machine.specs.DoubleOperands.{sign_extended}
-use Rattle.m11_machine.specs.Memory.{with_byte, with_word}
-use Rattle.m11_machine.specs.declared.machine.Machine.{Machine}
+use Rattle.m11_cpu_machine.specs.Addressing.{without_low_byte}
+use Rattle.m11_cpu_machine.specs.DoubleOperands.{sign_extended}
+use Rattle.m11_cpu_machine.specs.Memory.{with_byte, with_word}
+use Rattle.m11_cpu_machine.specs.declared.machine.Machine.{Machine}
 
 -- the machine with these registers and this program counter
 abbrev pub shown : ℕ → List ℕ → Machine → Machine

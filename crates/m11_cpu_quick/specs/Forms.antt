@@ -6,7 +6,7 @@ use Rattle.m11_base.specs.declared.operand.Mode.TheVariants as mode
 use Rattle.m11_base.specs.declared.operand.Operand.{Operand}
 use Rattle.m11_base.specs.declared.operand.Size.{Size}
 use Rattle.m11_base.specs.declared.operand.Size.TheVariants.{Word, Byte}
-use Rattle.m11_machine.specs.Addressing.{step_of}
+use Rattle.m11_cpu_machine.specs.Addressing.{step_of}
 use Rattle.m11_cpu_quick.specs.declared.forms.Form.{Form}
 use Rattle.m11_cpu_quick.specs.declared.forms.Form.TheVariants.{Register, Deferred, Increment, Decrement, Index, Absolute, Relative, Immediate, Other}
 

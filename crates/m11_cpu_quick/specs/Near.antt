@@ -3,11 +3,11 @@ use Rattle.std.specs.Prelude.{◌≡◌, ℕ, Bool, not, ◌&&◌, length, nat_l
 use Rattle.m11_base.specs.Devices.{Bytes}
 use Rattle.m11_base.specs.declared.operand.Size.{Size}
 use Rattle.m11_base.specs.declared.operand.Size.TheVariants.{Word, Byte}
-use Rattle.m11_machine.specs.Access.{is_odd}
-use Rattle.m11_machine.specs.Acts.{Act}
-use Rattle.m11_machine.specs.Dialogue.{Comes}
-use Rattle.m11_machine.specs.Memory.{byte_at, word_at}
-use Rattle.m11_machine.specs.declared.machine.Machine.{Machine}
+use Rattle.m11_cpu_machine.specs.Access.{is_odd}
+use Rattle.m11_cpu_machine.specs.Acts.{Act}
+use Rattle.m11_cpu_machine.specs.Dialogue.{Comes}
+use Rattle.m11_cpu_machine.specs.Memory.{byte_at, word_at}
+use Rattle.m11_cpu_machine.specs.declared.machine.Machine.{Machine}
 
 -- a word or byte lies in memory, and which
 abbrev pub is_plain : Size → ℕ → Bytes → Bool

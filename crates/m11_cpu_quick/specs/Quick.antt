@@ -2,12 +2,12 @@
 use Rattle.std.specs.Prelude.{◌≡◌, ℕ, zero, suc, false, List, None}
 use Rattle.m11_base.specs.Instructions.{meaning}
 use Rattle.m11_base.specs.OperationTables.{operation_by_tables}
-use Rattle.m11_machine.specs.Dialogue.{Comes}
-use Rattle.m11_machine.specs.Execution.{execute}
-use Rattle.m11_machine.specs.Steps.{step}
-use Rattle.m11_machine.specs.declared.execution.Ending.TheVariants as ending
-use Rattle.m11_machine.specs.declared.machine.Machine.{Machine}
-use Rattle.m11_machine.specs.declared.stop.Turn.TheVariants.{Next}
+use Rattle.m11_cpu_machine.specs.Dialogue.{Comes}
+use Rattle.m11_cpu_machine.specs.Execution.{execute}
+use Rattle.m11_cpu_machine.specs.Steps.{step}
+use Rattle.m11_cpu_machine.specs.declared.execution.Ending.TheVariants as ending
+use Rattle.m11_cpu_machine.specs.declared.machine.Machine.{Machine}
+use Rattle.m11_cpu_machine.specs.declared.stop.Turn.TheVariants.{Next}
 use Rattle.m11_cpu_quick.specs.Beside.{shown}
 use Rattle.m11_cpu_quick.specs.Near.{Yields}
 

@@ -27,7 +27,7 @@ use m11_base::Size::{Byte, Word};
 use m11_base::{
     BranchOp, ConditionCodes, ConditionOp, DoubleOp, Insn, Operand, SingleOp, Size, decode,
 };
-use m11_machine::Machine;
+use m11_cpu_machine::Machine;
 
 /// The word of an instruction, and the program counter after it.
 #[derive(Clone, Copy)]

@@ -1,10 +1,10 @@
 //! Operations on two operands of known forms. (PDP-11/40 Processor Handbook, "Instruction set": double operand instructions.)
 
 ghost use Rattle.std.specs.Prelude.{◌≡◌, ◌<◌, ℕ, List, IfSome, None, true};
-ghost use Rattle.m11_arithmetic.specs.Sizes.{size_limit};
+ghost use Rattle.m11_cpu_arithmetic.specs.Sizes.{size_limit};
 ghost use Rattle.m11_base.specs.Operand.{register_number};
-ghost use Rattle.m11_machine.specs.DoubleOperands.{double, double_at};
-ghost use Rattle.m11_machine.specs.declared.addressing.OperandLocation.TheVariants.{InMemory, InRegister};
+ghost use Rattle.m11_cpu_machine.specs.DoubleOperands.{double, double_at};
+ghost use Rattle.m11_cpu_machine.specs.declared.addressing.OperandLocation.TheVariants.{InMemory, InRegister};
 ghost use Rattle.m11_cpu_quick.specs.Beside.{moved, shown};
 ghost use Rattle.m11_cpu_quick.specs.Forms.{IsForm};
 ghost use Rattle.m11_cpu_quick.specs.Near.{NearEnds, NearKeeps, is_plain};
@@ -14,7 +14,7 @@ use crate::forms::Form;
 use crate::near::{plain, put_plain};
 use crate::operands::{address_of, held, hold, low, value_of, with_low};
 use m11_base::{DoubleOp, Operand, Register, Size};
-use m11_machine::{DestinationUse, Machine, sign_extended, use_by_double};
+use m11_cpu_machine::{DestinationUse, Machine, sign_extended, use_by_double};
 
 /// An operation whose destination is a register: the program counter after it; None where the source isn't plain, and
 /// nothing changes.
@@ -109,7 +109,13 @@ fn double_into_register(
     ensures keeps { NearKeeps machine.old machine.new }
 {
     let old = held(register, registers);
-    let computed = m11_arithmetic::double(operation, size, source, low(size, old), machine.codes());
+    let computed = m11_cpu_arithmetic::double(
+        operation,
+        size,
+        source,
+        low(size, old),
+        machine.codes(),
+    );
     match use_by_double(operation) {
         DestinationUse::Writes => {
             hold(register, moved(size, source), registers);
@@ -139,7 +145,7 @@ fn double_into_memory(
     ensures keeps { NearKeeps machine.old machine.new }
 {
     let value = plain(machine, size, address);
-    let computed = m11_arithmetic::double(operation, size, source, value, machine.codes());
+    let computed = m11_cpu_arithmetic::double(operation, size, source, value, machine.codes());
     match use_by_double(operation) {
         DestinationUse::Writes => {
             put_plain(machine, size, address, source);

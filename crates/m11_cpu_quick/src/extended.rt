@@ -3,14 +3,14 @@
 ghost use Rattle.std.specs.Prelude.{◌≡◌, ◌<◌, IfSome, None};
 ghost use Rattle.m11_base.specs.Operand.{register_number};
 ghost use Rattle.m11_base.specs.declared.instruction.ExtendedOp.TheVariants.{Mul};
-ghost use Rattle.m11_machine.specs.Extended.{extended};
+ghost use Rattle.m11_cpu_machine.specs.Extended.{extended};
 ghost use Rattle.m11_cpu_quick.specs.Beside.{shown};
 ghost use Rattle.m11_cpu_quick.specs.Near.{NearEnds, NearKeeps};
 
 use crate::forms::Form;
 use crate::operands::{held, hold, value_of};
 use m11_base::{Operand, Register, Size};
-use m11_machine::{Machine, low_word_of};
+use m11_cpu_machine::{Machine, low_word_of};
 
 /// MUL, of a register before SP: the program counter after it; None where the source isn't plain, and nothing changes.
 #[inline(always)]
@@ -30,7 +30,7 @@ pub(crate) fn multiply(
 {
     let form = Form::of(Size::Word, source);
     let (value, after) = value_of(machine, form, Size::Word, source, registers, counter)?;
-    let product = m11_arithmetic::multiply(held(register, registers), value);
+    let product = m11_cpu_arithmetic::multiply(held(register, registers), value);
     hold(register, product.high, registers);
     hold(low_word_of(register), product.low, registers);
     machine.set_codes(product.codes);

@@ -6,8 +6,8 @@ ghost use Rattle.std.specs.Int.{cast_signed, w8};
 ghost use Rattle.m11_base.specs.Operand.{register_number};
 ghost use Rattle.m11_base.specs.declared.operand.Register.TheVariants.{Pc};
 ghost use Rattle.m11_base.specs.declared.operand.Size.TheVariants.{Word};
-ghost use Rattle.m11_machine.specs.declared.machine.Machine.{Machine};
-ghost use Rattle.m11_machine.specs.Jumps.{branched, call, counted_down, jump, return_by};
+ghost use Rattle.m11_cpu_machine.specs.declared.machine.Machine.{Machine};
+ghost use Rattle.m11_cpu_machine.specs.Jumps.{branched, call, counted_down, jump, return_by};
 ghost use Rattle.m11_cpu_quick.specs.Beside.{shown};
 ghost use Rattle.m11_cpu_quick.specs.Forms.{IsForm};
 ghost use Rattle.m11_cpu_quick.specs.Near.{NearEnds, NearKeeps};
@@ -15,9 +15,9 @@ ghost use Rattle.m11_cpu_quick.specs.Near.{NearEnds, NearKeeps};
 use crate::forms::Form;
 use crate::near::{is_plain, plain, put_plain};
 use crate::operands::{address_of, held, hold};
-use m11_arithmetic::is_taken;
 use m11_base::{BranchOp, Operand, Register, Size};
-use m11_machine::{Machine, words_on};
+use m11_cpu_arithmetic::is_taken;
+use m11_cpu_machine::{Machine, words_on};
 
 /// A branch, by the word of its code: the program counter after it. One that is taken puts its target among the registers
 /// too: without that store the compiler makes a conditional move of it, and each step waits for the codes.

@@ -3,10 +3,10 @@
 
 ghost use Rattle.std.specs.Prelude.{◌≡◌, ◌≤◌, IfSome, None};
 ghost use Rattle.m11_base.specs.declared.operand.Register.TheVariants.{Pc};
-ghost use Rattle.m11_machine.specs.Dialogue.{Comes};
-ghost use Rattle.m11_machine.specs.Machine.{register_of};
-ghost use Rattle.m11_machine.specs.Steps.{step};
-ghost use Rattle.m11_machine.specs.declared.stop.Turn.TheVariants.{Next};
+ghost use Rattle.m11_cpu_machine.specs.Dialogue.{Comes};
+ghost use Rattle.m11_cpu_machine.specs.Machine.{register_of};
+ghost use Rattle.m11_cpu_machine.specs.Steps.{step};
+ghost use Rattle.m11_cpu_machine.specs.declared.stop.Turn.TheVariants.{Next};
 ghost use Rattle.m11_cpu_quick.specs.Beside.{shown};
 ghost use Rattle.m11_cpu_quick.specs.Quick.{QuickRuns, StepsAtOnce};
 
@@ -15,7 +15,7 @@ use crate::kind_table::KindTable;
 use crate::operands::{following, hold};
 use core::mem;
 use m11_base::{Register, Size};
-use m11_machine::Machine;
+use m11_cpu_machine::Machine;
 
 /// Makes quick steps while they come, `limit` at most, and returns how many it made. It makes none where the machine has
 /// stopped, or T is set.

@@ -1,7 +1,7 @@
 //! Operations on one operand of a known form. (PDP-11/40 Processor Handbook, "Instruction set": single operand instructions.)
 
 ghost use Rattle.std.specs.Prelude.{◌≡◌, IfSome, None};
-ghost use Rattle.m11_machine.specs.SingleOperands.{change_single, single, test_operand, write};
+ghost use Rattle.m11_cpu_machine.specs.SingleOperands.{change_single, single, test_operand, write};
 ghost use Rattle.m11_cpu_quick.specs.Beside.{shown};
 ghost use Rattle.m11_cpu_quick.specs.Forms.{IsForm};
 ghost use Rattle.m11_cpu_quick.specs.Near.{NearEnds, NearKeeps};
@@ -10,7 +10,7 @@ use crate::forms::Form;
 use crate::near::{plain, put_plain};
 use crate::operands::{address_of, held, hold, low, value_of, with_low};
 use m11_base::{Operand, SingleOp, Size};
-use m11_machine::{DestinationUse, Machine, use_by_single};
+use m11_cpu_machine::{DestinationUse, Machine, use_by_single};
 
 /// An operation on one operand: the program counter after it; None where the operand isn't plain, and nothing changes.
 #[inline(always)]
@@ -65,7 +65,7 @@ fn write(
     ensures none { result ≡ None → machine.new ≡ machine.old }
     ensures registers { result ≡ None → registers.new ≡ registers.old }
 {
-    let computed = m11_arithmetic::single(operation, size, 0, machine.codes());
+    let computed = m11_cpu_arithmetic::single(operation, size, 0, machine.codes());
     match form {
         Form::Register => {
             let old = held(operand.register, registers);
@@ -105,7 +105,7 @@ fn test(
     ensures registers { result ≡ None → registers.new ≡ registers.old }
 {
     let (value, after) = value_of(machine, form, size, operand, registers, counter)?;
-    let computed = m11_arithmetic::single(operation, size, value, machine.codes());
+    let computed = m11_cpu_arithmetic::single(operation, size, value, machine.codes());
     machine.set_codes(computed.codes);
     Some(after)
 }
@@ -131,7 +131,12 @@ fn change(
     match form {
         Form::Register => {
             let old = held(operand.register, registers);
-            let computed = m11_arithmetic::single(operation, size, low(size, old), machine.codes());
+            let computed = m11_cpu_arithmetic::single(
+                operation,
+                size,
+                low(size, old),
+                machine.codes(),
+            );
             hold(
                 operand.register,
                 with_low(size, old, computed.value),
@@ -143,7 +148,7 @@ fn change(
         _ => {
             let (address, after) = address_of(machine, form, size, operand, registers, counter)?;
             let value = plain(machine, size, address);
-            let computed = m11_arithmetic::single(operation, size, value, machine.codes());
+            let computed = m11_cpu_arithmetic::single(operation, size, value, machine.codes());
             put_plain(machine, size, address, computed.value);
             machine.set_codes(computed.codes);
             Some(after)

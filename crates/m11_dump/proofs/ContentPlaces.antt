@@ -1,12 +1,12 @@
 -- The content of a block stands before its sum byte.
 use Rattle.std.proofs.Common.{◌≡◌, ◌∙◌, ℕ, ◌+◌, ◌<◌, List, [], ◌∷◌, ◌++◌, length, length-append, append-nil, append_assoc, Ok, Err, refl, sym, ap, arith}
 use Rattle.std.specs.List.{AllByRecursion}
-use Rattle.m11_blocks.specs.Blocks.{first_block}
-use Rattle.m11_blocks.specs.Frames.{AreBlocks, Block, Nothing, Zero, block, header, sum_byte, word_bytes}
-use Rattle.m11_blocks.specs.Limited.{Between}
-use Rattle.m11_blocks.proofs.BlockFrames.{block_again, block_parts, blocks_framed}
-use Rattle.m11_blocks.proofs.ReadSteps.{rest_is}
-use Rattle.m11_blocks.specs.declared.block_fault.BlockFault.{BlockFault}
+use Rattle.m11_obj_blocks.specs.Blocks.{first_block}
+use Rattle.m11_obj_blocks.specs.Frames.{AreBlocks, Block, Nothing, Zero, block, header, sum_byte, word_bytes}
+use Rattle.m11_obj_blocks.specs.Limited.{Between}
+use Rattle.m11_obj_blocks.proofs.BlockFrames.{block_again, block_parts, blocks_framed}
+use Rattle.m11_obj_blocks.proofs.ReadSteps.{rest_is}
+use Rattle.m11_obj_blocks.specs.declared.block_fault.BlockFault.{BlockFault}
 use Rattle.m11_dump.specs.Places.{StandsAt, content_start}
 
 none_left : first_block [] ≡ Err Between

@@ -5,8 +5,8 @@ use Rattle.std.proofs.lemmas.Bool.{leb-true}
 use Rattle.std.proofs.lemmas.List.{length-take-le, take-append-drop}
 use Rattle.m11_base.specs.Instructions.{instruction_of}
 use Rattle.m11_base.specs.declared.instruction_list.Row.{Row}
-use Rattle.m11_disassembly.specs.Instructions.{row_named, size_by, size_of, words_after}
-use Rattle.m11_disassembly.specs.Texts.{statement_text}
+use Rattle.m11_base_disassembly.specs.Instructions.{row_named, size_by, size_of, words_after}
+use Rattle.m11_base_disassembly.specs.Texts.{statement_text}
 use Rattle.m11_dump.specs.Octets.{place_after}
 use Rattle.m11_dump.specs.Instructions.{AreLines, following, front_size, front_statement, line_by, line_text, lines, lines_from, word_of}
 

@@ -2,9 +2,9 @@
 use Rattle.std.proofs.Common.{◌≡◌, ◌∙◌, ℕ, List, [], ◌∷◌, ◌++◌, append-nil, append_assoc, Option, Some, None, refl, sym, ap, subst}
 use Rattle.std.specs.Option.{option_or}
 use Rattle.std.proofs.Math.Seq.{append_snoc}
-use Rattle.m11_modules.specs.Parts.{Part, record_parts}
-use Rattle.m11_modules.specs.Rules.{fault_of, first_fault}
-use Rattle.m11_modules.specs.declared.fault.ModuleFault.{ModuleFault}
+use Rattle.m11_link_modules.specs.Parts.{Part, record_parts}
+use Rattle.m11_link_modules.specs.Rules.{fault_of, first_fault}
+use Rattle.m11_link_modules.specs.declared.fault.ModuleFault.{ModuleFault}
 use Rattle.m11_dump.specs.Objects.{parts_all}
 
 -- ---- parts after parts

@@ -2,18 +2,18 @@
 use Rattle.std.proofs.Common.{◌≡◌, ◌∙◌, ℕ, ◌+◌, ◌^◌, ◌<◌, ◌≤◌, ◌↔◌, Bool, true, false, IsTrue, IsErr, List, [], ◌∷◌, ◌++◌, append-nil, append_assoc, length, inl, inr, Option, Some, None, Result, Ok, Err, refl, sym, ap, subst, arith}
 use Rattle.std.specs.List.{AllByRecursion}
 use Rattle.std.specs.Io.KnownBytes.{Appends}
-use Rattle.m11_blocks.specs.declared.block_fault.BlockFault.{BlockFault}
-use Rattle.m11_blocks.specs.Blocks.{first_block, why_of}
-use Rattle.m11_blocks.specs.Limited.{EndsBetween, Place, Reads, Stops}
-use Rattle.m11_blocks.proofs.Limits.{took_nothing, took_then}
+use Rattle.m11_obj_blocks.specs.declared.block_fault.BlockFault.{BlockFault}
+use Rattle.m11_obj_blocks.specs.Blocks.{first_block, why_of}
+use Rattle.m11_obj_blocks.specs.Limited.{EndsBetween, Place, Reads, Stops}
+use Rattle.m11_obj_blocks.proofs.Limits.{took_nothing, took_then}
 use Rattle.m11_obj.specs.Reading.{IsRecord, content_of}
-use Rattle.m11_writes.specs.Outputs.{Output}
+use Rattle.m11_base_writes.specs.Outputs.{Output}
 use Rattle.m11_dump.specs.Records.{shown}
 use Rattle.m11_dump.specs.Objects.{AreInFront, DumpsObject, FailsAt, Gained, JudgesEnd, LacksMemory, RefusesBlock, Shows, StopsAfter, TakesBlock, after, after_all, object_text, parts_all, start, text_from}
 use Rattle.m11_dump.specs.Places.{RecordShowsAt, content_start, count_read, placed_at, stop_byte}
-use Rattle.m11_modules.specs.Parts.{Part, record_parts}
-use Rattle.m11_modules.specs.Places.{Known, known_of}
-use Rattle.m11_modules.specs.Rules.{first_fault}
+use Rattle.m11_link_modules.specs.Parts.{Part, record_parts}
+use Rattle.m11_link_modules.specs.Places.{Known, known_of}
+use Rattle.m11_link_modules.specs.Rules.{first_fault}
 use Rattle.m11_dump.proofs.Judging.{none_unsound, parts_more, sound_more}
 use Rattle.m11_dump.proofs.Offsets.{read_is, stops_at}
 use Rattle.m11_dump.specs.declared.fault.DumpFault.{DumpFault}

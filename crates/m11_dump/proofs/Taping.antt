@@ -2,18 +2,18 @@
 use Rattle.std.proofs.Common.{◌≡◌, ◌∙◌, ℕ, ◌+◌, ◌-◌, ◌%◌, ◌^◌, ◌<◌, ◌≤◌, List, [], ◌∷◌, ◌++◌, append-nil, append_assoc, length, sum, Result, Ok, Err, inl, inr, refl, sym, ap, subst, arith}
 use Rattle.std.proofs.lemmas.List.{length-append}
 use Rattle.std.specs.Io.KnownBytes.{Appends}
-use Rattle.m11_blocks.specs.declared.tape_fault.TapeFault.{TapeFault}
-use Rattle.m11_blocks.specs.declared.tape_part.TapePart.{TapePart}
-use Rattle.m11_blocks.specs.declared.tape_part.TapePart.TheVariants.{Data, Start}
-use Rattle.m11_blocks.specs.declared.tape_part.TapeStage.{TapeStage}
-use Rattle.m11_blocks.specs.declared.tape_part.TapeStage.TheVariants.{BeforeBlock, InBlock, AtEnd, AfterFault}
-use Rattle.m11_blocks.specs.Limited.{Place, Read, Reads, Took}
-use Rattle.m11_blocks.specs.Tapes.{AreRead, IsTape, ReadsByte, ReadsNext, ReadsPart, data_byte, first_part, left_of, next_part, opened, stage_after, stage_within, tape_header, total_of, why_of}
-use Rattle.m11_blocks.proofs.Limits.{took_nothing, took_then}
-use Rattle.m11_blocks.proofs.ReadSteps.{bytes_then, rest_is, value_is}
-use Rattle.m11_blocks.proofs.TapeFrames.{opened_all, opened_more, tape_framed}
-use Rattle.m11_writes.specs.Outputs.{Output}
-use Rattle.m11_writes.specs.Outputs as writes
+use Rattle.m11_obj_blocks.specs.declared.tape_fault.TapeFault.{TapeFault}
+use Rattle.m11_obj_blocks.specs.declared.tape_part.TapePart.{TapePart}
+use Rattle.m11_obj_blocks.specs.declared.tape_part.TapePart.TheVariants.{Data, Start}
+use Rattle.m11_obj_blocks.specs.declared.tape_part.TapeStage.{TapeStage}
+use Rattle.m11_obj_blocks.specs.declared.tape_part.TapeStage.TheVariants.{BeforeBlock, InBlock, AtEnd, AfterFault}
+use Rattle.m11_obj_blocks.specs.Limited.{Place, Read, Reads, Took}
+use Rattle.m11_obj_blocks.specs.Tapes.{AreRead, IsTape, ReadsByte, ReadsNext, ReadsPart, data_byte, first_part, left_of, next_part, opened, stage_after, stage_within, tape_header, total_of, why_of}
+use Rattle.m11_obj_blocks.proofs.Limits.{took_nothing, took_then}
+use Rattle.m11_obj_blocks.proofs.ReadSteps.{bytes_then, rest_is, value_is}
+use Rattle.m11_obj_blocks.proofs.TapeFrames.{opened_all, opened_more, tape_framed}
+use Rattle.m11_base_writes.specs.Outputs.{Output}
+use Rattle.m11_base_writes.specs.Outputs as writes
 use Rattle.m11_dump.proofs.Reading.{appends_nothing, appends_then}
 use Rattle.m11_dump.specs.Places.{count_read, fault_byte, placed_at, stop_byte}
 use Rattle.m11_dump.proofs.Offsets.{stops_at}

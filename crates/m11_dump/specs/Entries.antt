@@ -8,8 +8,8 @@ use Rattle.m11_obj.specs.Gsd.{has_bits}
 use Rattle.m11_obj.specs.declared.gsd.GsdEntry.{GsdEntry}
 use Rattle.m11_obj.specs.declared.gsd.GsdKind.{GsdKind}
 use Rattle.m11_obj.specs.declared.gsd.GsdKind.TheVariants.{ModuleName, ControlSection, InternalSymbol, TransferAddress, GlobalSymbol, ProgramSection, Identification}
-use Rattle.m11_print.specs.Attributes.{attributes_text}
-use Rattle.m11_print.specs.Lines.{line_of}
+use Rattle.m11_obj_print.specs.Attributes.{attributes_text}
+use Rattle.m11_obj_print.specs.Lines.{line_of}
 
 -- the word of an entry, by its kind and its flags: a global symbol is defined here, or referred to
 abbrev pub entry_word : GsdKind → ℕ → Bytes

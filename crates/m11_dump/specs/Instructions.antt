@@ -4,9 +4,9 @@
 use Rattle.std.specs.Prelude.{◌≡◌, ◌<◌, ℕ, zero, suc, ◌+◌, ◌-◌, ◌*◌, ◌%◌, ◌==◌, if◌then◌else◌, List, [], ◌∷◌, ◌++◌, length, take, codes}
 use Rattle.m11_base.specs.Devices.{Bytes}
 use Rattle.m11_base.specs.Octal.{octal_text}
-use Rattle.m11_disassembly.specs.Instructions.{size_of, statement_of}
-use Rattle.m11_disassembly.specs.Statements.{Statement, DataByte}
-use Rattle.m11_disassembly.specs.Texts.{statement_text}
+use Rattle.m11_base_disassembly.specs.Instructions.{size_of, statement_of}
+use Rattle.m11_base_disassembly.specs.Statements.{Statement, DataByte}
+use Rattle.m11_base_disassembly.specs.Texts.{statement_text}
 use Rattle.m11_dump.specs.Octets.{octal3, place_after}
 
 -- ---- what stands first among bytes

@@ -2,10 +2,10 @@
 -- one of a module with that of a directory, 1; a block of a tape begins with an address, and 1 is the address of no word.
 use Rattle.std.specs.Prelude.{◌≡◌, Bool, true, false, [], ◌∷◌, ◌==◌, ◌&&◌, if◌then◌else◌, Result, Ok, Err}
 use Rattle.m11_base.specs.Devices.{Bytes}
-use Rattle.m11_blocks.specs.Blocks.{ReadsInto}
-use Rattle.m11_blocks.specs.Limited.{Place}
-use Rattle.m11_blocks.specs.declared.block_fault.BlockFault.{BlockFault}
-use Rattle.m11_blocks.specs.declared.block_fault.BlockFault.TheVariants.{TooLong}
+use Rattle.m11_obj_blocks.specs.Blocks.{ReadsInto}
+use Rattle.m11_obj_blocks.specs.Limited.{Place}
+use Rattle.m11_obj_blocks.specs.declared.block_fault.BlockFault.{BlockFault}
+use Rattle.m11_obj_blocks.specs.declared.block_fault.BlockFault.TheVariants.{TooLong}
 use Rattle.m11_dump.specs.declared.kind.Kind.{Kind}
 use Rattle.m11_dump.specs.declared.kind.Kind.TheVariants.{Object, Tape}
 

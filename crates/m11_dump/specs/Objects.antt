@@ -5,15 +5,15 @@ use Rattle.std.specs.List.{AllByRecursion, flat_map}
 use Rattle.std.specs.Io.KnownBytes.{Appends}
 use Rattle.m11_base.specs.Devices.{Bytes, Rises}
 use Rattle.m11_base.specs.Sink.{AppendsBeginning}
-use Rattle.m11_blocks.specs.Blocks.{first_block, why_of}
-use Rattle.m11_blocks.specs.Limited.{EndsBetween, Place, Reads, Stops, Took}
-use Rattle.m11_modules.specs.Laws.{TakesAfter}
-use Rattle.m11_modules.specs.Parts.{EndOfFile, Part, record_parts}
-use Rattle.m11_modules.specs.Places.{Known}
-use Rattle.m11_modules.specs.Rules.{StopsAtName, first_fault}
-use Rattle.m11_modules.specs.declared.fault.ModuleFault.{ModuleFault}
+use Rattle.m11_obj_blocks.specs.Blocks.{first_block, why_of}
+use Rattle.m11_obj_blocks.specs.Limited.{EndsBetween, Place, Reads, Stops, Took}
+use Rattle.m11_link_modules.specs.Laws.{TakesAfter}
+use Rattle.m11_link_modules.specs.Parts.{EndOfFile, Part, record_parts}
+use Rattle.m11_link_modules.specs.Places.{Known}
+use Rattle.m11_link_modules.specs.Rules.{StopsAtName, first_fault}
+use Rattle.m11_link_modules.specs.declared.fault.ModuleFault.{ModuleFault}
 use Rattle.m11_obj.specs.Reading.{IsRecord, content_of}
-use Rattle.m11_writes.specs.Outputs.{Output}
+use Rattle.m11_base_writes.specs.Outputs.{Output}
 use Rattle.m11_dump.specs.Places.{RecordShowsAt, StopsAt, content_start, of_rule, placed_at, rule_byte}
 use Rattle.m11_dump.specs.Records.{address_then, shown}
 use Rattle.m11_dump.specs.declared.fault.DumpFault.{DumpFault}

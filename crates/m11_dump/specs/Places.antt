@@ -1,11 +1,11 @@
 -- Where in a file a fault shows: the offset of a byte, counted from 0. (This project's own.)
 use Rattle.std.specs.Prelude.{◌≡◌, ℕ, ◌+◌, ◌-◌, ◌<◌, ◌≤◌, [], ◌∷◌, ◌++◌, length, take, Err}
 use Rattle.m11_base.specs.Devices.{Bytes}
-use Rattle.m11_blocks.specs.Blocks as blocks
-use Rattle.m11_blocks.specs.Tapes as tapes
-use Rattle.m11_blocks.specs.Limited.{EndsBetween, EndsInside, Fails, Never, Passes, Place, Read, Refuses, Stops, Why, most_bytes}
-use Rattle.m11_modules.specs.declared.fault.ModuleFault.{ModuleFault}
-use Rattle.m11_modules.specs.declared.fault.ModuleFault.TheVariants as rule
+use Rattle.m11_obj_blocks.specs.Blocks as blocks
+use Rattle.m11_obj_blocks.specs.Tapes as tapes
+use Rattle.m11_obj_blocks.specs.Limited.{EndsBetween, EndsInside, Fails, Never, Passes, Place, Read, Refuses, Stops, Why, most_bytes}
+use Rattle.m11_link_modules.specs.declared.fault.ModuleFault.{ModuleFault}
+use Rattle.m11_link_modules.specs.declared.fault.ModuleFault.TheVariants as rule
 use Rattle.m11_obj.specs.Reading.{content_of}
 use Rattle.m11_obj.specs.declared.fault.RecordFault.{RecordFault}
 use Rattle.m11_obj.specs.declared.fault.RecordFault.TheVariants.{BadLength}

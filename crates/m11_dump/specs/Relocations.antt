@@ -8,7 +8,7 @@ use Rattle.m11_obj.specs.Relocations.{parts_of}
 use Rattle.m11_obj.specs.declared.relocations.Relocation.{Relocation}
 use Rattle.m11_obj.specs.declared.relocations.Target.{Target}
 use Rattle.m11_obj.specs.declared.relocations.Target.TheVariants.{Internal, Global, InternalDisplaced, GlobalDisplaced, GlobalAdditive, GlobalAdditiveDisplaced, LocationCounterDefinition, LocationCounterModification, ProgramLimits, Section, SectionDisplaced, SectionAdditive, SectionAdditiveDisplaced}
-use Rattle.m11_print.specs.Lines.{line_of}
+use Rattle.m11_obj_print.specs.Lines.{line_of}
 
 -- the words of a target, as the manual has them
 abbrev pub target_word : Target → Bytes

@@ -5,14 +5,14 @@ use Rattle.std.specs.List.{flat_map}
 use Rattle.std.specs.Io.KnownBytes.{Appends}
 use Rattle.m11_base.specs.Devices.{Bytes}
 use Rattle.m11_base.specs.Octal.{octal_text}
-use Rattle.m11_blocks.specs.Limited.{Place, Read, Reads, Stops, Took}
-use Rattle.m11_blocks.specs.Tapes.{IsTape, data_byte, first_part, next_part, total_of, why_of}
-use Rattle.m11_blocks.specs.declared.tape_fault.TapeFault.{TapeFault}
-use Rattle.m11_blocks.specs.declared.tape_part.TapePart.{TapePart}
-use Rattle.m11_blocks.specs.declared.tape_part.TapePart.TheVariants.{Data, Start}
-use Rattle.m11_blocks.specs.declared.tape_part.TapeStage.{TapeStage}
-use Rattle.m11_blocks.specs.declared.tape_part.TapeStage.TheVariants.{InBlock}
-use Rattle.m11_writes.specs.Outputs.{Output}
+use Rattle.m11_obj_blocks.specs.Limited.{Place, Read, Reads, Stops, Took}
+use Rattle.m11_obj_blocks.specs.Tapes.{IsTape, data_byte, first_part, next_part, total_of, why_of}
+use Rattle.m11_obj_blocks.specs.declared.tape_fault.TapeFault.{TapeFault}
+use Rattle.m11_obj_blocks.specs.declared.tape_part.TapePart.{TapePart}
+use Rattle.m11_obj_blocks.specs.declared.tape_part.TapePart.TheVariants.{Data, Start}
+use Rattle.m11_obj_blocks.specs.declared.tape_part.TapeStage.{TapeStage}
+use Rattle.m11_obj_blocks.specs.declared.tape_part.TapeStage.TheVariants.{InBlock}
+use Rattle.m11_base_writes.specs.Outputs.{Output}
 use Rattle.m11_dump.specs.Objects.{FailsAt}
 use Rattle.m11_dump.specs.Places.{StopsAt, count_read}
 use Rattle.m11_dump.specs.Words.{data_cells}

@@ -8,7 +8,7 @@ ghost use Rattle.m11_obj.specs.declared.gsd.GsdKind.TheVariants.{GlobalSymbol, P
 use bitflags::Flags;
 use m11_base::octal6;
 use m11_obj::{GsdEntry, GsdKind, SectionFlags, SymbolFlags};
-use m11_print::{Line, ended, put, put_attributes};
+use m11_obj_print::{Line, ended, put, put_attributes};
 
 // The word of a global symbol: it is defined here, or referred to.
 fn symbol_word(flags: SymbolFlags) -> &'static [u8]
@@ -137,7 +137,7 @@ fn put_rest(line: &mut Line, entry: &GsdEntry)
 }
 
 /// The line of an entry: its word, its name, and what follows it.
-#[tactic(auto, using(m11_print::proofs::Trimming::line_at))]
+#[tactic(auto, using(m11_obj_print::proofs::Trimming::line_at))]
 pub(crate) fn entry_line(entry: &GsdEntry) -> Line
     ensures { result.items ≡ spec.entry_line entry.now }
 {

@@ -4,7 +4,7 @@ ghost use Rattle.std.specs.Prelude.{◌≡◌};
 ghost use Rattle.m11_dump.specs.Places.{of_rule};
 ghost use Rattle.m11_dump.specs.declared.fault.DumpFault.TheVariants.{NoMemory};
 
-use m11_modules::ModuleFault;
+use m11_link_modules::ModuleFault;
 use m11_obj::{BlockFault, RecordFault, TapeFault};
 use std::alloc::{AllocError, AllocFailed};
 

@@ -2,15 +2,15 @@
 
 ghost use Rattle.std.specs.Prelude.{◌≡◌, ◌+◌, ◌*◌, ◌≤◌, ◌<◌, ◌++◌, length, IfOk, OnOk};
 ghost use Rattle.arrayvec.specs.ArrayVec.{array_vec_len};
-ghost use Rattle.m11_disassembly.specs.Texts.{statement_text};
+ghost use Rattle.m11_base_disassembly.specs.Texts.{statement_text};
 ghost use Rattle.m11_dump.specs.Instructions as spec;
 
 use crate::octets::{octal3, place_after};
 use crate::words::word_of;
 use arrayvec::ArrayVec;
 use m11_base::octal6;
-use m11_disassembly::{Source, byte_source, disassembled};
-use m11_print::{Line, put};
+use m11_base_disassembly::{Source, byte_source, disassembled};
+use m11_obj_print::{Line, put};
 use std::alloc::AllocError;
 
 // What stands first among bytes.

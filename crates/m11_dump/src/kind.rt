@@ -1,7 +1,7 @@
 //! Tells objects from tapes.
 
 ghost use Rattle.std.specs.Prelude.{◌≡◌, ℕ};
-ghost use Rattle.m11_blocks.specs.Limited.{most_bytes, place};
+ghost use Rattle.m11_obj_blocks.specs.Limited.{most_bytes, place};
 ghost use Rattle.m11_dump.specs.Kind.{IsKind, begins_directory};
 
 use m11_base::Feed;

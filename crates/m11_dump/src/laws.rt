@@ -5,7 +5,7 @@ ghost use Rattle.std.specs.List.{AllByRecursion};
 ghost use Rattle.m11_base.specs.Devices.{Bytes};
 ghost use Rattle.m11_base.specs.Octal.{octal_value};
 ghost use Rattle.m11_dump.specs.Instructions.{AreLines, lines};
-ghost use Rattle.m11_blocks.specs.Blocks.{first_block};
+ghost use Rattle.m11_obj_blocks.specs.Blocks.{first_block};
 ghost use Rattle.m11_dump.specs.Places.{StandsAt, content_start};
 ghost use Rattle.m11_dump.specs.Octets.{octal3, octet, octets, octets_from};
 

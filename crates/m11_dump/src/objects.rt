@@ -1,11 +1,11 @@
 //! Dumps objects, a block at a time.
 
 ghost use Rattle.std.specs.Prelude.{◌≡◌, ◌<◌, ◌^◌, ℕ, List, []};
-ghost use Rattle.m11_blocks.specs.Limited.{most_bytes, place};
-ghost use Rattle.m11_modules.specs.Parts.{Part};
-ghost use Rattle.m11_modules.specs.Places.{known_of};
+ghost use Rattle.m11_obj_blocks.specs.Limited.{most_bytes, place};
+ghost use Rattle.m11_link_modules.specs.Parts.{Part};
+ghost use Rattle.m11_link_modules.specs.Places.{known_of};
 ghost use Rattle.m11_obj.specs.Reading.{IsRecord};
-ghost use Rattle.m11_writes.specs.Outputs.{output_of};
+ghost use Rattle.m11_base_writes.specs.Outputs.{output_of};
 ghost use Rattle.m11_dump.specs.Objects as spec;
 
 use crate::fault::{DumpFault, Placed};
@@ -14,9 +14,9 @@ use crate::records::record_text;
 use crate::stand::{Stand, address_after};
 use crate::view::View;
 use m11_base::{Feed, Sink};
-use m11_modules::Rules;
+use m11_base_writes::put_or_fail;
+use m11_link_modules::Rules;
 use m11_obj::{Block, BlockReader, Record, read_record};
-use m11_writes::put_or_fail;
 use std::alloc::Global;
 
 impl Stand {

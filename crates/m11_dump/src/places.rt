@@ -1,12 +1,12 @@
 //! Where in a file a fault shows.
 
 ghost use Rattle.std.specs.Prelude.{◌≡◌, ◌≤◌, ◌<◌, ◌^◌, ◌↔◌, length, Err, IsTrue};
-ghost use Rattle.m11_blocks.specs.Frames.{content_limit};
+ghost use Rattle.m11_obj_blocks.specs.Frames.{content_limit};
 ghost use Rattle.m11_obj.specs.Reading.{content_of};
 ghost use Rattle.m11_dump.specs.Places as spec;
 
 use crate::fault::{DumpFault, Placed};
-use m11_modules::ModuleFault;
+use m11_link_modules::ModuleFault;
 use m11_obj::{Block, BlockFault, RecordFault, TapeFault, read_record};
 
 /// The offset of the byte that shows a fault of blocks or of a tape, after so many bytes were read: the last of them where the readers

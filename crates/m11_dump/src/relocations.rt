@@ -7,7 +7,7 @@ ghost use Rattle.m11_obj.specs.Relocations.{parts_of};
 
 use m11_base::{Name, octal6};
 use m11_obj::{Relocation, Target};
-use m11_print::{Line, ended, put};
+use m11_obj_print::{Line, ended, put};
 
 // The words of a target.
 fn target_word(target: &Target) -> &'static [u8]
@@ -147,7 +147,7 @@ fn place_text(address: u16, relocation: &Relocation) -> [u8; 6]
 }
 
 /// The line of a relocation of the text at this address: its place, and what is stored there.
-#[tactic(auto, using(m11_print::proofs::Trimming::line_at))]
+#[tactic(auto, using(m11_obj_print::proofs::Trimming::line_at))]
 pub(crate) fn relocation_line(address: u16, relocation: &Relocation) -> Line
     ensures { result.items ≡ spec.relocation_line address relocation.now }
 {

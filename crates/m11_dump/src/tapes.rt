@@ -1,10 +1,10 @@
 //! Dumps tapes, a block at a time.
 
 ghost use Rattle.std.specs.Prelude.{◌≡◌, ◌%◌, ◌-◌, ◌≤◌, ◌<◌, ◌^◌, ◌++◌, ℕ, length, sum, MatchResult, OnOk, IfOk};
-ghost use Rattle.m11_blocks.specs.Limited.{most_bytes, place};
-ghost use Rattle.m11_blocks.specs.Tapes.{data_limit, tape_header, total_of};
-ghost use Rattle.m11_blocks.specs.declared.tape_part.TapeStage.TheVariants.{InBlock};
-ghost use Rattle.m11_writes.specs.Outputs.{output_of};
+ghost use Rattle.m11_obj_blocks.specs.Limited.{most_bytes, place};
+ghost use Rattle.m11_obj_blocks.specs.Tapes.{data_limit, tape_header, total_of};
+ghost use Rattle.m11_obj_blocks.specs.declared.tape_part.TapeStage.TheVariants.{InBlock};
+ghost use Rattle.m11_base_writes.specs.Outputs.{output_of};
 ghost use Rattle.m11_dump.specs.Places.{fault_byte, placed_at};
 ghost use Rattle.m11_dump.specs.Tapes as spec;
 
@@ -14,8 +14,8 @@ use crate::places::{fault_byte, placed};
 use crate::view::View;
 use crate::words::put_data;
 use m11_base::{Feed, Sink, octal6};
-use m11_blocks::{TapePart, TapeReader};
-use m11_writes::put_or_fail;
+use m11_base_writes::put_or_fail;
+use m11_obj_blocks::{TapePart, TapeReader};
 use std::alloc::{AllocError, Global};
 
 // What is shown of a block of data in octal.

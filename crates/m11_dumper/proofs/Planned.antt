@@ -6,9 +6,9 @@ use Rattle.clap.specs.declared.error.kind.ErrorKind.{ErrorKind}
 use Rattle.clap.specs.declared.error.kind.ErrorKind.TheVariants as kind
 use Rattle.clap.specs.Words.{IsAmong, Row, Text, fault_of, kind_of, matches_of}
 use Rattle.clap.specs.declared.error.Error.{Error}
-use Rattle.m11_tasks.specs.Usage.{UsageKeeps}
-use Rattle.m11_tasks.specs.declared.usage.UsageFault.{UsageFault}
-use Rattle.m11_tasks.specs.declared.usage.UsageFault.TheVariants.{Help, Words, BadOctal, OddAddress, BadAddress, NoMemory}
+use Rattle.m11_cli_tasks.specs.Usage.{UsageKeeps}
+use Rattle.m11_cli_tasks.specs.declared.usage.UsageFault.{UsageFault}
+use Rattle.m11_cli_tasks.specs.declared.usage.UsageFault.TheVariants.{Help, Words, BadOctal, OddAddress, BadAddress, NoMemory}
 use Rattle.m11_dumper.specs.Application.{application}
 use Rattle.m11_dumper.specs.Paths.{AsksFor, IsRefused, Plans}
 use Rattle.m11_dumper.specs.declared.paths.Request.{Request}

@@ -5,8 +5,8 @@ use Rattle.std.specs.Io.KnownBytes.{Appends}
 use Rattle.m11_base.specs.Devices.{Rises}
 use Rattle.m11_base.specs.Feed.{Text}
 use Rattle.m11_base.specs.Sink.{AppendsBeginning}
-use Rattle.m11_files.specs.Opens.{Files, Holds}
-use Rattle.m11_writes.specs.Outputs.{Output}
+use Rattle.m11_base_files.specs.Opens.{Files, Holds}
+use Rattle.m11_base_writes.specs.Outputs.{Output}
 use Rattle.m11_dumper.specs.Showing.{Fails, IsOfKind, ShowsAll, ShowsFile, ShowsInput}
 use Rattle.m11_dumper.specs.Lines.{head_line}
 use Rattle.m11_dump.specs.declared.kind.Kind.{Kind}

@@ -2,7 +2,7 @@
 use Rattle.std.specs.Prelude.{Some, codes}
 use Rattle.clap.specs.Words.{App, Rule, new_app, new_rule, with_rule}
 use Rattle.clap.specs.declared.builder.action.ArgAction.TheVariants.{Append, SetTrue}
-use Rattle.m11_tasks.specs.Commands.{bottom_rule, operand_rule}
+use Rattle.m11_cli_tasks.specs.Commands.{bottom_rule, operand_rule}
 
 -- `FILE...`: the files to show, in order
 abbrev pub files_rule : Rule

@@ -2,11 +2,11 @@
 use Rattle.std.specs.Prelude.{[], ◌∷◌, ◌++◌, codes}
 use Rattle.std.specs.Fmt.{decimal}
 use Rattle.m11_base.specs.Devices.{Bytes}
-use Rattle.m11_blocks.specs.Blocks.{block_fault_name, block_fault_number}
-use Rattle.m11_blocks.specs.declared.block_fault.BlockFault.TheVariants as block
-use Rattle.m11_blocks.specs.Tapes.{tape_fault_name, tape_fault_number}
-use Rattle.m11_blocks.specs.declared.tape_fault.TapeFault.TheVariants as tape
-use Rattle.m11_layout.specs.Fault.{link_fault_name, link_fault_number, of_module}
+use Rattle.m11_obj_blocks.specs.Blocks.{block_fault_name, block_fault_number}
+use Rattle.m11_obj_blocks.specs.declared.block_fault.BlockFault.TheVariants as block
+use Rattle.m11_obj_blocks.specs.Tapes.{tape_fault_name, tape_fault_number}
+use Rattle.m11_obj_blocks.specs.declared.tape_fault.TapeFault.TheVariants as tape
+use Rattle.m11_link_layout.specs.Fault.{link_fault_name, link_fault_number, of_module}
 use Rattle.m11_obj.specs.Fault.{record_fault_name, record_fault_number}
 use Rattle.m11_dump.specs.declared.fault.DumpFault.{DumpFault}
 use Rattle.m11_dump.specs.declared.fault.DumpFault.TheVariants as fault

@@ -1,14 +1,14 @@
 -- The lines of the program about load maps and their bottoms: why there is none. (This project's own.)
 use Rattle.std.specs.Prelude.{[], ◌∷◌, ◌++◌, codes}
 use Rattle.m11_base.specs.Devices.{Bytes}
-use Rattle.m11_blocks.specs.Blocks.{block_fault_name, block_fault_number}
+use Rattle.m11_obj_blocks.specs.Blocks.{block_fault_name, block_fault_number}
 use Rattle.m11_dumper.specs.Numbered.{numbered}
-use Rattle.m11_layout.specs.Fault.{link_fault_name, link_fault_number}
-use Rattle.m11_layout.specs.declared.fault.LinkFault.{LinkFault}
-use Rattle.m11_layout.specs.declared.fault.LinkFault.TheVariants as fault
+use Rattle.m11_link_layout.specs.Fault.{link_fault_name, link_fault_number}
+use Rattle.m11_link_layout.specs.declared.fault.LinkFault.{LinkFault}
+use Rattle.m11_link_layout.specs.declared.fault.LinkFault.TheVariants as fault
 use Rattle.m11_obj.specs.Fault.{record_fault_name, record_fault_number}
-use Rattle.m11_tasks.specs.declared.usage.UsageFault.{UsageFault}
-use Rattle.m11_tasks.specs.declared.usage.UsageFault.TheVariants.{BadOctal, OddAddress, BadAddress}
+use Rattle.m11_cli_tasks.specs.declared.usage.UsageFault.{UsageFault}
+use Rattle.m11_cli_tasks.specs.declared.usage.UsageFault.TheVariants.{BadOctal, OddAddress, BadAddress}
 
 -- the number and the name of a fault, as a link has them, and what is wrong with a block or a record
 abbrev pub map_fault_text : LinkFault → Bytes

@@ -4,12 +4,12 @@ use Rattle.m11_base.specs.Devices.{Bytes}
 use Rattle.m11_base.specs.Feed.{Text}
 use Rattle.m11_dumper.specs.declared.stop.Stop.{Stop}
 use Rattle.m11_dumper.specs.declared.stop.Stop.TheVariants.{NotOpened, InFile, InMap, Write, NoMemory}
-use Rattle.m11_files.specs.Opens.{AreFiles, Files, IsFirstLacking}
+use Rattle.m11_base_files.specs.Opens.{AreFiles, Files, IsFirstLacking}
 use Rattle.m11_link.specs.FirstPass.{pass_of}
-use Rattle.m11_load_map.specs.Run.{LoadMapRuns}
-use Rattle.m11_load_map.specs.declared.fault.LoadMapFault.{LoadMapFault}
-use Rattle.m11_load_map.specs.declared.fault.LoadMapFault.TheVariants as map
-use Rattle.m11_writes.specs.Outputs.{Output}
+use Rattle.m11_link_load_map.specs.Run.{LoadMapRuns}
+use Rattle.m11_link_load_map.specs.declared.fault.LoadMapFault.{LoadMapFault}
+use Rattle.m11_link_load_map.specs.declared.fault.LoadMapFault.TheVariants as map
+use Rattle.m11_base_writes.specs.Outputs.{Output}
 
 -- the objects are the files of these paths, and their load map was run
 abbrev pub Runs : {I : Type 0} → (I → Option Text) → (I → ℕ) → ℕ → Option Files → List Bytes → Output → Output

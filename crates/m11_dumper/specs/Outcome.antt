@@ -6,32 +6,32 @@ use Rattle.std.specs.Borrow.{Bor}
 use Rattle.clap.specs.Words.{Text}
 use Rattle.m11_base.specs.Devices.{Bytes}
 use Rattle.m11_base.specs.Feed as feed
-use Rattle.m11_blocks.specs.declared.block_fault.BlockFault.TheVariants as block
-use Rattle.m11_blocks.specs.declared.tape_fault.TapeFault.TheVariants as tape
+use Rattle.m11_obj_blocks.specs.declared.block_fault.BlockFault.TheVariants as block
+use Rattle.m11_obj_blocks.specs.declared.tape_fault.TapeFault.TheVariants as tape
 use Rattle.m11_dump.specs.declared.fault.DumpFault.{DumpFault}
 use Rattle.m11_dump.specs.declared.fault.DumpFault.TheVariants as fault
-use Rattle.m11_modules.specs.declared.fault.ModuleFault.TheVariants as rule
+use Rattle.m11_link_modules.specs.declared.fault.ModuleFault.TheVariants as rule
 use Rattle.m11_dumper.specs.Lines.{stop_line}
 use Rattle.m11_dumper.specs.MapLines.{usage_line}
 use Rattle.m11_dumper.specs.Mapping.{ShowsMap}
 use Rattle.m11_dumper.specs.declared.paths.Show.{Show}
 use Rattle.m11_dumper.specs.declared.paths.Show.TheVariants.{Contents, Map}
-use Rattle.m11_layout.specs.declared.fault.LinkFault.{LinkFault}
-use Rattle.m11_layout.specs.declared.fault.LinkFault.TheVariants as link
+use Rattle.m11_link_layout.specs.declared.fault.LinkFault.{LinkFault}
+use Rattle.m11_link_layout.specs.declared.fault.LinkFault.TheVariants as link
 use Rattle.m11_dumper.specs.Paths.{Plans}
 use Rattle.m11_dumper.specs.Showing.{Fails, Gains, ShowsAll}
 use Rattle.m11_dumper.specs.declared.stop.Outcome.{Outcome}
 use Rattle.m11_dumper.specs.declared.stop.Outcome.TheVariants.{Usage, Shown}
 use Rattle.m11_dumper.specs.declared.stop.Stop.{Stop}
 use Rattle.m11_dumper.specs.declared.stop.Stop.TheVariants.{NotOpened, InFile, InMap, Write, NoMemory}
-use Rattle.m11_files.specs.Opens.{Files}
-use Rattle.m11_tasks.specs.Arguments.{refusal_line}
-use Rattle.m11_tasks.specs.Opened.{texts}
-use Rattle.m11_tasks.specs.declared.arguments.WordsFault.{WordsFault}
-use Rattle.m11_tasks.specs.declared.arguments.WordsFault.TheVariants as words
-use Rattle.m11_tasks.specs.declared.usage.UsageFault.{UsageFault}
-use Rattle.m11_tasks.specs.declared.usage.UsageFault.TheVariants as usage
-use Rattle.m11_writes.specs.Outputs.{Output}
+use Rattle.m11_base_files.specs.Opens.{Files}
+use Rattle.m11_cli_tasks.specs.Arguments.{refusal_line}
+use Rattle.m11_cli_tasks.specs.Opened.{texts}
+use Rattle.m11_cli_tasks.specs.declared.arguments.WordsFault.{WordsFault}
+use Rattle.m11_cli_tasks.specs.declared.arguments.WordsFault.TheVariants as words
+use Rattle.m11_cli_tasks.specs.declared.usage.UsageFault.{UsageFault}
+use Rattle.m11_cli_tasks.specs.declared.usage.UsageFault.TheVariants as usage
+use Rattle.m11_base_writes.specs.Outputs.{Output}
 
 abbrev pub fault_status : DumpFault → ℕ
 fault_status (fault.Block block.Device) = 3

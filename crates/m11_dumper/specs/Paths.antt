@@ -11,10 +11,10 @@ use Rattle.m11_dump.specs.declared.view.View.TheVariants.{Octal, Instructions}
 use Rattle.m11_dumper.specs.Application.{application}
 use Rattle.m11_dumper.specs.declared.paths.Show.{Show}
 use Rattle.m11_dumper.specs.declared.paths.Show.TheVariants.{Contents, Map}
-use Rattle.m11_tasks.specs.Opened.{texts}
-use Rattle.m11_tasks.specs.Tasks.{bottom_of}
-use Rattle.m11_tasks.specs.declared.usage.UsageFault.{UsageFault}
-use Rattle.m11_tasks.specs.declared.usage.UsageFault.TheVariants.{Help, Words, BadOctal, OddAddress, BadAddress, NoMemory}
+use Rattle.m11_cli_tasks.specs.Opened.{texts}
+use Rattle.m11_cli_tasks.specs.Tasks.{bottom_of}
+use Rattle.m11_cli_tasks.specs.declared.usage.UsageFault.{UsageFault}
+use Rattle.m11_cli_tasks.specs.declared.usage.UsageFault.TheVariants.{Help, Words, BadOctal, OddAddress, BadAddress, NoMemory}
 
 -- whether an option is set, by its value: that is `true` where it is given
 abbrev pub is_set : Option Text → Bool

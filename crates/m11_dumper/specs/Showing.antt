@@ -4,7 +4,7 @@ use Rattle.std.specs.Io.KnownBytes.{Appends}
 use Rattle.m11_base.specs.Devices.{Bytes, Rises}
 use Rattle.m11_base.specs.Feed.{Text}
 use Rattle.m11_base.specs.Sink.{AppendsBeginning}
-use Rattle.m11_blocks.specs.Limited.{Place, most_bytes, place}
+use Rattle.m11_obj_blocks.specs.Limited.{Place, most_bytes, place}
 use Rattle.m11_dump.specs.Kind.{IsKind}
 use Rattle.m11_dump.specs.Objects.{DumpsObject}
 use Rattle.m11_dump.specs.Tapes.{DumpsTape}
@@ -14,8 +14,8 @@ use Rattle.m11_dump.specs.declared.fault.Placed.{Placed}
 use Rattle.m11_dumper.specs.Lines.{head_line}
 use Rattle.m11_dumper.specs.declared.stop.Stop.{Stop}
 use Rattle.m11_dumper.specs.declared.stop.Stop.TheVariants.{NotOpened, InFile, InMap, Write, NoMemory}
-use Rattle.m11_files.specs.Opens.{Files, Holds, Lacks}
-use Rattle.m11_writes.specs.Outputs.{Output}
+use Rattle.m11_base_files.specs.Opens.{Files, Holds, Lacks}
+use Rattle.m11_base_writes.specs.Outputs.{Output}
 use Rattle.m11_dump.specs.declared.view.View.{View}
 
 -- a text was put whole; or the output failed after a beginning of it

@@ -1,11 +1,11 @@
 //! What the parser of command lines is given.
 
 ghost use Rattle.std.specs.Prelude.{IfOk};
-ghost use Rattle.m11_tasks.specs.Commands.{IsArgument, IsCommand, bottom_rule};
+ghost use Rattle.m11_cli_tasks.specs.Commands.{IsArgument, IsCommand, bottom_rule};
 ghost use Rattle.m11_dumper.specs.Application.{application, disassemble_rule, files_rule, load_map_rule};
 
 use clap::{Arg, ArgAction, Command};
-use m11_tasks::option_argument;
+use m11_cli_tasks::option_argument;
 use std::alloc::{AllocError, Global};
 
 /// The parser of `m11-dump [-d] [-m] [-b OCTAL] FILE...`. `AllocError` where memory is refused.

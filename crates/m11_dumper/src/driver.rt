@@ -3,8 +3,8 @@
 ghost use Rattle.std.specs.Prelude.{◌≡◌, map};
 ghost use Rattle.m11_dumper.specs.Outcome.{Explains, ReportsOfWords, ReportsSome, Says, Shows, Yields, status_of, words_status};
 ghost use Rattle.m11_dumper.specs.declared.stop.Outcome.{Outcome};
-ghost use Rattle.m11_tasks.specs.Opened.{texts};
-ghost use Rattle.m11_writes.specs.Outputs.{output_of};
+ghost use Rattle.m11_cli_tasks.specs.Opened.{texts};
+ghost use Rattle.m11_base_writes.specs.Outputs.{output_of};
 
 use crate::lines::stop_line;
 use crate::map_lines::usage_text;
@@ -13,8 +13,8 @@ use crate::paths::{Show, plan};
 use crate::showing::show_all;
 use crate::stop::{Outcome, Stop, status};
 use m11_base::{Sink, put_all};
-use m11_files::Opens;
-use m11_tasks::{UsageFault, WordsFault, refusal_line};
+use m11_base_files::Opens;
+use m11_cli_tasks::{UsageFault, WordsFault, refusal_line};
 use std::alloc::Global;
 use std::convert::AsStr;
 

@@ -8,7 +8,7 @@ ghost use Rattle.m11_dumper.specs.Numbered.{numbered};
 use crate::map_lines::map_line;
 use crate::stop::Stop;
 use m11_dump::{DumpFault, Kind, Placed};
-use m11_layout::LinkFault;
+use m11_link_layout::LinkFault;
 use m11_obj::{BlockFault, TapeFault};
 use std::alloc::{AllocError, Global};
 

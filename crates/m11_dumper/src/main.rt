@@ -1,5 +1,5 @@
 //! `m11-dump`: shows what objects and tapes hold. The words are read here, and the files are opened and shown one after
-//! another; what is shown of a file is the work of `m11_dump`, and the load map of objects that of `m11_load_map`.
+//! another; what is shown of a file is the work of `m11_dump`, and the load map of objects that of `m11_link_load_map`.
 #![tactic(auto)]
 
 mod application;
@@ -13,8 +13,8 @@ mod stop;
 
 use crate::driver::{command, command_without_words};
 use m11_base::WriterSink;
-use m11_files::SystemFiles;
-use m11_tasks::words;
+use m11_base_files::SystemFiles;
+use m11_cli_tasks::words;
 use std::process::ExitCode;
 
 fn main(rt: HostRuntime) -> ExitCode {

@@ -4,8 +4,8 @@ ghost use Rattle.std.specs.Prelude.{◌≡◌, ◌++◌, IfOk, OnOk};
 ghost use Rattle.m11_dumper.specs.MapLines.{map_fault_text, map_line, usage_line};
 
 use crate::lines::put_numbered;
-use m11_layout::LinkFault;
-use m11_tasks::UsageFault;
+use m11_cli_tasks::UsageFault;
+use m11_link_layout::LinkFault;
 use std::alloc::{AllocError, Global};
 
 // Adds the number and the name of a fault.

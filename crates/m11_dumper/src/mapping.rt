@@ -2,15 +2,15 @@
 
 ghost use Rattle.std.specs.Prelude.{◌≡◌, IfErr, IfOk};
 ghost use Rattle.m11_dumper.specs.Mapping.{ShowsMap};
-ghost use Rattle.m11_files.specs.Opens.{AreFiles, Holds};
-ghost use Rattle.m11_tasks.specs.Opened.{LacksFirst, LacksOne, texts};
-ghost use Rattle.m11_writes.specs.Outputs.{output_of};
+ghost use Rattle.m11_base_files.specs.Opens.{AreFiles, Holds};
+ghost use Rattle.m11_cli_tasks.specs.Opened.{LacksFirst, LacksOne, texts};
+ghost use Rattle.m11_base_writes.specs.Outputs.{output_of};
 
 use crate::stop::Stop;
 use m11_base::Sink;
-use m11_files::{OpenRefusal, Opens};
-use m11_load_map::{LoadMapFault, load_map_run};
-use m11_tasks::OpenFault;
+use m11_base_files::{OpenRefusal, Opens};
+use m11_cli_tasks::OpenFault;
+use m11_link_load_map::{LoadMapFault, load_map_run};
 use std::alloc::Global;
 
 /// Shows the load map of the objects of paths, in this order, whose relocatable sections lie from the bottom on. All of them are

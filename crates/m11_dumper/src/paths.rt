@@ -3,13 +3,13 @@
 ghost use Rattle.std.specs.Prelude.{◌≡◌, [], Ok, Err, IfOk, MatchResult, codes, map, unwrap_or};
 ghost use Rattle.clap.specs.Words.{all_of, first_of, found_of, rows_of};
 ghost use Rattle.m11_dumper.specs.Paths.{AsksFor, IsRefused, Plans, is_set, show_of, view_by};
-ghost use Rattle.m11_tasks.specs.Opened.{texts};
-ghost use Rattle.m11_tasks.specs.Tasks.{bottom_of};
+ghost use Rattle.m11_cli_tasks.specs.Opened.{texts};
+ghost use Rattle.m11_cli_tasks.specs.Tasks.{bottom_of};
 
 use crate::application::application_command;
 use clap::ArgMatches;
+use m11_cli_tasks::{UsageFault, address};
 use m11_dump::View;
-use m11_tasks::{UsageFault, address};
 use std::alloc::{AllocError, Global};
 use std::convert::AsStr;
 
@@ -78,7 +78,7 @@ fn show_given(matches: &ArgMatches<'_>) -> Result<Show, UsageFault>
 }
 
 // Where relocatable sections begin: where `-b` says, else at the default.
-#[tactic(auto, using(m11_tasks::proofs::Entries::first_given))]
+#[tactic(auto, using(m11_cli_tasks::proofs::Entries::first_given))]
 fn bottom_given(matches: &ArgMatches<'_>) -> Result<u16, UsageFault>
     ensures { result ≡ bottom_of (first_of (codes "bottom") (rows_of (found_of matches.now))) }
 {
@@ -100,7 +100,7 @@ fn view_given(matches: &ArgMatches<'_>) -> View
 }
 
 // Whether an option without a value is given.
-#[tactic(auto, using(m11_tasks::proofs::Entries::first_given))]
+#[tactic(auto, using(m11_cli_tasks::proofs::Entries::first_given))]
 fn is_given(matches: &ArgMatches<'_>, id: &str) -> bool
     ensures { result ≡ is_set (first_of id.now (rows_of (found_of matches.now))) }
 {

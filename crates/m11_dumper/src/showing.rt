@@ -1,17 +1,17 @@
 //! Shows files, one after another.
 
 ghost use Rattle.std.specs.Prelude.{◌≡◌, ℕ};
-ghost use Rattle.m11_blocks.specs.Limited.{most_bytes, place};
+ghost use Rattle.m11_obj_blocks.specs.Limited.{most_bytes, place};
 ghost use Rattle.m11_dumper.specs.Showing.{Counts, DumpsKind, ShowsAll, ShowsFile, ShowsInput};
-ghost use Rattle.m11_tasks.specs.Opened.{texts};
-ghost use Rattle.m11_writes.specs.Outputs.{output_of};
+ghost use Rattle.m11_cli_tasks.specs.Opened.{texts};
+ghost use Rattle.m11_base_writes.specs.Outputs.{output_of};
 
 use crate::lines::head_line;
 use crate::stop::Stop;
 use m11_base::{Feed, Sink};
+use m11_base_files::{OpenRefusal, Opens};
+use m11_base_writes::put_or_fail;
 use m11_dump::{Kind, Placed, View, dump_object, dump_tape, kind_of};
-use m11_files::{OpenRefusal, Opens};
-use m11_writes::put_or_fail;
 use std::alloc::Global;
 
 /// Shows the files of paths, in order, up to the first that can't be shown.

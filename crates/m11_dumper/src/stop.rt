@@ -5,11 +5,11 @@ ghost use Rattle.m11_dump.specs.declared.fault.DumpFault.TheVariants.{Rule};
 ghost use Rattle.m11_dumper.specs.Outcome.{fault_status, map_status, status_of, stop_status, usage_status};
 ghost use Rattle.m11_dumper.specs.declared.stop.Stop.TheVariants.{NoMemory};
 
+use m11_cli_tasks::UsageFault;
 use m11_dump::{DumpFault, Placed};
-use m11_layout::LinkFault;
-use m11_modules::ModuleFault;
+use m11_link_layout::LinkFault;
+use m11_link_modules::ModuleFault;
 use m11_obj::{BlockFault, TapeFault};
-use m11_tasks::UsageFault;
 use std::alloc::AllocError;
 
 /// Why not all files were shown.

@@ -7,11 +7,11 @@ use Rattle.m11_obj.specs.declared.gsd.GsdKind.TheVariants as kind
 use Rattle.m11_obj.specs.declared.relocations.Relocation.{Relocation}
 use Rattle.m11_obj.specs.declared.relocations.Target.{Target}
 use Rattle.m11_obj.specs.declared.relocations.Target.TheVariants as target
-use Rattle.m11_modules.specs.Parts.{Part, Directory, Entry, EndOfDirectory, Text, Relocations, Relocated, EndOfModule, EndOfFile}
-use Rattle.m11_modules.specs.Places.{current_section, modules_in, this_module}
-use Rattle.m11_modules.specs.Rules.{lies_within}
-use Rattle.m11_layout.specs.Plan.{IsPlanOf, Planned}
-use Rattle.m11_layout.specs.Sections.{attributes_by}
+use Rattle.m11_link_modules.specs.Parts.{Part, Directory, Entry, EndOfDirectory, Text, Relocations, Relocated, EndOfModule, EndOfFile}
+use Rattle.m11_link_modules.specs.Places.{current_section, modules_in, this_module}
+use Rattle.m11_link_modules.specs.Rules.{lies_within}
+use Rattle.m11_link_layout.specs.Plan.{IsPlanOf, Planned}
+use Rattle.m11_link_layout.specs.Sections.{attributes_by}
 use Rattle.m11_link_text.specs.Findings.{Agree, Findings, findings_of, planned}
 use Rattle.m11_link.specs.Front.{front_writes, global_writes, map_writes, name_write, name_writes, section_writes, undefined_by, undefined_names, undefined_write, undefined_writes}
 use Rattle.m11_link_text.specs.Relocation.{modulo, relocated, replaced, stored_bytes, value_bytes, value_of}

@@ -1,7 +1,7 @@
 -- Counts of messages. (This project's own words.)
 use Rattle.std.proofs.Common.{◌≡◌, ℕ, Bool, true, false, List, [], ◌∷◌, ◌++◌, map, refl, ◌∙◌, sym}
-use Rattle.m11_layout.specs.declared.planned.PlannedGlobal.{PlannedGlobal}
-use Rattle.m11_layout.specs.declared.planned.PlannedSection.{PlannedSection}
+use Rattle.m11_link_layout.specs.declared.planned.PlannedGlobal.{PlannedGlobal}
+use Rattle.m11_link_layout.specs.declared.planned.PlannedSection.{PlannedSection}
 use Rattle.m11_link_text.specs.Findings.{Findings}
 use Rattle.m11_link.specs.Front.{front_writes, global_writes, last_writes, map_writes, name_writes, section_writes, undefined_names, undefined_writes, weak_writes}
 use Rattle.m11_link_text.specs.Lines as line

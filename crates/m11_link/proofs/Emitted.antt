@@ -7,26 +7,26 @@ use Rattle.m11_obj.specs.declared.gsd.GsdEntry.{GsdEntry}
 use Rattle.m11_obj.specs.declared.relocations.Relocation.{Relocation}
 use Rattle.m11_obj.specs.Records as records
 use Rattle.m11_obj.specs.declared.fault.RecordFault.{RecordFault}
-use Rattle.m11_modules.specs.Grammar.{directory_parts}
-use Rattle.m11_modules.specs.Laws.{TakesAfter}
-use Rattle.m11_modules.specs.declared.stage.Stage.{Stage}
-use Rattle.m11_modules.specs.declared.stage.Stage.TheVariants.{Between, InDirectory, InBody}
-use Rattle.m11_modules.specs.Parts.{Part, Directory, Entry, EndOfDirectory, Text, Relocations, Relocated, EndOfModule, EndOfFile, parts_in, parts_of, record_parts}
-use Rattle.m11_modules.specs.Steps.{RulesTake, known_after, with_optional_global}
-use Rattle.m11_modules.proofs.Taking.{none_taken}
-use Rattle.m11_modules.proofs.KnownAfter.{known_after_part, taken_after}
-use Rattle.m11_layout.specs.Globals.{definitions_of}
-use Rattle.m11_modules.specs.Places.{Known, current_section, distinct, global_of, known_of, modules_in, this_module}
-use Rattle.m11_modules.specs.Rules.{fault_known, fault_of, first_fault, may_stand}
-use Rattle.m11_modules.specs.declared.fault.ModuleFault.{ModuleFault}
-use Rattle.m11_modules.specs.declared.fault.ModuleFault.TheVariants as rule
-use Rattle.m11_layout.proofs.Standing.{sound_after}
-use Rattle.m11_layout.proofs.Walking.{head_none, walked}
-use Rattle.m11_layout.specs.Fault.{of_module}
-use Rattle.m11_layout.specs.Plan.{Planned}
-use Rattle.m11_layout.specs.Tables.{Gathered, nothing_gathered}
-use Rattle.m11_layout.specs.declared.fault.LinkFault.{LinkFault}
-use Rattle.m11_layout.specs.declared.fault.LinkFault.TheVariants as fault
+use Rattle.m11_link_modules.specs.Grammar.{directory_parts}
+use Rattle.m11_link_modules.specs.Laws.{TakesAfter}
+use Rattle.m11_link_modules.specs.declared.stage.Stage.{Stage}
+use Rattle.m11_link_modules.specs.declared.stage.Stage.TheVariants.{Between, InDirectory, InBody}
+use Rattle.m11_link_modules.specs.Parts.{Part, Directory, Entry, EndOfDirectory, Text, Relocations, Relocated, EndOfModule, EndOfFile, parts_in, parts_of, record_parts}
+use Rattle.m11_link_modules.specs.Steps.{RulesTake, known_after, with_optional_global}
+use Rattle.m11_link_modules.proofs.Taking.{none_taken}
+use Rattle.m11_link_modules.proofs.KnownAfter.{known_after_part, taken_after}
+use Rattle.m11_link_layout.specs.Globals.{definitions_of}
+use Rattle.m11_link_modules.specs.Places.{Known, current_section, distinct, global_of, known_of, modules_in, this_module}
+use Rattle.m11_link_modules.specs.Rules.{fault_known, fault_of, first_fault, may_stand}
+use Rattle.m11_link_modules.specs.declared.fault.ModuleFault.{ModuleFault}
+use Rattle.m11_link_modules.specs.declared.fault.ModuleFault.TheVariants as rule
+use Rattle.m11_link_layout.proofs.Standing.{sound_after}
+use Rattle.m11_link_layout.proofs.Walking.{head_none, walked}
+use Rattle.m11_link_layout.specs.Fault.{of_module}
+use Rattle.m11_link_layout.specs.Plan.{Planned}
+use Rattle.m11_link_layout.specs.Tables.{Gathered, nothing_gathered}
+use Rattle.m11_link_layout.specs.declared.fault.LinkFault.{LinkFault}
+use Rattle.m11_link_layout.specs.declared.fault.LinkFault.TheVariants as fault
 use Rattle.m11_link.specs.Emit.{EmitStands, Emitting, Goes, GoesOn, Reporting, TakesBlock, TakesParts, begin_writes, begun_reporting, call_of, directory_writes, entries_writes, held_at, held_text, held_with, held_with_all, held_writes, relocated_parts, with_count, with_directory, with_held, with_reporting, with_text, written}
 use Rattle.m11_link_text.specs.Findings.{Findings, planned}
 use Rattle.m11_link.specs.Front.{front_writes}
@@ -34,7 +34,7 @@ use Rattle.m11_link.specs.Outputs.{Outputs, Write, Gains, Stops, StopsBetween, S
 use Rattle.m11_link.specs.Written.{PlacedText, block_at, counted, defined_names, parts_writes}
 use Rattle.m11_link.proofs.Counting.{counted-append}
 use Rattle.m11_link.proofs.Entering.{goes_stopped_alone}
-use Rattle.m11_writes.proofs.Writing.{gains_nothing, gains_then, stops_after, writes_then}
+use Rattle.m11_base_writes.proofs.Writing.{gains_nothing, gains_then, stops_after, writes_then}
 use Rattle.m11_link.proofs.WritesAfter.{content_defined_is, content_held, content_held_is, content_reported, content_reported_is, file_defined, held_more, parts_more, reported_all}
 
 -- ---- what is held

@@ -1,18 +1,18 @@
 -- The end of the second pass.
 use Rattle.std.proofs.Common.{◌≡◌, Bool, true, false, if◌then◌else◌, List, [], ◌∷◌, ◌++◌, append_assoc, append-nil, None, Result, Ok, Err, IsErrAnd, IfOk, refl, sym, subst, ap, ap₂, ◌∙◌}
-use Rattle.m11_blocks.specs.Tapes.{tape_block}
-use Rattle.m11_modules.specs.Laws.{TakesAfter}
-use Rattle.m11_modules.specs.Parts.{Part, EndOfFile}
-use Rattle.m11_modules.specs.Places.{Known, adds_name, known_of}
-use Rattle.m11_modules.specs.Rules.{fault_of, first_fault}
-use Rattle.m11_modules.specs.declared.fault.ModuleFault.{ModuleFault}
-use Rattle.m11_modules.specs.declared.fault.ModuleFault.TheVariants as rule
-use Rattle.m11_layout.proofs.Ending.{end_fault}
-use Rattle.m11_layout.proofs.Walking.{head_none}
-use Rattle.m11_layout.specs.Fault.{of_module}
-use Rattle.m11_layout.specs.Plan.{Planned}
-use Rattle.m11_layout.specs.declared.fault.LinkFault.{LinkFault}
-use Rattle.m11_layout.specs.declared.fault.LinkFault.TheVariants as fault
+use Rattle.m11_obj_blocks.specs.Tapes.{tape_block}
+use Rattle.m11_link_modules.specs.Laws.{TakesAfter}
+use Rattle.m11_link_modules.specs.Parts.{Part, EndOfFile}
+use Rattle.m11_link_modules.specs.Places.{Known, adds_name, known_of}
+use Rattle.m11_link_modules.specs.Rules.{fault_of, first_fault}
+use Rattle.m11_link_modules.specs.declared.fault.ModuleFault.{ModuleFault}
+use Rattle.m11_link_modules.specs.declared.fault.ModuleFault.TheVariants as rule
+use Rattle.m11_link_layout.proofs.Ending.{end_fault}
+use Rattle.m11_link_layout.proofs.Walking.{head_none}
+use Rattle.m11_link_layout.specs.Fault.{of_module}
+use Rattle.m11_link_layout.specs.Plan.{Planned}
+use Rattle.m11_link_layout.specs.declared.fault.LinkFault.{LinkFault}
+use Rattle.m11_link_layout.specs.declared.fault.LinkFault.TheVariants as fault
 use Rattle.m11_link.specs.declared.emit.LinkDone.{LinkDone}
 use Rattle.m11_link.specs.Emit.{Emitting, EmitEnds, GoesOn, EmitStands, begin_writes, begun_reporting, written}
 use Rattle.m11_link_text.specs.Findings.{planned}

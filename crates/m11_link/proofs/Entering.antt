@@ -3,14 +3,14 @@ use Rattle.std.proofs.Common.{◌≡◌, ◌≤◌, ℕ, ◌+◌, cond, Bool, tr
 use Rattle.std.specs.Bool.{◌==◌}
 use Rattle.std.proofs.lemmas.Bool.{eqb-true, true≢false}
 use Rattle.std.proofs.lemmas.List.{drop_all}
-use Rattle.m11_modules.proofs.Indexing.{drop_at}
-use Rattle.m11_layout.specs.declared.fault.LinkFault.{LinkFault}
-use Rattle.m11_layout.specs.declared.fault.LinkFault.TheVariants as fault
-use Rattle.m11_layout.specs.Plan.{planned_attributes, planned_module}
-use Rattle.m11_layout.specs.Sections.{attributes_by}
-use Rattle.m11_modules.specs.Names.{is_among}
-use Rattle.m11_modules.specs.Rules.{defines}
-use Rattle.m11_blocks.specs.Tapes.{tape_block}
+use Rattle.m11_link_modules.proofs.Indexing.{drop_at}
+use Rattle.m11_link_layout.specs.declared.fault.LinkFault.{LinkFault}
+use Rattle.m11_link_layout.specs.declared.fault.LinkFault.TheVariants as fault
+use Rattle.m11_link_layout.specs.Plan.{planned_attributes, planned_module}
+use Rattle.m11_link_layout.specs.Sections.{attributes_by}
+use Rattle.m11_link_modules.specs.Names.{is_among}
+use Rattle.m11_link_modules.specs.Rules.{defines}
+use Rattle.m11_obj_blocks.specs.Tapes.{tape_block}
 use Rattle.m11_obj.specs.declared.gsd.GsdEntry.{GsdEntry}
 use Rattle.m11_obj.specs.declared.gsd.GsdKind.{GsdKind}
 use Rattle.m11_obj.specs.declared.gsd.GsdKind.TheVariants as kind
@@ -21,7 +21,7 @@ use Rattle.m11_link.specs.Front.{front_writes}
 use Rattle.m11_link.specs.Outputs.{Outputs, Write, Gains, Stops, to_messages, to_tape, link}
 use Rattle.m11_link.specs.Written.{PlacedText, attributes_agree, block_at, counted, different_writes, entry_writes, placed_text, symbol_writes, writes_by}
 use Rattle.m11_link.proofs.Counting.{counted-append}
-use Rattle.m11_writes.proofs.Writing.{gains_nothing, gains_then, stops_before, stops_after, refused_between}
+use Rattle.m11_base_writes.proofs.Writing.{gains_nothing, gains_then, stops_before, stops_after, refused_between}
 
 -- ---- calls one after another
 

@@ -5,18 +5,18 @@ use Rattle.std.proofs.Math.Seq.{append_snoc}
 use Rattle.m11_obj.specs.Reading.{content_of, IsRecord}
 use Rattle.m11_obj.specs.Records.{Content}
 use Rattle.m11_obj.specs.declared.fault.RecordFault.{RecordFault}
-use Rattle.m11_modules.specs.declared.fault.ModuleFault.{ModuleFault}
-use Rattle.m11_modules.specs.declared.fault.ModuleFault.TheVariants as rule
-use Rattle.m11_modules.specs.Parts.{Part, EndOfFile, parts_in, parts_of, record_parts}
-use Rattle.m11_modules.specs.Places.{Known, known_of, stage_after}
-use Rattle.m11_modules.specs.Rules.{fault_known, fault_of, first_fault}
-use Rattle.m11_modules.specs.Steps.{known_after}
-use Rattle.m11_modules.proofs.KnownAfter.{known_after_part}
-use Rattle.m11_layout.specs.Fault.{of_module}
-use Rattle.m11_layout.specs.Layout.{FirstFault, LayoutState, TakesBlock}
-use Rattle.m11_layout.specs.declared.fault.LinkFault.{LinkFault}
-use Rattle.m11_layout.specs.declared.fault.LinkFault.TheVariants as fault
-use Rattle.m11_layout.proofs.Walking.{head_none, rest_none}
+use Rattle.m11_link_modules.specs.declared.fault.ModuleFault.{ModuleFault}
+use Rattle.m11_link_modules.specs.declared.fault.ModuleFault.TheVariants as rule
+use Rattle.m11_link_modules.specs.Parts.{Part, EndOfFile, parts_in, parts_of, record_parts}
+use Rattle.m11_link_modules.specs.Places.{Known, known_of, stage_after}
+use Rattle.m11_link_modules.specs.Rules.{fault_known, fault_of, first_fault}
+use Rattle.m11_link_modules.specs.Steps.{known_after}
+use Rattle.m11_link_modules.proofs.KnownAfter.{known_after_part}
+use Rattle.m11_link_layout.specs.Fault.{of_module}
+use Rattle.m11_link_layout.specs.Layout.{FirstFault, LayoutState, TakesBlock}
+use Rattle.m11_link_layout.specs.declared.fault.LinkFault.{LinkFault}
+use Rattle.m11_link_layout.specs.declared.fault.LinkFault.TheVariants as fault
+use Rattle.m11_link_layout.proofs.Walking.{head_none, rest_none}
 use Rattle.m11_link.specs.Objects.{◌>>=◌, Item, BlockOf, ObjectEnds, parts_or_fault, parts_by, taken, taken_item, taken_parts, unless_fault}
 
 abbrev pub PartsOrFault : Type 0

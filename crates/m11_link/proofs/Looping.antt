@@ -2,17 +2,17 @@
 use Rattle.std.proofs.Common.{◌≡◌, ◌≤◌, ℕ, ◌+◌, not, codes, Bool, true, false, List, [], ◌∷◌, ◌++◌, length, map, drop, slice_get, Option, Some, None, Result, Ok, Err, sym, subst, ap, refl, ◌∙◌}
 use Rattle.std.proofs.lemmas.Bool.{false≢true, true≢false}
 use Rattle.std.proofs.lemmas.List.{drop_all}
-use Rattle.m11_modules.proofs.Indexing.{drop_at}
-use Rattle.m11_layout.specs.declared.fault.LinkFault.{LinkFault}
-use Rattle.m11_layout.specs.declared.planned.PlannedGlobal.{PlannedGlobal}
-use Rattle.m11_layout.specs.declared.planned.PlannedSection.{PlannedSection}
+use Rattle.m11_link_modules.proofs.Indexing.{drop_at}
+use Rattle.m11_link_layout.specs.declared.fault.LinkFault.{LinkFault}
+use Rattle.m11_link_layout.specs.declared.planned.PlannedGlobal.{PlannedGlobal}
+use Rattle.m11_link_layout.specs.declared.planned.PlannedSection.{PlannedSection}
 use Rattle.m11_link_text.specs.Findings.{Findings}
 use Rattle.std.specs.List.{cons_option, filter_map}
 use Rattle.m11_link.specs.Front.{is_empty, written_if, undefined_by, undefined_names, section_write, section_writes, global_write, global_writes, name_write, name_writes, undefined_write, undefined_writes, weak_writes}
 use Rattle.m11_link.specs.Outputs.{Outputs, Write, Gains, Stops, Writes, to_map, link}
 use Rattle.m11_link.specs.Written.{counted}
 use Rattle.m11_link.proofs.Counting.{counted-append}
-use Rattle.m11_writes.proofs.Writing.{gains_nothing, stops_before, writes_then}
+use Rattle.m11_base_writes.proofs.Writing.{gains_nothing, stops_before, writes_then}
 
 -- what is left to write leads to all writes
 abbrev pub Leads : Type 0 → Outputs → Outputs → List Write → List Write → Type 0

@@ -3,13 +3,13 @@ use Rattle.std.proofs.Common.{◌≡◌, ◌∙◌, ℕ, ◌+◌, ◌<◌, ◌�
 use Rattle.std.proofs.lemmas.List.{append-nil, length-append, take_at}
 use Rattle.m11_base.specs.Devices.{Rises}
 use Rattle.m11_base.specs.Feed.{Text, HasBytes, BeginsWith, GivesByte, GivesEnd, GivesBytes}
-use Rattle.m11_blocks.specs.declared.block_fault.BlockFault.{BlockFault}
-use Rattle.m11_blocks.specs.declared.block_fault.BlockFault.TheVariants as block
-use Rattle.m11_blocks.specs.Blocks.{first_block, why_of}
-use Rattle.m11_blocks.specs.Limited.{Fails, EndsBetween, EndsInside, Passes, Refuses, IsShort, Place, Reads, Stops, Took, most_bytes, place}
-use Rattle.m11_blocks.proofs.Limits.{took_nothing, took_then}
-use Rattle.m11_layout.specs.declared.fault.LinkFault.{LinkFault}
-use Rattle.m11_layout.specs.declared.fault.LinkFault.TheVariants as fault
+use Rattle.m11_obj_blocks.specs.declared.block_fault.BlockFault.{BlockFault}
+use Rattle.m11_obj_blocks.specs.declared.block_fault.BlockFault.TheVariants as block
+use Rattle.m11_obj_blocks.specs.Blocks.{first_block, why_of}
+use Rattle.m11_obj_blocks.specs.Limited.{Fails, EndsBetween, EndsInside, Passes, Refuses, IsShort, Place, Reads, Stops, Took, most_bytes, place}
+use Rattle.m11_obj_blocks.proofs.Limits.{took_nothing, took_then}
+use Rattle.m11_link_layout.specs.declared.fault.LinkFault.{LinkFault}
+use Rattle.m11_link_layout.specs.declared.fault.LinkFault.TheVariants as fault
 use Rattle.m11_link.specs.FirstPass.{of_block}
 use Rattle.m11_link.specs.Objects.{Item, BlockOf, ObjectEnds, Refused, ObjectItems, BeginningItems, GivesItems, BeginsItems}
 use Rattle.m11_link.specs.Objects as objects

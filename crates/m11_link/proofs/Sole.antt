@@ -2,15 +2,15 @@
 use Rattle.std.proofs.Common.{◌≡◌, ◌∙◌, ℕ, ◌+◌, ◌*◌, ◌-◌, ◌<◌, ◌≤◌, cond, ltb, eqb, List, [], ◌∷◌, ◌++◌, length, take, Ok, Err, refl, sym, ap, subst, append_assoc, append-nil, arith, inl, inr}
 use Rattle.std.proofs.Math.Seq.{take-append-add}
 use Rattle.std.proofs.lemmas.List.{length-append}
-use Rattle.m11_blocks.specs.declared.block_fault.BlockFault.{BlockFault}
-use Rattle.m11_blocks.specs.declared.block_fault.BlockFault.TheVariants as fault
-use Rattle.m11_blocks.specs.Frames.{sum_byte, header, content_limit}
-use Rattle.m11_blocks.specs.Limited.{Between, Inside, Refused, Read, Stop, ◌>>=◌, IsShort, most_bytes}
-use Rattle.m11_blocks.specs.Blocks.{start, second, count_of, count, content_of, summed, first_block}
-use Rattle.m11_blocks.proofs.BlockParts.{after_start, after_second, after_count, after_content}
-use Rattle.m11_blocks.proofs.BlockFrames.{content_takes}
-use Rattle.m11_blocks.proofs.ReadSteps.{bind_ok, bind_err, chosen, done, rest_is, value_is}
-use Rattle.m11_layout.specs.declared.fault.LinkFault.TheVariants as fault'
+use Rattle.m11_obj_blocks.specs.declared.block_fault.BlockFault.{BlockFault}
+use Rattle.m11_obj_blocks.specs.declared.block_fault.BlockFault.TheVariants as fault
+use Rattle.m11_obj_blocks.specs.Frames.{sum_byte, header, content_limit}
+use Rattle.m11_obj_blocks.specs.Limited.{Between, Inside, Refused, Read, Stop, ◌>>=◌, IsShort, most_bytes}
+use Rattle.m11_obj_blocks.specs.Blocks.{start, second, count_of, count, content_of, summed, first_block}
+use Rattle.m11_obj_blocks.proofs.BlockParts.{after_start, after_second, after_count, after_content}
+use Rattle.m11_obj_blocks.proofs.BlockFrames.{content_takes}
+use Rattle.m11_obj_blocks.proofs.ReadSteps.{bind_ok, bind_err, chosen, done, rest_is, value_is}
+use Rattle.m11_link_layout.specs.declared.fault.LinkFault.TheVariants as fault'
 use Rattle.m11_link.specs.Objects.{AreItems, BlockOf, Item, ObjectEnds, ObjectItems}
 use Rattle.m11_link.specs.Objects as objects
 use Rattle.m11_link.proofs.Steady.{Steady, block_steady, content_again, content_refused, content_steady, count_steady, count_within, refuse, second_steady, start_steady, stop_is}

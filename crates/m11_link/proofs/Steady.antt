@@ -3,15 +3,15 @@ use Rattle.std.proofs.Common.{◌≡◌, ◌∙◌, ℕ, zero, suc, ◌+◌, ◌
 use Rattle.std.proofs.Math.Seq.{take-append_seam, drop-append_seam}
 use Rattle.std.proofs.lemmas.Bool.{le-ltb, cases_lt}
 use Rattle.std.proofs.lemmas.List.{take-append-drop, length-append, length-take, take_all}
-use Rattle.m11_blocks.specs.declared.block_fault.BlockFault.{BlockFault}
-use Rattle.m11_blocks.specs.declared.block_fault.BlockFault.TheVariants as fault
-use Rattle.m11_blocks.specs.Frames.{sum_byte, header, content_limit}
-use Rattle.m11_blocks.specs.Limited.{Between, Inside, Refused, Read, ◌>>=◌, IsShort, most_bytes}
-use Rattle.m11_blocks.specs.Blocks.{start, second, count_of, count, content_of, summed, first_block}
-use Rattle.m11_blocks.proofs.BlockParts.{after_start, after_second, after_count, after_content}
-use Rattle.m11_blocks.proofs.BlockFrames.{content_takes}
-use Rattle.m11_blocks.proofs.ReadSteps.{bind_ok, bind_err, chosen, done, rest_is, value_is}
-use Rattle.m11_layout.specs.declared.fault.LinkFault.TheVariants as fault'
+use Rattle.m11_obj_blocks.specs.declared.block_fault.BlockFault.{BlockFault}
+use Rattle.m11_obj_blocks.specs.declared.block_fault.BlockFault.TheVariants as fault
+use Rattle.m11_obj_blocks.specs.Frames.{sum_byte, header, content_limit}
+use Rattle.m11_obj_blocks.specs.Limited.{Between, Inside, Refused, Read, ◌>>=◌, IsShort, most_bytes}
+use Rattle.m11_obj_blocks.specs.Blocks.{start, second, count_of, count, content_of, summed, first_block}
+use Rattle.m11_obj_blocks.proofs.BlockParts.{after_start, after_second, after_count, after_content}
+use Rattle.m11_obj_blocks.proofs.BlockFrames.{content_takes}
+use Rattle.m11_obj_blocks.proofs.ReadSteps.{bind_ok, bind_err, chosen, done, rest_is, value_is}
+use Rattle.m11_link_layout.specs.declared.fault.LinkFault.TheVariants as fault'
 use Rattle.m11_link.specs.Objects as objects
 use Rattle.m11_link.specs.Objects.{Item, ObjectItems, AreItems}
 

@@ -1,13 +1,13 @@
 -- What one output of a link took is a write. (This project's own words.)
 use Rattle.std.proofs.Common.{◌≡◌, ◌≢◌, ℕ, false, List, [], ◌∷◌, Result, Ok, Err, IfErr, refl, sym, subst}
 use Rattle.std.specs.Io.KnownBytes.{Appends}
-use Rattle.m11_layout.specs.declared.fault.LinkFault.{LinkFault}
-use Rattle.m11_layout.specs.declared.fault.LinkFault.TheVariants as fault
-use Rattle.m11_layout.specs.declared.fault.LinkOutput.{LinkOutput}
-use Rattle.m11_layout.specs.declared.fault.LinkOutput.TheVariants.{Tape, Map, Messages}
-use Rattle.m11_writes.specs.Outputs.{Output, Puts, no_output}
-use Rattle.m11_writes.specs.Writes.{gained}
-use Rattle.m11_writes.proofs.Writing.{keeps, put_writes}
+use Rattle.m11_link_layout.specs.declared.fault.LinkFault.{LinkFault}
+use Rattle.m11_link_layout.specs.declared.fault.LinkFault.TheVariants as fault
+use Rattle.m11_link_layout.specs.declared.fault.LinkOutput.{LinkOutput}
+use Rattle.m11_link_layout.specs.declared.fault.LinkOutput.TheVariants.{Tape, Map, Messages}
+use Rattle.m11_base_writes.specs.Outputs.{Output, Puts, no_output}
+use Rattle.m11_base_writes.specs.Writes.{gained}
+use Rattle.m11_base_writes.proofs.Writing.{keeps, put_writes}
 use Rattle.m11_link.specs.Outputs.{Writes, is_output, link, outputs, to_map, to_messages, to_tape}
 
 pub to_the_tape : {A : Type 0} (a b map messages : Output) (bytes : List ℕ) (result : Result A LinkFault)

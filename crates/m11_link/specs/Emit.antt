@@ -9,14 +9,14 @@ use Rattle.m11_obj.specs.declared.gsd.GsdEntry.{GsdEntry}
 use Rattle.m11_obj.specs.declared.gsd.GsdKind.{GsdKind}
 use Rattle.m11_obj.specs.declared.gsd.GsdKind.TheVariants.{GlobalSymbol}
 use Rattle.m11_obj.specs.declared.relocations.Relocation.{Relocation}
-use Rattle.m11_modules.specs.Parts.{Part, EndOfFile, Text, Relocations, Relocated, record_parts}
-use Rattle.m11_modules.specs.Places.{Known, known_of, current_section, modules_in, this_module}
-use Rattle.m11_modules.specs.Rules.{StopsAtName, defines, fault_of, first_fault}
-use Rattle.m11_modules.specs.declared.fault.ModuleFault.TheVariants as rule
-use Rattle.m11_layout.specs.Plan.{Planned}
-use Rattle.m11_layout.specs.Layout.{FirstFault}
-use Rattle.m11_layout.specs.declared.fault.LinkFault.{LinkFault}
-use Rattle.m11_layout.specs.declared.fault.LinkFault.TheVariants as fault
+use Rattle.m11_link_modules.specs.Parts.{Part, EndOfFile, Text, Relocations, Relocated, record_parts}
+use Rattle.m11_link_modules.specs.Places.{Known, known_of, current_section, modules_in, this_module}
+use Rattle.m11_link_modules.specs.Rules.{StopsAtName, defines, fault_of, first_fault}
+use Rattle.m11_link_modules.specs.declared.fault.ModuleFault.TheVariants as rule
+use Rattle.m11_link_layout.specs.Plan.{Planned}
+use Rattle.m11_link_layout.specs.Layout.{FirstFault}
+use Rattle.m11_link_layout.specs.declared.fault.LinkFault.{LinkFault}
+use Rattle.m11_link_layout.specs.declared.fault.LinkFault.TheVariants as fault
 use Rattle.m11_link.specs.declared.emit.LinkDone.{LinkDone}
 use Rattle.m11_link_text.specs.Findings.{Findings, planned}
 use Rattle.m11_link.specs.Front.{front_writes}

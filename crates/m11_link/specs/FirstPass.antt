@@ -2,14 +2,14 @@
 use Rattle.std.specs.Prelude.{◌≡◌, ℕ, List, [], Option, None, Result, Ok, Err}
 use Rattle.m11_base.specs.Devices.{Rises}
 use Rattle.m11_base.specs.Feed.{Text, NoneFailed}
-use Rattle.m11_blocks.specs.declared.block_fault.BlockFault.{BlockFault}
-use Rattle.m11_blocks.specs.declared.block_fault.BlockFault.TheVariants as block
-use Rattle.m11_modules.specs.Parts.{Part, EndOfFile}
-use Rattle.m11_modules.specs.Rules.{fault_of}
-use Rattle.m11_layout.specs.Plan.{Planned, IsPlanOf}
-use Rattle.m11_layout.specs.Layout.{LayoutState, LayoutStands}
-use Rattle.m11_layout.specs.declared.fault.LinkFault.{LinkFault}
-use Rattle.m11_layout.specs.declared.fault.LinkFault.TheVariants as fault
+use Rattle.m11_obj_blocks.specs.declared.block_fault.BlockFault.{BlockFault}
+use Rattle.m11_obj_blocks.specs.declared.block_fault.BlockFault.TheVariants as block
+use Rattle.m11_link_modules.specs.Parts.{Part, EndOfFile}
+use Rattle.m11_link_modules.specs.Rules.{fault_of}
+use Rattle.m11_link_layout.specs.Plan.{Planned, IsPlanOf}
+use Rattle.m11_link_layout.specs.Layout.{LayoutState, LayoutStands}
+use Rattle.m11_link_layout.specs.declared.fault.LinkFault.{LinkFault}
+use Rattle.m11_link_layout.specs.declared.fault.LinkFault.TheVariants as fault
 use Rattle.m11_link.specs.Objects.{Item, taken, outcome, GivesItems, BeginsItems, GiveItems, FailAfter}
 
 -- the feeds of a pass, before it and after it: what is known of the text of each, and its count of failures

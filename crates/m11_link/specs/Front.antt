@@ -2,8 +2,8 @@
 use Rattle.std.specs.Prelude.{Bool, true, false, ◌&&◌, not, is_none, List, [], ◌∷◌, ◌++◌, map, codes, Option, Some, None, if◌then◌else◌}
 use Rattle.std.specs.List.{filter_map}
 use Rattle.m11_base.specs.Rad50.{Name}
-use Rattle.m11_layout.specs.declared.planned.PlannedGlobal.{PlannedGlobal}
-use Rattle.m11_layout.specs.declared.planned.PlannedSection.{PlannedSection}
+use Rattle.m11_link_layout.specs.declared.planned.PlannedGlobal.{PlannedGlobal}
+use Rattle.m11_link_layout.specs.declared.planned.PlannedSection.{PlannedSection}
 use Rattle.m11_link_text.specs.Findings.{Findings}
 use Rattle.m11_link_text.specs.Lines as line
 use Rattle.m11_link.specs.Outputs.{Write, to_map, to_messages}

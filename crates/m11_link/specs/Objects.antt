@@ -4,21 +4,21 @@
 use Rattle.std.specs.Prelude.{◌≡◌, ◌<◌, ◌≤◌, ℕ, ◌+◌, List, [], ◌∷◌, ◌++◌, length, take, Option, Some, None, Result, Ok, Err, if◌then◌else◌}
 use Rattle.m11_base.specs.Devices.{Bytes}
 use Rattle.m11_base.specs.Feed.{Text, HasBytes, BeginsWith, GiveAll, OneFailed}
-use Rattle.m11_blocks.specs.Blocks.{first_block}
-use Rattle.m11_blocks.specs.Limited.{Between, Inside, IsShort, most_bytes}
-use Rattle.m11_blocks.specs.Limited as limited
+use Rattle.m11_obj_blocks.specs.Blocks.{first_block}
+use Rattle.m11_obj_blocks.specs.Limited.{Between, Inside, IsShort, most_bytes}
+use Rattle.m11_obj_blocks.specs.Limited as limited
 use Rattle.m11_obj.specs.Reading.{content_of}
 use Rattle.m11_obj.specs.Records as records
-use Rattle.m11_blocks.specs.declared.block_fault.BlockFault.{BlockFault}
-use Rattle.m11_blocks.specs.declared.block_fault.BlockFault.TheVariants as block
+use Rattle.m11_obj_blocks.specs.declared.block_fault.BlockFault.{BlockFault}
+use Rattle.m11_obj_blocks.specs.declared.block_fault.BlockFault.TheVariants as block
 use Rattle.m11_obj.specs.declared.fault.RecordFault.{RecordFault}
-use Rattle.m11_modules.specs.declared.fault.ModuleFault.{ModuleFault}
-use Rattle.m11_modules.specs.Parts.{Part, EndOfFile, parts_of}
-use Rattle.m11_modules.specs.Rules.{first_fault}
-use Rattle.m11_layout.specs.Fault.{of_module}
-use Rattle.m11_layout.specs.Sections.{is_too_large}
-use Rattle.m11_layout.specs.declared.fault.LinkFault.{LinkFault}
-use Rattle.m11_layout.specs.declared.fault.LinkFault.TheVariants as fault
+use Rattle.m11_link_modules.specs.declared.fault.ModuleFault.{ModuleFault}
+use Rattle.m11_link_modules.specs.Parts.{Part, EndOfFile, parts_of}
+use Rattle.m11_link_modules.specs.Rules.{first_fault}
+use Rattle.m11_link_layout.specs.Fault.{of_module}
+use Rattle.m11_link_layout.specs.Sections.{is_too_large}
+use Rattle.m11_link_layout.specs.declared.fault.LinkFault.{LinkFault}
+use Rattle.m11_link_layout.specs.declared.fault.LinkFault.TheVariants as fault
 
 -- ---- items
 

@@ -2,11 +2,11 @@
 use Rattle.std.specs.Prelude.{◌≡◌, ◌⊎◌, ℕ, Bool, true, false, List, [], ◌∷◌, ◌++◌, ⊤, Option, None, Result, Ok, Err}
 use Rattle.m11_base.specs.Devices.{Rises}
 use Rattle.m11_base.specs.Feed.{Text, NoneFailed}
-use Rattle.m11_modules.specs.Parts.{Part, EndOfFile}
-use Rattle.m11_modules.specs.Rules.{fault_of}
-use Rattle.m11_layout.specs.Plan.{Planned}
-use Rattle.m11_layout.specs.declared.fault.LinkFault.{LinkFault}
-use Rattle.m11_layout.specs.declared.fault.LinkFault.TheVariants as fault
+use Rattle.m11_link_modules.specs.Parts.{Part, EndOfFile}
+use Rattle.m11_link_modules.specs.Rules.{fault_of}
+use Rattle.m11_link_layout.specs.Plan.{Planned}
+use Rattle.m11_link_layout.specs.declared.fault.LinkFault.{LinkFault}
+use Rattle.m11_link_layout.specs.declared.fault.LinkFault.TheVariants as fault
 use Rattle.m11_link.specs.declared.emit.LinkDone.{LinkDone}
 use Rattle.m11_link.specs.Emit.{Emitting, EmitStands, written}
 use Rattle.m11_link_text.specs.Findings.{planned}

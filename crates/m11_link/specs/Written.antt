@@ -6,19 +6,19 @@ use Rattle.std.specs.Prelude.{ℕ, ◌+◌, ◌==◌, ◌&&◌, min, Bool, true,
 use Rattle.std.specs.Map.{keys_of}
 use Rattle.m11_base.specs.Devices.{Bytes}
 use Rattle.m11_base.specs.Rad50.{Name}
-use Rattle.m11_blocks.specs.Tapes.{tape_block}
+use Rattle.m11_obj_blocks.specs.Tapes.{tape_block}
 use Rattle.m11_obj.specs.declared.gsd.GsdEntry.{GsdEntry}
 use Rattle.m11_obj.specs.declared.gsd.GsdKind.{GsdKind}
 use Rattle.m11_obj.specs.declared.gsd.GsdKind.TheVariants.{GlobalSymbol}
 use Rattle.m11_obj.specs.declared.relocations.Relocation.{Relocation}
-use Rattle.m11_modules.specs.Names.{is_among}
-use Rattle.m11_modules.specs.Parts.{Part, Entry, Text, Relocations, Relocated}
-use Rattle.m11_modules.specs.Places.{current_section, distinct, modules_in, this_module}
-use Rattle.m11_modules.specs.Rules.{defines}
-use Rattle.m11_layout.specs.Globals.{definitions_of}
-use Rattle.m11_layout.specs.Sections.{attributes_by}
-use Rattle.m11_layout.specs.declared.fault.LinkOutput.{LinkOutput}
-use Rattle.m11_layout.specs.declared.fault.LinkOutput.TheVariants.{Messages}
+use Rattle.m11_link_modules.specs.Names.{is_among}
+use Rattle.m11_link_modules.specs.Parts.{Part, Entry, Text, Relocations, Relocated}
+use Rattle.m11_link_modules.specs.Places.{current_section, distinct, modules_in, this_module}
+use Rattle.m11_link_modules.specs.Rules.{defines}
+use Rattle.m11_link_layout.specs.Globals.{definitions_of}
+use Rattle.m11_link_layout.specs.Sections.{attributes_by}
+use Rattle.m11_link_layout.specs.declared.fault.LinkOutput.{LinkOutput}
+use Rattle.m11_link_layout.specs.declared.fault.LinkOutput.TheVariants.{Messages}
 use Rattle.m11_link_text.specs.Findings.{Findings}
 use Rattle.m11_link_text.specs.Lines.{different_line, multiple_line}
 use Rattle.m11_link.specs.Front.{front_writes}

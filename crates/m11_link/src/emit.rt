@@ -2,26 +2,26 @@
 
 ghost use Rattle.std.specs.Prelude.{◌≡◌, ◌≢◌, ◌≤◌, ℕ, length, ◌∷◌, ◌++◌, [], List, Some, None, Ok, Err, IfOk, false, is_some, IfErr};
 ghost use Rattle.std.specs.Result.{result_err};
-ghost use Rattle.m11_blocks.specs.Frames.{content_limit};
+ghost use Rattle.m11_obj_blocks.specs.Frames.{content_limit};
 ghost use Rattle.m11_obj.specs.Contents.{unread_content, unread_directory};
 ghost use Rattle.m11_obj.specs.Reading.{AreEntries, AreRelocations, IsRecord, checked, content_of, relocations_left, relocations_of};
-ghost use Rattle.m11_blocks.specs.Tapes.{tape_block};
-ghost use Rattle.m11_modules.specs.Grammar.{directory_parts};
-ghost use Rattle.m11_modules.specs.Parts.{Part, EndOfDirectory, EndOfFile, EndOfModule, Relocated, Relocations, Text};
-ghost use Rattle.m11_modules.specs.Steps.{RulesTake, TakesOne};
-ghost use Rattle.m11_layout.specs.Plan.{Planned};
-ghost use Rattle.m11_layout.specs.declared.fault.LinkFault.{LinkFault};
+ghost use Rattle.m11_obj_blocks.specs.Tapes.{tape_block};
+ghost use Rattle.m11_link_modules.specs.Grammar.{directory_parts};
+ghost use Rattle.m11_link_modules.specs.Parts.{Part, EndOfDirectory, EndOfFile, EndOfModule, Relocated, Relocations, Text};
+ghost use Rattle.m11_link_modules.specs.Steps.{RulesTake, TakesOne};
+ghost use Rattle.m11_link_layout.specs.Plan.{Planned};
+ghost use Rattle.m11_link_layout.specs.declared.fault.LinkFault.{LinkFault};
 ghost use Rattle.m11_link.specs.Emit.{EmitEnds, EmitStands, FailsAgain, Goes, TakesBlock, TakesParts, begin_writes, begun_reporting, call_of, directory_writes, held_with, held_with_all, held_writes, relocated_parts, with_directory, with_held, with_reporting, with_text};
 ghost use Rattle.m11_link_text.specs.Findings.{planned};
-ghost use Rattle.m11_writes.specs.Outputs.{Output, optional_output, output_of};
+ghost use Rattle.m11_base_writes.specs.Outputs.{Output, optional_output, output_of};
 ghost use Rattle.m11_link.specs.Outputs.{Finishes, Writes, outputs, outputs_of, to_tape};
 
 use crate::held::ModuleSection;
 use crate::outputs::flush_files;
 use crate::reporting::Reporter;
 use m11_base::{Latch, Sink};
-use m11_layout::{LinkFault, Plan};
-use m11_modules::{ModuleFault, Rules, refuse};
+use m11_link_layout::{LinkFault, Plan};
+use m11_link_modules::{ModuleFault, Rules, refuse};
 use m11_obj::{
     Block, Contents, GsdEntry, RecordFault, Relocation, UnreadEntries, UnreadRelocations,
     read_contents,
@@ -325,7 +325,7 @@ impl Emit {
 
     // Reads and judges the relocations of a record and stores them, by what is known before it. What is wrong with one of
     // them is returned where all of them are relocations.
-    #[tactic(auto, using(m11_modules::proofs::Taking::taken_then, m11_modules::proofs::Taking::refused_first))]
+    #[tactic(auto, using(m11_link_modules::proofs::Taking::taken_then, m11_link_modules::proofs::Taking::refused_first))]
     fn store_relocations(
         &mut self,
         unread: &mut UnreadRelocations<'_>,
@@ -372,7 +372,7 @@ impl Emit {
     }
 
     // Judges a relocation and stores it in the text that is held.
-    #[tactic(auto, unfolding(m11_modules::specs::Steps::TakesOne))]
+    #[tactic(auto, unfolding(m11_link_modules::specs::Steps::TakesOne))]
     fn store_relocation(&mut self, relocation: Relocation) -> Result<(), ModuleFault>
         ensures judged { TakesOne self.old.known self.new.known (Relocated relocation) result }
         ensures stored { IfOk result (λ _. self.new.reporting ≡ with_held

@@ -3,13 +3,13 @@
 ghost use Rattle.std.specs.Prelude.{◌≡◌, ◌∷◌, true, false, not, codes, IfOk, ◌≢◌, is_some, IfErr};
 ghost use Rattle.m11_link_text.specs.Findings.{planned};
 ghost use Rattle.m11_link.specs.Front.{front_writes, global_writes, is_empty, last_writes, map_writes, name_write, name_writes, section_writes, undefined_by, undefined_write, undefined_writes, weak_writes, written_if};
-ghost use Rattle.m11_writes.specs.Outputs.{Output, optional_output, output_of};
+ghost use Rattle.m11_base_writes.specs.Outputs.{Output, optional_output, output_of};
 ghost use Rattle.m11_link.specs.Outputs.{Writes, outputs, to_map};
 ghost use Rattle.m11_link.specs.Written.{counted};
 
 use crate::outputs::{put_map, put_message};
 use m11_base::{Name, Sink};
-use m11_layout::{LinkFault, Plan};
+use m11_link_layout::{LinkFault, Plan};
 use m11_link_text::{
     global_line, limit_line, name_line, section_line, transfer_line, undefined_line,
 };

@@ -2,14 +2,14 @@
 
 ghost use Rattle.std.specs.Prelude.{◌≡◌, ◌≤◌, length};
 ghost use Rattle.m11_link_text.specs.Findings.{planned};
-ghost use Rattle.m11_writes.specs.Outputs.{Output, output_of};
+ghost use Rattle.m11_base_writes.specs.Outputs.{Output, output_of};
 ghost use Rattle.m11_link.specs.Outputs.{Writes, outputs};
 ghost use Rattle.m11_link.specs.Written.{placed_text, text_writes, with_relocation};
 
 use crate::outputs::put_tape;
 use arrayvec::ArrayVec;
 use m11_base::{Name, Sink};
-use m11_layout::{LinkFault, Plan};
+use m11_link_layout::{LinkFault, Plan};
 use m11_link_text::relocate;
 use m11_obj::{Relocation, tape_block};
 use std::alloc::Global;

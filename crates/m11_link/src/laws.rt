@@ -1,8 +1,8 @@
 //! Laws of links, above the definitions.
 
 ghost use Rattle.std.specs.Prelude.{◌≡◌, ℕ, List};
-ghost use Rattle.m11_modules.specs.Parts.{Part};
-ghost use Rattle.m11_layout.specs.Plan.{IsPlanOf, Planned};
+ghost use Rattle.m11_link_modules.specs.Parts.{Part};
+ghost use Rattle.m11_link_layout.specs.Plan.{IsPlanOf, Planned};
 ghost use Rattle.m11_link_text.specs.Findings.{findings_of, planned};
 ghost use Rattle.m11_link.specs.Written.{link_writes};
 

@@ -12,5 +12,5 @@ mod run;
 
 pub use emit::{Emit, LinkDone};
 pub use laws::plans_write_by_definition;
-pub use m11_layout::{Layout, LinkFault, LinkOutput, Plan};
+pub use m11_link_layout::{Layout, LinkFault, LinkOutput, Plan};
 pub use run::{link_run, objects_yield_items};

@@ -2,12 +2,12 @@
 //! beginning of the bytes.
 
 ghost use Rattle.std.specs.Prelude.{◌≡◌, [], ◌∷◌, ◌≢◌, is_some, IfErr, OnOk};
-ghost use Rattle.m11_writes.specs.Outputs.{Output, optional_output, output_of};
+ghost use Rattle.m11_base_writes.specs.Outputs.{Output, optional_output, output_of};
 ghost use Rattle.m11_link.specs.Outputs.{AreFlushed, Writes, flushes, outputs, to_map, to_messages, to_tape};
 
 use m11_base::Sink;
-use m11_layout::{LinkFault, LinkOutput};
-use m11_writes::{flush_or_fail, put_or_fail};
+use m11_base_writes::{flush_or_fail, put_or_fail};
+use m11_link_layout::{LinkFault, LinkOutput};
 
 /// Puts all of the bytes to the tape. `Write` of the tape where it failed.
 #[tactic(auto, using(crate::proofs::Writing::to_the_tape))]

@@ -1,15 +1,15 @@
 //! What is made of records after the front: messages on entries, and texts as blocks of the tape.
 
 ghost use Rattle.std.specs.Prelude.{◌≡◌, ◌≢◌, ◌≤◌, [], ◌∷◌, length, Some, None, is_some, IfErr};
-ghost use Rattle.m11_blocks.specs.Frames.{content_limit};
-ghost use Rattle.m11_blocks.specs.Tapes.{tape_block};
-ghost use Rattle.m11_modules.specs.Names.{is_among};
-ghost use Rattle.m11_modules.specs.Rules.{defines};
-ghost use Rattle.m11_layout.specs.Sections.{attributes_by};
+ghost use Rattle.m11_obj_blocks.specs.Frames.{content_limit};
+ghost use Rattle.m11_obj_blocks.specs.Tapes.{tape_block};
+ghost use Rattle.m11_link_modules.specs.Names.{is_among};
+ghost use Rattle.m11_link_modules.specs.Rules.{defines};
+ghost use Rattle.m11_link_layout.specs.Sections.{attributes_by};
 ghost use Rattle.m11_link.specs.Emit.{Goes, EmitKeeps, directory_writes, entries_writes, held_with, held_writes, with_count, with_directory, with_entries, with_entry, with_held, with_name, with_symbol, with_text};
 ghost use Rattle.m11_link_text.specs.Findings.{planned};
 ghost use Rattle.m11_link.specs.Front.{front_writes};
-ghost use Rattle.m11_writes.specs.Outputs.{Output, optional_output, output_of};
+ghost use Rattle.m11_base_writes.specs.Outputs.{Output, optional_output, output_of};
 ghost use Rattle.m11_link.specs.Outputs.{Writes, outputs, to_messages, to_tape};
 ghost use Rattle.m11_link.specs.Written.{attributes_agree, different_writes, entry_writes, placed_text, symbol_writes};
 
@@ -19,7 +19,7 @@ use crate::outputs::{put_message, put_tape};
 use bitflags::Flags;
 use indexmap::IndexSet;
 use m11_base::{Name, Sink};
-use m11_layout::{LinkFault, Plan, section_attributes};
+use m11_link_layout::{LinkFault, Plan, section_attributes};
 use m11_link_text::{Line, different_line, multiple_line};
 use m11_obj::{GsdEntry, GsdKind, Relocation, SectionFlags, SymbolFlags, tape_transfer};
 use std::alloc::Global;

@@ -3,10 +3,10 @@
 ghost use Rattle.std.specs.Prelude.{◌≡◌, None, ℕ, List, is_some};
 ghost use Rattle.m11_link.specs.Objects.{AreItems, Item};
 ghost use Rattle.m11_link.specs.FirstPass.{LaysOut, LaysOutObject, ReadsFirst, StandsBetween, of_block, pass_of};
-ghost use Rattle.m11_layout.specs.Layout.{LayoutStands};
-ghost use Rattle.m11_layout.specs.Plan.{Planned};
-ghost use Rattle.m11_modules.specs.Parts.{Part, EndOfFile};
-ghost use Rattle.m11_modules.specs.Rules.{fault_of};
+ghost use Rattle.m11_link_layout.specs.Layout.{LayoutStands};
+ghost use Rattle.m11_link_layout.specs.Plan.{Planned};
+ghost use Rattle.m11_link_modules.specs.Parts.{Part, EndOfFile};
+ghost use Rattle.m11_link_modules.specs.Rules.{fault_of};
 ghost use Rattle.m11_link.specs.Emit.{written};
 ghost use Rattle.m11_link.specs.Emit as emitting;
 ghost use Rattle.m11_link.specs.SecondPass.{Emits, EmitsObject, LinkRuns, LinkRunsOr, ReadsSecond, start_at};
@@ -14,7 +14,7 @@ ghost use Rattle.m11_link.specs.Outputs.{Gains, Outputs, outputs_of};
 
 use crate::emit::{Emit, LinkDone};
 use m11_base::{Feed, Sink};
-use m11_layout::{Layout, LinkFault, Plan};
+use m11_link_layout::{Layout, LinkFault, Plan};
 use m11_obj::{Block, BlockFault, BlockReader};
 use std::alloc::Global;
 

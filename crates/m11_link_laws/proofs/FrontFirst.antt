@@ -3,14 +3,14 @@ use Rattle.std.proofs.Common.{◌≡◌, ℕ, ◌+◌, ◌<◌, Bool, true, fals
 use Rattle.std.specs.List.{list_any}
 use Rattle.std.proofs.lemmas.List.Elements.{filter-append}
 use Rattle.std.proofs.lemmas.List.Folds.{list_any-append}
-use Rattle.m11_blocks.specs.Tapes.{tape_block}
-use Rattle.m11_layout.proofs.Finding.{neither}
+use Rattle.m11_obj_blocks.specs.Tapes.{tape_block}
+use Rattle.m11_link_layout.proofs.Finding.{neither}
 use Rattle.m11_link_text.specs.Findings.{Findings}
 use Rattle.m11_link_text.specs.Lines.{limit_line, transfer_line}
 use Rattle.m11_link.specs.Front.{front_writes, global_write, global_writes, last_writes, map_writes, name_write, name_writes, section_write, section_writes, undefined_names, undefined_write, undefined_writes, weak_writes}
 use Rattle.m11_link.specs.Outputs.{Write, to_map, to_tape}
 use Rattle.m11_link.specs.Written.{is_message, link_writes, parts_writes}
-use Rattle.m11_modules.specs.Parts.{Part}
+use Rattle.m11_link_modules.specs.Parts.{Part}
 use Rattle.m11_link_laws.specs.Order.{BeginsWith, is_block, messages_in, reach_tape, undefined_count}
 
 -- ---- lists that are split in two ways

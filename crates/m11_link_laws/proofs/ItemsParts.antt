@@ -4,9 +4,9 @@ use Rattle.std.specs.List.{flat_map}
 use Rattle.m11_obj.specs.Reading.{content_of}
 use Rattle.m11_obj.specs.Records.{Content}
 use Rattle.m11_obj.specs.declared.fault.RecordFault.{RecordFault}
-use Rattle.m11_modules.specs.declared.fault.ModuleFault.{ModuleFault}
-use Rattle.m11_modules.specs.Parts.{Part, EndOfFile, parts_in, parts_of, record_parts}
-use Rattle.m11_modules.specs.Rules.{first_fault}
+use Rattle.m11_link_modules.specs.declared.fault.ModuleFault.{ModuleFault}
+use Rattle.m11_link_modules.specs.Parts.{Part, EndOfFile, parts_in, parts_of, record_parts}
+use Rattle.m11_link_modules.specs.Rules.{first_fault}
 use Rattle.m11_link.specs.Objects.{◌>>=◌, Item, BlockOf, ObjectEnds, Refused, parts_or_fault, taken, taken_item, taken_parts, unless_fault}
 use Rattle.m11_link.proofs.ItemsTaken.{PartsOrFault, bind_ok}
 

@@ -2,10 +2,10 @@
 use Rattle.std.proofs.Common.{◌≡◌, ◌∙◌, ℕ, ◌+◌, ◌-◌, ◌≤◌, List, [], ◌∷◌, ◌++◌, length, append_assoc, append-nil, Ok, Err, refl, sym, ap, subst, arith, inl, inr}
 use Rattle.std.specs.List.{AllByRecursion, concat}
 use Rattle.std.proofs.lemmas.List.{map-append}
-use Rattle.m11_blocks.specs.Limited.{Between, most_bytes}
-use Rattle.m11_blocks.specs.Blocks.{AreRead, first_block}
-use Rattle.m11_blocks.proofs.BlockFrames.{begun, nothing_read, start_within, zero_in_front}
-use Rattle.m11_modules.specs.Parts.{Part}
+use Rattle.m11_obj_blocks.specs.Limited.{Between, most_bytes}
+use Rattle.m11_obj_blocks.specs.Blocks.{AreRead, first_block}
+use Rattle.m11_obj_blocks.proofs.BlockFrames.{begun, nothing_read, start_within, zero_in_front}
+use Rattle.m11_link_modules.specs.Parts.{Part}
 use Rattle.m11_link.specs.Objects.{AreItems, BlockOf, Item, ObjectEnds, ObjectItems, outcome, taken, taken_item}
 use Rattle.m11_link.specs.Objects as objects
 use Rattle.m11_link.proofs.ItemsTaken.{bind_ok}

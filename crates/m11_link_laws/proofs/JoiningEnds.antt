@@ -4,12 +4,12 @@ use Rattle.std.specs.List.{cons_option, filter_map}
 use Rattle.std.specs.Map.{keys_of}
 use Rattle.std.proofs.lemmas.List.Elements.{filter_map-append}
 use Rattle.m11_base.specs.Names.{absolute_name}
-use Rattle.m11_modules.specs.declared.stage.Stage.{Stage}
-use Rattle.m11_modules.specs.declared.stage.Stage.TheVariants.{Between, InDirectory, InBody}
-use Rattle.m11_modules.specs.Parts.{Part, Directory, EndOfDirectory, Text, Relocated, EndOfModule, EndOfFile}
-use Rattle.m11_modules.specs.Places.{current_section, distinct, ends_module, global_in, global_names, known_of, length_after, modules_in, section_after, section_in, section_names, sections_in, selected_by, stage_after, stage_from, text_length, this_module}
-use Rattle.m11_modules.proofs.KnownAfter.{this_module_ended, this_module_goes_on}
-use Rattle.m11_layout.proofs.Walking.{grown}
+use Rattle.m11_link_modules.specs.declared.stage.Stage.{Stage}
+use Rattle.m11_link_modules.specs.declared.stage.Stage.TheVariants.{Between, InDirectory, InBody}
+use Rattle.m11_link_modules.specs.Parts.{Part, Directory, EndOfDirectory, Text, Relocated, EndOfModule, EndOfFile}
+use Rattle.m11_link_modules.specs.Places.{current_section, distinct, ends_module, global_in, global_names, known_of, length_after, modules_in, section_after, section_in, section_names, sections_in, selected_by, stage_after, stage_from, text_length, this_module}
+use Rattle.m11_link_modules.proofs.KnownAfter.{this_module_ended, this_module_goes_on}
+use Rattle.m11_link_layout.proofs.Walking.{grown}
 
 -- ---- parts without the ends of files
 

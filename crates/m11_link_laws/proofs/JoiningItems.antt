@@ -7,19 +7,19 @@ use Rattle.std.proofs.lemmas.List.Concat.{flat_map-append}
 use Rattle.m11_obj.specs.Reading.{content_of}
 use Rattle.m11_obj.specs.Records.{Content}
 use Rattle.m11_obj.specs.declared.fault.RecordFault.{RecordFault}
-use Rattle.m11_modules.proofs.KnownAfter.{stage_append}
-use Rattle.m11_modules.specs.declared.fault.ModuleFault.{ModuleFault}
-use Rattle.m11_modules.specs.declared.fault.ModuleFault.TheVariants.{BadOrder}
-use Rattle.m11_modules.specs.declared.stage.Stage.{Stage}
-use Rattle.m11_modules.specs.declared.stage.Stage.TheVariants.{Between}
-use Rattle.m11_modules.specs.Parts.{Part, EndOfFile, parts_in, parts_of}
-use Rattle.m11_modules.specs.Places.{known_of, stage_after, stage_from}
-use Rattle.m11_modules.specs.Rules.{fault_in_order, fault_known, fault_of, first_fault, may_stand}
-use Rattle.m11_modules.specs.Steps.{first_known_fault}
-use Rattle.m11_modules.proofs.KnownAfter.{faults_known}
-use Rattle.m11_layout.specs.Sections.{is_too_large}
-use Rattle.m11_layout.specs.declared.fault.LinkFault.TheVariants as fault
-use Rattle.m11_layout.proofs.Walking.{head_none, rest_none}
+use Rattle.m11_link_modules.proofs.KnownAfter.{stage_append}
+use Rattle.m11_link_modules.specs.declared.fault.ModuleFault.{ModuleFault}
+use Rattle.m11_link_modules.specs.declared.fault.ModuleFault.TheVariants.{BadOrder}
+use Rattle.m11_link_modules.specs.declared.stage.Stage.{Stage}
+use Rattle.m11_link_modules.specs.declared.stage.Stage.TheVariants.{Between}
+use Rattle.m11_link_modules.specs.Parts.{Part, EndOfFile, parts_in, parts_of}
+use Rattle.m11_link_modules.specs.Places.{known_of, stage_after, stage_from}
+use Rattle.m11_link_modules.specs.Rules.{fault_in_order, fault_known, fault_of, first_fault, may_stand}
+use Rattle.m11_link_modules.specs.Steps.{first_known_fault}
+use Rattle.m11_link_modules.proofs.KnownAfter.{faults_known}
+use Rattle.m11_link_layout.specs.Sections.{is_too_large}
+use Rattle.m11_link_layout.specs.declared.fault.LinkFault.TheVariants as fault
+use Rattle.m11_link_layout.proofs.Walking.{head_none, rest_none}
 use Rattle.m11_link.specs.Objects.{◌>>=◌, BlockOf, Item, ObjectEnds, Refused, parts_by, parts_or_fault, taken, taken_item, taken_parts, outcome, unless_fault, unless_too_large}
 use Rattle.m11_link_text.specs.Findings.{findings_of}
 use Rattle.m11_link.specs.Written.{link_writes}

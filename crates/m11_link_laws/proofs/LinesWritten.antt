@@ -4,23 +4,23 @@ use Rattle.std.specs.List.{concat, cons_option, filter}
 use Rattle.std.proofs.lemmas.List.Folds.{concat-append}
 use Rattle.std.proofs.lemmas.List.Elements.{filter-append}
 use Rattle.m11_base.specs.Rad50.{Name}
-use Rattle.m11_blocks.specs.Tapes.{tape_block}
+use Rattle.m11_obj_blocks.specs.Tapes.{tape_block}
 use Rattle.m11_obj.specs.declared.gsd.GsdEntry.{GsdEntry}
 use Rattle.m11_obj.specs.declared.gsd.GsdKind.{GsdKind}
 use Rattle.m11_obj.specs.declared.gsd.GsdKind.TheVariants as kind
-use Rattle.m11_modules.specs.Names.{is_among}
-use Rattle.m11_modules.specs.Parts.{Part, Entry, Text}
-use Rattle.m11_modules.specs.Places.{current_section, modules_in, this_module}
-use Rattle.m11_modules.specs.Rules.{defines}
-use Rattle.m11_layout.specs.Modules.{reported_after}
-use Rattle.m11_layout.specs.Sections.{attributes_by}
-use Rattle.m11_layout.specs.declared.fault.LinkOutput.{LinkOutput}
-use Rattle.m11_layout.specs.declared.fault.LinkOutput.TheVariants.{Tape, Map, Messages}
+use Rattle.m11_link_modules.specs.Names.{is_among}
+use Rattle.m11_link_modules.specs.Parts.{Part, Entry, Text}
+use Rattle.m11_link_modules.specs.Places.{current_section, modules_in, this_module}
+use Rattle.m11_link_modules.specs.Rules.{defines}
+use Rattle.m11_link_layout.specs.Modules.{reported_after}
+use Rattle.m11_link_layout.specs.Sections.{attributes_by}
+use Rattle.m11_link_layout.specs.declared.fault.LinkOutput.{LinkOutput}
+use Rattle.m11_link_layout.specs.declared.fault.LinkOutput.TheVariants.{Tape, Map, Messages}
 use Rattle.m11_link_text.specs.Findings.{Findings}
 use Rattle.m11_link_text.specs.Lines.{different_line, multiple_line, name_line, undefined_line}
 use Rattle.m11_link.specs.Front.{front_writes, global_write, global_writes, map_writes, name_write, name_writes, section_write, section_writes, undefined_names, undefined_write, undefined_writes, weak_writes}
-use Rattle.m11_writes.specs.Writes.{gained}
-use Rattle.m11_writes.proofs.Writing.{gained-append}
+use Rattle.m11_base_writes.specs.Writes.{gained}
+use Rattle.m11_base_writes.proofs.Writing.{gained-append}
 use Rattle.m11_link.specs.Outputs.{Write, is_output, link, to_messages, to_tape}
 use Rattle.m11_link.specs.Written.{PlacedText, attributes_agree, block_at, counted, is_message, is_to_messages, most_messages, one_more as one_count, defined_names, different_writes, ended_writes, entry_writes, has_ended, link_writes, parts_writes, placed_text, relocations_after, text_writes, with_relocations, writes_at, writes_after, writes_by}
 use Rattle.m11_link_laws.specs.Lines.{different_of, entry_line, line_by, line_of_global, line_of_section, map_lines, message_lines, weak_lines}

@@ -1,16 +1,16 @@
 -- The tape of whole modules is a block for each text with what its relocations store.
 use Rattle.std.proofs.Common.{◌≡◌, true, if◌then◌else◌, List, [], ◌∷◌, ◌++◌, map, flat_map, None, refl, sym, ap, ap₂, ◌∙◌}
-use Rattle.m11_blocks.specs.Tapes.{tape_block}
-use Rattle.m11_modules.specs.declared.stage.Stage.TheVariants.{Between}
-use Rattle.m11_modules.specs.Parts.{Part, Entry, EndOfFile, Text}
-use Rattle.m11_modules.specs.Places.{current_section, modules_in, stage_after, stage_from, this_module}
-use Rattle.m11_modules.specs.Rules.{fault_of, first_fault}
-use Rattle.m11_layout.specs.declared.fault.LinkOutput.TheVariants.{Tape}
-use Rattle.m11_layout.proofs.Walking.{head_none, rest_none}
+use Rattle.m11_obj_blocks.specs.Tapes.{tape_block}
+use Rattle.m11_link_modules.specs.declared.stage.Stage.TheVariants.{Between}
+use Rattle.m11_link_modules.specs.Parts.{Part, Entry, EndOfFile, Text}
+use Rattle.m11_link_modules.specs.Places.{current_section, modules_in, stage_after, stage_from, this_module}
+use Rattle.m11_link_modules.specs.Rules.{fault_of, first_fault}
+use Rattle.m11_link_layout.specs.declared.fault.LinkOutput.TheVariants.{Tape}
+use Rattle.m11_link_layout.proofs.Walking.{head_none, rest_none}
 use Rattle.m11_link_text.specs.Findings.{Findings}
 use Rattle.m11_link.specs.Front.{front_writes}
-use Rattle.m11_writes.specs.Writes.{gained}
-use Rattle.m11_writes.proofs.Writing.{gained-append}
+use Rattle.m11_base_writes.specs.Writes.{gained}
+use Rattle.m11_base_writes.proofs.Writing.{gained-append}
 use Rattle.m11_link.specs.Outputs.{link, to_tape}
 use Rattle.m11_link.specs.Written.{PlacedText, defined_names, ended_writes, entry_writes, has_ended, link_writes, parts_writes, placed_text, relocations_after, text_writes, with_relocations, writes_at, writes_after}
 use Rattle.m11_link_laws.specs.Texts.{block_of, data_block}

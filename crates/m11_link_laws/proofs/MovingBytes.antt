@@ -5,8 +5,8 @@ use Rattle.std.proofs.lemmas.List.{get_or-append_right, get_or_append_left, leng
 use Rattle.m11_obj.specs.declared.relocations.Relocation.{Relocation}
 use Rattle.m11_obj.specs.declared.relocations.Target.{Target}
 use Rattle.m11_obj.specs.declared.relocations.Target.TheVariants as target
-use Rattle.m11_modules.specs.Parts.{Part}
-use Rattle.m11_modules.specs.Rules.{lies_within, width_of}
+use Rattle.m11_link_modules.specs.Parts.{Part}
+use Rattle.m11_link_modules.specs.Rules.{lies_within, width_of}
 use Rattle.m11_link_text.specs.Findings.{Findings, findings_of}
 use Rattle.m11_link_text.specs.Relocation.{modulo, replaced, stored_bytes, value_bytes, value_of}
 use Rattle.m11_link.specs.Written.{PlacedText, placed_text, with_relocation, with_relocations}

@@ -4,18 +4,18 @@ use Rattle.std.specs.List.{cons_option, filter_map, find}
 use Rattle.std.specs.Map.{keys_of, lookup}
 use Rattle.std.specs.Option.{option_map, unwrap_or}
 use Rattle.m11_base.specs.Rad50.{is_same_name}
-use Rattle.m11_modules.specs.Parts.{Part}
-use Rattle.m11_modules.specs.Places.{distinct, section_names, sections_in}
-use Rattle.m11_layout.specs.Globals.{definition_value, definitions_of, first_definition, global_defined, global_reported, global_value, globals_of, place_value}
-use Rattle.m11_layout.specs.Modules.{module_at, modules_before}
-use Rattle.m11_layout.specs.Sections.{base_entered, contribution_base, first_attributes, module_base, names_before, offset_after, room_of, section_base, section_reported, sections_of, sizes_of, top}
-use Rattle.m11_layout.specs.Transfers.{is_even, transfer_address, transfer_value, transfers_of}
-use Rattle.m11_layout.specs.declared.definition.Definition.{Definition}
-use Rattle.m11_layout.specs.declared.definition.GlobalPlace.{GlobalPlace}
-use Rattle.m11_layout.specs.declared.definition.GlobalPlace.TheVariants.{Absolute, In}
-use Rattle.m11_layout.specs.declared.definition.Transfer.{Transfer}
-use Rattle.m11_layout.specs.declared.planned.PlannedGlobal.{PlannedGlobal}
-use Rattle.m11_layout.specs.declared.planned.PlannedSection.{PlannedSection}
+use Rattle.m11_link_modules.specs.Parts.{Part}
+use Rattle.m11_link_modules.specs.Places.{distinct, section_names, sections_in}
+use Rattle.m11_link_layout.specs.Globals.{definition_value, definitions_of, first_definition, global_defined, global_reported, global_value, globals_of, place_value}
+use Rattle.m11_link_layout.specs.Modules.{module_at, modules_before}
+use Rattle.m11_link_layout.specs.Sections.{base_entered, contribution_base, first_attributes, module_base, names_before, offset_after, room_of, section_base, section_reported, sections_of, sizes_of, top}
+use Rattle.m11_link_layout.specs.Transfers.{is_even, transfer_address, transfer_value, transfers_of}
+use Rattle.m11_link_layout.specs.declared.definition.Definition.{Definition}
+use Rattle.m11_link_layout.specs.declared.definition.GlobalPlace.{GlobalPlace}
+use Rattle.m11_link_layout.specs.declared.definition.GlobalPlace.TheVariants.{Absolute, In}
+use Rattle.m11_link_layout.specs.declared.definition.Transfer.{Transfer}
+use Rattle.m11_link_layout.specs.declared.planned.PlannedGlobal.{PlannedGlobal}
+use Rattle.m11_link_layout.specs.declared.planned.PlannedSection.{PlannedSection}
 use Rattle.m11_link_text.specs.Findings.{findings_of}
 use Rattle.m11_link_laws.specs.Moving.{Moved, counting_transfer, definition_moves, farther, global_moved, global_moves, moved, moves, place_moves, section_moved, section_moves, transfer_moves}
 use Rattle.m11_link_laws.proofs.MovingNumbers.{base_moved, even_moved, sum_moved}

@@ -2,7 +2,7 @@
 use Rattle.std.proofs.Common.{◌≡◌, ℕ, ◌+◌, ◌%◌, Bool, true, ◌&&◌, is_none, if◌then◌else◌, List, [], ◌∷◌, map, Option, Some, None, refl, ap, ap₂, ◌∙◌}
 use Rattle.std.specs.List.{cons_option}
 use Rattle.std.specs.Option.{option_map}
-use Rattle.m11_modules.specs.Parts.{Part}
+use Rattle.m11_link_modules.specs.Parts.{Part}
 use Rattle.m11_link_text.specs.Findings.{Agree, Findings, findings_of}
 use Rattle.m11_link.specs.Front.{is_strength, undefined_by, undefined_names, undefined_write, undefined_writes}
 use Rattle.m11_link.specs.Written.{link_writes}

@@ -5,9 +5,9 @@ use Rattle.m11_obj.specs.declared.gsd.GsdKind.{GsdKind}
 use Rattle.m11_obj.specs.declared.gsd.GsdKind.TheVariants as kind
 use Rattle.m11_obj.specs.declared.relocations.Relocation.{Relocation}
 use Rattle.m11_obj.specs.declared.relocations.Target.{Target}
-use Rattle.m11_modules.specs.Parts.{Part, Directory, Entry, EndOfDirectory, Text, Relocations, Relocated, EndOfModule, EndOfFile}
-use Rattle.m11_modules.specs.Places.{current_section, modules_in, this_module}
-use Rattle.m11_layout.specs.Sections.{attributes_by}
+use Rattle.m11_link_modules.specs.Parts.{Part, Directory, Entry, EndOfDirectory, Text, Relocations, Relocated, EndOfModule, EndOfFile}
+use Rattle.m11_link_modules.specs.Places.{current_section, modules_in, this_module}
+use Rattle.m11_link_layout.specs.Sections.{attributes_by}
 use Rattle.m11_link_text.specs.Findings.{Findings, findings_of}
 use Rattle.m11_link_text.specs.Relocation.{stored_bytes, symbol, value_of}
 use Rattle.m11_link.specs.Written.{PlacedText, defined_names, different_writes, ended_writes, has_ended, parts_writes, placed_text, relocations_after, text_writes, with_relocations, writes_at, writes_after, writes_by}

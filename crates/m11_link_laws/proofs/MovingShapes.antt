@@ -1,16 +1,16 @@
 -- The writes of parts go to the same outputs, in the same order and as long, from both bottoms on.
 use Rattle.std.proofs.Common.{◌≡◌, ℕ, ◌+◌, ◌-◌, min, Bool, true, false, if◌then◌else◌, List, [], ◌∷◌, ◌++◌, length, map, refl, sym, ap, ap₂, ◌∙◌, arith, length-append, length-drop, length-take}
 use Rattle.std.proofs.lemmas.List.{map-append}
-use Rattle.m11_blocks.specs.Frames.{with_sum}
-use Rattle.m11_blocks.specs.Tapes.{tape_block, tape_header}
+use Rattle.m11_obj_blocks.specs.Frames.{with_sum}
+use Rattle.m11_obj_blocks.specs.Tapes.{tape_block, tape_header}
 use Rattle.m11_obj.specs.declared.relocations.Relocation.{Relocation}
 use Rattle.m11_obj.specs.declared.relocations.Target.{Target}
 use Rattle.m11_obj.specs.declared.relocations.Target.TheVariants as target
-use Rattle.m11_modules.specs.Parts.{Part, Directory, Entry, EndOfDirectory, Text, Relocations, Relocated, EndOfModule, EndOfFile}
-use Rattle.m11_modules.specs.Places.{current_section, modules_in, this_module}
-use Rattle.m11_modules.specs.Rules.{lies_within}
-use Rattle.m11_layout.specs.declared.fault.LinkOutput.{LinkOutput}
-use Rattle.m11_layout.specs.declared.fault.LinkOutput.TheVariants.{Tape}
+use Rattle.m11_link_modules.specs.Parts.{Part, Directory, Entry, EndOfDirectory, Text, Relocations, Relocated, EndOfModule, EndOfFile}
+use Rattle.m11_link_modules.specs.Places.{current_section, modules_in, this_module}
+use Rattle.m11_link_modules.specs.Rules.{lies_within}
+use Rattle.m11_link_layout.specs.declared.fault.LinkOutput.{LinkOutput}
+use Rattle.m11_link_layout.specs.declared.fault.LinkOutput.TheVariants.{Tape}
 use Rattle.m11_link_text.specs.Findings.{Findings, findings_of}
 use Rattle.m11_link_text.specs.Relocation.{modulo, replaced, stored_bytes, value_bytes}
 use Rattle.m11_link.specs.Written.{PlacedText, block_at, has_ended, parts_writes, placed_text, relocations_after, text_writes, with_relocation, with_relocations, writes_at, writes_after}

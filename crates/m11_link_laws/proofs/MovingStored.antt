@@ -1,11 +1,11 @@
 -- What relocations store at two bottoms.
 use Rattle.std.proofs.Common.{◌≡◌, ℕ, ◌+◌, ◌-◌, Bool, true, false, ◌&&◌, if◌then◌else◌, List, [], ◌∷◌, ◌++◌, length, map, refl, sym, ap, ap₂, ◌∙◌, true≢false}
-use Rattle.m11_blocks.specs.Frames.{word_bytes}
+use Rattle.m11_obj_blocks.specs.Frames.{word_bytes}
 use Rattle.m11_obj.specs.declared.relocations.Relocation.{Relocation}
 use Rattle.m11_obj.specs.declared.relocations.Target.{Target}
 use Rattle.m11_obj.specs.declared.relocations.Target.TheVariants as target
-use Rattle.m11_modules.specs.Parts.{Part}
-use Rattle.m11_modules.specs.Rules.{lies_within}
+use Rattle.m11_link_modules.specs.Parts.{Part}
+use Rattle.m11_link_modules.specs.Rules.{lies_within}
 use Rattle.m11_link_text.specs.Findings.{Findings}
 use Rattle.m11_link_text.specs.Relocation.{following, less, modulo, replaced, stored_bytes, symbol, value_bytes, value_of}
 use Rattle.m11_link.specs.Written.{PlacedText, placed_text, with_relocation, with_relocations}

@@ -12,15 +12,15 @@ use Rattle.std.proofs.lemmas.Map.Made.{is_some-lookup}
 use Rattle.indexmap.specs.IndexSet.{insert_key}
 use Rattle.m11_base.specs.Rad50.{is_same_name}
 use Rattle.m11_base.proofs.SameNames.{same_name_equal}
-use Rattle.m11_modules.specs.Parts.{Part}
-use Rattle.m11_modules.specs.Places.{distinct, distinct_after, modules_in, section_in, section_names, sections_in}
-use Rattle.m11_layout.specs.Modules.{module_at, modules_before}
-use Rattle.m11_layout.specs.Sections.{base_entered, contribution_base, ends_too_high, first_attributes, greatest, is_overlaid, is_relocatable, is_too_large, module_base, rounded, section_base, section_size, size_under, sizes_of}
-use Rattle.m11_layout.proofs.PlannedBases.{none_high}
-use Rattle.m11_layout.proofs.Finding.{lookup_append}
-use Rattle.m11_layout.proofs.Offsets.{earlier_sizes_more, entered_at, entered_more, reported_where}
-use Rattle.m11_layout.proofs.Sizing.{sizes_more}
-use Rattle.m11_layout.proofs.Walking.{grown}
+use Rattle.m11_link_modules.specs.Parts.{Part}
+use Rattle.m11_link_modules.specs.Places.{distinct, distinct_after, modules_in, section_in, section_names, sections_in}
+use Rattle.m11_link_layout.specs.Modules.{module_at, modules_before}
+use Rattle.m11_link_layout.specs.Sections.{base_entered, contribution_base, ends_too_high, first_attributes, greatest, is_overlaid, is_relocatable, is_too_large, module_base, rounded, section_base, section_size, size_under, sizes_of}
+use Rattle.m11_link_layout.proofs.PlannedBases.{none_high}
+use Rattle.m11_link_layout.proofs.Finding.{lookup_append}
+use Rattle.m11_link_layout.proofs.Offsets.{earlier_sizes_more, entered_at, entered_more, reported_where}
+use Rattle.m11_link_layout.proofs.Sizing.{sizes_more}
+use Rattle.m11_link_layout.proofs.Walking.{grown}
 use Rattle.m11_link_laws.specs.Moving.{farther, moves, section_moves}
 use Rattle.m11_link_laws.proofs.MovingFindings.{section_is}
 

@@ -1,32 +1,32 @@
 -- Texts that no relocation changes are the blocks of the tape.
 use Rattle.std.proofs.Common.{◌≡◌, ℕ, ◌+◌, ◌-◌, Bool, true, false, ◌&&◌, not, if◌then◌else◌, List, [], ◌∷◌, ◌++◌, map, take, drop, take-append-drop, length, flat_map, append-nil, Option, Some, None, refl, sym, ap, ap₂, ◌∙◌, arith}
 use Rattle.std.specs.List.{list_any}
-use Rattle.m11_blocks.specs.Tapes.{tape_block}
+use Rattle.m11_obj_blocks.specs.Tapes.{tape_block}
 use Rattle.m11_obj.specs.declared.gsd.GsdEntry.{GsdEntry}
 use Rattle.m11_obj.specs.declared.gsd.GsdKind.{GsdKind}
 use Rattle.m11_obj.specs.declared.gsd.GsdKind.TheVariants as kind
 use Rattle.m11_obj.specs.declared.relocations.Relocation.{Relocation}
 use Rattle.m11_obj.specs.declared.relocations.Target.{Target}
 use Rattle.m11_obj.specs.declared.relocations.Target.TheVariants as target
-use Rattle.m11_modules.proofs.KnownAfter.{stage_append}
-use Rattle.m11_modules.specs.declared.fault.ModuleFault.{ModuleFault}
-use Rattle.m11_modules.specs.declared.fault.ModuleFault.TheVariants.{BadOrder}
-use Rattle.m11_modules.specs.declared.stage.Stage.{Stage}
-use Rattle.m11_modules.specs.declared.stage.Stage.TheVariants.{Between, InDirectory, InBody}
-use Rattle.m11_modules.specs.Names.{is_among}
-use Rattle.m11_modules.specs.Parts.{Part, Directory, Entry, EndOfDirectory, Text, Relocations, Relocated, EndOfModule, EndOfFile}
-use Rattle.m11_modules.specs.Places.{current_section, known_of, modules_in, stage_after, stage_from, this_module}
-use Rattle.m11_modules.specs.Rules.{defines, fault_known, fault_of, first_fault, lies_within, may_stand}
-use Rattle.m11_layout.specs.Modules.{reported_after}
-use Rattle.m11_layout.specs.Sections.{attributes_by}
-use Rattle.m11_layout.specs.declared.fault.LinkOutput.TheVariants.{Tape}
-use Rattle.m11_layout.proofs.Finding.{neither}
-use Rattle.m11_layout.proofs.Walking.{head_none, rest_none}
+use Rattle.m11_link_modules.proofs.KnownAfter.{stage_append}
+use Rattle.m11_link_modules.specs.declared.fault.ModuleFault.{ModuleFault}
+use Rattle.m11_link_modules.specs.declared.fault.ModuleFault.TheVariants.{BadOrder}
+use Rattle.m11_link_modules.specs.declared.stage.Stage.{Stage}
+use Rattle.m11_link_modules.specs.declared.stage.Stage.TheVariants.{Between, InDirectory, InBody}
+use Rattle.m11_link_modules.specs.Names.{is_among}
+use Rattle.m11_link_modules.specs.Parts.{Part, Directory, Entry, EndOfDirectory, Text, Relocations, Relocated, EndOfModule, EndOfFile}
+use Rattle.m11_link_modules.specs.Places.{current_section, known_of, modules_in, stage_after, stage_from, this_module}
+use Rattle.m11_link_modules.specs.Rules.{defines, fault_known, fault_of, first_fault, lies_within, may_stand}
+use Rattle.m11_link_layout.specs.Modules.{reported_after}
+use Rattle.m11_link_layout.specs.Sections.{attributes_by}
+use Rattle.m11_link_layout.specs.declared.fault.LinkOutput.TheVariants.{Tape}
+use Rattle.m11_link_layout.proofs.Finding.{neither}
+use Rattle.m11_link_layout.proofs.Walking.{head_none, rest_none}
 use Rattle.m11_link_text.specs.Findings.{Findings}
 use Rattle.m11_link.specs.Front.{front_writes, global_write, global_writes, last_writes, map_writes, name_write, name_writes, section_write, section_writes, undefined_names, undefined_write, undefined_writes, weak_writes}
 use Rattle.m11_link_text.specs.Relocation.{modulo, relocated, replaced, stored_bytes}
-use Rattle.m11_writes.specs.Writes.{gained, gained_by}
-use Rattle.m11_writes.proofs.Writing.{gained-append}
+use Rattle.m11_base_writes.specs.Writes.{gained, gained_by}
+use Rattle.m11_base_writes.proofs.Writing.{gained-append}
 use Rattle.m11_link.specs.Outputs.{Write, link, to_tape}
 use Rattle.m11_link.specs.Written.{PlacedText, attributes_agree, block_at, defined_names, different_writes, ended_writes, entry_writes, has_ended, link_writes, parts_writes, placed_text, relocations_after, text_writes, with_relocation, with_relocations, writes_at, writes_after, writes_by}
 use Rattle.m11_link_laws.specs.Texts.{block_of, data_block, only_selects, stores, text_in, texts_of}

@@ -1,12 +1,12 @@
 -- A second pass that stops over known objects has written a beginning of what all of them make.
 use Rattle.std.proofs.Common.{◌≡◌, ◌∙◌, ℕ, Bool, true, false, List, [], ◌∷◌, ◌++◌, append_assoc, Option, Some, None, Ok, Err, ◌⊎◌, inl, inr, refl, sym, ap, subst, arith, length-append}
 use Rattle.m11_base.specs.Feed.{BeginsWith, HasBytes, OneFailed, Text}
-use Rattle.m11_blocks.specs.Limited.{most_bytes}
-use Rattle.m11_blocks.specs.Tapes.{tape_block}
-use Rattle.m11_modules.specs.Parts.{Part}
-use Rattle.m11_layout.specs.Plan.{Planned}
-use Rattle.m11_layout.specs.declared.fault.LinkFault.{LinkFault}
-use Rattle.m11_layout.specs.declared.fault.LinkFault.TheVariants as fault
+use Rattle.m11_obj_blocks.specs.Limited.{most_bytes}
+use Rattle.m11_obj_blocks.specs.Tapes.{tape_block}
+use Rattle.m11_link_modules.specs.Parts.{Part}
+use Rattle.m11_link_layout.specs.Plan.{Planned}
+use Rattle.m11_link_layout.specs.declared.fault.LinkFault.{LinkFault}
+use Rattle.m11_link_layout.specs.declared.fault.LinkFault.TheVariants as fault
 use Rattle.m11_link_text.specs.Findings.{Findings, planned}
 use Rattle.m11_link.specs.Emit.{written}
 use Rattle.m11_link.specs.FirstPass.{pass_of}
@@ -20,8 +20,8 @@ use Rattle.m11_link.proofs.ItemsTaken.{PartsOrFault, taken_after}
 use Rattle.m11_link.proofs.Sole.{objects_same}
 use Rattle.m11_link.proofs.Steady.{block_steady, object_comes, objects_come}
 use Rattle.m11_link.proofs.WritesAfter.{parts_more}
-use Rattle.m11_writes.specs.Writes.{LeavesBeginnings, gained}
-use Rattle.m11_writes.proofs.Writing.{beginnings_left, flushed_beginnings, gained-append, keeps, stops_before}
+use Rattle.m11_base_writes.specs.Writes.{LeavesBeginnings, gained}
+use Rattle.m11_base_writes.proofs.Writing.{beginnings_left, flushed_beginnings, gained-append, keeps, stops_before}
 use Rattle.m11_link_laws.specs.Runs.{AreKnown, IsKnown}
 use Rattle.m11_link_laws.proofs.ItemsParts.{items_parts, parts_are}
 

@@ -2,11 +2,11 @@
 use Rattle.std.proofs.Common.{◌≡◌, ◌∙◌, ℕ, Bool, true, false, if◌then◌else◌, List, [], ◌∷◌, Option, Some, None, Result, Ok, Err, ◌⊎◌, inl, inr, refl, sym, ap, ap₂, subst}
 use Rattle.std.specs.Prelude.{⊤}
 use Rattle.m11_base.specs.Feed.{GiveAll, HasBytes, Text}
-use Rattle.m11_modules.specs.Parts.{Part}
-use Rattle.m11_layout.specs.Plan.{IsPlanOf, Planned}
-use Rattle.m11_layout.specs.Sections.{is_too_large}
-use Rattle.m11_layout.specs.declared.fault.LinkFault.{LinkFault}
-use Rattle.m11_layout.specs.declared.fault.LinkFault.TheVariants as fault
+use Rattle.m11_link_modules.specs.Parts.{Part}
+use Rattle.m11_link_layout.specs.Plan.{IsPlanOf, Planned}
+use Rattle.m11_link_layout.specs.Sections.{is_too_large}
+use Rattle.m11_link_layout.specs.declared.fault.LinkFault.{LinkFault}
+use Rattle.m11_link_layout.specs.declared.fault.LinkFault.TheVariants as fault
 use Rattle.m11_link_text.specs.Findings.{findings_of, planned}
 use Rattle.m11_link.specs.FirstPass.{ReadsFirst, pass_of}
 use Rattle.m11_link.specs.Objects.{◌>>=◌, AreItems, GiveItems, Item, outcome, taken, unless_too_large}
@@ -17,7 +17,7 @@ use Rattle.m11_link.specs.declared.emit.LinkDone.{LinkDone}
 use Rattle.m11_link.proofs.Agreeing.{written_by_definition}
 use Rattle.m11_link.proofs.ItemsTaken.{PartsOrFault}
 use Rattle.m11_link.proofs.Sole.{objects_same}
-use Rattle.m11_writes.specs.Writes.{LeavesBeginnings}
+use Rattle.m11_base_writes.specs.Writes.{LeavesBeginnings}
 use Rattle.m11_link_laws.specs.Runs.{AreKnown, IsDecided, IsKnown, IsRefusal, MayStop}
 use Rattle.m11_link_laws.proofs.RunsBegun.{nothing_begun, read_begun, stop_begun}
 

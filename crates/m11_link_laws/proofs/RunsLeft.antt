@@ -2,10 +2,10 @@
 use Rattle.std.proofs.Common.{◌≡◌, ◌∙◌, ℕ, List, Option, Ok, subst}
 use Rattle.std.specs.Io.KnownBytes.{Appends}
 use Rattle.m11_base.specs.Feed.{Text}
-use Rattle.m11_blocks.specs.Tapes.{IsTape}
-use Rattle.m11_modules.specs.Parts.{Part}
-use Rattle.m11_layout.specs.Transfers.{transfer_address}
-use Rattle.m11_layout.specs.declared.fault.LinkOutput.TheVariants.{Tape, Map, Messages}
+use Rattle.m11_obj_blocks.specs.Tapes.{IsTape}
+use Rattle.m11_link_modules.specs.Parts.{Part}
+use Rattle.m11_link_layout.specs.Transfers.{transfer_address}
+use Rattle.m11_link_layout.specs.declared.fault.LinkOutput.TheVariants.{Tape, Map, Messages}
 use Rattle.m11_link_text.specs.Findings.{findings_of}
 use Rattle.m11_link.specs.FirstPass.{pass_of}
 use Rattle.m11_link.specs.Objects.{AreItems, Item, outcome}

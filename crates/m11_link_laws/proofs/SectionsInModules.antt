@@ -6,18 +6,18 @@ use Rattle.m11_obj.specs.declared.gsd.GsdKind.{GsdKind}
 use Rattle.m11_obj.specs.declared.gsd.GsdKind.TheVariants.{ModuleName, ControlSection, InternalSymbol, TransferAddress, GlobalSymbol, ProgramSection, Identification}
 use Rattle.m11_obj.specs.declared.relocations.Relocation.{Relocation}
 use Rattle.m11_obj.specs.Records as records
-use Rattle.m11_modules.specs.declared.stage.Stage.{Stage}
-use Rattle.m11_modules.specs.declared.stage.Stage.TheVariants.{Between, InDirectory, InBody}
-use Rattle.m11_modules.specs.Grammar.{FileEnds, Item, RecordOf, items_parts}
-use Rattle.m11_modules.specs.Parts.{Part, Directory, Entry, EndOfDirectory, Text, Relocations, Relocated, EndOfModule, EndOfFile, parts_of}
-use Rattle.m11_modules.specs.Places.{Known, global_of, known_of, modules_in, section_names, sections_in, stage_after, this_module}
-use Rattle.m11_modules.specs.Rules.{InLimits, fault_of, first_fault, most_modules, most_sections}
-use Rattle.m11_modules.specs.Steps.{known_after, with_entry, with_optional_global}
-use Rattle.m11_modules.proofs.KnownAfter.{known_after_part}
-use Rattle.m11_layout.proofs.Walking.{head_none, rest_none}
+use Rattle.m11_link_modules.specs.declared.stage.Stage.{Stage}
+use Rattle.m11_link_modules.specs.declared.stage.Stage.TheVariants.{Between, InDirectory, InBody}
+use Rattle.m11_link_modules.specs.Grammar.{FileEnds, Item, RecordOf, items_parts}
+use Rattle.m11_link_modules.specs.Parts.{Part, Directory, Entry, EndOfDirectory, Text, Relocations, Relocated, EndOfModule, EndOfFile, parts_of}
+use Rattle.m11_link_modules.specs.Places.{Known, global_of, known_of, modules_in, section_names, sections_in, stage_after, this_module}
+use Rattle.m11_link_modules.specs.Rules.{InLimits, fault_of, first_fault, most_modules, most_sections}
+use Rattle.m11_link_modules.specs.Steps.{known_after, with_entry, with_optional_global}
+use Rattle.m11_link_modules.proofs.KnownAfter.{known_after_part}
+use Rattle.m11_link_layout.proofs.Walking.{head_none, rest_none}
 use Rattle.m11_link_laws.specs.Tables.{gathered_of}
-use Rattle.m11_layout.specs.Plan.{IsPlanOf, Planned}
-use Rattle.m11_layout.proofs.TablesBounded.{in_all, no_less, tables_of, entered_few}
+use Rattle.m11_link_layout.specs.Plan.{IsPlanOf, Planned}
+use Rattle.m11_link_layout.proofs.TablesBounded.{in_all, no_less, tables_of, entered_few}
 
 -- ---- entries stand after the beginning of a directory record
 

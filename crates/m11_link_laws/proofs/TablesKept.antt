@@ -1,14 +1,14 @@
 -- The tables of a link are no larger than the names of its modules, sections and globals allow.
 use Rattle.std.proofs.Common.{◌≡◌, ℕ, ◌+◌, ◌*◌, ◌≤◌, mul-le-mul, List, [], length, None, refl, sym, ◌∙◌}
 use Rattle.std.specs.Map.{keys_of}
-use Rattle.m11_modules.specs.Parts.{Part}
-use Rattle.m11_modules.specs.Places.{global_names, known_of, modules_in, section_names, sections_in, stage_after, this_module}
-use Rattle.m11_modules.specs.Rules.{first_fault, most_modules, most_sections}
-use Rattle.m11_layout.specs.Globals.{definitions_of, references_of}
-use Rattle.m11_layout.proofs.KnownBounded.{modules_within}
-use Rattle.m11_layout.proofs.NamesReported.{definitions_within, references_within, weak_within}
-use Rattle.m11_layout.proofs.PlansOfParts.{gathered_means}
-use Rattle.m11_layout.proofs.TablesBounded.{entered_few, few_globals, few_pairs, few_weak, in_all, keys_counted, more_modules, no_less, tables_of}
+use Rattle.m11_link_modules.specs.Parts.{Part}
+use Rattle.m11_link_modules.specs.Places.{global_names, known_of, modules_in, section_names, sections_in, stage_after, this_module}
+use Rattle.m11_link_modules.specs.Rules.{first_fault, most_modules, most_sections}
+use Rattle.m11_link_layout.specs.Globals.{definitions_of, references_of}
+use Rattle.m11_link_layout.proofs.KnownBounded.{modules_within}
+use Rattle.m11_link_layout.proofs.NamesReported.{definitions_within, references_within, weak_within}
+use Rattle.m11_link_layout.proofs.PlansOfParts.{gathered_means}
+use Rattle.m11_link_layout.proofs.TablesBounded.{entered_few, few_globals, few_pairs, few_weak, in_all, keys_counted, more_modules, no_less, tables_of}
 use Rattle.m11_link.specs.Written.{defined_names}
 use Rattle.m11_link_laws.specs.Tables.{ContributionsKept, GlobalsKept, ModulesKept, SectionsKept, gathered_of}
 

@@ -4,20 +4,20 @@ use Rattle.std.specs.Prelude.{nat_le}
 use Rattle.std.specs.List.{AllByRecursion, filter, find}
 use Rattle.std.specs.Option.{unwrap_or}
 use Rattle.std.proofs.lemmas.Bool.{leb-true}
-use Rattle.m11_blocks.specs.Tapes.{IsTape, data_limit, tape_block}
-use Rattle.m11_blocks.specs.Tapes as tapes
+use Rattle.m11_obj_blocks.specs.Tapes.{IsTape, data_limit, tape_block}
+use Rattle.m11_obj_blocks.specs.Tapes as tapes
 use Rattle.m11_obj.specs.declared.relocations.Relocation.{Relocation}
-use Rattle.m11_modules.specs.Parts.{Part}
-use Rattle.m11_modules.specs.Rules.{lies_within, width_of}
-use Rattle.m11_layout.specs.Transfers.{is_even, transfer_address, transfer_value, transfers_of}
-use Rattle.m11_layout.specs.declared.definition.Transfer.{Transfer}
-use Rattle.m11_layout.specs.declared.fault.LinkOutput.TheVariants.{Tape}
+use Rattle.m11_link_modules.specs.Parts.{Part}
+use Rattle.m11_link_modules.specs.Rules.{lies_within, width_of}
+use Rattle.m11_link_layout.specs.Transfers.{is_even, transfer_address, transfer_value, transfers_of}
+use Rattle.m11_link_layout.specs.declared.definition.Transfer.{Transfer}
+use Rattle.m11_link_layout.specs.declared.fault.LinkOutput.TheVariants.{Tape}
 use Rattle.m11_link_text.specs.Findings.{Findings, findings_of}
 use Rattle.m11_link_text.specs.Relocation.{modulo, relocated, replaced, stored_bytes}
 use Rattle.m11_link.specs.Objects.{AreItems, Item, outcome, taken}
 use Rattle.m11_link.specs.Outputs.{link}
 use Rattle.m11_link.specs.Written.{PlacedText, link_writes, placed_text, with_relocation, with_relocations}
-use Rattle.m11_writes.specs.Writes.{gained}
+use Rattle.m11_base_writes.specs.Writes.{gained}
 use Rattle.m11_link_laws.specs.Texts.{block_of}
 use Rattle.m11_link_laws.specs.LinkedTexts.{ObjectText, has_data, linked_text, linked_texts, object_texts, tape_blocks}
 use Rattle.m11_link_laws.proofs.ItemsParts.{parts_are}

@@ -3,13 +3,13 @@ use Rattle.std.proofs.Common.{◌≡◌, ◌∙◌, ℕ, ◌+◌, ◌-◌, ◌�
 use Rattle.std.specs.Prelude.{⊤}
 use Rattle.std.specs.List.{AllByRecursion}
 use Rattle.std.proofs.lemmas.Bool.{ltb-false}
-use Rattle.m11_blocks.specs.Blocks.{start, second, count_of, count, content_of as bytes_of, first_block}
-use Rattle.m11_blocks.specs.Frames.{content_limit, header, word}
-use Rattle.m11_blocks.specs.declared.block_fault.BlockFault.TheVariants as block
-use Rattle.m11_blocks.proofs.BlockParts.{after_content, after_count, after_second, after_start}
-use Rattle.m11_blocks.proofs.BlockFrames.{content_takes}
-use Rattle.m11_blocks.proofs.FrameReads.{closed_takes}
-use Rattle.m11_blocks.proofs.ReadSteps.{bind_ok, value_is}
+use Rattle.m11_obj_blocks.specs.Blocks.{start, second, count_of, count, content_of as bytes_of, first_block}
+use Rattle.m11_obj_blocks.specs.Frames.{content_limit, header, word}
+use Rattle.m11_obj_blocks.specs.declared.block_fault.BlockFault.TheVariants as block
+use Rattle.m11_obj_blocks.proofs.BlockParts.{after_content, after_count, after_second, after_start}
+use Rattle.m11_obj_blocks.proofs.BlockFrames.{content_takes}
+use Rattle.m11_obj_blocks.proofs.FrameReads.{closed_takes}
+use Rattle.m11_obj_blocks.proofs.ReadSteps.{bind_ok, value_is}
 use Rattle.m11_obj.specs.Reading.{first_word, content_after, content_of}
 use Rattle.m11_obj.specs.Records as records
 use Rattle.m11_obj.specs.declared.fault.RecordFault.{RecordFault}
@@ -18,7 +18,7 @@ use Rattle.m11_obj.specs.declared.records.RecordKind.{RecordKind}
 use Rattle.m11_obj.specs.declared.records.RecordKind.TheVariants as kind
 use Rattle.m11_obj.specs.declared.relocations.Relocation.{Relocation}
 use Rattle.m11_obj.proofs.FieldsOf as fields
-use Rattle.m11_modules.specs.Parts.{Part, Entry, Text, Relocated, parts_in, parts_of}
+use Rattle.m11_link_modules.specs.Parts.{Part, Entry, Text, Relocated, parts_in, parts_of}
 use Rattle.m11_link.specs.Objects.{AreItems, BlockOf, Item, ObjectEnds, ObjectItems, Refused}
 use Rattle.m11_link.specs.Objects as objects
 use Rattle.m11_link.proofs.Steady.{count_within}

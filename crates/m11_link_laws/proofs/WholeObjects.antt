@@ -1,13 +1,13 @@
 -- Objects that yield parts without a fault are files of whole modules.
 use Rattle.std.proofs.Common.{◌≡◌, ◌∙◌, ℕ, List, [], ◌∷◌, ◌++◌, Option, Some, None, Result, Ok, Err, refl, subst}
-use Rattle.m11_blocks.specs.Limited.{most_bytes}
+use Rattle.m11_obj_blocks.specs.Limited.{most_bytes}
 use Rattle.m11_obj.specs.Reading.{content_of}
 use Rattle.m11_obj.specs.Records.{Content}
 use Rattle.m11_obj.specs.declared.fault.RecordFault.{RecordFault}
-use Rattle.m11_modules.specs.declared.fault.ModuleFault.{ModuleFault}
-use Rattle.m11_modules.specs.Parts.{Part, EndOfFile, parts_of}
-use Rattle.m11_modules.specs.Rules.{fault_of, first_fault}
-use Rattle.m11_layout.proofs.Standing.{sound_after}
+use Rattle.m11_link_modules.specs.declared.fault.ModuleFault.{ModuleFault}
+use Rattle.m11_link_modules.specs.Parts.{Part, EndOfFile, parts_of}
+use Rattle.m11_link_modules.specs.Rules.{fault_of, first_fault}
+use Rattle.m11_link_layout.proofs.Standing.{sound_after}
 use Rattle.m11_link.specs.Objects.{◌>>=◌, AreItems, BlockOf, Item, ObjectEnds, ObjectItems, Refused, parts_or_fault, taken, taken_item, taken_parts, unless_fault}
 use Rattle.m11_link.specs.Objects as objects
 use Rattle.m11_link.proofs.ItemsTaken.{PartsOrFault, bind_ok, bind_on, ends_again, ends_first}

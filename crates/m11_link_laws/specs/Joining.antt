@@ -1,9 +1,9 @@
 -- Files of whole modules, and what two links of files have to have in common to yield the same. (This project's own,
 -- in the words of Objects.antt and Written.antt of the linker.)
 use Rattle.std.specs.Prelude.{◌≡◌, ℕ, List, [], Result, Ok, Err}
-use Rattle.m11_blocks.specs.Limited.{most_bytes}
-use Rattle.m11_modules.specs.Parts.{Part}
-use Rattle.m11_layout.specs.declared.fault.LinkFault.{LinkFault}
+use Rattle.m11_obj_blocks.specs.Limited.{most_bytes}
+use Rattle.m11_link_modules.specs.Parts.{Part}
+use Rattle.m11_link_layout.specs.declared.fault.LinkFault.{LinkFault}
 use Rattle.m11_link_text.specs.Findings.{findings_of}
 use Rattle.m11_link.specs.Objects.{Item, ObjectItems, taken}
 use Rattle.m11_link.specs.Written.{link_writes}

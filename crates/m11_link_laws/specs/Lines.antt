@@ -5,14 +5,14 @@ use Rattle.m11_base.specs.Rad50.{Name}
 use Rattle.m11_obj.specs.declared.gsd.GsdEntry.{GsdEntry}
 use Rattle.m11_obj.specs.declared.gsd.GsdKind.{GsdKind}
 use Rattle.m11_obj.specs.declared.gsd.GsdKind.TheVariants.{GlobalSymbol}
-use Rattle.m11_modules.specs.Names.{is_among}
-use Rattle.m11_modules.specs.Parts.{Part, Entry}
-use Rattle.m11_modules.specs.Places.{modules_in}
-use Rattle.m11_modules.specs.Rules.{defines}
-use Rattle.m11_layout.specs.Modules.{reported_after}
-use Rattle.m11_layout.specs.Sections.{attributes_by}
-use Rattle.m11_layout.specs.declared.planned.PlannedGlobal.{PlannedGlobal}
-use Rattle.m11_layout.specs.declared.planned.PlannedSection.{PlannedSection}
+use Rattle.m11_link_modules.specs.Names.{is_among}
+use Rattle.m11_link_modules.specs.Parts.{Part, Entry}
+use Rattle.m11_link_modules.specs.Places.{modules_in}
+use Rattle.m11_link_modules.specs.Rules.{defines}
+use Rattle.m11_link_layout.specs.Modules.{reported_after}
+use Rattle.m11_link_layout.specs.Sections.{attributes_by}
+use Rattle.m11_link_layout.specs.declared.planned.PlannedGlobal.{PlannedGlobal}
+use Rattle.m11_link_layout.specs.declared.planned.PlannedSection.{PlannedSection}
 use Rattle.m11_link_text.specs.Findings.{Findings}
 use Rattle.m11_link_text.specs.Lines.{different_line, global_line, limit_line, multiple_line, name_line, section_line, transfer_line, undefined_line}
 use Rattle.m11_link.specs.Front.{undefined_names}

@@ -6,24 +6,24 @@ use Rattle.std.specs.Prelude.{◌≡◌, ℕ, ◌+◌, ◌-◌, ◌%◌, Bool, t
 use Rattle.std.specs.List.{find, list_all}
 use Rattle.std.specs.Map.{lookup}
 use Rattle.m11_base.specs.Rad50.{Name, is_same_name}
-use Rattle.m11_blocks.specs.Frames.{word_bytes}
+use Rattle.m11_obj_blocks.specs.Frames.{word_bytes}
 use Rattle.m11_obj.specs.declared.relocations.Relocation.{Relocation}
 use Rattle.m11_obj.specs.declared.relocations.Target.{Target}
 use Rattle.m11_obj.specs.declared.relocations.Target.TheVariants as target
-use Rattle.m11_modules.specs.Parts.{Part, Text}
-use Rattle.m11_modules.specs.Places.{current_section, modules_in, sections_in, this_module}
-use Rattle.m11_modules.specs.Rules.{lies_within, width_of}
-use Rattle.m11_layout.specs.Globals.{first_definition}
-use Rattle.m11_layout.specs.Modules.{module_at}
-use Rattle.m11_layout.specs.Sections.{first_attributes, is_relocatable}
-use Rattle.m11_layout.specs.Transfers.{is_even, transfer_value, transfers_of}
-use Rattle.m11_layout.specs.declared.definition.Definition.{Definition}
-use Rattle.m11_layout.specs.declared.definition.GlobalPlace.{GlobalPlace}
-use Rattle.m11_layout.specs.declared.definition.GlobalPlace.TheVariants.{Absolute, In}
-use Rattle.m11_layout.specs.declared.definition.Transfer.{Transfer}
-use Rattle.m11_layout.specs.declared.fault.LinkOutput.{LinkOutput}
-use Rattle.m11_layout.specs.declared.planned.PlannedGlobal.{PlannedGlobal}
-use Rattle.m11_layout.specs.declared.planned.PlannedSection.{PlannedSection}
+use Rattle.m11_link_modules.specs.Parts.{Part, Text}
+use Rattle.m11_link_modules.specs.Places.{current_section, modules_in, sections_in, this_module}
+use Rattle.m11_link_modules.specs.Rules.{lies_within, width_of}
+use Rattle.m11_link_layout.specs.Globals.{first_definition}
+use Rattle.m11_link_layout.specs.Modules.{module_at}
+use Rattle.m11_link_layout.specs.Sections.{first_attributes, is_relocatable}
+use Rattle.m11_link_layout.specs.Transfers.{is_even, transfer_value, transfers_of}
+use Rattle.m11_link_layout.specs.declared.definition.Definition.{Definition}
+use Rattle.m11_link_layout.specs.declared.definition.GlobalPlace.{GlobalPlace}
+use Rattle.m11_link_layout.specs.declared.definition.GlobalPlace.TheVariants.{Absolute, In}
+use Rattle.m11_link_layout.specs.declared.definition.Transfer.{Transfer}
+use Rattle.m11_link_layout.specs.declared.fault.LinkOutput.{LinkOutput}
+use Rattle.m11_link_layout.specs.declared.planned.PlannedGlobal.{PlannedGlobal}
+use Rattle.m11_link_layout.specs.declared.planned.PlannedSection.{PlannedSection}
 use Rattle.m11_link_text.specs.Findings.{Findings}
 use Rattle.m11_link_text.specs.Relocation.{modulo, replaced, value_bytes, value_of}
 use Rattle.m11_link.specs.Outputs.{Write}

@@ -1,8 +1,8 @@
 -- How far the writes of a link have gone, of which each is written whole before the next one. (This project's own.)
 use Rattle.std.specs.Prelude.{◌≡◌, ℕ, Bool, true, false, List, ◌++◌, length}
 use Rattle.std.specs.List.{filter, list_any}
-use Rattle.m11_layout.specs.declared.fault.LinkOutput.{LinkOutput}
-use Rattle.m11_layout.specs.declared.fault.LinkOutput.TheVariants.{Tape}
+use Rattle.m11_link_layout.specs.declared.fault.LinkOutput.{LinkOutput}
+use Rattle.m11_link_layout.specs.declared.fault.LinkOutput.TheVariants.{Tape}
 use Rattle.m11_link_text.specs.Findings.{Findings}
 use Rattle.m11_link.specs.Front.{undefined_writes}
 use Rattle.m11_link.specs.Outputs.{Write}

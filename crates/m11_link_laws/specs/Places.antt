@@ -4,10 +4,10 @@ use Rattle.std.specs.Prelude.{ℕ, ◌+◌, Bool, List, [], ◌∷◌, Option}
 use Rattle.std.specs.List.{filter}
 use Rattle.std.specs.Map.{lookup}
 use Rattle.m11_base.specs.Rad50.{Name, is_same_name}
-use Rattle.m11_modules.specs.Parts.{Part}
-use Rattle.m11_modules.specs.Places.{section_names, sections_in}
-use Rattle.m11_layout.specs.Modules.{module_at}
-use Rattle.m11_layout.specs.Sections.{first_attributes, is_relocatable, section_base, section_size}
+use Rattle.m11_link_modules.specs.Parts.{Part}
+use Rattle.m11_link_modules.specs.Places.{section_names, sections_in}
+use Rattle.m11_link_layout.specs.Modules.{module_at}
+use Rattle.m11_link_layout.specs.Sections.{first_attributes, is_relocatable, section_base, section_size}
 
 -- addresses from a base on, as many as the size says
 pub record Span : Type 0 where

@@ -1,14 +1,14 @@
 -- What a run of the linker yields over known objects. (This project's own.)
 use Rattle.std.specs.Prelude.{◌≡◌, ℕ, List, [], ◌∷◌, ⊤, Option, Some, None, Result, Ok, Err}
 use Rattle.m11_base.specs.Feed.{Text}
-use Rattle.m11_modules.specs.Parts.{Part}
-use Rattle.m11_layout.specs.declared.fault.LinkFault.{LinkFault}
-use Rattle.m11_layout.specs.declared.fault.LinkFault.TheVariants as fault
+use Rattle.m11_link_modules.specs.Parts.{Part}
+use Rattle.m11_link_layout.specs.declared.fault.LinkFault.{LinkFault}
+use Rattle.m11_link_layout.specs.declared.fault.LinkFault.TheVariants as fault
 use Rattle.m11_link_text.specs.Findings.{findings_of}
 use Rattle.m11_link.specs.Outputs.{Outputs, AreFlushed, Gains, link}
 use Rattle.m11_link.specs.Written.{counted, link_writes}
 use Rattle.m11_link.specs.declared.emit.LinkDone.{LinkDone}
-use Rattle.m11_writes.specs.Writes.{LeavesBeginnings}
+use Rattle.m11_base_writes.specs.Writes.{LeavesBeginnings}
 
 -- a text is known, and is these bytes
 abbrev pub IsKnown : Option Text → List ℕ → Type 0

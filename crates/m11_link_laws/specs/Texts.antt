@@ -1,12 +1,12 @@
 -- Texts that no relocation changes. (RT-11 Volume and File Formats Manual, "Object file format", TXT and RLD blocks:
 -- commands 7 and 10 store nothing; "Absolute binary file format".)
 use Rattle.std.specs.Prelude.{ℕ, ◌+◌, Bool, true, false, not, List, [], ◌∷◌, Option, Some, None}
-use Rattle.m11_blocks.specs.Tapes.{tape_block}
+use Rattle.m11_obj_blocks.specs.Tapes.{tape_block}
 use Rattle.m11_obj.specs.declared.relocations.Target.{Target}
 use Rattle.m11_obj.specs.declared.relocations.Target.TheVariants as target
-use Rattle.m11_modules.specs.Parts.{Part, Text, Relocated}
-use Rattle.m11_modules.specs.Places.{current_section, modules_in, this_module}
-use Rattle.m11_layout.specs.Modules.{reported_after}
+use Rattle.m11_link_modules.specs.Parts.{Part, Text, Relocated}
+use Rattle.m11_link_modules.specs.Places.{current_section, modules_in, this_module}
+use Rattle.m11_link_layout.specs.Modules.{reported_after}
 use Rattle.m11_link_text.specs.Findings.{Findings}
 use Rattle.m11_link_text.specs.Relocation.{modulo}
 

@@ -2,7 +2,7 @@
 
 ghost use Rattle.std.specs.List.{AllByRecursion, concat};
 ghost use Rattle.std.specs.Prelude.{◌∷◌, ◌≤◌, length, List, ℕ, []};
-ghost use Rattle.m11_blocks.specs.Limited.{most_bytes};
+ghost use Rattle.m11_obj_blocks.specs.Limited.{most_bytes};
 ghost use Rattle.m11_link.specs.Objects.{AreItems, Item, outcome};
 ghost use Rattle.m11_link_laws.specs.Joining.{AreModules, LinkAlike};
 

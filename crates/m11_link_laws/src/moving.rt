@@ -5,9 +5,9 @@ ghost use Rattle.std.specs.Prelude.{◌≡◌, ℕ, ◌+◌, ◌%◌, ◌&&◌, 
 ghost use Rattle.std.specs.Option.{unwrap_or};
 ghost use Rattle.m11_obj.specs.declared.relocations.Relocation.{Relocation};
 ghost use Rattle.m11_obj.specs.declared.relocations.Target.{Target};
-ghost use Rattle.m11_modules.specs.Parts.{Part};
-ghost use Rattle.m11_layout.specs.Sections.{is_too_large, module_base, section_base};
-ghost use Rattle.m11_layout.specs.Transfers.{transfer_address, transfer_value};
+ghost use Rattle.m11_link_modules.specs.Parts.{Part};
+ghost use Rattle.m11_link_layout.specs.Sections.{is_too_large, module_base, section_base};
+ghost use Rattle.m11_link_layout.specs.Transfers.{transfer_address, transfer_value};
 ghost use Rattle.m11_link_text.specs.Findings.{findings_of};
 ghost use Rattle.m11_link.specs.Front.{undefined_writes};
 ghost use Rattle.m11_link_text.specs.Relocation.{stored_bytes, value_of};

@@ -1,7 +1,7 @@
 //! The order in which a link writes.
 
 ghost use Rattle.std.specs.Prelude.{◌≡◌, ◌<◌, true, List, ◌∷◌, ◌++◌};
-ghost use Rattle.m11_modules.specs.Parts.{Part};
+ghost use Rattle.m11_link_modules.specs.Parts.{Part};
 ghost use Rattle.m11_link_text.specs.Findings.{Findings};
 ghost use Rattle.m11_link.specs.Front.{front_writes};
 ghost use Rattle.m11_link.specs.Outputs.{Write};

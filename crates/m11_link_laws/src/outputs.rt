@@ -2,13 +2,13 @@
 
 ghost use Rattle.std.specs.Prelude.{◌≡◌, ℕ, List, [], ◌++◌, length, min, None, Ok};
 ghost use Rattle.std.specs.List.{concat, flat_map};
-ghost use Rattle.m11_blocks.specs.Tapes.{IsTape, tape_block};
-ghost use Rattle.m11_modules.specs.Parts.{Part, EndOfFile};
-ghost use Rattle.m11_modules.specs.Rules.{fault_of, first_fault};
-ghost use Rattle.m11_layout.specs.Transfers.{transfer_address};
-ghost use Rattle.m11_layout.specs.declared.fault.LinkOutput.TheVariants.{Tape, Map, Messages};
+ghost use Rattle.m11_obj_blocks.specs.Tapes.{IsTape, tape_block};
+ghost use Rattle.m11_link_modules.specs.Parts.{Part, EndOfFile};
+ghost use Rattle.m11_link_modules.specs.Rules.{fault_of, first_fault};
+ghost use Rattle.m11_link_layout.specs.Transfers.{transfer_address};
+ghost use Rattle.m11_link_layout.specs.declared.fault.LinkOutput.TheVariants.{Tape, Map, Messages};
 ghost use Rattle.m11_link_text.specs.Findings.{Findings, findings_of};
-ghost use Rattle.m11_writes.specs.Writes.{gained};
+ghost use Rattle.m11_base_writes.specs.Writes.{gained};
 ghost use Rattle.m11_link.specs.Objects.{AreItems, Item, outcome};
 ghost use Rattle.m11_link.specs.Outputs.{link};
 ghost use Rattle.m11_link.specs.Written.{counted, link_writes, most_messages};

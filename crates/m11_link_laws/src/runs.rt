@@ -1,8 +1,8 @@
 //! Whole runs over known objects.
 
 ghost use Rattle.std.specs.Prelude.{◌≡◌, List, ℕ, Result, Ok};
-ghost use Rattle.m11_modules.specs.Parts.{Part};
-ghost use Rattle.m11_layout.specs.declared.fault.LinkFault.{LinkFault};
+ghost use Rattle.m11_link_modules.specs.Parts.{Part};
+ghost use Rattle.m11_link_layout.specs.declared.fault.LinkFault.{LinkFault};
 ghost use Rattle.m11_link.specs.Objects.{AreItems, Item, outcome};
 ghost use Rattle.m11_link.specs.Outputs.{Outputs};
 ghost use Rattle.m11_link.specs.SecondPass.{LinkRuns};

@@ -1,10 +1,10 @@
 //! How large the tables of a link grow.
 
 ghost use Rattle.std.specs.Prelude.{◌≡◌, ℕ, ◌*◌, ◌≤◌, List, [], length, None};
-ghost use Rattle.m11_modules.specs.Grammar.{Item, items_parts};
-ghost use Rattle.m11_modules.specs.Parts.{Part};
-ghost use Rattle.m11_modules.specs.Rules.{first_fault, most_modules, most_sections};
-ghost use Rattle.m11_layout.specs.Plan.{IsPlanOf, Planned, TablesBounded, TablesGrow};
+ghost use Rattle.m11_link_modules.specs.Grammar.{Item, items_parts};
+ghost use Rattle.m11_link_modules.specs.Parts.{Part};
+ghost use Rattle.m11_link_modules.specs.Rules.{first_fault, most_modules, most_sections};
+ghost use Rattle.m11_link_layout.specs.Plan.{IsPlanOf, Planned, TablesBounded, TablesGrow};
 ghost use Rattle.m11_link_laws.specs.Tables.{ContributionsKept, GlobalsKept, ModulesKept, SectionsKept, gathered_of};
 
 /// The tables that a link keeps of objects without a fault grow with the names of modules, sections and globals, and

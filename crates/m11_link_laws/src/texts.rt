@@ -2,12 +2,12 @@
 
 ghost use Rattle.std.specs.Prelude.{◌≡◌, false, List, [], ◌++◌, None};
 ghost use Rattle.std.specs.List.{flat_map, list_any};
-ghost use Rattle.m11_blocks.specs.Tapes.{tape_block};
-ghost use Rattle.m11_modules.specs.Parts.{Part, EndOfFile};
-ghost use Rattle.m11_modules.specs.Rules.{fault_of, first_fault};
-ghost use Rattle.m11_layout.specs.declared.fault.LinkOutput.TheVariants.{Tape};
+ghost use Rattle.m11_obj_blocks.specs.Tapes.{tape_block};
+ghost use Rattle.m11_link_modules.specs.Parts.{Part, EndOfFile};
+ghost use Rattle.m11_link_modules.specs.Rules.{fault_of, first_fault};
+ghost use Rattle.m11_link_layout.specs.declared.fault.LinkOutput.TheVariants.{Tape};
 ghost use Rattle.m11_link_text.specs.Findings.{Findings};
-ghost use Rattle.m11_writes.specs.Writes.{gained};
+ghost use Rattle.m11_base_writes.specs.Writes.{gained};
 ghost use Rattle.m11_link.specs.Outputs.{link};
 ghost use Rattle.m11_link.specs.Written.{link_writes};
 ghost use Rattle.m11_link_laws.specs.Texts.{block_of, stores, texts_of};

@@ -3,14 +3,14 @@
 -- Transfers.antt of the layout say.)
 use Rattle.std.specs.Prelude.{◌≡◌, ℕ, Bool, List, Option}
 use Rattle.m11_base.specs.Rad50.{Name}
-use Rattle.m11_modules.specs.Parts.{Part}
-use Rattle.m11_layout.specs.Globals.{global_value, globals_of, referred}
-use Rattle.m11_layout.specs.Modules.{name_at}
-use Rattle.m11_layout.specs.Plan.{Planned, planned_base, planned_value, planned_transfer, planned_attributes, planned_module, planned_sections, planned_globals}
-use Rattle.m11_layout.specs.Sections.{entered_attributes, module_base, sections_of, top}
-use Rattle.m11_layout.specs.Transfers.{transfer_address}
-use Rattle.m11_layout.specs.declared.planned.PlannedGlobal.{PlannedGlobal}
-use Rattle.m11_layout.specs.declared.planned.PlannedSection.{PlannedSection}
+use Rattle.m11_link_modules.specs.Parts.{Part}
+use Rattle.m11_link_layout.specs.Globals.{global_value, globals_of, referred}
+use Rattle.m11_link_layout.specs.Modules.{name_at}
+use Rattle.m11_link_layout.specs.Plan.{Planned, planned_base, planned_value, planned_transfer, planned_attributes, planned_module, planned_sections, planned_globals}
+use Rattle.m11_link_layout.specs.Sections.{entered_attributes, module_base, sections_of, top}
+use Rattle.m11_link_layout.specs.Transfers.{transfer_address}
+use Rattle.m11_link_layout.specs.declared.planned.PlannedGlobal.{PlannedGlobal}
+use Rattle.m11_link_layout.specs.declared.planned.PlannedSection.{PlannedSection}
 
 pub record Findings : Type 0 where
   -- the base of a module's contribution to a section, and the value of a global

@@ -4,8 +4,8 @@ use Rattle.std.specs.Prelude.{ℕ, [], ◌∷◌, ◌++◌, codes}
 use Rattle.m11_base.specs.Devices.{Bytes}
 use Rattle.m11_base.specs.Octal.{octal_text}
 use Rattle.m11_base.specs.Rad50.{Name, name_text}
-use Rattle.m11_print.specs.Attributes.{attributes_text}
-use Rattle.m11_print.specs.Lines.{line_of}
+use Rattle.m11_obj_print.specs.Attributes.{attributes_text}
+use Rattle.m11_obj_print.specs.Lines.{line_of}
 
 -- ---- messages
 

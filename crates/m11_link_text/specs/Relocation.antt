@@ -5,11 +5,11 @@ use Rattle.std.specs.Prelude.{ℕ, ◌+◌, ◌-◌, ◌%◌, Bool, [], ◌∷�
 use Rattle.std.specs.Option.{unwrap_or}
 use Rattle.m11_base.specs.Devices.{Bytes}
 use Rattle.m11_base.specs.Rad50.{Name}
-use Rattle.m11_blocks.specs.Frames.{word_bytes}
+use Rattle.m11_obj_blocks.specs.Frames.{word_bytes}
 use Rattle.m11_obj.specs.declared.relocations.Relocation.{Relocation}
 use Rattle.m11_obj.specs.declared.relocations.Target.{Target}
 use Rattle.m11_obj.specs.declared.relocations.Target.TheVariants as target
-use Rattle.m11_modules.specs.Rules.{lies_within}
+use Rattle.m11_link_modules.specs.Rules.{lies_within}
 use Rattle.m11_link_text.specs.Findings.{Findings}
 
 -- addresses and words are known modulo 200000

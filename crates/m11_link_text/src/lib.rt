@@ -8,6 +8,6 @@ mod map_lines;
 mod relocation;
 
 pub use lines::{different_line, multiple_line, undefined_line};
-pub use m11_print::Line;
+pub use m11_obj_print::Line;
 pub use map_lines::{global_line, limit_line, name_line, section_line, transfer_line};
 pub use relocation::relocate;

@@ -7,10 +7,10 @@ ghost use Rattle.arrayvec.specs.ArrayVec.{array_vec_len};
 ghost use Rattle.m11_link_text.specs.Lines as spec;
 
 use m11_base::Name;
-use m11_print::{Line, ended, put};
+use m11_obj_print::{Line, ended, put};
 
 /// The message that a global is referred to and defined nowhere.
-#[tactic(auto, using(m11_print::proofs::Trimming::line_at))]
+#[tactic(auto, using(m11_obj_print::proofs::Trimming::line_at))]
 pub fn undefined_line(name: Name) -> Line
     ensures { result.items ≡ spec.undefined_line name }
 {
@@ -35,7 +35,7 @@ fn in_module(words: &[u8], name: Name, module_name: Name) -> Line
 }
 
 /// The message that a module defines a global that was defined before.
-#[tactic(auto, using(m11_print::proofs::Trimming::line_at))]
+#[tactic(auto, using(m11_obj_print::proofs::Trimming::line_at))]
 pub fn multiple_line(name: Name, module_name: Name) -> Line
     ensures { result.items ≡ spec.multiple_line name module_name }
 {
@@ -43,7 +43,7 @@ pub fn multiple_line(name: Name, module_name: Name) -> Line
 }
 
 /// The message that a module enters a section with other attributes than its first entry has.
-#[tactic(auto, using(m11_print::proofs::Trimming::line_at))]
+#[tactic(auto, using(m11_obj_print::proofs::Trimming::line_at))]
 pub fn different_line(section: Name, module_name: Name) -> Line
     ensures { result.items ≡ spec.different_line section module_name }
 {

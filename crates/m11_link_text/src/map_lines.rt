@@ -6,7 +6,7 @@ ghost use Rattle.m11_link_text.specs.Lines as spec;
 
 use m11_base::{Name, octal6};
 use m11_obj::SectionFlags;
-use m11_print::{Line, ended, put, put_attributes};
+use m11_obj_print::{Line, ended, put, put_attributes};
 
 // A name and two words, with a blank after each but the last.
 fn columns(name: Name, first: u16, second: u16) -> Line

@@ -1,17 +1,17 @@
 //! What relocations store. (RT-11 Volume and File Formats Manual, "Object file format", RLD block.)
 
 ghost use Rattle.std.specs.Prelude.{◌≡◌, ◌≤◌, ◌<◌, ◌+◌, ◌-◌, ◌++◌, length, if◌then◌else◌};
-ghost use Rattle.m11_blocks.specs.Frames.{word_bytes};
+ghost use Rattle.m11_obj_blocks.specs.Frames.{word_bytes};
 ghost use Rattle.arrayvec.specs.ArrayVec.{array_vec_len};
 ghost use Rattle.m11_link_text.specs.Findings.{planned};
 ghost use Rattle.m11_link_text.specs.Relocation as spec;
-ghost use Rattle.m11_modules.specs.Rules.{width_of};
+ghost use Rattle.m11_link_modules.specs.Rules.{width_of};
 
 use arrayvec::ArrayVec;
 use byteorder::{ByteOrder, LittleEndian};
 use m11_base::Name;
-use m11_layout::Plan;
-use m11_modules::lies_within;
+use m11_link_layout::Plan;
+use m11_link_modules::lies_within;
 use m11_obj::{Relocation, Target};
 
 // A module's text in the making: the module's index, and the base that its section has in it.

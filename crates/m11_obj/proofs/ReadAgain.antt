@@ -7,7 +7,7 @@ use Rattle.m11_base.specs.Rad50.{IsName, word_limit}
 use Rattle.m11_obj.specs.declared.gsd.GsdKind.{GsdKind}
 use Rattle.m11_obj.specs.declared.gsd.GsdKind.TheVariants.{ModuleName, ControlSection, InternalSymbol, TransferAddress, GlobalSymbol, ProgramSection, Identification}
 use Rattle.m11_obj.specs.declared.gsd.GsdEntry.{GsdEntry}
-use Rattle.m11_blocks.specs.Frames.{word_bytes}
+use Rattle.m11_obj_blocks.specs.Frames.{word_bytes}
 use Rattle.m11_obj.specs.Gsd.{kind_code, name_bytes, entry_bytes, entries_bytes, EntryFits, EntriesFit}
 use Rattle.m11_obj.specs.Reading.{first_word, first_name_word, first_name, entry_kind, first_entry, items_within, items_of, entries_of}
 

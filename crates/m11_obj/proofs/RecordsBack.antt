@@ -8,7 +8,7 @@ use Rattle.m11_obj.specs.declared.gsd.GsdEntry.{GsdEntry}
 use Rattle.m11_obj.specs.declared.relocations.Relocation.{Relocation}
 use Rattle.m11_obj.specs.declared.records.RecordKind.{RecordKind}
 use Rattle.m11_obj.specs.declared.records.RecordKind.TheVariants as kind
-use Rattle.m11_blocks.specs.Frames.{word_bytes, content_limit}
+use Rattle.m11_obj_blocks.specs.Frames.{word_bytes, content_limit}
 use Rattle.m11_obj.specs.Gsd.{entry_bytes, EntryFits}
 use Rattle.m11_obj.specs.Relocations.{relocation_bytes, relocations_bytes, RelocationFits}
 use Rattle.m11_obj.specs.Records.{Content, Gsd, EndOfGsd, Text, Relocations, InternalSymbols, EndOfModule, record_data, Fits, HasFields, IsRecordOf}

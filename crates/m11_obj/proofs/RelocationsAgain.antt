@@ -8,7 +8,7 @@ use Rattle.m11_base.specs.Rad50.{IsName}
 use Rattle.m11_obj.specs.declared.relocations.Target.{Target}
 use Rattle.m11_obj.specs.declared.relocations.Target.TheVariants.{Internal, Global, InternalDisplaced, GlobalDisplaced, GlobalAdditive, GlobalAdditiveDisplaced, LocationCounterDefinition, LocationCounterModification, ProgramLimits, Section, SectionDisplaced, SectionAdditive, SectionAdditiveDisplaced}
 use Rattle.m11_obj.specs.declared.relocations.Relocation.{Relocation}
-use Rattle.m11_blocks.specs.Frames.{word_bytes}
+use Rattle.m11_obj_blocks.specs.Frames.{word_bytes}
 use Rattle.m11_obj.specs.Gsd.{name_bytes}
 use Rattle.m11_obj.specs.Relocations.{parts_of, optional_name, optional_word, byte_form, relocation_bytes, relocations_bytes, FormExists, RelocationFits, RelocationsFit}
 use Rattle.m11_obj.specs.Reading.{Form, Nothing, Constant, Name, NameAndConstant, row_of, form_of, first_target, first_relocation, items_within, items_of, relocations_of}

@@ -2,7 +2,7 @@
 -- they are asked for. (RT-11 Volume and File Formats Manual, "Object file format". The split is this project's own.)
 use Rattle.std.specs.Prelude.{◌≡◌, ◌<◌, ◌≤◌, [], ◌∷◌, length, Option, Some, None, Result, Ok, Err}
 use Rattle.m11_base.specs.Devices.{Bytes}
-use Rattle.m11_blocks.specs.Frames.{content_limit}
+use Rattle.m11_obj_blocks.specs.Frames.{content_limit}
 use Rattle.m11_obj.specs.declared.contents.Contents.{Contents}
 use Rattle.m11_obj.specs.declared.contents.Contents.TheVariants as contents
 use Rattle.m11_obj.specs.declared.fault.RecordFault.{RecordFault}

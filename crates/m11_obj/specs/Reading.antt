@@ -7,7 +7,7 @@ use Rattle.std.specs.Result.{result_unwrap_or}
 use Rattle.m11_base.specs.Devices.{Bytes}
 use Rattle.m11_base.specs.Rad50 as rad50
 use Rattle.m11_base.specs.Rad50.{word_limit}
-use Rattle.m11_blocks.specs.Frames.{content_limit}
+use Rattle.m11_obj_blocks.specs.Frames.{content_limit}
 use Rattle.m11_obj.specs.declared.fault.RecordFault.{RecordFault}
 use Rattle.m11_obj.specs.declared.fault.RecordFault.TheVariants.{UnknownType, BadLength, Library, MappedArray, Complex, UnknownRelocation, BadName}
 use Rattle.m11_obj.specs.declared.gsd.GsdKind.{GsdKind}

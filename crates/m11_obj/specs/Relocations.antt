@@ -7,7 +7,7 @@ use Rattle.m11_base.specs.Rad50.{Name, IsName}
 use Rattle.m11_obj.specs.declared.relocations.Target.{Target}
 use Rattle.m11_obj.specs.declared.relocations.Target.TheVariants.{Internal, Global, InternalDisplaced, GlobalDisplaced, GlobalAdditive, GlobalAdditiveDisplaced, LocationCounterDefinition, LocationCounterModification, ProgramLimits, Section, SectionDisplaced, SectionAdditive, SectionAdditiveDisplaced}
 use Rattle.m11_obj.specs.declared.relocations.Relocation.{Relocation}
-use Rattle.m11_blocks.specs.Frames.{word_bytes}
+use Rattle.m11_obj_blocks.specs.Frames.{word_bytes}
 use Rattle.m11_obj.specs.Gsd.{name_bytes}
 
 -- what an entry has beside its displacement: the command, which stands in octal in the manual, the name that follows it, if one

@@ -10,7 +10,7 @@ use crate::gsd::Entries;
 use crate::reading::{check_relocations, first_relocation, first_type, first_word, read_entries};
 use crate::records::RecordKind;
 use crate::relocations::Relocation;
-use m11_blocks::Block;
+use m11_obj_blocks::Block;
 use std::marker::Model;
 
 /// The entries of a directory record that are still to be read. It takes no memory.
@@ -21,7 +21,7 @@ pub struct UnreadEntries<'a> {
 
 impl<'a> Model for UnreadEntries<'a> {
     ghost use Rattle.std.specs.Prelude.{ℕ, ◌+◌, ◌≤◌, List, length};
-    ghost use Rattle.m11_blocks.specs.Frames.{content_limit};
+    ghost use Rattle.m11_obj_blocks.specs.Frames.{content_limit};
 
     ghost Value = { List ℕ };
 

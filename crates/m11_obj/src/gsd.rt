@@ -4,13 +4,13 @@
 ghost use Rattle.std.specs.Prelude.{◌≡◌, ◌+◌, ◌≤◌, ◌++◌};
 ghost use Rattle.arrayvec.specs.ArrayVec.{array_vec_len};
 ghost use Rattle.m11_base.specs.Rad50.{IsName};
-ghost use Rattle.m11_blocks.specs.Frames.{word_bytes, content_limit};
+ghost use Rattle.m11_obj_blocks.specs.Frames.{word_bytes, content_limit};
 ghost use Rattle.m11_obj.specs.Gsd.{kind_code, name_bytes, entry_bytes, EntryFits};
 
 use arrayvec::ArrayVec;
 use byteorder::{ByteOrder, LittleEndian};
 use m11_base::{Name, blank_name};
-use m11_blocks::Block;
+use m11_obj_blocks::Block;
 
 /// What an entry says.
 #[derive(Clone, Copy, Debug, PartialEq, Eq)]

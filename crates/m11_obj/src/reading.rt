@@ -3,7 +3,7 @@
 
 ghost use Rattle.std.specs.Prelude.{◌≡◌, ◌+◌, ◌≤◌, length, Ok, OnOk};
 ghost use Rattle.m11_obj.specs.Commands.{form_in};
-ghost use Rattle.m11_blocks.specs.Frames.{content_limit};
+ghost use Rattle.m11_obj_blocks.specs.Frames.{content_limit};
 ghost use Rattle.m11_obj.specs.Reading.{Gives, checked, first_byte, first_word, first_name, entry_kind, first_entry, entries_of, first_target, first_relocation, relocations_of, record_kind_of, first_type, content_after, content_of, SaysWhatStands};
 
 use crate::commands::{Command, command_of};

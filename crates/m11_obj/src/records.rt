@@ -2,7 +2,7 @@
 //! format".)
 
 ghost use Rattle.std.specs.Prelude.{◌≡◌, ◌+◌, ◌≤◌, ◌<◌, ℕ, List, length, Ok, IfOk, All, Some, IsSome, slice_get, option_map};
-ghost use Rattle.m11_blocks.specs.Frames.{word_bytes, content_limit};
+ghost use Rattle.m11_obj_blocks.specs.Frames.{word_bytes, content_limit};
 ghost use Rattle.m11_obj.specs.Gsd.{entry_limit};
 ghost use Rattle.m11_obj.specs.Reading.{content_of, IsRecord, SaysWhatStands, AreRelocations, relocations_left, record_of, record_kind, record_entries, record_text, record_relocations};
 ghost use Rattle.m11_obj.specs.Records.{Content, IsRecordOf};
@@ -13,7 +13,7 @@ use crate::gsd::{GsdEntry, put_entry, put_word};
 use crate::reading::{check_record, first_entry, first_type, first_word};
 use crate::relocation_walk;
 use crate::relocations::{Relocation, put_relocation};
-use m11_blocks::Block;
+use m11_obj_blocks::Block;
 use std::alloc::{AllocError, Global};
 use std::marker::Model;
 

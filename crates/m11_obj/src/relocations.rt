@@ -4,12 +4,12 @@
 ghost use Rattle.std.specs.Prelude.{◌≡◌, ◌+◌, ◌≤◌, ◌<◌, ◌^◌, ◌++◌, length, IfSome};
 ghost use Rattle.arrayvec.specs.ArrayVec.{array_vec_len};
 ghost use Rattle.m11_base.specs.Rad50.{IsName};
-ghost use Rattle.m11_blocks.specs.Frames.{content_limit};
+ghost use Rattle.m11_obj_blocks.specs.Frames.{content_limit};
 ghost use Rattle.m11_obj.specs.Relocations.{parts_of, optional_name, optional_word, relocation_bytes, FormExists, RelocationFits};
 
 use crate::gsd::{put_name, put_word};
 use m11_base::Name;
-use m11_blocks::Block;
+use m11_obj_blocks::Block;
 
 /// What is stored at a relocated place, the base of a section being that of this module's part of it.
 /// Displaced values are less the place and 2. The numbers are those of the commands, in octal.

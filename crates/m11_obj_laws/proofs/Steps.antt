@@ -1,6 +1,6 @@
 -- What stops a reading, step by step, and bytes that are cut.
 use Rattle.std.proofs.Common.{◌≡◌, ◌∙◌, ◌⊎◌, ℕ, ◌/◌, ◌%◌, ◌<◌, Bool, true, false, cond, List, [], ◌∷◌, ◌++◌, length, Result, Ok, Err, refl, sym, ap, append_assoc, arith, length-append, inl, inr}
-use Rattle.m11_blocks.specs.Frames.{word_bytes}
+use Rattle.m11_obj_blocks.specs.Frames.{word_bytes}
 use Rattle.m11_obj.specs.declared.fault.RecordFault.{RecordFault}
 use Rattle.m11_obj.specs.declared.fault.RecordFault.TheVariants.{BadLength}
 use Rattle.m11_obj.specs.Reading.{◌>>=◌, first_byte, first_word}

@@ -3,7 +3,7 @@
 use Rattle.std.specs.Prelude.{◌≡◌, ◌⊎◌, ℕ, ◌+◌, ◌<◌, ◌≤◌, ◌^◌, Bool, true, List, ◌∷◌, ◌++◌, length, IsSome}
 use Rattle.m11_base.specs.Devices.{Bytes}
 use Rattle.m11_base.specs.Rad50.{Name, IsName, word_limit}
-use Rattle.m11_blocks.specs.Frames.{word_bytes}
+use Rattle.m11_obj_blocks.specs.Frames.{word_bytes}
 use Rattle.m11_obj.specs.Gsd.{name_bytes, entry_bytes, entries_bytes, EntryFits, EntriesFit}
 use Rattle.m11_obj.specs.Relocations.{parts_of, byte_form, relocation_bytes, relocations_bytes, RelocationFits, RelocationsFit}
 use Rattle.m11_obj.specs.declared.fault.RecordFault.{RecordFault}

@@ -30,7 +30,7 @@ pub use laws::{
     nested_brackets_are_read_whole, there_is_one_cut, tokens_lie_in_order,
     written_expressions_are_taken_whole,
 };
-pub use m11_lines::{LINE_LIMIT, Line};
+pub use m11_scan_lines::{LINE_LIMIT, Line};
 pub use names::{is_same_six, read_name, read_packed, six_characters};
 pub use numbers::{Number, read_number};
 pub use pieces::Piece;

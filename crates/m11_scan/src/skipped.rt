@@ -6,7 +6,7 @@ ghost use Rattle.m11_scan.specs.Skipped.{has_skipped, has_unkept, is_skipped, sk
 use crate::codes::is_kept;
 use crate::pieces::first_piece;
 use crate::sort::Form;
-use m11_lines::Line;
+use m11_scan_lines::Line;
 
 /// Whether some character between two places of a line begins no token, and is part of none. Such a character is skipped, and
 /// its line has I.

@@ -3,7 +3,7 @@ use Rattle.std.proofs.Common.{◌≡◌, ◌∙◌, ℕ, ◌+◌, ◌*◌, true,
 use Rattle.std.specs.Int.Bits.{bit_or, bit_xor, or_add_and, xor_add_and}
 use Rattle.std.proofs.lemmas.Bool.{cases_lt, eqb-true}
 use Rattle.std.proofs.lemmas.Nat.{and_le_l, and_le_r}
-use Rattle.m11_machine.specs.Memory.{word_at}
+use Rattle.m11_cpu_machine.specs.Memory.{word_at}
 use Rattle.m11_trace.specs.Changes.{AreAlike}
 
 no_bits : (a b : ℕ) → bit_or a b ≡ 0 → (a ≡ 0) × (b ≡ 0)

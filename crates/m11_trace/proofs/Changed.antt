@@ -3,7 +3,7 @@ use Rattle.std.proofs.Common.{◌≡◌, ◌≢◌, ◌↔◌, ◌∙◌, ℕ, z
 use Rattle.std.specs.List.{Contains, filter}
 use Rattle.std.proofs.lemmas.Bool.{cases_lt, eq-eqb, ne_eqb}
 use Rattle.std.proofs.lemmas.List.Elements.{All-contains, All-contains_itself, All-filter, Contains-append_left, Contains-push, Contains-push_cases, filter-append, filter_passes}
-use Rattle.m11_machine.specs.Memory.{most_words, word_at}
+use Rattle.m11_cpu_machine.specs.Memory.{most_words, word_at}
 use Rattle.m11_trace.specs.Changes.{HasAnotherWord, changed_addresses, changed_among, even_addresses, has_changed}
 
 -- ---- even addresses

@@ -13,9 +13,9 @@ use Rattle.m11_base.proofs.Known.{Appends-Appends}
 use Rattle.m11_cpu.specs.Messages.{PutsMessages}
 use Rattle.m11_cpu.specs.declared.fault.SimFault.{SimFault}
 use Rattle.m11_cpu.specs.declared.fault.SimFault.TheVariants.{Load, Write, NoMemory}
-use Rattle.m11_machine.specs.Memory.{bytes_of, most_words, word_at}
-use Rattle.m11_machine.specs.declared.machine.Machine.{Machine}
-use Rattle.m11_machine.proofs.WordsAsBytes.{whole_word}
+use Rattle.m11_cpu_machine.specs.Memory.{bytes_of, most_words, word_at}
+use Rattle.m11_cpu_machine.specs.declared.machine.Machine.{Machine}
+use Rattle.m11_cpu_machine.proofs.WordsAsBytes.{whole_word}
 use Rattle.m11_trace.specs.Changes.{AreAlike, HaveSameWords, changed_among, changes_among, even_addresses, has_changed, memory_changes, word_text}
 use Rattle.m11_trace.specs.Lines.{line_with, step_line}
 use Rattle.m11_trace.specs.Shots.{shot_of}

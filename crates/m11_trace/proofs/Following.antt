@@ -1,12 +1,12 @@
 -- Steps that were made one after another are those of a run.
 use Rattle.std.proofs.Common.{◌≡◌, ℕ, suc, ◌+◌, ◌<◌, ◌≤◌, List, [], ◌∷◌, length, refl, sym, subst, arith}
-use Rattle.m11_machine.specs.Dialogue.{Devices, Does}
-use Rattle.m11_machine.specs.Steps.{step}
-use Rattle.m11_machine.specs.declared.machine.Machine.{Machine}
-use Rattle.m11_machine.specs.declared.stop.Stop.{Stop}
-use Rattle.m11_machine.specs.declared.stop.Stop.TheVariants.{Limit}
-use Rattle.m11_machine.specs.declared.stop.Turn.{Turn}
-use Rattle.m11_machine.specs.declared.stop.Turn.TheVariants.{Next, Stopped}
+use Rattle.m11_cpu_machine.specs.Dialogue.{Devices, Does}
+use Rattle.m11_cpu_machine.specs.Steps.{step}
+use Rattle.m11_cpu_machine.specs.declared.machine.Machine.{Machine}
+use Rattle.m11_cpu_machine.specs.declared.stop.Stop.{Stop}
+use Rattle.m11_cpu_machine.specs.declared.stop.Stop.TheVariants.{Limit}
+use Rattle.m11_cpu_machine.specs.declared.stop.Turn.{Turn}
+use Rattle.m11_cpu_machine.specs.declared.stop.Turn.TheVariants.{Next, Stopped}
 use Rattle.m11_cpu.specs.Runs.{run_counted}
 use Rattle.m11_cpu.proofs.RunsDone.{GoesOn, begins, ends, goes_on, ran, stops}
 use Rattle.m11_trace.specs.Taken.{Follow, Taken, Yielded}

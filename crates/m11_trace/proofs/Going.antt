@@ -10,13 +10,13 @@ use Rattle.m11_cpu.specs.Runs.{run_counted}
 use Rattle.m11_cpu.proofs.RunsDone.{ran}
 use Rattle.m11_cpu.specs.declared.fault.SimFault.{SimFault}
 use Rattle.m11_cpu.specs.declared.fault.SimFault.TheVariants.{Load, Write, NoMemory}
-use Rattle.m11_machine.specs.Dialogue.{Devices, Does, Output}
-use Rattle.m11_machine.specs.Steps.{step}
-use Rattle.m11_machine.specs.declared.machine.Machine.{Machine}
-use Rattle.m11_machine.specs.declared.stop.Stop.{Stop}
-use Rattle.m11_machine.specs.declared.stop.Stop.TheVariants.{Limit}
-use Rattle.m11_machine.specs.declared.stop.Turn.{Turn}
-use Rattle.m11_machine.specs.declared.stop.Turn.TheVariants.{Next, Stopped}
+use Rattle.m11_cpu_machine.specs.Dialogue.{Devices, Does, Output}
+use Rattle.m11_cpu_machine.specs.Steps.{step}
+use Rattle.m11_cpu_machine.specs.declared.machine.Machine.{Machine}
+use Rattle.m11_cpu_machine.specs.declared.stop.Stop.{Stop}
+use Rattle.m11_cpu_machine.specs.declared.stop.Stop.TheVariants.{Limit}
+use Rattle.m11_cpu_machine.specs.declared.stop.Turn.{Turn}
+use Rattle.m11_cpu_machine.specs.declared.stop.Turn.TheVariants.{Next, Stopped}
 use Rattle.m11_trace.specs.Lines.{step_line}
 use Rattle.m11_trace.specs.Shots.{is_at, shot_of}
 use Rattle.m11_trace.specs.Stepping.{StepsWithLines}

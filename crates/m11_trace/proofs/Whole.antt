@@ -14,11 +14,11 @@ use Rattle.m11_cpu.specs.declared.fault.LoadFault.{LoadFault}
 use Rattle.m11_cpu.specs.declared.fault.SimFault.{SimFault}
 use Rattle.m11_cpu.specs.declared.fault.SimFault.TheVariants.{Load, Write, NoMemory}
 use Rattle.m11_cpu.specs.declared.runs.Ran.{Ran}
-use Rattle.m11_machine.specs.Dialogue.{Comes, Devices, Does, Input, Output}
-use Rattle.m11_machine.specs.Machine.{new_machine, with_register}
-use Rattle.m11_machine.specs.declared.machine.Machine.{Machine}
-use Rattle.m11_machine.specs.declared.stop.Stop.TheVariants.{NoStart}
-use Rattle.m11_machine.proofs.Dialogues.{comes}
+use Rattle.m11_cpu_machine.specs.Dialogue.{Comes, Devices, Does, Input, Output}
+use Rattle.m11_cpu_machine.specs.Machine.{new_machine, with_register}
+use Rattle.m11_cpu_machine.specs.declared.machine.Machine.{Machine}
+use Rattle.m11_cpu_machine.specs.declared.stop.Stop.TheVariants.{NoStart}
+use Rattle.m11_cpu_machine.proofs.Dialogues.{comes}
 use Rattle.m11_trace.specs.Messages.{ending_text}
 use Rattle.m11_trace.specs.Ranges.{ranges_text}
 use Rattle.m11_trace.specs.Stepping.{StepsWithLines, end_text}

@@ -3,7 +3,7 @@
 use Rattle.std.specs.Prelude.{◌≡◌, ◌≢◌, ℕ, zero, suc, ◌*◌, ◌%◌, ◌<◌, ◌≤◌, ◌==◌, Bool, not, List, [], ◌∷◌, ◌++◌, codes, slice_index, filter, flat_map}
 use Rattle.m11_base.specs.Devices.{Bytes}
 use Rattle.m11_base.specs.Octal.{octal_text}
-use Rattle.m11_machine.specs.Memory.{bytes_of, most_words, word_at}
+use Rattle.m11_cpu_machine.specs.Memory.{bytes_of, most_words, word_at}
 
 -- the first even addresses, so many of them, in order
 unfoldable pub even_addresses : ℕ → List ℕ

@@ -5,9 +5,9 @@ use Rattle.std.specs.Prelude.{ℕ, ◌/◌, ◌%◌, ◌==◌, if◌then◌else�
 use Rattle.std.specs.Fmt.{decimal}
 use Rattle.m11_base.specs.Devices.{Bytes}
 use Rattle.m11_base.specs.Octal.{octal_text}
-use Rattle.m11_disassembly.specs.Instructions.{statement_of}
-use Rattle.m11_disassembly.specs.Texts.{statement_text}
-use Rattle.m11_machine.specs.declared.machine.Machine.{Machine}
+use Rattle.m11_base_disassembly.specs.Instructions.{statement_of}
+use Rattle.m11_base_disassembly.specs.Texts.{statement_text}
+use Rattle.m11_cpu_machine.specs.declared.machine.Machine.{Machine}
 use Rattle.m11_trace.specs.Changes.{memory_changes}
 use Rattle.m11_trace.specs.Shots.{numbered, shot_of, words_in}
 use Rattle.m11_trace.specs.declared.shots.Shot.{Shot}

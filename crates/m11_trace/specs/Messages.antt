@@ -4,9 +4,9 @@ use Rattle.std.specs.Prelude.{ℕ, ◌++◌, codes}
 use Rattle.std.specs.Fmt.{decimal}
 use Rattle.m11_base.specs.Devices.{Bytes}
 use Rattle.m11_cpu.specs.Messages.{register_line}
-use Rattle.m11_machine.specs.Machine.{psw_in}
-use Rattle.m11_machine.specs.Stop.{stop_name}
-use Rattle.m11_machine.specs.declared.machine.Machine.{Machine}
+use Rattle.m11_cpu_machine.specs.Machine.{psw_in}
+use Rattle.m11_cpu_machine.specs.Stop.{stop_name}
+use Rattle.m11_cpu_machine.specs.declared.machine.Machine.{Machine}
 use Rattle.m11_trace.specs.declared.ending.Ending.{Ending}
 use Rattle.m11_trace.specs.declared.ending.Ending.TheVariants.{Stopped, Reached}
 

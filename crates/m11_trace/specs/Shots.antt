@@ -3,9 +3,9 @@
 use Rattle.std.specs.Prelude.{ℕ, ◌+◌, ◌%◌, ◌==◌, Bool, nat_lt, if◌then◌else◌, List, [], ◌∷◌, length, slice_index_or, Option, Some, None}
 use Rattle.std.specs.List.{list_any}
 use Rattle.m11_base.specs.Devices.{Bytes}
-use Rattle.m11_machine.specs.Machine.{psw_in}
-use Rattle.m11_machine.specs.Memory.{word_at}
-use Rattle.m11_machine.specs.declared.machine.Machine.{Machine}
+use Rattle.m11_cpu_machine.specs.Machine.{psw_in}
+use Rattle.m11_cpu_machine.specs.Memory.{word_at}
+use Rattle.m11_cpu_machine.specs.declared.machine.Machine.{Machine}
 use Rattle.m11_trace.specs.declared.shots.Fetched.{Fetched}
 use Rattle.m11_trace.specs.declared.shots.Shot.{Shot}
 use Rattle.m11_trace.specs.declared.shots.View.{View}

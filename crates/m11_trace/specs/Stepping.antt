@@ -6,8 +6,8 @@ use Rattle.m11_base.specs.Sink.{AppendsBeginning}
 use Rattle.m11_cpu.specs.declared.fault.SimFault.{SimFault}
 use Rattle.m11_cpu.specs.declared.fault.SimFault.TheVariants.{Load, Write, NoMemory}
 use Rattle.m11_cpu.specs.declared.runs.Ran.{Ran}
-use Rattle.m11_machine.specs.Dialogue.{Devices, Dialogue, Output}
-use Rattle.m11_machine.specs.declared.machine.Machine.{Machine}
+use Rattle.m11_cpu_machine.specs.Dialogue.{Devices, Dialogue, Output}
+use Rattle.m11_cpu_machine.specs.declared.machine.Machine.{Machine}
 use Rattle.m11_trace.specs.Messages.{ending_text}
 use Rattle.m11_trace.specs.Ranges.{ranges_text}
 use Rattle.m11_trace.specs.Taken.{Taken, kept, lines_from, shots_text}

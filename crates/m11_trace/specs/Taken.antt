@@ -2,12 +2,12 @@
 use Rattle.std.specs.Prelude.{◌≡◌, ℕ, suc, ◌-◌, ◌%◌, ◌==◌, nat_le, nat_lt, if◌then◌else◌, List, [], ◌∷◌, ◌++◌, length, map, take}
 use Rattle.m11_base.specs.Devices.{Bytes}
 use Rattle.m11_base.specs.declared.operand.Register.TheVariants.{Pc}
-use Rattle.m11_machine.specs.Dialogue.{Devices, Does}
-use Rattle.m11_machine.specs.Machine.{with_register}
-use Rattle.m11_machine.specs.Steps.{step}
-use Rattle.m11_machine.specs.declared.machine.Machine.{Machine}
-use Rattle.m11_machine.specs.declared.stop.Turn.{Turn}
-use Rattle.m11_machine.specs.declared.stop.Turn.TheVariants.{Next}
+use Rattle.m11_cpu_machine.specs.Dialogue.{Devices, Does}
+use Rattle.m11_cpu_machine.specs.Machine.{with_register}
+use Rattle.m11_cpu_machine.specs.Steps.{step}
+use Rattle.m11_cpu_machine.specs.declared.machine.Machine.{Machine}
+use Rattle.m11_cpu_machine.specs.declared.stop.Turn.{Turn}
+use Rattle.m11_cpu_machine.specs.declared.stop.Turn.TheVariants.{Next}
 use Rattle.m11_trace.specs.Lines.{short_line, step_line}
 use Rattle.m11_trace.specs.Shots.{shot_of}
 use Rattle.m11_trace.specs.declared.shots.Shot.{Shot}

@@ -2,13 +2,13 @@
 
 ghost use Rattle.std.specs.Prelude.{◌≡◌, ◌≢◌, ◌<◌, ◌≤◌, ◌+◌, ◌*◌, ◌%◌, true, OnOk, length, slice_index};
 ghost use Rattle.m11_cpu.specs.Messages.{PutsMessages};
-ghost use Rattle.m11_machine.specs.Memory.{bytes_of, most_words, word_at};
+ghost use Rattle.m11_cpu_machine.specs.Memory.{bytes_of, most_words, word_at};
 ghost use Rattle.m11_trace.specs.Changes.{AreAlike, HaveSameWords, memory_changes, word_text};
 
 use crate::line::{Line, add_word, put_text};
 use m11_base::Sink;
 use m11_cpu::SimFault;
-use m11_machine::Memory;
+use m11_cpu_machine::Memory;
 
 /// The most words that a memory has.
 pub(crate) const MOST_WORDS: usize = 28672;

@@ -8,7 +8,7 @@ ghost use Rattle.m11_trace.specs.Lines as spec;
 use crate::line::{Line, add, add_word};
 use crate::shots::{Fetched, Shot};
 use itoa::Buffer;
-use m11_disassembly::disassembled;
+use m11_base_disassembly::disassembled;
 
 // The line of source of words at a place.
 fn add_words(line: &mut Line, place: u16, word: u16, more: &[u16])

@@ -10,7 +10,7 @@ use crate::line::{Line, add, add_word, put_text};
 use itoa::Buffer;
 use m11_base::Sink;
 use m11_cpu::SimFault;
-use m11_machine::Machine;
+use m11_cpu_machine::Machine;
 
 // The name of an end.
 fn ending_name(ending: Ending) -> &'static str

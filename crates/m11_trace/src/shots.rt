@@ -3,7 +3,7 @@
 ghost use Rattle.std.specs.Prelude.{◌≡◌, ◌%◌};
 ghost use Rattle.m11_trace.specs.Shots as spec;
 
-use m11_machine::{Machine, Memory};
+use m11_cpu_machine::{Machine, Memory};
 
 /// The words that an instruction may have, as far as the memory has them.
 #[derive(Clone, Copy, Debug, Default)]

@@ -3,9 +3,9 @@
 ghost use Rattle.std.specs.Prelude.{◌≡◌, ◌≤◌, ◌+◌, ◌++◌, OnOk, length};
 ghost use Rattle.m11_cpu.specs.Messages.{PutsMessages};
 ghost use Rattle.m11_cpu.specs.Runs.{run_counted};
-ghost use Rattle.m11_machine.specs.Dialogue.{Does, both, output_of};
-ghost use Rattle.m11_machine.specs.Memory.{bytes_of, most_words};
-ghost use Rattle.m11_machine.specs.Steps.{step};
+ghost use Rattle.m11_cpu_machine.specs.Dialogue.{Does, both, output_of};
+ghost use Rattle.m11_cpu_machine.specs.Memory.{bytes_of, most_words};
+ghost use Rattle.m11_cpu_machine.specs.Steps.{step};
 ghost use Rattle.m11_trace.specs.Changes.{HaveSameWords, KeepsUp, memory_changes};
 ghost use Rattle.m11_trace.specs.Lines.{line_end, line_with};
 ghost use Rattle.m11_trace.specs.Shots.{is_at, shot_of};
@@ -20,7 +20,7 @@ use crate::recent::{Recent, keep};
 use crate::shots::{Shot, counter_of, fetched_at, view_of};
 use m11_base::{Feed, Sink};
 use m11_cpu::SimFault;
-use m11_machine::{Machine, Memory, Stop, Turn};
+use m11_cpu_machine::{Machine, Memory, Stop, Turn};
 
 /// How steps with lines ended.
 #[derive(Drop)]

@@ -3,8 +3,8 @@
 ghost use Rattle.std.specs.Prelude.{◌≡◌, ◌≤◌, length};
 ghost use Rattle.m11_cpu.specs.Messages.{PutsMessages};
 ghost use Rattle.m11_cpu.specs.Simulation.{request_of, run_devices, started};
-ghost use Rattle.m11_machine.specs.Dialogue.{both, input_of, output_of};
-ghost use Rattle.m11_machine.specs.Memory.{least_words, most_words};
+ghost use Rattle.m11_cpu_machine.specs.Dialogue.{both, input_of, output_of};
+ghost use Rattle.m11_cpu_machine.specs.Memory.{least_words, most_words};
 ghost use Rattle.m11_trace.specs.Stepping.{StepsWithLines, end_text, stop_text};
 ghost use Rattle.m11_trace.specs.Taken.{begun};
 ghost use Rattle.m11_trace.specs.Tracing.{Traces};
@@ -17,7 +17,7 @@ use crate::recent::{Recent, put_recent};
 use crate::steps::{Steps, steps_with_lines};
 use m11_base::{Feed, Sink};
 use m11_cpu::{SimFault, load};
-use m11_machine::{Machine, Stop};
+use m11_cpu_machine::{Machine, Stop};
 use std::alloc::Global;
 
 /// Loads a tape into a new machine of `words` words of memory, 4,096 to 28,672, and makes steps from its start on, `limit` of them at

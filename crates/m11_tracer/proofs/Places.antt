@@ -1,7 +1,7 @@
 -- Places that are read one after another.
 use Rattle.std.proofs.Common.{◌≡◌, ◌∙◌, ℕ, List, [], ◌∷◌, ◌++◌, append_assoc, Result, Ok, Err, inl, inr, sym, ap, ap₂}
-use Rattle.m11_tasks.specs.Tasks.{address_of}
-use Rattle.m11_tasks.specs.declared.usage.UsageFault.{UsageFault}
+use Rattle.m11_cli_tasks.specs.Tasks.{address_of}
+use Rattle.m11_cli_tasks.specs.declared.usage.UsageFault.{UsageFault}
 use Rattle.m11_tracer.specs.Task.{AddsPlaces, AddsRanges, addresses_of, range_of, ranges_by, with_address, with_range}
 use Rattle.m11_trace.specs.declared.ranges.Range.{Range}
 

@@ -5,7 +5,7 @@ use Rattle.std.specs.Prelude.{OnErr, OnOk}
 use Rattle.std.specs.Io.KnownBytes.{Appends}
 use Rattle.m11_base.specs.Devices.{Rises}
 use Rattle.m11_base.specs.Sink.{AppendsBeginning}
-use Rattle.m11_machine.specs.Dialogue.{Output}
+use Rattle.m11_cpu_machine.specs.Dialogue.{Output}
 use Rattle.m11_tracer.specs.Reports.{Reports, ReportsSome}
 
 -- a put that returned success or failure

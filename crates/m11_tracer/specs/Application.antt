@@ -3,7 +3,7 @@ use Rattle.std.specs.Prelude.{Some, codes, pos}
 use Rattle.clap.specs.Words.{App, Rule, new_app, with_rule}
 use Rattle.clap.specs.declared.builder.action.ArgAction.TheVariants.{Append}
 use Rattle.clap.specs.declared.builder.value_parser.ValueParser.TheVariants.{Signed}
-use Rattle.m11_tasks.specs.Commands.{most_steps, option_rule, start_rule, steps_rule, tape_rule, words_rule}
+use Rattle.m11_cli_tasks.specs.Commands.{most_steps, option_rule, start_rule, steps_rule, tape_rule, words_rule}
 
 -- `-f FROM`, `--from FROM`: the step whose line is the first
 abbrev pub from_rule : Rule

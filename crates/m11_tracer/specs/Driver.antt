@@ -5,8 +5,8 @@ use Rattle.m11_base.specs.Devices.{Rises}
 use Rattle.m11_cpu.specs.Simulation.{request_of, run_devices}
 use Rattle.m11_cpu.specs.declared.fault.SimFault.{SimFault}
 use Rattle.m11_cpu.specs.declared.fault.SimFault.TheVariants.{NoMemory}
-use Rattle.m11_files.specs.Opens.{Holds, Lacks}
-use Rattle.m11_machine.specs.Dialogue.{Input, Output, both}
+use Rattle.m11_base_files.specs.Opens.{Holds, Lacks}
+use Rattle.m11_cpu_machine.specs.Dialogue.{Input, Output, both}
 use Rattle.m11_trace.specs.Tracing.{Traces}
 use Rattle.m11_trace.specs.declared.ending.Ending.{Ending}
 use Rattle.m11_tracer.specs.Outcome.{line_of}

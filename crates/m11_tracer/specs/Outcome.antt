@@ -3,16 +3,16 @@
 -- memory, 6 a limit.)
 use Rattle.std.specs.Prelude.{ℕ, [], Ok, Err, codes}
 use Rattle.m11_base.specs.Devices.{Bytes}
-use Rattle.m11_blocks.specs.declared.tape_fault.TapeFault.{TapeFault}
-use Rattle.m11_blocks.specs.declared.tape_fault.TapeFault.TheVariants as tape
+use Rattle.m11_obj_blocks.specs.declared.tape_fault.TapeFault.{TapeFault}
+use Rattle.m11_obj_blocks.specs.declared.tape_fault.TapeFault.TheVariants as tape
 use Rattle.m11_cpu.specs.declared.fault.LoadFault.{LoadFault}
 use Rattle.m11_cpu.specs.declared.fault.LoadFault.TheVariants as load
 use Rattle.m11_cpu.specs.declared.fault.SimFault.{SimFault}
 use Rattle.m11_cpu.specs.declared.fault.SimFault.TheVariants as sim
-use Rattle.m11_machine.specs.declared.stop.Stop.{Stop}
-use Rattle.m11_machine.specs.declared.stop.Stop.TheVariants as stop
-use Rattle.m11_tasks.specs.declared.usage.UsageFault.{UsageFault}
-use Rattle.m11_tasks.specs.declared.usage.UsageFault.TheVariants as usage
+use Rattle.m11_cpu_machine.specs.declared.stop.Stop.{Stop}
+use Rattle.m11_cpu_machine.specs.declared.stop.Stop.TheVariants as stop
+use Rattle.m11_cli_tasks.specs.declared.usage.UsageFault.{UsageFault}
+use Rattle.m11_cli_tasks.specs.declared.usage.UsageFault.TheVariants as usage
 use Rattle.m11_trace.specs.declared.ending.Ending.{Ending}
 use Rattle.m11_trace.specs.declared.ending.Ending.TheVariants.{Stopped, Reached}
 use Rattle.m11_tracer.specs.declared.outcome.Outcome.{Outcome}

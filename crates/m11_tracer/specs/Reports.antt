@@ -4,13 +4,13 @@ use Rattle.std.specs.Io.KnownBytes.{Appends}
 use Rattle.m11_base.specs.Devices.{Bytes, Rises}
 use Rattle.m11_base.specs.Feed as feed
 use Rattle.m11_base.specs.Sink.{AppendsBeginning}
-use Rattle.m11_files.specs.Opens.{Files}
-use Rattle.m11_machine.specs.Dialogue.{Input, Output, input_of, output_of}
-use Rattle.m11_tasks.specs.Arguments.{refusal_line}
-use Rattle.m11_tasks.specs.declared.arguments.WordsFault.{WordsFault}
-use Rattle.m11_tasks.specs.declared.arguments.WordsFault.TheVariants as words
-use Rattle.m11_tasks.specs.declared.usage.UsageFault.{UsageFault}
-use Rattle.m11_tasks.specs.declared.usage.UsageFault.TheVariants.{Help, Words, NoMemory}
+use Rattle.m11_base_files.specs.Opens.{Files}
+use Rattle.m11_cpu_machine.specs.Dialogue.{Input, Output, input_of, output_of}
+use Rattle.m11_cli_tasks.specs.Arguments.{refusal_line}
+use Rattle.m11_cli_tasks.specs.declared.arguments.WordsFault.{WordsFault}
+use Rattle.m11_cli_tasks.specs.declared.arguments.WordsFault.TheVariants as words
+use Rattle.m11_cli_tasks.specs.declared.usage.UsageFault.{UsageFault}
+use Rattle.m11_cli_tasks.specs.declared.usage.UsageFault.TheVariants.{Help, Words, NoMemory}
 use Rattle.m11_tracer.specs.Outcome.{usage_line}
 
 pub record Streams : Type 0 where

@@ -2,10 +2,10 @@
 use Rattle.std.specs.Prelude.{◌≡◌, ◌≢◌, ◌⊎◌, ◌+◌, ◌==◌, if◌then◌else◌, take, drop, ℕ, suc, List, [], ◌∷◌, ◌++◌, Result, Ok, Err, codes, unwrap_or, ⊤}
 use Rattle.clap.specs.Words.{IsAmong, Row, Text, all_of, fault_of, first_of, kind_of, matches_of, one_of}
 use Rattle.clap.specs.declared.error.kind.ErrorKind.TheVariants as kind
-use Rattle.m11_tasks.specs.Commands.{most_steps}
-use Rattle.m11_tasks.specs.Tasks.{IsSimTask, address_of, number_or, start_of}
-use Rattle.m11_tasks.specs.declared.usage.UsageFault.{UsageFault}
-use Rattle.m11_tasks.specs.declared.usage.UsageFault.TheVariants.{Help, Words, BadOctal, OddAddress, BadAddress, NoMemory}
+use Rattle.m11_cli_tasks.specs.Commands.{most_steps}
+use Rattle.m11_cli_tasks.specs.Tasks.{IsSimTask, address_of, number_or, start_of}
+use Rattle.m11_cli_tasks.specs.declared.usage.UsageFault.{UsageFault}
+use Rattle.m11_cli_tasks.specs.declared.usage.UsageFault.TheVariants.{Help, Words, BadOctal, OddAddress, BadAddress, NoMemory}
 use Rattle.m11_trace.specs.declared.ranges.Range.{Range}
 use Rattle.m11_tracer.specs.Application.{application}
 use Rattle.m11_tracer.specs.declared.task.TraceTask.{TraceTask}

@@ -1,11 +1,11 @@
 //! What the parser of command lines is given.
 
 ghost use Rattle.std.specs.Prelude.{IfOk};
-ghost use Rattle.m11_tasks.specs.Commands.{IsArgument, IsCommand};
+ghost use Rattle.m11_cli_tasks.specs.Commands.{IsArgument, IsCommand};
 ghost use Rattle.m11_tracer.specs.Application.{application, from_rule, place_rule, range_rule};
 
 use clap::{Arg, ArgAction, Command, value_parser};
-use m11_tasks::{
+use m11_cli_tasks::{
     leaf_command, option_argument, start_argument, steps_argument, tape_argument, with_argument,
     words_argument,
 };

@@ -1,9 +1,9 @@
 //! All of the program's work, over whatever opens files, feeds and takes bytes.
 
 ghost use Rattle.std.specs.Prelude.{◌≡◌, map};
-ghost use Rattle.m11_machine.specs.Dialogue.{input_of, output_of};
-ghost use Rattle.m11_tasks.specs.Tasks.{IsDoable};
-ghost use Rattle.m11_tasks.specs.declared.tasks.Task.TheVariants.{Sim};
+ghost use Rattle.m11_cpu_machine.specs.Dialogue.{input_of, output_of};
+ghost use Rattle.m11_cli_tasks.specs.Tasks.{IsDoable};
+ghost use Rattle.m11_cli_tasks.specs.declared.tasks.Task.TheVariants.{Sim};
 ghost use Rattle.m11_tracer.specs.Driver.{Carries, HasOutcome, Obeys, RunsOpen};
 ghost use Rattle.m11_tracer.specs.Outcome.{line_of, status_of};
 ghost use Rattle.m11_tracer.specs.Reports.{Reports, ReportsOfWords, store, streams, words_status};
@@ -13,9 +13,9 @@ use crate::outcome::{Outcome, line, status};
 use crate::reports::{explain, not_opened_line};
 use crate::task::{TraceTask, plan};
 use m11_base::{Feed, Sink, put_all};
+use m11_base_files::{OpenRefusal, Opens};
+use m11_cli_tasks::{UsageFault, WordsFault, refusal_line};
 use m11_cpu::SimFault;
-use m11_files::{OpenRefusal, Opens};
-use m11_tasks::{UsageFault, WordsFault, refusal_line};
 use m11_trace::{Ending, trace_run};
 use std::alloc::Global;
 use std::convert::AsStr;

@@ -10,8 +10,8 @@ mod task;
 
 use crate::driver::{command, command_without_words};
 use m11_base::{ReaderFeed, WriterSink};
-use m11_files::SystemFiles;
-use m11_tasks::words;
+use m11_base_files::SystemFiles;
+use m11_cli_tasks::words;
 use std::process::ExitCode;
 
 fn main(rt: HostRuntime) -> ExitCode {

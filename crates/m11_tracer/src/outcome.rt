@@ -3,9 +3,9 @@
 ghost use Rattle.std.specs.Prelude.{◌≡◌};
 ghost use Rattle.m11_tracer.specs.Outcome as spec;
 
-use m11_blocks::TapeFault;
+use m11_cli_tasks::UsageFault;
 use m11_cpu::{LoadFault, SimFault, Stop};
-use m11_tasks::UsageFault;
+use m11_obj_blocks::TapeFault;
 use m11_trace::Ending;
 
 /// What a command line yielded.

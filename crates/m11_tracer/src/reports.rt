@@ -4,11 +4,11 @@ ghost use Rattle.std.specs.Prelude.{◌≡◌, OnErr, OnOk};
 ghost use Rattle.std.specs.Io.KnownBytes.{Appends};
 ghost use Rattle.m11_base.specs.Devices.{Rises};
 ghost use Rattle.m11_base.specs.Sink.{AppendsBeginning};
-ghost use Rattle.m11_machine.specs.Dialogue.{output_of};
+ghost use Rattle.m11_cpu_machine.specs.Dialogue.{output_of};
 ghost use Rattle.m11_tracer.specs.Reports.{Explains, ReportsSome, open_line};
 
 use m11_base::{PutFault, Sink, put_all};
-use m11_tasks::UsageFault;
+use m11_cli_tasks::UsageFault;
 use std::alloc::Global;
 
 /// The parser's text: help goes to `out`, and a refusal to `err`.

@@ -2,15 +2,15 @@
 
 ghost use Rattle.std.specs.Prelude.{◌≡◌, ◌≤◌, ◌+◌, IfOk, drop, length, map};
 ghost use Rattle.clap.specs.Words.{found_of, rows_of};
-ghost use Rattle.m11_tasks.specs.Opened.{texts};
-ghost use Rattle.m11_tasks.specs.Tasks.{IsDoable, address_of};
-ghost use Rattle.m11_tasks.specs.declared.tasks.Task.TheVariants.{Sim};
+ghost use Rattle.m11_cli_tasks.specs.Opened.{texts};
+ghost use Rattle.m11_cli_tasks.specs.Tasks.{IsDoable, address_of};
+ghost use Rattle.m11_cli_tasks.specs.declared.tasks.Task.TheVariants.{Sim};
 ghost use Rattle.m11_tracer.specs.Task.{AddsPlaces, AddsRanges, EntriesGive, Plans, colon_in, range_of};
 
 use crate::application::application_command;
 use clap::ArgMatches;
 use m11_base::read_octal;
-use m11_tasks::{SimTask, UsageFault, address, all_texts, number_given, sim_task};
+use m11_cli_tasks::{SimTask, UsageFault, address, all_texts, number_given, sim_task};
 use m11_trace::Range;
 use std::alloc::Global;
 use std::convert::AsStr;

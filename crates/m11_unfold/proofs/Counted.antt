@@ -2,16 +2,16 @@
 use Rattle.std.proofs.Common.{◌≡◌, ◌≤◌, ℕ, zero, suc, List, length, Option, Some, None, refl, arith}
 use Rattle.std.proofs.lemmas.List.{length-append}
 use Rattle.std.specs.Prelude.{true}
-use Rattle.m11_arguments.specs.Actuals.{Given, actuals_from, given_as, given_by, wanted_by}
-use Rattle.m11_arguments.specs.Expressions.{Known}
-use Rattle.m11_arguments.specs.Macros.{FormalList, NextListed, Ending, Formally, formals_by, formals_within, header, listed_at, name_at, header_by}
-use Rattle.m11_arguments.specs.declared.macros.NameAt.{NameAt}
-use Rattle.m11_lines.specs.Line.{line_limit}
+use Rattle.m11_unfold_arguments.specs.Actuals.{Given, actuals_from, given_as, given_by, wanted_by}
+use Rattle.m11_unfold_arguments.specs.Expressions.{Known}
+use Rattle.m11_unfold_arguments.specs.Macros.{FormalList, NextListed, Ending, Formally, formals_by, formals_within, header, listed_at, name_at, header_by}
+use Rattle.m11_unfold_arguments.specs.declared.macros.NameAt.{NameAt}
+use Rattle.m11_scan_lines.specs.Line.{line_limit}
 use Rattle.m11_scan.specs.Cutting.{tokens_from}
-use Rattle.m11_statements.specs.Actuals.{next_actual, separator_at}
-use Rattle.m11_statements.specs.declared.actuals.Actual.{Actual}
-use Rattle.m11_statements.specs.declared.actuals.ActualKind.{ActualKind}
-use Rattle.m11_statements.specs.declared.actuals.ActualKind.TheVariants.{Bare, Bracketed, Digits}
+use Rattle.m11_scan_statements.specs.Actuals.{next_actual, separator_at}
+use Rattle.m11_scan_statements.specs.declared.actuals.Actual.{Actual}
+use Rattle.m11_scan_statements.specs.declared.actuals.ActualKind.{ActualKind}
+use Rattle.m11_scan_statements.specs.declared.actuals.ActualKind.TheVariants.{Bare, Bracketed, Digits}
 use Rattle.m11_unfold.specs.Purposes.{IsFew}
 
 one_text : (known : Known) (line : List ℕ) (actual : Actual) (kind : ActualKind) → length (given_as known line actual kind).texts ≡ 1

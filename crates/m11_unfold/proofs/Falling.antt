@@ -1,11 +1,11 @@
 -- What is kept where a fault comes.
 use Rattle.std.proofs.Common.{◌≡◌, ◌<◌, ◌+◌, Bool, true, Option, Some, None, ap, arith}
-use Rattle.m11_expansions.specs.Conditions.{no_conditions}
-use Rattle.m11_lines.specs.Line.{SourceLine}
-use Rattle.m11_unfolding.specs.Limits.{bytes_taken, most_lines}
-use Rattle.m11_unfolding.specs.Stages.{Opening, Stage}
-use Rattle.m11_unfolding.specs.declared.fault.UnfoldFault.{UnfoldFault}
-use Rattle.m11_unfolding.specs.declared.fault.UnfoldFault.TheVariants.{TooDeep, TooManyLines, TooMuchText, TooManyMacros, NoMemory}
+use Rattle.m11_unfold_bodies.specs.Conditions.{no_conditions}
+use Rattle.m11_scan_lines.specs.Line.{SourceLine}
+use Rattle.m11_unfold_rules.specs.Limits.{bytes_taken, most_lines}
+use Rattle.m11_unfold_rules.specs.Stages.{Opening, Stage}
+use Rattle.m11_unfold_rules.specs.declared.fault.UnfoldFault.{UnfoldFault}
+use Rattle.m11_unfold_rules.specs.declared.fault.UnfoldFault.TheVariants.{TooDeep, TooManyLines, TooMuchText, TooManyMacros, NoMemory}
 use Rattle.m11_unfold.specs.Kept.{IsKept}
 use Rattle.m11_unfold.specs.Steps.{Fails, FailsMoving, with_line}
 

@@ -2,24 +2,24 @@
 use Rattle.std.proofs.Common.{◌≡◌, ◌≤◌, ◌<◌, ◌+◌, ℕ, Bool, true, false, List, [], ◌∷◌, length, Option, Some, None, Result, Ok, Err, IfErr, IfOk, refl, sym, subst, arith}
 use Rattle.std.specs.Prelude.{if◌then◌else◌, nat_le, nat_lt, drop, map}
 use Rattle.std.proofs.lemmas.Bool.Decides.{nat_tests}
-use Rattle.m11_arguments.specs.Actuals.{actuals_from}
-use Rattle.m11_arguments.specs.Conditions.{Asked, condition}
-use Rattle.m11_arguments.specs.Expressions.{Known}
-use Rattle.m11_arguments.specs.Filling.{filled}
-use Rattle.m11_arguments.specs.Immediate as immediate
-use Rattle.m11_arguments.specs.Indefinite.{irpc, irp}
-use Rattle.m11_arguments.specs.Macros.{header}
-use Rattle.m11_arguments.specs.declared.directives.Directive.TheVariants as word
-use Rattle.m11_expansions.specs.Conditions.{OpenConditions, closed, has_none, most_conditions, switched, with_part, without_first}
-use Rattle.m11_expansions.specs.Left.{Left, Line, End, after_mark, conditions_open, depth, is_expanding, marks, most_expansions}
-use Rattle.m11_expansions.specs.declared.conditions.OpenCondition.{OpenCondition}
-use Rattle.m11_expansions.specs.declared.conditions.Part.{Part}
-use Rattle.m11_expansions.specs.declared.conditions.Part.TheVariants as part
-use Rattle.m11_lines.specs.Line.{line_of}
-use Rattle.m11_unfolding.specs.Acting.{Acted, Operation, Foreign, Calls, OwnDirective, act, act_fault, acted_by, acted_exit, acted_within, condition_opened, defining, fault_by, flagged, formal_name, flag_O, operation, opens, own, repeating, with_statement}
-use Rattle.m11_unfolding.specs.Limits.{has_room}
-use Rattle.m11_unfolding.specs.Stages.{Purpose, Stage}
-use Rattle.m11_unfolding.specs.declared.fault.UnfoldFault.{UnfoldFault}
+use Rattle.m11_unfold_arguments.specs.Actuals.{actuals_from}
+use Rattle.m11_unfold_arguments.specs.Conditions.{Asked, condition}
+use Rattle.m11_unfold_arguments.specs.Expressions.{Known}
+use Rattle.m11_unfold_arguments.specs.Filling.{filled}
+use Rattle.m11_unfold_arguments.specs.Immediate as immediate
+use Rattle.m11_unfold_arguments.specs.Indefinite.{irpc, irp}
+use Rattle.m11_unfold_arguments.specs.Macros.{header}
+use Rattle.m11_unfold_arguments.specs.declared.directives.Directive.TheVariants as word
+use Rattle.m11_unfold_bodies.specs.Conditions.{OpenConditions, closed, has_none, most_conditions, switched, with_part, without_first}
+use Rattle.m11_unfold_bodies.specs.Left.{Left, Line, End, after_mark, conditions_open, depth, is_expanding, marks, most_expansions}
+use Rattle.m11_unfold_bodies.specs.declared.conditions.OpenCondition.{OpenCondition}
+use Rattle.m11_unfold_bodies.specs.declared.conditions.Part.{Part}
+use Rattle.m11_unfold_bodies.specs.declared.conditions.Part.TheVariants as part
+use Rattle.m11_scan_lines.specs.Line.{line_of}
+use Rattle.m11_unfold_rules.specs.Acting.{Acted, Operation, Foreign, Calls, OwnDirective, act, act_fault, acted_by, acted_exit, acted_within, condition_opened, defining, fault_by, flagged, formal_name, flag_O, operation, opens, own, repeating, with_statement}
+use Rattle.m11_unfold_rules.specs.Limits.{has_room}
+use Rattle.m11_unfold_rules.specs.Stages.{Purpose, Stage}
+use Rattle.m11_unfold_rules.specs.declared.fault.UnfoldFault.{UnfoldFault}
 use Rattle.m11_unfold.specs.Kept.{IsKept}
 use Rattle.m11_unfold.proofs.Keeping.{not_so, opened_kept, under}
 

@@ -1,7 +1,7 @@
 -- What is noted in parts is what is noted at once.
 use Rattle.std.proofs.Common.{◌≡◌, ℕ, sym, ap}
-use Rattle.m11_arguments.specs.Notes.{Notes, joined, no_notes, with_flags}
-use Rattle.m11_arguments.proofs.Joining.{joined_nothing, or_joins}
+use Rattle.m11_unfold_arguments.specs.Notes.{Notes, joined, no_notes, with_flags}
+use Rattle.m11_unfold_arguments.proofs.Joining.{joined_nothing, or_joins}
 use Rattle.std.proofs.Common.{◌++◌}
 
 pub nothing_more : (a : Notes) → a ≡ joined a no_notes

@@ -2,13 +2,13 @@
 use Rattle.std.proofs.Common.{◌≡◌, ◌≤◌, ℕ, length, Some, subst}
 use Rattle.std.proofs.lemmas.Option.{none-some, same_Some}
 use Rattle.m11_base.specs.Devices.{Bytes}
-use Rattle.m11_arguments.specs.Directives.{operator, operator_in}
-use Rattle.m11_statements.specs.Labels.{labels_end}
-use Rattle.m11_statements.specs.Order.{BodyStands}
-use Rattle.m11_statements.specs.Statements.{body_of}
-use Rattle.m11_statements.specs.declared.bodies.Body.{Body}
-use Rattle.m11_statements.specs.declared.bodies.Body.TheVariants.{Nothing, Assign, SetCounter, Operate, Words}
-use Rattle.m11_statements.specs.declared.spans.Span.{Span}
+use Rattle.m11_unfold_arguments.specs.Directives.{operator, operator_in}
+use Rattle.m11_scan_statements.specs.Labels.{labels_end}
+use Rattle.m11_scan_statements.specs.Order.{BodyStands}
+use Rattle.m11_scan_statements.specs.Statements.{body_of}
+use Rattle.m11_scan_statements.specs.declared.bodies.Body.{Body}
+use Rattle.m11_scan_statements.specs.declared.bodies.Body.TheVariants.{Nothing, Assign, SetCounter, Operate, Words}
+use Rattle.m11_scan_statements.specs.declared.spans.Span.{Span}
 
 in_body : (place size : ℕ) (body : Body) (name : Span) → BodyStands place size body → operator_in body ≡ Some name → name.end ≤ size
 in_body place size Nothing name stands is = absurd (none-some name is)

@@ -2,20 +2,20 @@
 use Rattle.std.proofs.Common.{◌≡◌, ◌∙◌, Bool, true, false, List, [], ◌∷◌, ◌++◌, append-nil, None, sym, ap, subst}
 use Rattle.std.specs.Prelude.{if◌then◌else◌, Result, Ok, Err}
 use Rattle.std.proofs.lemmas.List.{map-append}
-use Rattle.m11_arguments.specs.Expressions.{Known}
-use Rattle.m11_expansions.specs.Left.{Left}
-use Rattle.m11_expansions.specs.Left as lefts
-use Rattle.m11_lines.specs.Line.{SourceLine}
-use Rattle.m11_unfolding.proofs.Ending.{rests_after, stays_after}
-use Rattle.m11_unfolding.proofs.Following.{follows}
-use Rattle.m11_unfolding.proofs.MoreLines.{leads_on}
-use Rattle.m11_unfolding.specs.Acting.{act, act_fault}
-use Rattle.m11_unfolding.specs.Histories.{with_more}
-use Rattle.m11_unfolding.specs.Stages.{Stage, line_left, start}
-use Rattle.m11_unfolding.specs.Taking as taking
-use Rattle.m11_unfolding.specs.Unfolding.{Given, Leads, Unfolds, given}
-use Rattle.m11_unfolding.specs.Unfolding as steps
-use Rattle.m11_unfolding.specs.declared.fault.UnfoldFault.{UnfoldFault}
+use Rattle.m11_unfold_arguments.specs.Expressions.{Known}
+use Rattle.m11_unfold_bodies.specs.Left.{Left}
+use Rattle.m11_unfold_bodies.specs.Left as lefts
+use Rattle.m11_scan_lines.specs.Line.{SourceLine}
+use Rattle.m11_unfold_rules.proofs.Ending.{rests_after, stays_after}
+use Rattle.m11_unfold_rules.proofs.Following.{follows}
+use Rattle.m11_unfold_rules.proofs.MoreLines.{leads_on}
+use Rattle.m11_unfold_rules.specs.Acting.{act, act_fault}
+use Rattle.m11_unfold_rules.specs.Histories.{with_more}
+use Rattle.m11_unfold_rules.specs.Stages.{Stage, line_left, start}
+use Rattle.m11_unfold_rules.specs.Taking as taking
+use Rattle.m11_unfold_rules.specs.Unfolding.{Given, Leads, Unfolds, given}
+use Rattle.m11_unfold_rules.specs.Unfolding as steps
+use Rattle.m11_unfold_rules.specs.declared.fault.UnfoldFault.{UnfoldFault}
 use Rattle.m11_unfold.specs.Sources.{IsAllTaken, IsOver, Reaches, ReachesOn, Refuses, RefusesAt}
 use Rattle.m11_unfold.specs.Steps.{Fails}
 use Rattle.m11_unfold.specs.Unfolder.{Acts, Comes, Steps, Stops, live_of}

@@ -1,10 +1,10 @@
 -- What an unfolding keeps at most. (This project's own.)
 use Rattle.std.specs.Prelude.{ℕ, ◌≤◌, ◌+◌, List, [], ◌∷◌, length}
-use Rattle.m11_expansions.specs.Conditions.{most_conditions}
-use Rattle.m11_expansions.specs.Left.{conditions_open, depth, marks, most_expansions}
-use Rattle.m11_expansions.specs.declared.mark.Mark.{Mark}
-use Rattle.m11_unfolding.specs.Limits.{bytes_of, most_bytes, most_lines, most_macros}
-use Rattle.m11_unfolding.specs.Stages.{Stage}
+use Rattle.m11_unfold_bodies.specs.Conditions.{most_conditions}
+use Rattle.m11_unfold_bodies.specs.Left.{conditions_open, depth, marks, most_expansions}
+use Rattle.m11_unfold_bodies.specs.declared.mark.Mark.{Mark}
+use Rattle.m11_unfold_rules.specs.Limits.{bytes_of, most_bytes, most_lines, most_macros}
+use Rattle.m11_unfold_rules.specs.Stages.{Stage}
 
 -- how many `.IF`s are open in the lines that are skipped around open expansions
 abbrev pub nested_in : List Mark → ℕ

@@ -1,14 +1,14 @@
 -- What an unfolder has given of a source, whatever lines of it are still to be fed. (This project's own.)
 use Rattle.std.specs.Prelude.{◌≡◌, List, [], ◌∷◌, ◌++◌, None, Result, Ok, Err}
-use Rattle.m11_arguments.specs.Expressions.{Known}
-use Rattle.m11_lines.specs.Line.{SourceLine}
-use Rattle.m11_unfolding.specs.Acting.{act, act_fault}
-use Rattle.m11_unfolding.specs.Limits.{next_fault}
-use Rattle.m11_unfolding.specs.Stages.{Stage}
-use Rattle.m11_unfolding.specs.Histories.{with_more}
-use Rattle.m11_unfolding.specs.Taking.{Gives, Live, NothingLeft, move}
-use Rattle.m11_unfolding.specs.Unfolding.{Given, Leads, Unfolds, given}
-use Rattle.m11_unfolding.specs.declared.fault.UnfoldFault.{UnfoldFault}
+use Rattle.m11_unfold_arguments.specs.Expressions.{Known}
+use Rattle.m11_scan_lines.specs.Line.{SourceLine}
+use Rattle.m11_unfold_rules.specs.Acting.{act, act_fault}
+use Rattle.m11_unfold_rules.specs.Limits.{next_fault}
+use Rattle.m11_unfold_rules.specs.Stages.{Stage}
+use Rattle.m11_unfold_rules.specs.Histories.{with_more}
+use Rattle.m11_unfold_rules.specs.Taking.{Gives, Live, NothingLeft, move}
+use Rattle.m11_unfold_rules.specs.Unfolding.{Given, Leads, Unfolds, given}
+use Rattle.m11_unfold_rules.specs.declared.fault.UnfoldFault.{UnfoldFault}
 use Rattle.m11_unfold.specs.Steps.{Fails, FailsMoving, grows}
 use Rattle.m11_unfold.specs.Unfolder.{live_of}
 use Rattle.m11_unfold.specs.declared.steps.Act.{Act}

@@ -1,15 +1,15 @@
 -- What the calls below an unfolder's own do to a stage. (This project's own.)
 use Rattle.std.specs.Prelude.{◌≡◌, Bool, true, false, is_some, List, [], ◌∷◌, Option, Some, None, Result, Ok, Err}
 use Rattle.m11_base.specs.Devices.{Bytes}
-use Rattle.m11_expansions.specs.Bodies.{depth_after}
-use Rattle.m11_expansions.specs.Left.{Left, Line, End}
-use Rattle.m11_lines.specs.Line.{SourceLine}
-use Rattle.m11_unfolding.specs.Limits.{body_fault, closing_fault, next_fault}
-use Rattle.m11_unfolding.specs.Stages.{Opening, Purpose, Stage}
-use Rattle.m11_unfolding.specs.Taking as taking
-use Rattle.m11_unfolding.specs.Taking.{Move, into_body, move, nesting, used}
-use Rattle.m11_unfolding.specs.declared.fault.UnfoldFault.{UnfoldFault}
-use Rattle.m11_unfolding.specs.declared.fault.UnfoldFault.TheVariants.{NoMemory}
+use Rattle.m11_unfold_bodies.specs.Bodies.{depth_after}
+use Rattle.m11_unfold_bodies.specs.Left.{Left, Line, End}
+use Rattle.m11_scan_lines.specs.Line.{SourceLine}
+use Rattle.m11_unfold_rules.specs.Limits.{body_fault, closing_fault, next_fault}
+use Rattle.m11_unfold_rules.specs.Stages.{Opening, Purpose, Stage}
+use Rattle.m11_unfold_rules.specs.Taking as taking
+use Rattle.m11_unfold_rules.specs.Taking.{Move, into_body, move, nesting, used}
+use Rattle.m11_unfold_rules.specs.declared.fault.UnfoldFault.{UnfoldFault}
+use Rattle.m11_unfold_rules.specs.declared.fault.UnfoldFault.TheVariants.{NoMemory}
 use Rattle.m11_unfold.specs.declared.taking.Moved.{Moved}
 use Rattle.m11_unfold.specs.declared.taking.Moved.TheVariants.{NothingLeft, Passes, Gives}
 

@@ -1,16 +1,16 @@
 -- What an unfolder's calls give, by the stages before and after them. (MACRO-11 Language Reference Manual, "Macro directives" and
 -- "Conditional assembly directives". The limits are this project's own.)
 use Rattle.std.specs.Prelude.{◌≡◌, Bool, true, false, [], Option, None, Result, Ok, Err, not, ◌&&◌}
-use Rattle.m11_arguments.specs.Expressions.{Known}
+use Rattle.m11_unfold_arguments.specs.Expressions.{Known}
 use Rattle.m11_base.specs.Devices.{Bytes}
-use Rattle.m11_expansions.specs.Left.{argument_count, is_empty}
-use Rattle.m11_lines.specs.Line.{SourceLine}
-use Rattle.m11_unfolding.specs.Acting.{act, act_fault}
-use Rattle.m11_unfolding.specs.Limits.{next_fault}
-use Rattle.m11_unfolding.specs.Stages.{Stage}
-use Rattle.m11_unfolding.specs.Taking as taking
-use Rattle.m11_unfolding.specs.Unfolding.{Leads}
-use Rattle.m11_unfolding.specs.declared.fault.UnfoldFault.{UnfoldFault}
+use Rattle.m11_unfold_bodies.specs.Left.{argument_count, is_empty}
+use Rattle.m11_scan_lines.specs.Line.{SourceLine}
+use Rattle.m11_unfold_rules.specs.Acting.{act, act_fault}
+use Rattle.m11_unfold_rules.specs.Limits.{next_fault}
+use Rattle.m11_unfold_rules.specs.Stages.{Stage}
+use Rattle.m11_unfold_rules.specs.Taking as taking
+use Rattle.m11_unfold_rules.specs.Unfolding.{Leads}
+use Rattle.m11_unfold_rules.specs.declared.fault.UnfoldFault.{UnfoldFault}
 use Rattle.m11_unfold.specs.Steps.{Fails, FailsMoving, grows}
 use Rattle.m11_unfold.specs.declared.steps.Act.{Act}
 use Rattle.m11_unfold.specs.declared.steps.Step.{Step}

@@ -1,5 +1,5 @@
 -- The stage that the code's values stand for. (This project's own.)
-use Rattle.m11_unfolding.specs.Stages.{Stage}
+use Rattle.m11_unfold_rules.specs.Stages.{Stage}
 use Rattle.m11_unfold.specs.declared.state.State.{State}
 
 abbrev pub stage_of : State → Stage

@@ -2,28 +2,28 @@
 //! definition", "Repeat block directives", "Indefinite repeat block directives" and "Macro exit".)
 
 ghost use Rattle.std.specs.Prelude.{◌≡◌, ◌+◌, ◌<◌, ◌≤◌, false, if◌then◌else◌, length, bit_or, IfErr, IfOk};
-ghost use Rattle.m11_arguments.specs.Conditions.{condition as asked_condition};
-ghost use Rattle.m11_arguments.specs.Expressions.{known_by};
-ghost use Rattle.m11_arguments.specs.Indefinite.{rounds_seen};
-ghost use Rattle.m11_arguments.specs.LeftOvers.{left_over as line_left_over};
-ghost use Rattle.m11_arguments.specs.Macros.{header, header_seen};
-ghost use Rattle.m11_arguments.specs.Notes.{joined};
-ghost use Rattle.m11_expansions.specs.Conditions.{closed, most_conditions, switched};
-ghost use Rattle.m11_expansions.specs.Left.{conditions_open};
+ghost use Rattle.m11_unfold_arguments.specs.Conditions.{condition as asked_condition};
+ghost use Rattle.m11_unfold_arguments.specs.Expressions.{known_by};
+ghost use Rattle.m11_unfold_arguments.specs.Indefinite.{rounds_seen};
+ghost use Rattle.m11_unfold_arguments.specs.LeftOvers.{left_over as line_left_over};
+ghost use Rattle.m11_unfold_arguments.specs.Macros.{header, header_seen};
+ghost use Rattle.m11_unfold_arguments.specs.Notes.{joined};
+ghost use Rattle.m11_unfold_bodies.specs.Conditions.{closed, most_conditions, switched};
+ghost use Rattle.m11_unfold_bodies.specs.Left.{conditions_open};
 ghost use Rattle.m11_scan.specs.Views.{bits_of};
-ghost use Rattle.m11_unfolding.specs.Acting as spec;
+ghost use Rattle.m11_unfold_rules.specs.Acting as spec;
 ghost use Rattle.m11_unfold.specs.Purposes.{IsFew, IsPurpose, purpose_of};
 ghost use Rattle.m11_unfold.specs.Views.{stage_of};
 
 use crate::opening::{Opening, Purpose};
 use crate::rounds::round_of_each;
 use crate::state::State;
-use m11_arguments::{
+use m11_scan::{ErrorFlags, Line};
+use m11_scan_values::Names;
+use m11_unfold_arguments::{
     Directive, Header, Notes, Rounds, condition, header_at, iif, irp, irpc, left_over, rept_count,
 };
-use m11_expansions::{CONDITION_LIMIT, Part};
-use m11_scan::{ErrorFlags, Line};
-use m11_values::Names;
+use m11_unfold_bodies::{CONDITION_LIMIT, Part};
 use std::alloc::{AllocError, Global};
 
 impl State {
@@ -221,7 +221,7 @@ impl State {
         ensures unchanged { IfErr result (λ _. stage_of self.new ≡ stage_of self.old) }
     {
         let count = rept_count(line, place, names, notes)?;
-        let rounds = m11_expansions::Rounds::plain(alloc, count);
+        let rounds = m11_unfold_bodies::Rounds::plain(alloc, count);
         self.open(alloc, Purpose::Repeats(Vec::new(alloc), rounds));
         Ok(())
     }
@@ -238,7 +238,7 @@ impl State {
                 formals.push(rounds.formal)?;
                 round_of_each(alloc, rounds.texts.as_slice())?
             }
-            None => m11_expansions::Rounds::plain(alloc, 0),
+            None => m11_unfold_bodies::Rounds::plain(alloc, 0),
         };
         self.open(alloc, Purpose::Repeats(formals, rounds));
         Ok(())

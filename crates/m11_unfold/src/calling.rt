@@ -3,15 +3,15 @@
 
 ghost use Rattle.std.specs.Prelude.{◌≡◌, ◌<◌, ◌≤◌, false, length, None, Some, IfOk, IfErr};
 ghost use Rattle.std.specs.Option.{option_copied};
-ghost use Rattle.m11_arguments.specs.Actuals.{actuals_from};
-ghost use Rattle.m11_arguments.specs.Directives.{operator as line_operator};
-ghost use Rattle.m11_arguments.specs.Expressions.{known_by};
-ghost use Rattle.m11_arguments.specs.Notes.{joined};
+ghost use Rattle.m11_unfold_arguments.specs.Actuals.{actuals_from};
+ghost use Rattle.m11_unfold_arguments.specs.Directives.{operator as line_operator};
+ghost use Rattle.m11_unfold_arguments.specs.Expressions.{known_by};
+ghost use Rattle.m11_unfold_arguments.specs.Notes.{joined};
 ghost use Rattle.m11_base.specs.Mnemonics.{six_of};
 ghost use Rattle.m11_base.specs.Rad50.{name_of};
-ghost use Rattle.m11_expansions.specs.Left.{depth, most_expansions};
-ghost use Rattle.m11_unfolding.specs.Acting as spec;
-ghost use Rattle.m11_unfolding.specs.Macros.{macro_named};
+ghost use Rattle.m11_unfold_bodies.specs.Left.{depth, most_expansions};
+ghost use Rattle.m11_unfold_rules.specs.Acting as spec;
+ghost use Rattle.m11_unfold_rules.specs.Macros.{macro_named};
 ghost use Rattle.m11_unfold.specs.Kept.{IsKept};
 ghost use Rattle.m11_unfold.specs.Steps.{Fails};
 ghost use Rattle.m11_unfold.specs.Views.{stage_of};
@@ -19,13 +19,13 @@ ghost use Rattle.m11_unfold.specs.Views.{stage_of};
 use crate::macros::Macro;
 use crate::rounds::one_round;
 use crate::state::State;
-use m11_arguments::{Notes, actuals_from, directive_named, fill};
 use m11_base::Name;
-use m11_expansions::EXPANSION_LIMIT;
 use m11_scan::{Line, read_name};
-use m11_statements::{Span, labels_and_body_stand_in_order};
-use m11_unfolding::UnfoldFault;
-use m11_values::Names;
+use m11_scan_statements::{Span, labels_and_body_stand_in_order};
+use m11_scan_values::Names;
+use m11_unfold_arguments::{Notes, actuals_from, directive_named, fill};
+use m11_unfold_bodies::EXPANSION_LIMIT;
+use m11_unfold_rules::UnfoldFault;
 use std::alloc::{AllocError, Global};
 
 impl State {

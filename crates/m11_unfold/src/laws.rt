@@ -1,13 +1,13 @@
 //! That an unfolder's calls together give the unfolding of a source. It is the contract of a function that does nothing.
 
 ghost use Rattle.std.specs.Prelude.{◌≡◌, ◌++◌, ◌∷◌, Bool, List, [], Result, Ok};
-ghost use Rattle.m11_arguments.specs.Expressions.{Known};
-ghost use Rattle.m11_expansions.specs.Left.{Line};
-ghost use Rattle.m11_lines.specs.Line.{SourceLine};
-ghost use Rattle.m11_unfolding.specs.Histories.{with_more};
-ghost use Rattle.m11_unfolding.specs.Stages.{Stage, start};
-ghost use Rattle.m11_unfolding.specs.Unfolding.{Given, Unfolds};
-ghost use Rattle.m11_unfolding.specs.declared.fault.UnfoldFault.{UnfoldFault};
+ghost use Rattle.m11_unfold_arguments.specs.Expressions.{Known};
+ghost use Rattle.m11_unfold_bodies.specs.Left.{Line};
+ghost use Rattle.m11_scan_lines.specs.Line.{SourceLine};
+ghost use Rattle.m11_unfold_rules.specs.Histories.{with_more};
+ghost use Rattle.m11_unfold_rules.specs.Stages.{Stage, start};
+ghost use Rattle.m11_unfold_rules.specs.Unfolding.{Given, Unfolds};
+ghost use Rattle.m11_unfold_rules.specs.declared.fault.UnfoldFault.{UnfoldFault};
 ghost use Rattle.m11_unfold.specs.Sources.{Reaches, ReachesOn};
 ghost use Rattle.m11_unfold.specs.Unfolder.{Acts, Steps, live_of};
 ghost use Rattle.m11_unfold.specs.declared.steps.Act.{Act};

@@ -1,13 +1,13 @@
 //! A body that is being taken. (MACRO-11 Language Reference Manual, ".MACRO directive" and ".REPT directive".)
 
 ghost use Rattle.std.specs.Prelude.{◌≡◌, ◌+◌, ◌≤◌, true, false, length, Some, None, IfOk};
-ghost use Rattle.m11_expansions.specs.Bodies.{depth_after, depth_inside, nothing_taken, size_of, taken_with};
-ghost use Rattle.m11_unfolding.specs.Limits.{most_bytes};
+ghost use Rattle.m11_unfold_bodies.specs.Bodies.{depth_after, depth_inside, nothing_taken, size_of, taken_with};
+ghost use Rattle.m11_unfold_rules.specs.Limits.{most_bytes};
 ghost use Rattle.m11_unfold.specs.Purposes.{IsPurpose, purpose_of};
 
-use m11_arguments::MacroFormal;
 use m11_base::Name;
-use m11_expansions::{Nesting, OpenBody, Rounds, Texts};
+use m11_unfold_arguments::MacroFormal;
+use m11_unfold_bodies::{Nesting, OpenBody, Rounds, Texts};
 use std::alloc::{AllocError, Global};
 use std::marker::Model;
 
@@ -32,9 +32,9 @@ pub(crate) struct Opening {
 
 impl Model for Opening {
     ghost use Rattle.std.specs.Prelude.{◌≡◌, ◌≤◌};
-    ghost use Rattle.m11_expansions.specs.Bodies.{size_of};
-    ghost use Rattle.m11_unfolding.specs.Limits.{most_bytes};
-    ghost use Rattle.m11_unfolding.specs.Stages as stages;
+    ghost use Rattle.m11_unfold_bodies.specs.Bodies.{size_of};
+    ghost use Rattle.m11_unfold_rules.specs.Limits.{most_bytes};
+    ghost use Rattle.m11_unfold_rules.specs.Stages as stages;
     ghost use Rattle.m11_unfold.specs.Purposes.{IsPurpose, purpose_of};
 
     ghost Value = { stages.Opening };

@@ -2,10 +2,10 @@
 //! definitions and macro calls" and "Indefinite repeat block directives".)
 
 ghost use Rattle.std.specs.Prelude.{◌≡◌, ◌∷◌, [], map, IfOk};
-ghost use Rattle.m11_arguments.specs.Actuals.{texts_of};
-ghost use Rattle.m11_unfolding.specs.Acting.{alone};
+ghost use Rattle.m11_unfold_arguments.specs.Actuals.{texts_of};
+ghost use Rattle.m11_unfold_rules.specs.Acting.{alone};
 
-use m11_expansions::{Rounds, Texts};
+use m11_unfold_bodies::{Rounds, Texts};
 use std::alloc::{AllocError, Global};
 use std::collections::VecDeque;
 

@@ -1,15 +1,15 @@
 //! What an unfolding keeps. (MACRO-11 Language Reference Manual, "Macro directives" and "Conditional assembly directives".)
 
 ghost use Rattle.std.specs.Prelude.{◌≡◌, [], false};
-ghost use Rattle.m11_unfolding.specs.Stages.{start};
+ghost use Rattle.m11_unfold_rules.specs.Stages.{start};
 ghost use Rattle.m11_unfold.specs.Views.{stage_of};
 
 use crate::macros::Macro;
 use crate::opening::Opening;
 use indexmap::IndexMap;
-use m11_arguments::FIRST_CREATED;
 use m11_base::Name;
-use m11_expansions::{Conditions, Remaining};
+use m11_unfold_arguments::FIRST_CREATED;
+use m11_unfold_bodies::{Conditions, Remaining};
 use std::alloc::Global;
 
 // A stage of an unfolding.

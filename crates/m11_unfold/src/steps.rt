@@ -1,6 +1,6 @@
 //! What an unfolder's calls return.
 
-use m11_arguments::Notes;
+use m11_unfold_arguments::Notes;
 
 /// What comes next of a source.
 #[derive(Clone, Copy, PartialEq, Eq, Debug)]

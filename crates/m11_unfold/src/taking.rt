@@ -1,12 +1,12 @@
 //! What is taken next. (MACRO-11 Language Reference Manual, "Macro definition" and "Conditional assembly block directives".)
 
 ghost use Rattle.std.specs.Prelude.{◌≡◌, ◌+◌, ◌<◌, ◌≤◌, false, true, length, None, Some, Ok, IfErr, IfOk, is_some};
-ghost use Rattle.m11_expansions.specs.Bodies.{size_of};
-ghost use Rattle.m11_expansions.specs.Left.{bytes_held, depth, is_expanding, most_expansions};
-ghost use Rattle.m11_lines.specs.Line.{line_limit};
-ghost use Rattle.m11_unfolding.specs.Limits.{line_fault, most_bytes};
-ghost use Rattle.m11_unfolding.specs.Stages as stages;
-ghost use Rattle.m11_unfolding.specs.Taking as spec;
+ghost use Rattle.m11_unfold_bodies.specs.Bodies.{size_of};
+ghost use Rattle.m11_unfold_bodies.specs.Left.{bytes_held, depth, is_expanding, most_expansions};
+ghost use Rattle.m11_scan_lines.specs.Line.{line_limit};
+ghost use Rattle.m11_unfold_rules.specs.Limits.{line_fault, most_bytes};
+ghost use Rattle.m11_unfold_rules.specs.Stages as stages;
+ghost use Rattle.m11_unfold_rules.specs.Taking as spec;
 ghost use Rattle.m11_unfold.specs.Kept.{IsKept};
 ghost use Rattle.m11_unfold.specs.Steps.{Closes, Enters, IsFree, Moves, Results, with_line};
 ghost use Rattle.m11_unfold.specs.Views.{stage_of};
@@ -16,11 +16,11 @@ use crate::macros::Macro;
 use crate::opening::{Closed, Opening, Purpose};
 use crate::skipping::{nesting_of, skip};
 use crate::state::State;
-use m11_arguments::MacroFormal;
 use m11_base::Name;
-use m11_expansions::{Conditions, EXPANSION_LIMIT, Mark, Rounds, Taken, Template, Texts};
 use m11_scan::Line;
-use m11_unfolding::UnfoldFault;
+use m11_unfold_arguments::MacroFormal;
+use m11_unfold_bodies::{Conditions, EXPANSION_LIMIT, Mark, Rounds, Taken, Template, Texts};
+use m11_unfold_rules::UnfoldFault;
 use std::alloc::{AllocError, Global};
 use std::rc::Rc;
 

@@ -2,10 +2,10 @@
 
 ghost use Rattle.std.specs.Prelude.{◌≡◌, ◌∷◌, [], false, None, Some, Err};
 ghost use Rattle.std.specs.Result.{result_err};
-ghost use Rattle.m11_arguments.specs.Directives.{operator as line_operator};
-ghost use Rattle.m11_arguments.specs.Expressions.{known_by};
-ghost use Rattle.m11_expansions.specs.Left as lefts;
-ghost use Rattle.m11_unfolding.specs.Stages.{start};
+ghost use Rattle.m11_unfold_arguments.specs.Directives.{operator as line_operator};
+ghost use Rattle.m11_unfold_arguments.specs.Expressions.{known_by};
+ghost use Rattle.m11_unfold_bodies.specs.Left as lefts;
+ghost use Rattle.m11_unfold_rules.specs.Stages.{start};
 ghost use Rattle.m11_unfold.specs.Kept.{IsKept};
 ghost use Rattle.m11_unfold.specs.Unfolder as spec;
 ghost use Rattle.m11_unfold.specs.Views.{stage_of};
@@ -13,12 +13,12 @@ ghost use Rattle.m11_unfold.specs.Views.{stage_of};
 use crate::state::State;
 use crate::steps::{Act, Step};
 use crate::taking::Moved;
-use m11_arguments::Notes;
 use m11_base::Latch;
 use m11_scan::Line;
-use m11_statements::Span;
-use m11_unfolding::UnfoldFault;
-use m11_values::Names;
+use m11_scan_statements::Span;
+use m11_scan_values::Names;
+use m11_unfold_arguments::Notes;
+use m11_unfold_rules::UnfoldFault;
 use std::alloc::Global;
 use std::marker::Model;
 

@@ -1,8 +1,8 @@
 use Rattle.std.proofs.Common.{◌∙◌, refl, sym}
-use Rattle.m11_passes.proofs.Resting.{turns_nowhere}
-use Rattle.m11_passes.specs.Placed.{live_in}
-use Rattle.m11_passes.specs.Turns.{SaysPlaced}
-use Rattle.m11_passes.specs.declared.turns.Turn.TheVariants.{NeedLine}
+use Rattle.m11_asm_passes.proofs.Resting.{turns_nowhere}
+use Rattle.m11_asm_passes.specs.Placed.{live_in}
+use Rattle.m11_asm_passes.specs.Turns.{SaysPlaced}
+use Rattle.m11_asm_passes.specs.declared.turns.Turn.TheVariants.{NeedLine}
 use Rattle.m11_asm.proofs.Passing.{ends_all, fails_all, placed_more, rests_all, stops_there}
 use Rattle.m11_asm.proofs.lines.take_left.Goals as goal
 

@@ -1,8 +1,8 @@
 use Rattle.std.proofs.Common.{◌≡◌, ◌-◌, List, None, length}
 use Rattle.m11_asm_outputs.specs.Outputs.{Outputs, outputs_of}
-use Rattle.m11_lines.specs.Line.{SourceLine}
-use Rattle.m11_passes.specs.Lines.{Numbered}
-use Rattle.m11_unfolding.specs.Limits.{most_lines}
+use Rattle.m11_scan_lines.specs.Line.{SourceLine}
+use Rattle.m11_asm_passes.specs.Lines.{Numbered}
+use Rattle.m11_unfold_rules.specs.Limits.{most_lines}
 use Rattle.m11_asm.specs.Program.{Program}
 use Rattle.m11_asm.specs.Second.{Taken}
 use Rattle.m11_asm.proofs.Passing.{SomeTaken}

@@ -1,6 +1,6 @@
 use Rattle.std.proofs.Common.{◌∙◌, [], Some, Ok, ap, sym, subst}
-use Rattle.m11_lines.specs.Line.{SourceLine}
-use Rattle.m11_lines.specs.Reader.{LineReading, ReadsNext, place}
+use Rattle.m11_scan_lines.specs.Line.{SourceLine}
+use Rattle.m11_scan_lines.specs.Reader.{LineReading, ReadsNext, place}
 use Rattle.m11_asm_outputs.specs.Outputs.{outputs_of}
 use Rattle.m11_asm.proofs.LinesRead.{reader_begins}
 use Rattle.m11_asm.proofs.SecondLines.{second_ended, second_goes_on, second_read, second_refuses, second_stops}

@@ -1,5 +1,5 @@
 use Rattle.std.proofs.Common.{drop}
-use Rattle.m11_writes.specs.Outputs.{Output, output_of}
+use Rattle.m11_base_writes.specs.Outputs.{Output, output_of}
 use Rattle.std.specs.List.{AllByRecursion}
 use Rattle.m11_asm_outputs.specs.Object.{BlockFits, block_writes}
 use Rattle.m11_asm_outputs.specs.Outputs.{outputs}

@@ -6,7 +6,7 @@ use Rattle.m11_asm_outputs.proofs.Blocks.{contents_gain, contents_stop}
 use Rattle.m11_asm_outputs.proofs.Closing.{rest_is}
 use Rattle.m11_asm_outputs.proofs.Fitting.{all_fit-append, always, fit_as, on_ok}
 use Rattle.m11_asm_outputs.proofs.Looping.{content_writes-append, one_content, writes_as}
-use Rattle.m11_writes.proofs.Writing.{stopped_first, writes_then}
+use Rattle.m11_base_writes.proofs.Writing.{stopped_first, writes_then}
 use Rattle.m11_asm_outputs.proofs.object.put_directory_end.Goals as goal
 
 pub returns-in_err-put_if_full-clause-writes : goal.returns-in_err-put_if_full-clause-writes

@@ -6,7 +6,7 @@ use Rattle.m11_asm_outputs.proofs.Blocks.{head_split}
 use Rattle.m11_asm_outputs.proofs.Closing.{nothing_waits}
 use Rattle.m11_asm_outputs.proofs.Fitting.{all_fit-append, fit_as, head_in_two, on_ok}
 use Rattle.m11_asm_outputs.proofs.Looping.{writes_as}
-use Rattle.m11_writes.proofs.Writing.{stopped_first, writes_then}
+use Rattle.m11_base_writes.proofs.Writing.{stopped_first, writes_then}
 use Rattle.m11_asm_outputs.proofs.object.put_head.Goals as goal
 
 pub returns-in_err-put_rows-clause-writes : goal.returns-in_err-put_rows-clause-writes

@@ -1,9 +1,9 @@
 use Rattle.std.proofs.Common.{ap, ◌∙◌, sym, append-nil}
-use Rattle.m11_object_text.specs.OpenText.{records_in}
-use Rattle.m11_object_text.specs.Texts.{records_of}
+use Rattle.m11_obj_texts.specs.OpenText.{records_in}
+use Rattle.m11_obj_texts.specs.Texts.{records_of}
 use Rattle.m11_asm_outputs.specs.Object.{AllFit}
 use Rattle.m11_asm_outputs.specs.Outputs.{assembly}
-use Rattle.m11_writes.proofs.Writing.{gains_nothing}
+use Rattle.m11_base_writes.proofs.Writing.{gains_nothing}
 use Rattle.m11_asm_outputs.proofs.Blocks.{contents_as}
 use Rattle.m11_asm_outputs.proofs.Fitting.{fit_as, on_ok}
 use Rattle.m11_asm_outputs.proofs.Looping.{no_contents}

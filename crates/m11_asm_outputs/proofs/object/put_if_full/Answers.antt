@@ -3,7 +3,7 @@ use Rattle.m11_asm_outputs.specs.Outputs.{assembly}
 use Rattle.m11_asm_outputs.proofs.Blocks.{as_records, no_blocks, one_block}
 use Rattle.m11_asm_outputs.proofs.Fitting.{records_fit}
 use Rattle.m11_asm_outputs.proofs.Looping.{writes_as}
-use Rattle.m11_writes.proofs.Writing.{gains_nothing}
+use Rattle.m11_base_writes.proofs.Writing.{gains_nothing}
 use Rattle.m11_asm_outputs.proofs.object.put_if_full.Goals as goal
 
 pub returns-in-Some-clause-writes : goal.returns-in-Some-clause-writes

@@ -1,13 +1,13 @@
 use Rattle.std.proofs.Common.{[], ◌∷◌, ◌++◌, sym}
 use Rattle.m11_obj.specs.Records.{EndOfModule}
-use Rattle.m11_object_text.specs.OpenText.{records_in}
+use Rattle.m11_obj_texts.specs.OpenText.{records_in}
 use Rattle.m11_asm_outputs.specs.Object.{AllFit, closed_records, content_writes, last_records}
 use Rattle.m11_asm_outputs.specs.Outputs.{assembly}
 use Rattle.m11_asm_outputs.proofs.Blocks.{contents_gain, contents_stop}
 use Rattle.m11_asm_outputs.proofs.Closing.{last_is}
 use Rattle.m11_asm_outputs.proofs.Fitting.{all_fit-append, always, fit_as, on_ok}
 use Rattle.m11_asm_outputs.proofs.Looping.{content_writes-append, one_content, writes_as}
-use Rattle.m11_writes.proofs.Writing.{stopped_first, writes_then}
+use Rattle.m11_base_writes.proofs.Writing.{stopped_first, writes_then}
 use Rattle.m11_asm_outputs.proofs.object.put_last.Goals as goal
 
 pub returns-in_err-put_if_closed-clause-writes : goal.returns-in_err-put_if_closed-clause-writes

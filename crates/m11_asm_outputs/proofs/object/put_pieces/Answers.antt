@@ -1,6 +1,6 @@
 use Rattle.std.proofs.Common.{arith, ap, sym, ◌∙◌, ◌∷◌, ◌+◌, ℕ, drop}
 use Rattle.std.proofs.lemmas.List.{drop_all}
-use Rattle.m11_placement.specs.Contents.{piece, pieces_from}
+use Rattle.m11_asm_rules.specs.Contents.{piece, pieces_from}
 use Rattle.m11_asm_outputs.specs.Object.{IsOpenAfter, closed_records}
 use Rattle.m11_asm_outputs.proofs.Closing.{closed-grows}
 use Rattle.m11_asm_outputs.proofs.Looping.{item_left}

@@ -1,6 +1,6 @@
 use Rattle.std.proofs.Common.{ℕ, ◌<◌, ◌≤◌, List, length, subst}
 use Rattle.std.specs.Prelude.{All}
-use Rattle.m11_blocks.specs.Frames.{content_limit}
+use Rattle.m11_obj_blocks.specs.Frames.{content_limit}
 use Rattle.m11_obj.proofs.RecordsBack.{read_stands}
 use Rattle.m11_asm_outputs.proofs.object.what_is_read_fits.Goals as goal
 

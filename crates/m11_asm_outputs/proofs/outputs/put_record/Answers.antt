@@ -1,7 +1,7 @@
 use Rattle.std.proofs.Common.{refl}
 use Rattle.m11_asm_faults.specs.declared.fault.AsmFault.TheVariants.{NoMemory}
 use Rattle.m11_asm_outputs.specs.Outputs.{assembly}
-use Rattle.m11_writes.proofs.Writing.{refused_first}
+use Rattle.m11_base_writes.proofs.Writing.{refused_first}
 use Rattle.m11_asm_outputs.proofs.outputs.put_record.Goals as goal
 
 pub returns-in_err-block : goal.returns-in_err-block

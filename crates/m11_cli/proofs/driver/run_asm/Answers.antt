@@ -1,12 +1,12 @@
 use Rattle.std.proofs.Common.{◌∙◌, ap}
 use Rattle.m11_asm.specs.Passes.{pass_of}
 use Rattle.m11_asm.specs.Run.{AsmRuns}
-use Rattle.m11_files.specs.Opens.{keeping, keeping_some}
+use Rattle.m11_base_files.specs.Opens.{keeping, keeping_some}
 use Rattle.m11_cli.specs.Driver.{got, asm_outputs_of}
-use Rattle.m11_tasks.specs.Opened.{asm_inputs}
+use Rattle.m11_cli_tasks.specs.Opened.{asm_inputs}
 use Rattle.m11_cli.proofs.Assembled.{asm_runs}
 use Rattle.m11_cli.proofs.Linked.{emptied, kept, same_output, seen_output}
-use Rattle.m11_writes.specs.Outputs.{output_of}
+use Rattle.m11_base_writes.specs.Outputs.{output_of}
 use Rattle.m11_cli.proofs.Sources.{are, seen}
 use Rattle.m11_cli.proofs.driver.run_asm.Goals as goal
 

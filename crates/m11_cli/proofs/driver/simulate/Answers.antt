@@ -1,11 +1,11 @@
 use Rattle.std.proofs.Common.{inl, ap₂, refl, subst, sym, rules, []}
 use Rattle.m11_base.specs.Devices.{Rises}
-use Rattle.m11_machine.specs.Dialogue.{input_of, output_of}
+use Rattle.m11_cpu_machine.specs.Dialogue.{input_of, output_of}
 use Rattle.m11_cli.specs.Driver.{Carries, Reports, store}
 use Rattle.m11_cli.specs.FaultLines.{open_line}
-use Rattle.m11_tasks.specs.Opened.{StopsAt, sim_inputs}
+use Rattle.m11_cli_tasks.specs.Opened.{StopsAt, sim_inputs}
 use Rattle.m11_cli.specs.declared.outcome.Outcome.{Outcome}
-use Rattle.m11_tasks.specs.declared.tasks.Task.TheVariants.{Sim}
+use Rattle.m11_cli_tasks.specs.declared.tasks.Task.TheVariants.{Sim}
 use Rattle.m11_cli.proofs.driver.simulate.Goals as goal
 
 pub returns-in-Ok-clause-outcome : goal.returns-in-Ok-clause-outcome

@@ -1,6 +1,6 @@
 use Rattle.std.proofs.Common.{[], refl, ◌∷◌, ◌++◌}
 use Rattle.std.proofs.lemmas.Result.{err_from_is_err_and}
-use Rattle.m11_blocks.specs.Limited.{place}
+use Rattle.m11_obj_blocks.specs.Limited.{place}
 use Rattle.m11_cpu.proofs.DataPut.{none_taken, is_open, some_put, data_stops, byte_outside, one_taken, all_taken}
 use Rattle.m11_cpu.proofs.loading.load_block.Goals as goal
 

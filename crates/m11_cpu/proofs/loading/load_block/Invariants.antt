@@ -1,5 +1,5 @@
 use Rattle.std.proofs.Common.{ℕ, List}
-use Rattle.m11_blocks.specs.Limited.{place}
+use Rattle.m11_obj_blocks.specs.Limited.{place}
 use Rattle.m11_cpu.proofs.DataPut.{Taking}
 use Rattle.m11_cpu.proofs.loading.load_block.Given as goal
 

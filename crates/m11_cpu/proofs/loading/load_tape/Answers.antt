@@ -1,8 +1,8 @@
 use Rattle.std.proofs.Common.{[], ◌∷◌, ◌++◌, Ok, ap, ◌∙◌}
 use Rattle.std.proofs.lemmas.Result.{err_from_is_err_and}
-use Rattle.m11_blocks.specs.declared.tape_part.TapePart.{TapePart}
-use Rattle.m11_blocks.specs.Limited.{place, most_bytes}
-use Rattle.m11_blocks.specs.Tapes.{stage_after}
+use Rattle.m11_obj_blocks.specs.declared.tape_part.TapePart.{TapePart}
+use Rattle.m11_obj_blocks.specs.Limited.{place, most_bytes}
+use Rattle.m11_obj_blocks.specs.Tapes.{stage_after}
 use Rattle.m11_cpu.proofs.TapePut.{none_loaded, block_ended, stage_is, part_stops, tape_ends, room_falls, block_loaded, block_fails, counts_from}
 use Rattle.m11_cpu.proofs.loading.load_tape.Goals as goal
 

@@ -1,5 +1,5 @@
 use Rattle.std.proofs.Common.{ℕ, List}
-use Rattle.m11_blocks.specs.Limited.{place, most_bytes}
+use Rattle.m11_obj_blocks.specs.Limited.{place, most_bytes}
 use Rattle.m11_cpu.proofs.TapePut.{Loading}
 use Rattle.m11_cpu.proofs.loading.load_tape.Given as goal
 

@@ -1,5 +1,5 @@
 use Rattle.std.proofs.Common.{◌-◌, ◌≤◌}
-use Rattle.m11_machine.specs.Dialogue.{both}
+use Rattle.m11_cpu_machine.specs.Dialogue.{both}
 use Rattle.m11_cpu.proofs.RunsDone.{GoesOn}
 use Rattle.m11_cpu.proofs.runs.run_counted.Given as goal
 

@@ -1,5 +1,5 @@
 use Rattle.std.proofs.Common.{rules}
-use Rattle.m11_machine.specs.DoubleOperands.{double}
+use Rattle.m11_cpu_machine.specs.DoubleOperands.{double}
 use Rattle.m11_cpu_quick.proofs.QuickDone.{bind_comes}
 use Rattle.m11_cpu_quick.proofs.doubles.double_to_memory.Goals as goal
 

@@ -1,4 +1,4 @@
-use Rattle.m11_machine.specs.DoubleOperands.{double}
+use Rattle.m11_cpu_machine.specs.DoubleOperands.{double}
 use Rattle.m11_cpu_quick.proofs.QuickDone.{bind_comes, in_register}
 use Rattle.m11_cpu_quick.proofs.doubles.double_to_register.Goals as goal
 

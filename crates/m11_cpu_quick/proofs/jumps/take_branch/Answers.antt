@@ -1,7 +1,7 @@
 use Rattle.std.proofs.Common.{◌≡◌, true, arith, rules, sym, ◌∙◌, ap}
 use Rattle.std.proofs.lemmas.Int.{to_z-of_z}
-use Rattle.m11_arithmetic.specs.Branches.{is_taken}
-use Rattle.m11_machine.specs.Jumps.{words_on}
+use Rattle.m11_cpu_arithmetic.specs.Branches.{is_taken}
+use Rattle.m11_cpu_machine.specs.Jumps.{words_on}
 use Rattle.m11_cpu_quick.proofs.JumpsMade.{beside, branch_taken}
 use Rattle.m11_cpu_quick.proofs.jumps.take_branch.Goals as goal
 

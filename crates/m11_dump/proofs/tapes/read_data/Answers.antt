@@ -1,4 +1,4 @@
-use Rattle.m11_blocks.specs.Limited.{place}
+use Rattle.m11_obj_blocks.specs.Limited.{place}
 use Rattle.m11_dump.proofs.Taping.{none_taken, one_taken}
 use Rattle.m11_dump.proofs.tapes.read_data.Goals as goal
 

@@ -1,4 +1,4 @@
-use Rattle.m11_blocks.specs.Limited.{place}
+use Rattle.m11_obj_blocks.specs.Limited.{place}
 use Rattle.m11_dump.proofs.Taping.{Taking}
 use Rattle.m11_dump.proofs.tapes.read_data.Given as goal
 

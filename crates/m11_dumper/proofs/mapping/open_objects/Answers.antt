@@ -1,5 +1,5 @@
 use Rattle.std.proofs.Common.{arith}
-use Rattle.m11_tasks.proofs.Opening.{first_lacking, next_input}
+use Rattle.m11_cli_tasks.proofs.Opening.{first_lacking, next_input}
 use Rattle.m11_dumper.proofs.mapping.open_objects.Goals as goal
 
 pub returns-in_err-object-clause-lacks : goal.returns-in_err-object-clause-lacks

@@ -1,6 +1,6 @@
 use Rattle.std.proofs.Common.{◌≡◌, take}
-use Rattle.m11_files.specs.Opens.{AreFiles}
-use Rattle.m11_tasks.specs.Opened.{texts}
+use Rattle.m11_base_files.specs.Opens.{AreFiles}
+use Rattle.m11_cli_tasks.specs.Opened.{texts}
 use Rattle.m11_dumper.proofs.mapping.open_objects.Given as goal
 
 -- the objects of the paths so far are open, and nothing else changed

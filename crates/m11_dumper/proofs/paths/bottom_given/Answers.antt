@@ -1,6 +1,6 @@
 use Rattle.std.proofs.Common.{codes}
 use Rattle.clap.specs.Words.{found_of}
-use Rattle.m11_tasks.proofs.Addresses.{bottom_spelled}
+use Rattle.m11_cli_tasks.proofs.Addresses.{bottom_spelled}
 use Rattle.m11_dumper.proofs.paths.bottom_given.Goals as goal
 
 pub returns-in-Some : goal.returns-in-Some

@@ -1,7 +1,7 @@
 use Rattle.std.proofs.Common.{◌∙◌, ap, codes, map, Some, None}
 use Rattle.std.proofs.lemmas.Result.{IfOk-weaker}
 use Rattle.clap.specs.Words.{found_of}
-use Rattle.m11_tasks.proofs.Entries.{all_are}
+use Rattle.m11_cli_tasks.proofs.Entries.{all_are}
 use Rattle.m11_dumper.proofs.paths.paths_given.Goals as goal
 
 pub returns-in-Some : goal.returns-in-Some

@@ -1,7 +1,7 @@
 use Rattle.std.proofs.Common.{◌≡◌, drop, is_some}
 use Rattle.m11_link_text.specs.Findings.{planned}
 use Rattle.m11_link.specs.Front.{name_writes}
-use Rattle.m11_writes.specs.Outputs.{Output, optional_output}
+use Rattle.m11_base_writes.specs.Outputs.{Output, optional_output}
 use Rattle.m11_link.specs.Outputs.{outputs}
 use Rattle.m11_link.proofs.Looping.{Leads}
 use Rattle.m11_link.proofs.front.put_each_name.Given as goal

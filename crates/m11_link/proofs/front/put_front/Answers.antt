@@ -1,7 +1,7 @@
 use Rattle.m11_link.specs.Front.{front_writes}
 use Rattle.m11_link.proofs.Counting.{front_counted}
 use Rattle.m11_link.specs.Outputs.{link}
-use Rattle.m11_writes.proofs.Writing.{stopped_first, stopped_alone, gains_then, writes_then}
+use Rattle.m11_base_writes.proofs.Writing.{stopped_first, stopped_alone, gains_then, writes_then}
 use Rattle.m11_link.proofs.front.put_front.Goals as goal
 
 pub returns-in_err-reported-clause-writes : goal.returns-in_err-reported-clause-writes

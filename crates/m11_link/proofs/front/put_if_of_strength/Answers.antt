@@ -1,6 +1,6 @@
 use Rattle.std.proofs.Common.{sym}
 use Rattle.m11_link.specs.Outputs.{link}
-use Rattle.m11_writes.proofs.Writing.{gains_nothing}
+use Rattle.m11_base_writes.proofs.Writing.{gains_nothing}
 use Rattle.m11_link.proofs.front.put_if_of_strength.Goals as goal
 
 pub returns-in-Some-clause-writes : goal.returns-in-Some-clause-writes

@@ -1,8 +1,8 @@
 use Rattle.std.proofs.Common.{ℕ, Option, subst, sym}
-use Rattle.m11_writes.specs.Outputs.{output_of}
+use Rattle.m11_base_writes.specs.Outputs.{output_of}
 use Rattle.m11_link.specs.Front.{undefined_write, written_if}
 use Rattle.m11_link.specs.Outputs.{Stops, link, outputs}
-use Rattle.m11_writes.proofs.Writing.{gains_nothing}
+use Rattle.m11_base_writes.proofs.Writing.{gains_nothing}
 use Rattle.m11_link.proofs.front.put_if_undefined.Goals as goal
 
 pub returns-in-Ok-clause-writes : goal.returns-in-Ok-clause-writes

@@ -2,7 +2,7 @@ use Rattle.std.proofs.Common.{[], ◌∷◌}
 use Rattle.m11_link_text.specs.Findings.{planned}
 use Rattle.m11_link_text.specs.Lines.{transfer_line}
 use Rattle.m11_link.specs.Outputs.{to_map, link}
-use Rattle.m11_writes.proofs.Writing.{stopped_first, writes_then}
+use Rattle.m11_base_writes.proofs.Writing.{stopped_first, writes_then}
 use Rattle.m11_link.proofs.front.put_last_lines.Goals as goal
 
 pub returns-in_err-put_map-clause-writes : goal.returns-in_err-put_map-clause-writes

@@ -1,6 +1,6 @@
 use Rattle.m11_link.specs.Front.{map_writes}
 use Rattle.m11_link.specs.Outputs.{link}
-use Rattle.m11_writes.proofs.Writing.{stopped_first, writes_then}
+use Rattle.m11_base_writes.proofs.Writing.{stopped_first, writes_then}
 use Rattle.m11_link.proofs.front.put_map_lines.Goals as goal
 
 pub returns-in_err-put_sections-clause-writes : goal.returns-in_err-put_sections-clause-writes

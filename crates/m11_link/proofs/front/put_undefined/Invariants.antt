@@ -1,7 +1,7 @@
 use Rattle.std.proofs.Common.{◌≡◌, ℕ, drop}
 use Rattle.m11_link_text.specs.Findings.{planned}
 use Rattle.m11_link.specs.Front.{undefined_writes}
-use Rattle.m11_writes.specs.Outputs.{Output, output_of}
+use Rattle.m11_base_writes.specs.Outputs.{Output, output_of}
 use Rattle.m11_link.specs.Outputs.{outputs}
 use Rattle.m11_link.specs.Written.{counted}
 use Rattle.m11_link.proofs.Looping.{Leads}

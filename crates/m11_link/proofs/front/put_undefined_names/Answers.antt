@@ -1,6 +1,6 @@
 use Rattle.std.proofs.Common.{[], ◌∷◌, codes}
 use Rattle.m11_link.specs.Outputs.{to_map, link}
-use Rattle.m11_writes.proofs.Writing.{stopped_first, writes_then}
+use Rattle.m11_base_writes.proofs.Writing.{stopped_first, writes_then}
 use Rattle.m11_link.proofs.front.put_undefined_names.Goals as goal
 
 pub returns-in_err-put_map-clause-writes : goal.returns-in_err-put_map-clause-writes

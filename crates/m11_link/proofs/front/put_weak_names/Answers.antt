@@ -1,7 +1,7 @@
 use Rattle.std.proofs.Common.{[], ◌∷◌, codes, ◌∙◌, sym}
 use Rattle.m11_link.specs.Outputs.{to_map, link}
 use Rattle.m11_link.proofs.Looping.{some_weak, no_weak, weak_none, weak_some}
-use Rattle.m11_writes.proofs.Writing.{gains_nothing, stopped_first, writes_then}
+use Rattle.m11_base_writes.proofs.Writing.{gains_nothing, stopped_first, writes_then}
 use Rattle.m11_link.proofs.front.put_weak_names.Goals as goal
 
 pub returns-then-not-has_weak_name-clause-writes : goal.returns-then-not-has_weak_name-clause-writes

@@ -1,5 +1,5 @@
 use Rattle.m11_link.specs.Outputs.{link}
-use Rattle.m11_writes.proofs.Writing.{stopped_first, writes_then}
+use Rattle.m11_base_writes.proofs.Writing.{stopped_first, writes_then}
 use Rattle.m11_link.proofs.outputs.flush_files.Goals as goal
 
 pub returns-in_err-flush_tape-clause-writes : goal.returns-in_err-flush_tape-clause-writes

@@ -1,7 +1,7 @@
 use Rattle.std.proofs.Common.{◌≡◌, List, None, is_some}
-use Rattle.m11_modules.specs.Parts.{Part, EndOfFile}
-use Rattle.m11_modules.specs.Rules.{fault_of}
-use Rattle.m11_layout.specs.Plan.{Planned}
+use Rattle.m11_link_modules.specs.Parts.{Part, EndOfFile}
+use Rattle.m11_link_modules.specs.Rules.{fault_of}
+use Rattle.m11_link_layout.specs.Plan.{Planned}
 use Rattle.m11_link.specs.Emit.{EmitStands, written}
 use Rattle.m11_link.specs.Outputs.{Gains, Outputs, outputs_of}
 use Rattle.m11_link.proofs.SecondRead.{SentAll}

@@ -1,5 +1,5 @@
 use Rattle.std.proofs.Common.{◌∙◌, refl, rules}
-use Rattle.m11_blocks.specs.Limited.{place}
+use Rattle.m11_obj_blocks.specs.Limited.{place}
 use Rattle.m11_link.specs.Outputs.{outputs_of}
 use Rattle.m11_link.proofs.ObjectsRead.{block_falls, reads_on}
 use Rattle.m11_link.proofs.SecondRead.{sent_ends, sent_first, sent_more, sent_refused, sent_stops}

@@ -1,5 +1,5 @@
 use Rattle.std.proofs.Common.{ℕ, List}
-use Rattle.m11_modules.specs.Parts.{Part}
+use Rattle.m11_link_modules.specs.Parts.{Part}
 use Rattle.m11_link.specs.FirstPass.{StandsBetween}
 use Rattle.m11_link.proofs.FirstRead.{LaidAll}
 use Rattle.m11_link.proofs.run.lay_out.Given as goal

@@ -1,5 +1,5 @@
 use Rattle.std.proofs.Common.{rules}
-use Rattle.m11_blocks.specs.Limited.{place}
+use Rattle.m11_obj_blocks.specs.Limited.{place}
 use Rattle.m11_link.proofs.FirstRead.{laid_ends, laid_first, laid_more, laid_refused, laid_stops}
 use Rattle.m11_link.proofs.ObjectsRead.{block_falls, reads_on}
 use Rattle.m11_link.proofs.run.lay_out_object.Goals as goal

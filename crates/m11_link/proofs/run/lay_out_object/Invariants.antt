@@ -1,6 +1,6 @@
 use Rattle.std.proofs.Common.{◌≡◌, ℕ, List, false}
-use Rattle.m11_modules.specs.Parts.{Part}
-use Rattle.m11_layout.specs.Layout.{LayoutStands}
+use Rattle.m11_link_modules.specs.Parts.{Part}
+use Rattle.m11_link_layout.specs.Layout.{LayoutStands}
 use Rattle.m11_link.proofs.FirstRead.{Laid}
 use Rattle.m11_link.proofs.run.lay_out_object.Given as goal
 

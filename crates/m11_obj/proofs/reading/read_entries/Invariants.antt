@@ -1,5 +1,5 @@
 use Rattle.std.proofs.Common.{◌+◌, ◌*◌, ◌≤◌, length}
-use Rattle.m11_blocks.specs.Frames.{content_limit}
+use Rattle.m11_obj_blocks.specs.Frames.{content_limit}
 use Rattle.m11_obj.proofs.Entries.{AreRead}
 use Rattle.m11_obj.proofs.reading.read_entries.Given as goal
 

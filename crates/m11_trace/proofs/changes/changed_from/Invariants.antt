@@ -1,5 +1,5 @@
 use Rattle.std.proofs.Common.{◌-◌, ◌≤◌}
-use Rattle.m11_machine.specs.Memory.{most_words}
+use Rattle.m11_cpu_machine.specs.Memory.{most_words}
 use Rattle.m11_trace.specs.Changes.{AreAlike}
 use Rattle.m11_trace.proofs.changes.changed_from.Given as goal
 

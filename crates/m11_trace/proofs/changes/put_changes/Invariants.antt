@@ -1,5 +1,5 @@
 use Rattle.std.proofs.Common.{◌≢◌, ◌-◌, ◌*◌, ◌<◌, ◌≤◌, get_or}
-use Rattle.m11_machine.specs.Memory.{most_words, word_at}
+use Rattle.m11_cpu_machine.specs.Memory.{most_words, word_at}
 use Rattle.m11_trace.proofs.Copies.{Walked}
 use Rattle.m11_trace.proofs.changes.put_changes.Given as goal
 

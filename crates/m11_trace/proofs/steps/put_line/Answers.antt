@@ -1,5 +1,5 @@
 use Rattle.std.proofs.Common.{◌∙◌, ◌++◌}
-use Rattle.m11_machine.specs.Memory.{bytes_of}
+use Rattle.m11_cpu_machine.specs.Memory.{bytes_of}
 use Rattle.m11_trace.specs.Changes.{memory_changes}
 use Rattle.m11_trace.specs.Lines.{line_end}
 use Rattle.m11_trace.proofs.Reports.{puts_part, puts_same, puts_then}

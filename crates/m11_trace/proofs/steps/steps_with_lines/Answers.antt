@@ -1,7 +1,7 @@
 use Rattle.std.proofs.Common.{◌∙◌, [], sym, arith}
 use Rattle.std.proofs.lemmas.Result.{err_from_is_err_and}
-use Rattle.m11_machine.specs.Dialogue.{output_of}
-use Rattle.m11_machine.specs.declared.stop.Turn.TheVariants.{Stopped}
+use Rattle.m11_cpu_machine.specs.Dialogue.{output_of}
+use Rattle.m11_cpu_machine.specs.declared.stop.Turn.TheVariants.{Stopped}
 use Rattle.m11_trace.proofs.Copies.{line_is}
 use Rattle.m11_trace.proofs.Going.{at_limit, at_place, at_stop, none_made, none_shown, not_put, one_made, one_shown}
 use Rattle.m11_trace.proofs.steps.steps_with_lines.Goals as goal

@@ -1,6 +1,6 @@
 use Rattle.std.proofs.Common.{List, ◌-◌}
-use Rattle.m11_machine.specs.Dialogue.{both, output_of}
-use Rattle.m11_machine.specs.declared.stop.Turn.TheVariants.{Next}
+use Rattle.m11_cpu_machine.specs.Dialogue.{both, output_of}
+use Rattle.m11_cpu_machine.specs.declared.stop.Turn.TheVariants.{Next}
 use Rattle.m11_trace.specs.Changes.{KeepsUp}
 use Rattle.m11_trace.specs.Taken.{Taken}
 use Rattle.m11_trace.proofs.Going.{Going, Shown}

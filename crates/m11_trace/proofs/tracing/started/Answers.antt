@@ -1,7 +1,7 @@
 use Rattle.std.proofs.Common.{◌≡◌, ◌%◌, ◌==◌, true, false, refl}
 use Rattle.std.proofs.lemmas.Grind.{common_steps}
 use Rattle.std.proofs.Common.{arith}
-use Rattle.m11_machine.specs.Dialogue.{output_of}
+use Rattle.m11_cpu_machine.specs.Dialogue.{output_of}
 use Rattle.m11_trace.proofs.Whole.{nothing_started, steps_started}
 use Rattle.m11_trace.proofs.tracing.started.Goals as goal
 

@@ -1,6 +1,6 @@
 use Rattle.std.proofs.lemmas.Result.{err_from_is_err_and}
 use Rattle.m11_cpu.specs.Simulation.{request_of, run_devices}
-use Rattle.m11_machine.specs.Dialogue.{both, input_of, output_of}
+use Rattle.m11_cpu_machine.specs.Dialogue.{both, input_of, output_of}
 use Rattle.m11_trace.proofs.Whole.{all_reported, end_failed, line_failed, not_loaded}
 use Rattle.m11_trace.proofs.tracing.trace_run.Goals as goal
 

@@ -1,5 +1,5 @@
 use Rattle.std.proofs.Common.{inl, ap₂}
-use Rattle.m11_machine.specs.Dialogue.{input_of}
+use Rattle.m11_cpu_machine.specs.Dialogue.{input_of}
 use Rattle.m11_tracer.specs.Reports.{store}
 use Rattle.m11_tracer.proofs.driver.carry_out.Goals as goal
 

@@ -1,4 +1,4 @@
-use Rattle.m11_machine.specs.Dialogue.{input_of}
+use Rattle.m11_cpu_machine.specs.Dialogue.{input_of}
 use Rattle.m11_tracer.proofs.driver.run_tape.Goals as goal
 
 pub returns : goal.returns

@@ -1,5 +1,5 @@
 use Rattle.std.proofs.Common.{◌≡◌, ◌++◌, drop, map}
-use Rattle.m11_unfolding.specs.Acting.{formal_name}
+use Rattle.m11_unfold_rules.specs.Acting.{formal_name}
 use Rattle.m11_unfold.proofs.macros.names_of.Given as goal
 
 abbrev pub invariant-formals : goal.invariant-formals

@@ -1,6 +1,6 @@
 use Rattle.std.proofs.Common.{◌≡◌, ◌++◌, drop, map}
-use Rattle.m11_arguments.specs.Actuals.{texts_of}
-use Rattle.m11_unfolding.specs.Acting.{alone}
+use Rattle.m11_unfold_arguments.specs.Actuals.{texts_of}
+use Rattle.m11_unfold_rules.specs.Acting.{alone}
 use Rattle.m11_unfold.proofs.rounds.round_of_each.Given as goal
 
 abbrev pub invariant-texts : goal.invariant-texts

@@ -1,6 +1,6 @@
 use Rattle.std.proofs.Common.{◌∙◌, ap, subst}
 use Rattle.m11_asm_outputs.specs.Outputs.{Outputs, outputs_of}
-use Rattle.m11_placement.specs.Tables.{Table, place}
+use Rattle.m11_asm_rules.specs.Tables.{Table, place}
 use Rattle.m11_asm.specs.Second.{SecondEnds, SecondStands, SecondState}
 use Rattle.m11_asm.proofs.Finishing.{few_flagged, place_is, second_finishes}
 use Rattle.m11_asm.proofs.second.Second.finish.Goals as goal

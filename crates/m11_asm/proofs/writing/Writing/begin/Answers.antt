@@ -2,8 +2,8 @@ use Rattle.std.proofs.Common.{◌∙◌, List, sym, ap}
 use Rattle.m11_asm_outputs.proofs.Fitting.{fit_as}
 use Rattle.m11_asm_outputs.specs.Object.{content_writes, head_contents}
 use Rattle.m11_asm_outputs.specs.Outputs.{assembly}
-use Rattle.m11_object_text.specs.declared.directory.DirectoryRow.{DirectoryRow}
-use Rattle.m11_writes.proofs.Writing.{stopped_alone}
+use Rattle.m11_obj_texts.specs.declared.directory.DirectoryRow.{DirectoryRow}
+use Rattle.m11_base_writes.proofs.Writing.{stopped_alone}
 use Rattle.m11_asm.specs.Writing.{Writing}
 use Rattle.m11_asm.proofs.Putting.{gains_as, head_is, head_stays, writes_as, writes_nothing}
 use Rattle.m11_asm.proofs.writing.Writing.begin.Goals as goal

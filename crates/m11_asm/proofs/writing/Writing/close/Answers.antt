@@ -1,12 +1,12 @@
 use Rattle.std.proofs.Common.{[], ◌∷◌, ◌++◌, List, Option, sym, ap, subst, ℕ, ◌∙◌}
 use Rattle.m11_asm_outputs.specs.Object.{IsOpenAfter, content_writes, last_records}
 use Rattle.m11_asm_outputs.specs.Outputs.{Write, assembly, flushes, to_messages}
-use Rattle.m11_listed.specs.Listed.{all_to_listing}
-use Rattle.m11_listing.specs.Messages.{count_line}
-use Rattle.m11_listing.specs.SymbolTable.{last_lines}
+use Rattle.m11_asm_listing_writes.specs.Listed.{all_to_listing}
+use Rattle.m11_asm_listing.specs.Messages.{count_line}
+use Rattle.m11_asm_listing.specs.SymbolTable.{last_lines}
 use Rattle.m11_obj.specs.Records.{EndOfModule}
-use Rattle.m11_object_text.specs.Texts.{TextParts}
-use Rattle.m11_writes.proofs.Writing.{gains_then, stopped_alone, stopped_first, writes_then}
+use Rattle.m11_obj_texts.specs.Texts.{TextParts}
+use Rattle.m11_base_writes.proofs.Writing.{gains_then, stopped_alone, stopped_first, writes_then}
 use Rattle.m11_asm.specs.Writing.{Writing}
 use Rattle.m11_asm.proofs.Putting.{gains_as, stops_as, table_so, writes_as}
 use Rattle.m11_asm.proofs.writing.Writing.close.Goals as goal

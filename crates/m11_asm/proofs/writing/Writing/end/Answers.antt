@@ -3,7 +3,7 @@ use Rattle.m11_asm_outputs.proofs.Fitting.{on_ok}
 use Rattle.m11_asm_outputs.specs.Object.{AllFit, last_records, object_contents}
 use Rattle.m11_obj.specs.Records.{EndOfModule}
 use Rattle.m11_asm_outputs.specs.Outputs.{Write, assembly}
-use Rattle.m11_writes.proofs.Writing.{stopped_first, writes_then}
+use Rattle.m11_base_writes.proofs.Writing.{stopped_first, writes_then}
 use Rattle.m11_asm.specs.Written.{Ended, added_writes, closing_writes, flagged_count, head_before, last_place, pieces_in}
 use Rattle.m11_asm.proofs.Putting.{closes_so, gains_as, last_open, object_fits, stops_as, writes_as}
 use Rattle.m11_asm.proofs.writing.Writing.end.Goals as goal

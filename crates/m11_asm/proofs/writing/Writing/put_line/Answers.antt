@@ -2,11 +2,11 @@ use Rattle.std.proofs.Common.{◌∙◌, ◌++◌, Option, refl, sym, ap, subst}
 use Rattle.std.specs.Int.RustNames.{bit_or}
 use Rattle.m11_asm_outputs.specs.Object.{IsOpenAfter}
 use Rattle.m11_asm_outputs.specs.Outputs.{assembly}
-use Rattle.m11_object_text.specs.Texts.{TextParts}
-use Rattle.m11_passes.specs.Lines.{table_at}
-use Rattle.m11_placement.specs.Contents.{pieces_from}
+use Rattle.m11_obj_texts.specs.Texts.{TextParts}
+use Rattle.m11_asm_passes.specs.Lines.{table_at}
+use Rattle.m11_asm_rules.specs.Contents.{pieces_from}
 use Rattle.m11_scan.specs.Views.{bits_of}
-use Rattle.m11_writes.proofs.Writing.{stopped_alone, stopped_first, writes_then}
+use Rattle.m11_base_writes.proofs.Writing.{stopped_alone, stopped_first, writes_then}
 use Rattle.m11_asm.specs.Writing.{Writing}
 use Rattle.m11_asm.specs.Written.{head_before, line_writes, message_writes, pieces_in}
 use Rattle.m11_asm.proofs.Putting.{keeps_more, flags_so, line_goes_on, line_stops, pieces_so, shown, text_so}

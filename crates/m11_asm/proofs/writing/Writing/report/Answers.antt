@@ -1,5 +1,5 @@
 use Rattle.m11_asm_outputs.specs.Outputs.{assembly}
-use Rattle.m11_writes.proofs.Writing.{stopped_alone}
+use Rattle.m11_base_writes.proofs.Writing.{stopped_alone}
 use Rattle.m11_asm.proofs.Putting.{flagged, gains_as, unflagged, writes_as, writes_nothing}
 use Rattle.m11_asm.proofs.writing.Writing.report.Goals as goal
 

@@ -1,6 +1,6 @@
 use Rattle.std.proofs.Common.{◌∙◌}
 use Rattle.m11_obj.specs.Reading.{relocations_left}
-use Rattle.m11_modules.proofs.Unread.{all_taken, left_after, one_refused, one_taken, refused_judged, same_after}
+use Rattle.m11_link_modules.proofs.Unread.{all_taken, left_after, one_refused, one_taken, refused_judged, same_after}
 use Rattle.m11_link.proofs.Emitted.{relocating, stored_more}
 use Rattle.m11_link.proofs.emit.Emit.store_each_relocation.Goals as goal
 

@@ -1,6 +1,6 @@
 use Rattle.std.proofs.Common.{◌≡◌, length}
 use Rattle.m11_obj.specs.Reading.{AreRelocations, relocations_left}
-use Rattle.m11_modules.proofs.Unread.{LeadsOn, SameRead}
+use Rattle.m11_link_modules.proofs.Unread.{LeadsOn, SameRead}
 use Rattle.m11_link.proofs.Emitted.{relocating}
 use Rattle.m11_link.proofs.emit.Emit.store_each_relocation.Given as goal
 

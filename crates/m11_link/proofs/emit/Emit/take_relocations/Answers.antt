@@ -2,9 +2,9 @@ use Rattle.std.proofs.Common.{◌∷◌, ◌∙◌, sym, subst}
 use Rattle.m11_obj.specs.Reading.{relocations_left}
 use Rattle.m11_obj.specs.Records as records
 use Rattle.m11_obj.proofs.Unread.{are_where_checked, record_read}
-use Rattle.m11_modules.specs.Parts.{Relocations}
-use Rattle.m11_modules.specs.Steps.{RulesTake}
-use Rattle.m11_modules.proofs.Taking.{Outcome}
+use Rattle.m11_link_modules.specs.Parts.{Relocations}
+use Rattle.m11_link_modules.specs.Steps.{RulesTake}
+use Rattle.m11_link_modules.proofs.Taking.{Outcome}
 use Rattle.m11_link.specs.Emit.{relocated_parts}
 use Rattle.m11_link.proofs.Emitted.{content_block, relocations_refused, relocations_taken}
 use Rattle.m11_link.proofs.emit.Emit.take_relocations.Goals as goal

@@ -1,7 +1,7 @@
 use Rattle.std.proofs.Common.{ap, Ok, Err}
 use Rattle.m11_obj.specs.Records as records
-use Rattle.m11_modules.specs.Parts.{Text}
-use Rattle.m11_modules.proofs.Taking.{taken_one}
+use Rattle.m11_link_modules.specs.Parts.{Text}
+use Rattle.m11_link_modules.proofs.Taking.{taken_one}
 use Rattle.m11_link.proofs.Emitted.{content_refused, text_taken}
 use Rattle.m11_link.proofs.emit.Emit.take_text.Goals as goal
 

@@ -1,6 +1,6 @@
-use Rattle.m11_writes.specs.Outputs.{output_of}
+use Rattle.m11_base_writes.specs.Outputs.{output_of}
 use Rattle.m11_link.specs.Outputs.{files, flushes, link}
-use Rattle.m11_writes.proofs.Writing.{finishes_early, flush_stops, gains_still, gains_then}
+use Rattle.m11_base_writes.proofs.Writing.{finishes_early, flush_stops, gains_still, gains_then}
 use Rattle.m11_link.proofs.emit.Emit.write_last.Goals as goal
 
 pub returns-in_err-done-clause-finishes : goal.returns-in_err-done-clause-finishes

@@ -1,11 +1,11 @@
 use Rattle.std.proofs.Common.{◌∙◌, ap, [], ◌∷◌, Ok}
-use Rattle.m11_blocks.specs.Tapes.{tape_block}
+use Rattle.m11_obj_blocks.specs.Tapes.{tape_block}
 use Rattle.m11_link_text.specs.Findings.{planned}
-use Rattle.m11_writes.specs.Outputs.{no_output}
+use Rattle.m11_base_writes.specs.Outputs.{no_output}
 use Rattle.m11_link.specs.Outputs.{to_tape, link}
 use Rattle.m11_link.specs.declared.emit.LinkDone.{LinkDone}
 use Rattle.m11_link.proofs.Emitted.{reporting_after, transfer_then}
-use Rattle.m11_writes.proofs.Writing.{stopped_first, stopped_alone}
+use Rattle.m11_base_writes.proofs.Writing.{stopped_first, stopped_alone}
 use Rattle.m11_link.proofs.emit.Emit.write_transfer.Goals as goal
 
 pub returns-in_err-begin-clause-writes : goal.returns-in_err-begin-clause-writes

@@ -1,8 +1,8 @@
 use Rattle.std.proofs.Common.{◌∙◌, sym, refl}
 use Rattle.m11_link.proofs.Entering.{block_none, block_some}
-use Rattle.m11_layout.specs.declared.fault.LinkFault.TheVariants.{NoMemory}
+use Rattle.m11_link_layout.specs.declared.fault.LinkFault.TheVariants.{NoMemory}
 use Rattle.m11_link.specs.Outputs.{link}
-use Rattle.m11_writes.proofs.Writing.{gains_nothing, refused_first}
+use Rattle.m11_base_writes.proofs.Writing.{gains_nothing, refused_first}
 use Rattle.m11_link.proofs.held.HeldText.put.Goals as goal
 
 pub returns-then-is_empty : goal.returns-then-is_empty

@@ -1,5 +1,5 @@
 use Rattle.std.proofs.Common.{arith}
-use Rattle.m11_modules.proofs.Indexing.{found_at}
+use Rattle.m11_link_modules.proofs.Indexing.{found_at}
 use Rattle.m11_link.proofs.Entering.{entries_went, entry_stopped, entry_went}
 use Rattle.m11_link.proofs.reporting.Reporter.note_entries.Goals as goal
 

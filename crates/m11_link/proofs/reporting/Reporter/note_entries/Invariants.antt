@@ -1,5 +1,5 @@
 use Rattle.std.proofs.Common.{drop}
-use Rattle.m11_writes.specs.Outputs.{Output, output_of}
+use Rattle.m11_base_writes.specs.Outputs.{Output, output_of}
 use Rattle.m11_link.specs.Outputs.{outputs}
 use Rattle.m11_link.proofs.Entering.{LeadsEntries}
 use Rattle.m11_link.proofs.reporting.Reporter.note_entries.Given as goal

@@ -1,6 +1,6 @@
 use Rattle.std.proofs.Common.{refl, sym}
 use Rattle.m11_link.specs.Outputs.{link}
-use Rattle.m11_writes.proofs.Writing.{gains_nothing}
+use Rattle.m11_base_writes.proofs.Writing.{gains_nothing}
 use Rattle.m11_link.proofs.reporting.Reporter.note_section.Goals as goal
 
 pub returns-in-Some : goal.returns-in-Some

@@ -1,6 +1,6 @@
 use Rattle.std.proofs.Common.{sym}
 use Rattle.m11_link.specs.Outputs.{link}
-use Rattle.m11_writes.proofs.Writing.{gains_nothing}
+use Rattle.m11_base_writes.proofs.Writing.{gains_nothing}
 use Rattle.m11_link.proofs.reporting.Reporter.put_held.Goals as goal
 
 pub returns-then-self : goal.returns-then-self

@@ -1,7 +1,7 @@
 use Rattle.std.proofs.Common.{sym, refl}
-use Rattle.m11_layout.specs.declared.fault.LinkFault.TheVariants.{NoMemory}
+use Rattle.m11_link_layout.specs.declared.fault.LinkFault.TheVariants.{NoMemory}
 use Rattle.m11_link.specs.Outputs.{link}
-use Rattle.m11_writes.proofs.Writing.{refused_first}
+use Rattle.m11_base_writes.proofs.Writing.{refused_first}
 use Rattle.m11_link.proofs.reporting.Reporter.put_transfer.Goals as goal
 
 pub returns-in_err-block : goal.returns-in_err-block

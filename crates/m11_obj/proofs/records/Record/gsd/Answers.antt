@@ -1,5 +1,5 @@
 use Rattle.std.proofs.Common.{ap, ◌∙◌, length, arith, length-append}
-use Rattle.m11_blocks.specs.Frames.{word_bytes}
+use Rattle.m11_obj_blocks.specs.Frames.{word_bytes}
 use Rattle.m11_obj.specs.Gsd.{entry_bytes, EntryFits}
 use Rattle.m11_obj.specs.Records.{Gsd}
 use Rattle.m11_obj.proofs.RecordsAgain.{means}

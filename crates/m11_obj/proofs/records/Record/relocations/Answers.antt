@@ -1,4 +1,4 @@
-use Rattle.m11_blocks.specs.Frames.{word_bytes, content_limit}
+use Rattle.m11_obj_blocks.specs.Frames.{word_bytes, content_limit}
 use Rattle.m11_obj.specs.Relocations.{relocation_bytes, RelocationFits}
 use Rattle.m11_obj.specs.Records.{Relocations}
 use Rattle.m11_obj.proofs.RecordsAgain.{means}

@@ -1,5 +1,5 @@
 use Rattle.std.proofs.Common.{◌≡◌, ◌++◌, take}
-use Rattle.m11_blocks.specs.Frames.{word_bytes}
+use Rattle.m11_obj_blocks.specs.Frames.{word_bytes}
 use Rattle.m11_obj.specs.Relocations.{relocations_bytes, RelocationsFit}
 use Rattle.m11_obj.proofs.records.Record.relocations.Given as goal
 

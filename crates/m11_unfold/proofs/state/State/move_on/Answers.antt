@@ -1,5 +1,5 @@
 use Rattle.std.proofs.Common.{[], Ok, subst}
-use Rattle.m11_unfolding.specs.Unfolding as steps
+use Rattle.m11_unfold_rules.specs.Unfolding as steps
 use Rattle.m11_unfold.specs.Steps.{Moves}
 use Rattle.m11_unfold.specs.Views.{stage_of}
 use Rattle.m11_unfold.specs.declared.taking.Moved.{Moved}

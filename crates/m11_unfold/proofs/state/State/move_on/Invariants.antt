@@ -1,5 +1,5 @@
 use Rattle.std.proofs.Common.{[]}
-use Rattle.m11_unfolding.specs.Unfolding.{Leads}
+use Rattle.m11_unfold_rules.specs.Unfolding.{Leads}
 use Rattle.m11_unfold.specs.Kept.{IsKept}
 use Rattle.m11_unfold.specs.Views.{stage_of}
 use Rattle.m11_unfold.proofs.Keeping.{work_left}

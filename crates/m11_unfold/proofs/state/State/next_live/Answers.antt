@@ -1,5 +1,5 @@
 use Rattle.std.proofs.Common.{refl, subst}
-use Rattle.m11_unfolding.specs.Unfolding as steps
+use Rattle.m11_unfold_rules.specs.Unfolding as steps
 use Rattle.m11_unfold.specs.Views.{stage_of}
 use Rattle.m11_unfold.proofs.Keeping.{Keeps, kept_next}
 use Rattle.m11_unfold.proofs.state.State.next_live.Goals as goal

@@ -1,8 +1,8 @@
 use Rattle.std.proofs.Common.{◌≡◌, ◌<◌, ◌∙◌, true, Option, Some, sym, subst, arith}
 use Rattle.std.specs.Prelude.{is_some}
-use Rattle.m11_unfolding.specs.Limits.{most_lines}
-use Rattle.m11_unfolding.specs.Stages.{Opening}
-use Rattle.m11_unfolding.specs.declared.fault.UnfoldFault.{UnfoldFault}
+use Rattle.m11_unfold_rules.specs.Limits.{most_lines}
+use Rattle.m11_unfold_rules.specs.Stages.{Opening}
+use Rattle.m11_unfold_rules.specs.declared.fault.UnfoldFault.{UnfoldFault}
 use Rattle.m11_unfold.specs.Steps.{FailsMoving}
 use Rattle.m11_unfold.specs.Views.{stage_of}
 use Rattle.m11_unfold.proofs.Falling.{fails_moving}

@@ -1,7 +1,0 @@
-use Rattle.m11_arithmetic.proofs.Exact.{difference_exact}
-use Rattle.m11_arithmetic.proofs.doubles.difference.Goals as goal
-
-pub returns : goal.returns
-returns c =
-    difference_exact c.args.size c.args.first c.args.second c.from.result c.from-2.result c.signed.result c.signed-2.result c.exact_result.result
-    c.requires.first c.requires.second c.from.ensures c.from-2.ensures c.signed.ensures c.signed-2.ensures c.exact_result.ensures

@@ -1,5 +1,0 @@
-use Rattle.m11_arithmetic.proofs.Dividing.{division_divides}
-use Rattle.m11_arithmetic.proofs.laws.division.Goals as goal
-
-pub returns : goal.returns
-returns c = division_divides

@@ -1,5 +1,0 @@
-use Rattle.m11_arithmetic.proofs.DoublePrecision.{subtracted}
-use Rattle.m11_arithmetic.proofs.laws.double_precision_subtraction.Goals as goal
-
-pub returns : goal.returns
-returns c = subtracted

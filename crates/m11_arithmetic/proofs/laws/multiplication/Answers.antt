@@ -1,5 +1,0 @@
-use Rattle.m11_arithmetic.proofs.Dividing.{multiplied}
-use Rattle.m11_arithmetic.proofs.laws.multiplication.Goals as goal
-
-pub returns : goal.returns
-returns c = multiplied

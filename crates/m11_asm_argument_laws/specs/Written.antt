@@ -1,0 +1,100 @@
+-- What a line is written as: labels, and then an assignment, an operator or words. (MACRO-11 Language Reference Manual, "Label
+-- field", "Operator field" and "Direct assignment statements".)
+use Rattle.std.specs.Prelude.{◌≡◌, Bool, true, false, List, [], ◌∷◌}
+use Rattle.m11_base.specs.Devices.{Bytes}
+use Rattle.m11_scan.specs.Cutting.{Lexeme}
+use Rattle.m11_scan.specs.Skipped.{skipped_between}
+use Rattle.m11_scan.specs.declared.sort.Sort.{Sort}
+use Rattle.m11_scan.specs.declared.sort.Sort.TheVariants.{Name, LocalSymbol, Colon, TwoColons, Equals, TwoEquals}
+use Rattle.m11_scan_statements.specs.Labels.{is_counter, numbered}
+use Rattle.m11_scan_statements.specs.declared.bodies.Body.{Body}
+use Rattle.m11_scan_statements.specs.declared.bodies.Body.TheVariants.{Nothing, Assign, SetCounter, Operate, Words}
+use Rattle.m11_scan_statements.specs.declared.labels.Label.{Label}
+use Rattle.m11_scan_statements.specs.declared.labels.LabelKind.{LabelKind}
+use Rattle.m11_scan_statements.specs.declared.labels.LabelKind.TheVariants.{Ordinary, Global}
+
+-- a name that a line can define, which `.` is not
+pub record IsNamed (token : Lexeme) : Type 0 where
+  pub sort : token.sort ≡ Name
+  pub text : is_counter token.text ≡ false
+
+-- `.`
+pub record IsPoint (token : Lexeme) : Type 0 where
+  pub sort : token.sort ≡ Name
+  pub text : is_counter token.text ≡ true
+
+-- ---- labels
+
+-- `:`, or `::`, which makes a name global
+abbrev pub colon_of : Bool → Sort
+colon_of false = Colon
+colon_of true = TwoColons
+
+abbrev pub ordinary_kind : Bool → LabelKind
+ordinary_kind false = Ordinary
+ordinary_kind true = Global
+
+-- a label: a name or a local symbol, and a colon directly after it
+pub data IsLabel (name colon : Lexeme) : LabelKind → Type 0 where
+  NamedLabel : (is_global : Bool) → name.end ≡ colon.start → IsNamed name → colon.sort ≡ colon_of is_global
+      → IsLabel name colon (ordinary_kind is_global)
+  LocalLabel : (has_two : Bool) → name.end ≡ colon.start → name.sort ≡ LocalSymbol → colon.sort ≡ colon_of has_two
+      → IsLabel name colon (numbered name.text)
+
+-- tokens that begin with no label
+abbrev pub BeginUnlabelled : List Lexeme → Type 0
+BeginUnlabelled [] = Unit {0}
+BeginUnlabelled (name ∷ []) = Unit {0}
+BeginUnlabelled (name ∷ (colon ∷ tokens)) = (kind : LabelKind) → IsLabel name colon kind → ⊥
+
+abbrev pub label_with : Lexeme → Lexeme → LabelKind → Label
+label_with name colon kind =
+    record { kind = kind; name = record { start = name.start; end = name.end }; end = colon.end }
+
+-- tokens that begin with labels
+pub data AreLabelled : List Lexeme → List Label → Type 0 where
+  Unlabelled : (tokens : List Lexeme) → BeginUnlabelled tokens → AreLabelled tokens []
+  Labelled : (name colon : Lexeme) (tokens : List Lexeme) (kind : LabelKind) (labels : List Label) → IsLabel name colon kind
+      → AreLabelled tokens labels → AreLabelled (name ∷ (colon ∷ tokens)) (label_with name colon kind ∷ labels)
+
+-- ---- what stands after them
+
+-- `=`, or `==`, which makes the name global
+abbrev pub equals_of : Bool → Sort
+equals_of false = Equals
+equals_of true = TwoEquals
+
+-- a token stands behind another one, with nothing but blanks between them
+abbrev pub IsBehind : Bytes → Lexeme → Lexeme → Type 0
+IsBehind line first second = skipped_between line first.end second.start ≡ false
+
+-- neither `=` nor `==` stands behind a token
+abbrev pub IsUnassigned : Bytes → Lexeme → List Lexeme → Type 0
+IsUnassigned line first [] = Unit {0}
+IsUnassigned line first (second ∷ tokens) =
+    (is_global : Bool) → IsBehind line first second → second.sort ≡ equals_of is_global → ⊥
+
+-- no `=` stands behind a token
+abbrev pub IsUnset : Bytes → Lexeme → List Lexeme → Type 0
+IsUnset line first [] = Unit {0}
+IsUnset line first (second ∷ tokens) = IsBehind line first second → second.sort ≡ Equals → ⊥
+
+-- tokens of a line after its labels, and what they say
+pub data Says (line : Bytes) : List Lexeme → Body → Type 0 where
+  SaysNothing : Says line [] Nothing
+  -- a name with `=` or `==` behind it is assigned
+  SaysAssignment : (name equals : Lexeme) (tokens : List Lexeme) (is_global : Bool) → IsNamed name → IsBehind line name equals
+      → equals.sort ≡ equals_of is_global
+      → Says line (name ∷ (equals ∷ tokens))
+      (Assign (record { name = record { start = name.start; end = name.end }; is_global = is_global; value = equals.end }))
+  -- `.` with `=` behind it sets the counter
+  SaysCounter : (point equals : Lexeme) (tokens : List Lexeme) → IsPoint point → IsBehind line point equals → equals.sort ≡ Equals
+      → Says line (point ∷ (equals ∷ tokens)) (SetCounter equals.end)
+  -- any other name is an operator
+  SaysOperator : (name : Lexeme) (tokens : List Lexeme) → IsNamed name → IsUnassigned line name tokens
+      → Says line (name ∷ tokens) (Operate (record { start = name.start; end = name.end }))
+  -- any other `.` begins words
+  SaysPoint : (point : Lexeme) (tokens : List Lexeme) → IsPoint point → IsUnset line point tokens
+      → Says line (point ∷ tokens) (Words point.start)
+  -- and so does what is no name
+  SaysWords : (first : Lexeme) (tokens : List Lexeme) → (first.sort ≡ Name → ⊥) → Says line (first ∷ tokens) (Words first.start)

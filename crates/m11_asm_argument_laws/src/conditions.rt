@@ -1,0 +1,27 @@
+//! Arguments that are bad or missing. (MACRO-11 Language Reference Manual, "Conditional assembly block directives" and "Repeat
+//! block directive".)
+
+ghost use Rattle.std.specs.Prelude.{◌≡◌, ℕ, false};
+ghost use Rattle.m11_asm_argument_laws.specs.Refusals.{HasFlag, IsRefused};
+ghost use Rattle.m11_unfold_arguments.specs.Conditions.{condition};
+ghost use Rattle.m11_unfold_arguments.specs.Expressions.{Known, has_expression};
+ghost use Rattle.m11_unfold_arguments.specs.Repeats.{notes, rept_count};
+ghost use Rattle.m11_base.specs.Devices.{Bytes};
+ghost use Rattle.m11_scan.specs.ErrorFlags.{flag_A};
+
+/// A condition that is refused, since its name is unknown or an argument of it bad or missing, doesn't hold and has A, whatever
+/// names stand for.
+pub fn refused_conditions_do_not_hold()
+    ensures off { (known : Known) (line : Bytes) (place : ℕ) → IsRefused line place
+        → (condition known line place).holds ≡ false }
+    ensures flagged { (known : Known) (line : Bytes) (place : ℕ) → IsRefused line place
+        → HasFlag flag_A (condition known line place).flags }
+{}
+
+/// A repeat whose number is missing has no round, and A.
+pub fn a_repeat_without_a_number_has_no_round()
+    ensures none { (known : Known) (line : Bytes) (place : ℕ) → has_expression line place ≡ false
+        → rept_count known line place ≡ 0 }
+    ensures flagged { (known : Known) (line : Bytes) (place : ℕ) → has_expression line place ≡ false
+        → HasFlag flag_A (notes known line place).flags }
+{}

@@ -1,0 +1,31 @@
+//! Lists of formals, of actuals and of names. (MACRO-11 Language Reference Manual, "Arguments in macro definitions and macro
+//! calls" and ".GLOBL directive".)
+
+ghost use Rattle.std.specs.Prelude.{◌≡◌, ◌+◌, ◌≤◌, ℕ, length, take};
+ghost use Rattle.m11_asm_argument_laws.specs.Lists.{AreActuals, AreFormals, AreNames};
+ghost use Rattle.m11_unfold_arguments.specs.Actuals.{Given, actuals_from};
+ghost use Rattle.m11_unfold_arguments.specs.Expressions.{Known};
+ghost use Rattle.m11_unfold_arguments.specs.Macros.{formals_after};
+ghost use Rattle.m11_base.specs.Devices.{Bytes};
+ghost use Rattle.m11_scan_lines.specs.Line.{line_limit};
+ghost use Rattle.m11_asm_rules.specs.Elements.{names_at};
+
+/// The formals of a macro are all that stand one after the other: no bound cuts them off.
+pub fn formals_stand_one_after_the_other()
+    ensures { (line : Bytes) (place : ℕ) → length line ≤ line_limit
+        → AreFormals line place (formals_after line place).list (formals_after line place).flags }
+{}
+
+/// A call takes its actuals in their order: where enough are wanted all that stand one after the other, and else the first of
+/// them.
+pub fn actuals_stand_one_after_the_other()
+    ensures all { (known : Known) (line : Bytes) (wanted place : ℕ) → length line ≤ place + wanted
+        → AreActuals known line place (actuals_from known line wanted place) }
+    ensures first { (known : Known) (line : Bytes) (wanted place : ℕ) (all : Given) → AreActuals known line place all
+        → (actuals_from known line wanted place).texts ≡ take wanted all.texts }
+{}
+
+/// The names of a list, as that of `.GLOBL`, are all that stand one after the other, each with a comma before the next.
+pub fn names_stand_one_after_the_other()
+    ensures { (line : Bytes) (place : ℕ) → AreNames line place (names_at line place).list (names_at line place).end }
+{}

@@ -1,0 +1,32 @@
+-- What the first pass of a source finds for its object's directory. (MACRO-11 Language Reference Manual, ".TITLE directive", ".IDENT directive",
+-- ".WEAK directive" and ".END directive".)
+use Rattle.std.specs.Prelude.{ℕ, List, Option, option_map, slice_index}
+use Rattle.m11_base.specs.Rad50.{Name}
+use Rattle.m11_asm_rules.specs.Tables.{Table}
+use Rattle.m11_scan_values.specs.Quantities.{Quantity, quantity}
+use Rattle.m11_asm_directory.specs.declared.first_pass.FirstPass.{FirstPass}
+
+pub record DirectoryFacts : Type 0 where
+  -- the table after the last line
+  pub table : Table
+  -- the size of the section of a number
+  pub size_of : ℕ → ℕ
+  -- names that lines refer to, and names that lines make weak
+  pub referred : List Name
+  pub weak : List Name
+  pub title : Option Name
+  pub identification : Option Name
+  -- where the program begins
+  pub transfer : Option Quantity
+
+-- what the code has of it
+abbrev pub directory_facts : FirstPass → DirectoryFacts
+directory_facts first = record {
+  table = first.table.now;
+  size_of = λ number. slice_index first.sizes.now number;
+  referred = first.referred.now.keys;
+  weak = first.weak.now.keys;
+  title = first.title;
+  identification = first.identification;
+  transfer = option_map quantity first.transfer;
+}

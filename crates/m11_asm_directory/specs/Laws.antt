@@ -1,0 +1,30 @@
+-- When two first passes agree on a directory, and when names are in order. (RT-11 Volume and File Formats Manual, "Object file format",
+-- GSD block.)
+use Rattle.std.specs.Prelude.{◌≡◌, ℕ, ◌<◌, List, length}
+use Rattle.std.specs.List.Sorted.{IsStrictlySortedBy}
+use Rattle.m11_base.specs.Rad50.{Name}
+use Rattle.m11_asm_table.specs.Alike.{Alike}
+use Rattle.m11_asm_directory.specs.FirstPass.{DirectoryFacts}
+use Rattle.m11_asm_directory.specs.Names.{has_name, name_order}
+
+-- two lists have the same names, however often and in whatever order
+abbrev pub HaveTheSame : List Name → List Name → Type 0
+HaveTheSame one other = (name : Name) → has_name name one ≡ has_name name other
+
+-- each name is before the next one
+abbrev pub AreOrdered : List Name → Type 0
+AreOrdered names = IsStrictlySortedBy name_order names
+
+-- a list has the names of another one, each once and in order
+pub record AreInOrder (list names : List Name) : Type 0 where
+  pub ordered : AreOrdered list
+  pub same : HaveTheSame list names
+
+pub record FirstPassesAgree (one other : DirectoryFacts) : Type 0 where
+  pub tables : Alike one.table other.table
+  pub sizes : (number : ℕ) → number < length one.table.sections → one.size_of number ≡ other.size_of number
+  pub referred : HaveTheSame one.referred other.referred
+  pub weak : HaveTheSame one.weak other.weak
+  pub title : one.title ≡ other.title
+  pub identification : one.identification ≡ other.identification
+  pub transfer : one.transfer ≡ other.transfer

@@ -1,0 +1,58 @@
+-- The rows of an object's directory in their order. (RT-11 Volume and File Formats Manual, "Object file format", GSD block; MACRO-11
+-- Language Reference Manual, ".TITLE directive" and ".IDENT directive". The order is this project's own.)
+use Rattle.std.specs.Prelude.{ℕ, ◌==◌, if◌then◌else◌, List, [], ◌∷◌, ◌++◌, map, codes, Option, unwrap_or}
+use Rattle.std.specs.List.{enumerate_from, flat_map}
+use Rattle.std.specs.Option.{option_to_list}
+use Rattle.m11_base.specs.Names.{name_in_words}
+use Rattle.m11_base.specs.Rad50.{Name}
+use Rattle.m11_obj_texts.specs.declared.directory.DirectoryRow.{DirectoryRow}
+use Rattle.m11_obj_texts.specs.declared.directory.DirectoryRow.TheVariants as row
+use Rattle.m11_asm_rules.specs.declared.sections.Section.{Section}
+use Rattle.m11_asm_directory.specs.Definitions.{definition_rows}
+use Rattle.m11_asm_directory.specs.FirstPass.{DirectoryFacts}
+use Rattle.m11_asm_directory.specs.Names.{ordered}
+use Rattle.m11_asm_directory.specs.References.{reference_rows, references}
+use Rattle.m11_asm_directory.specs.Transfers.{transfer_row}
+
+-- ---- the module
+
+-- the name of a source without a title
+abbrev pub main_name : Name
+main_name = name_in_words (codes ".MAIN.")
+
+abbrev pub module_row : Option Name → DirectoryRow
+module_row title = row.Module (unwrap_or title main_name)
+
+abbrev pub identification_rows : Option Name → List DirectoryRow
+identification_rows identification = map (λ name. row.Identification name) (option_to_list identification)
+
+-- ---- a section, and what stands under it
+
+abbrev pub section_row : Section → ℕ → DirectoryRow
+section_row section size = row.Section section.name (record { 0 = section.attributes }) size
+
+-- references stand under the absolute section alone, whose number is 0
+abbrev pub references_under : ℕ → List DirectoryRow → List DirectoryRow
+references_under number rows = if number == 0 then rows else []
+
+abbrev pub rows_under : DirectoryFacts → ℕ → Name → List DirectoryRow
+rows_under facts number section =
+    definition_rows facts.table section (ordered facts.table.globals)
+    ++ references_under number (reference_rows facts.weak (references facts))
+
+abbrev pub section_rows : DirectoryFacts → ℕ × Section → List DirectoryRow
+section_rows facts numbered =
+    section_row numbered.1 (facts.size_of numbered.0) ∷ rows_under facts numbered.0 numbered.1.name
+
+-- ---- the directory
+
+-- sections stand in the order of their numbers
+abbrev pub all_section_rows : DirectoryFacts → List DirectoryRow
+all_section_rows facts = flat_map (section_rows facts) (enumerate_from 0 facts.table.sections)
+
+unfoldable pub directory_rows : DirectoryFacts → List DirectoryRow
+directory_rows facts =
+    module_row facts.title ∷ []
+    ++ identification_rows facts.identification
+    ++ all_section_rows facts
+    ++ transfer_row facts.transfer ∷ []

@@ -1,0 +1,20 @@
+-- The address where a program begins. (RT-11 Volume and File Formats Manual, "Object file format", transfer address entry; MACRO-11 Language
+-- Reference Manual, ".END directive". That a register counts as its number is this project's own.)
+use Rattle.std.specs.Prelude.{Option, Some, None}
+use Rattle.m11_base.specs.Names.{absolute_name}
+use Rattle.m11_base.specs.Rad50.{Name}
+use Rattle.m11_obj_texts.specs.declared.directory.DirectoryRow.{DirectoryRow}
+use Rattle.m11_obj_texts.specs.declared.directory.DirectoryRow.TheVariants as row
+use Rattle.m11_scan_values.specs.declared.kinds.Kind.{Kind}
+use Rattle.m11_scan_values.specs.declared.kinds.Kind.TheVariants as kind
+use Rattle.m11_scan_values.specs.Quantities.{Quantity}
+
+-- what counts from no section of this object is absolute
+abbrev pub home : Kind → Name
+home (kind.Section name) = name
+home other = absolute_name
+
+-- no program begins at 1, so that is the address of a source that gives none
+abbrev pub transfer_row : Option Quantity → DirectoryRow
+transfer_row (Some value) = row.Transfer (home value.kind) value.number
+transfer_row None = row.Transfer absolute_name 1

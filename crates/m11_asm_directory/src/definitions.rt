@@ -1,0 +1,89 @@
+//! Globals that are defined, each under the section that its value lies in. (RT-11 Volume and File Formats Manual, "Object file format",
+//! global symbol entry; MACRO-11 Language Reference Manual, ".GLOBL directive".)
+
+ghost use Rattle.std.specs.Prelude.{◌≡◌, ◌++◌, IfOk};
+ghost use Rattle.m11_asm_directory.specs.Definitions.{definition_row, definition_rows, is_relocatable, known_row, lies_in, row_of};
+ghost use Rattle.m11_obj_texts.specs.declared.directory.DirectoryRow.TheVariants as row;
+
+use m11_asm_rules::{Key, Standing};
+use m11_asm_table::Table;
+use m11_base::{Name, absolute_section};
+use m11_obj_texts::DirectoryRow;
+use m11_scan_values::Kind;
+use std::alloc::AllocError;
+
+fn definition(name: Name, is_relocatable: bool, value: u16) -> DirectoryRow
+    ensures { result ≡ row.Definition name is_relocatable value }
+{
+    DirectoryRow::Definition {
+        name,
+        is_relocatable,
+        value,
+    }
+}
+
+// Whether a value of the kind lies in a section: an absolute one in the absolute section.
+fn lies_in(section: Name, kind: &Kind) -> bool
+    ensures { result ≡ lies_in section kind.now }
+{
+    match kind {
+        Kind::Absolute => absolute_section() == section,
+        Kind::Section(other) => *other == section,
+        Kind::Register | Kind::Reference(_) => false,
+    }
+}
+
+// Whether a value of the kind moves with its section.
+fn is_relocatable(kind: &Kind) -> bool
+    ensures { result ≡ is_relocatable kind.now }
+{
+    matches!(kind, Kind::Section(_))
+}
+
+fn known_row(section: Name, name: Name, value: u16, kind: Kind) -> Option<DirectoryRow>
+    ensures { result ≡ known_row section name value kind }
+{
+    if lies_in(section, &kind) {
+        Some(definition(name, is_relocatable(&kind), value))
+    } else {
+        None
+    }
+}
+
+fn row_of(section: Name, name: Name, standing: Standing) -> Option<DirectoryRow>
+    ensures { result ≡ row_of section name standing }
+{
+    match standing {
+        Standing::Known(value, kind) => known_row(section, name, value, kind),
+        Standing::Unknown => None,
+    }
+}
+
+// The row of a name under a section, if it stands there.
+fn definition_row(table: &Table, section: Name, name: Name) -> Option<DirectoryRow>
+    ensures { result ≡ definition_row table.now section name }
+{
+    match table.definition(&Key::Named(name)) {
+        Some(definition) => row_of(section, name, definition.standing),
+        None => None,
+    }
+}
+
+/// Adds the rows of names under a section.
+pub(crate) fn push_definitions(
+    rows: &mut Vec<DirectoryRow>,
+    table: &Table,
+    section: Name,
+    names: &[Name],
+) -> Result<(), AllocError>
+    ensures { IfOk result (λ _. rows.new.items ≡ rows.old.items ++ definition_rows table.now section names.now) }
+{
+    let mut rest = names;
+    'names: while let [name, others @ ..] = rest {
+        if let Some(row) = definition_row(table, section, *name) {
+            rows.push(row)?;
+        }
+        rest = others;
+    }
+    Ok(())
+}

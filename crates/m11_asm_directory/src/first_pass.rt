@@ -1,0 +1,26 @@
+//! What the first pass of a source finds for its object's directory. (MACRO-11 Language Reference Manual, ".TITLE directive", ".IDENT
+//! directive", ".WEAK directive" and ".END directive".)
+
+use indexmap::IndexSet;
+use m11_asm_table::Table;
+use m11_base::Name;
+use m11_scan_values::Value;
+
+/// What the first pass finds.
+#[derive(Drop)]
+pub struct FirstPass<'a> {
+    /// The table after the last line.
+    pub table: &'a Table,
+    /// The sizes of sections in bytes, by their numbers.
+    pub sizes: &'a [u16; 64],
+    /// The names that lines refer to.
+    pub referred: &'a IndexSet<Name>,
+    /// The names that lines make weak.
+    pub weak: &'a IndexSet<Name>,
+    /// The last title, if the source gives one.
+    pub title: Option<Name>,
+    /// The last identification, if the source gives one.
+    pub identification: Option<Name>,
+    /// The value of the expression after `.END`, if there is one.
+    pub transfer: Option<Value>,
+}

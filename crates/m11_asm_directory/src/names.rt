@@ -1,0 +1,17 @@
+//! Names in the order in which they are written. (RT-11 Volume and File Formats Manual, "Object file format", GSD block.)
+
+ghost use Rattle.std.specs.Prelude.{◌≡◌, IfOk};
+ghost use Rattle.m11_asm_directory.specs.Names.{ordered};
+
+use m11_base::Name;
+use std::alloc::{AllocError, Global};
+
+/// The names of a list by their two words, each once. Error: memory may be refused.
+pub fn ordered_names(alloc: Global, names: &[Name]) -> Result<Vec<Name>, AllocError>
+    ensures { IfOk result (λ list. list.items ≡ ordered names.now) }
+{
+    let mut list = Vec::from_slice(alloc, names)?;
+    list.sort()?;
+    list.dedup();
+    Ok(list)
+}

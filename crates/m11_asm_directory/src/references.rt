@@ -1,0 +1,81 @@
+//! Globals that another object has to define. (RT-11 Volume and File Formats Manual, "Object file format", global symbol entry; MACRO-11
+//! Language Reference Manual, ".GLOBL directive" and ".WEAK directive".)
+
+ghost use Rattle.std.specs.Prelude.{◌≡◌, ◌++◌, IfOk, filter};
+ghost use Rattle.m11_asm_rules.specs.Assigning.{is_unknown_as};
+ghost use Rattle.m11_asm_directory.specs.FirstPass.{directory_facts};
+ghost use Rattle.m11_asm_directory.specs.References.{is_open, reference_row, reference_rows, references};
+
+use crate::first_pass::FirstPass;
+use crate::names::ordered_names;
+use indexmap::IndexSet;
+use m11_asm_rules::{Key, Standing};
+use m11_asm_table::Table;
+use m11_base::Name;
+use m11_obj_texts::DirectoryRow;
+use std::alloc::{AllocError, Global};
+
+fn is_unknown(standing: Standing) -> bool
+    ensures { result ≡ is_unknown_as standing }
+{
+    matches!(&standing, Standing::Unknown)
+}
+
+// Whether no line defines a name, or it is global and its value isn't known.
+fn is_open(table: &Table, name: Name) -> bool
+    ensures { result ≡ is_open table.now name }
+{
+    match table.definition(&Key::Named(name)) {
+        Some(definition) => is_unknown(definition.standing) && table.is_global(name),
+        None => true,
+    }
+}
+
+// Adds those of some names that are open.
+fn push_open(needed: &mut Vec<Name>, table: &Table, names: &[Name]) -> Result<(), AllocError>
+    ensures { IfOk result (λ _. needed.new.items ≡ needed.old.items ++ filter (is_open table.now) names.now) }
+{
+    let mut rest = names;
+    'names: while let [name, others @ ..] = rest {
+        if is_open(table, *name) {
+            needed.push(*name)?;
+        }
+        rest = others;
+    }
+    Ok(())
+}
+
+/// The names that another object has to define, in order.
+pub(crate) fn references(alloc: Global, first: &FirstPass<'_>) -> Result<Vec<Name>, AllocError>
+    ensures { IfOk result (λ names. names.items ≡ references (directory_facts first.now)) }
+{
+    let mut needed = Vec::new(alloc);
+    push_open(&mut needed, first.table, first.referred.as_slice())?;
+    push_open(&mut needed, first.table, first.table.globals())?;
+    ordered_names(alloc, needed.as_slice())
+}
+
+fn reference_row(weak: &IndexSet<Name>, name: Name) -> DirectoryRow
+    ensures { result ≡ reference_row weak.now.keys name }
+{
+    DirectoryRow::Reference {
+        name,
+        is_weak: weak.contains(&name),
+    }
+}
+
+/// Adds the rows of references.
+pub(crate) fn push_references(
+    rows: &mut Vec<DirectoryRow>,
+    weak: &IndexSet<Name>,
+    names: &[Name],
+) -> Result<(), AllocError>
+    ensures { IfOk result (λ _. rows.new.items ≡ rows.old.items ++ reference_rows weak.now.keys names.now) }
+{
+    let mut rest = names;
+    'names: while let [name, others @ ..] = rest {
+        rows.push(reference_row(weak, *name))?;
+        rest = others;
+    }
+    Ok(())
+}

@@ -1,0 +1,36 @@
+//! The address where a program begins. (RT-11 Volume and File Formats Manual, "Object file format", transfer address entry; MACRO-11 Language
+//! Reference Manual, ".END directive".)
+
+ghost use Rattle.std.specs.Prelude.{◌≡◌, option_map};
+ghost use Rattle.m11_asm_directory.specs.Transfers.{home, transfer_row};
+ghost use Rattle.m11_scan_values.specs.Quantities.{quantity};
+
+use m11_base::{Name, absolute_section};
+use m11_obj_texts::DirectoryRow;
+use m11_scan_values::{Kind, Value};
+
+// The section that a value counts from. What counts from none of this object is absolute.
+fn home(kind: Kind) -> Name
+    ensures { result ≡ home kind }
+{
+    match kind {
+        Kind::Section(name) => name,
+        Kind::Absolute | Kind::Register | Kind::Reference(_) => absolute_section(),
+    }
+}
+
+/// The row of the transfer address. Without one it is 1, where no program begins.
+pub(crate) fn transfer_row(transfer: Option<Value>) -> DirectoryRow
+    ensures { result ≡ transfer_row (option_map quantity transfer) }
+{
+    match transfer {
+        Some(value) => DirectoryRow::Transfer {
+            section: home(value.kind),
+            value: value.number,
+        },
+        None => DirectoryRow::Transfer {
+            section: absolute_section(),
+            value: 1,
+        },
+    }
+}

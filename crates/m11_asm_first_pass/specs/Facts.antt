@@ -1,0 +1,44 @@
+-- What the lines of a source say of its module beside names and places, line by line: the last title and identification, the names that
+-- are made weak, and where the program begins. (MACRO-11 Language Reference Manual, ".TITLE directive", ".IDENT directive", ".WEAK
+-- directive" and ".END directive".)
+use Rattle.std.specs.Prelude.{List, [], ◌∷◌, Option, None}
+use Rattle.indexmap.specs.IndexSet.{insert_key}
+use Rattle.m11_base.specs.Rad50.{Name, is_same_name}
+use Rattle.m11_unfold_rules.specs.Unfolding.{Given}
+use Rattle.m11_scan_values.specs.Quantities.{Quantity}
+use Rattle.m11_asm_rules.specs.Meanings.{empty_map}
+use Rattle.m11_asm_rules.specs.Sources.{last_or, line_identification, line_title, line_transfer, line_weak_names, source_identification, source_title, source_transfer, weak_names}
+use Rattle.m11_asm_rules.specs.Tables.{Table}
+
+pub record Facts : Type 0 where
+  pub title : Option Name
+  pub identification : Option Name
+  -- each once, in the order in which they appear
+  pub weak : List Name
+  pub transfer : Option Quantity
+
+abbrev pub no_facts : Facts
+no_facts = record { title = None; identification = None; weak = []; transfer = None }
+
+-- names after others, each once
+abbrev pub each_once : List Name → List Name → List Name
+each_once names [] = names
+each_once names (name ∷ more) = each_once (insert_key is_same_name names name) more
+
+-- with what one more line says, after a table
+abbrev pub with_line : Table → Given → Facts → Facts
+with_line table given facts = record {
+  title = last_or (line_title given) facts.title;
+  identification = last_or (line_identification given) facts.identification;
+  weak = each_once facts.weak (line_weak_names given);
+  transfer = last_or (line_transfer empty_map table given) facts.transfer;
+}
+
+-- what the lines of a source say in all
+abbrev pub facts_of : List Given → Facts
+facts_of lines = record {
+  title = source_title lines;
+  identification = source_identification lines;
+  weak = each_once [] (weak_names lines);
+  transfer = source_transfer lines;
+}

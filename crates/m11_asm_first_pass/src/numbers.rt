@@ -1,0 +1,25 @@
+//! The numbers of source lines. (That a source has at most 65,535 lines is this project's own.)
+
+ghost use Rattle.std.specs.Prelude.{◌≡◌, ◌+◌, ◌<◌, IfOk, IfErr};
+ghost use Rattle.m11_asm_faults.specs.declared.fault.AsmFault.TheVariants.{TooMuchSource};
+ghost use Rattle.m11_scan_lines.specs.Lines.{most_lines};
+
+use m11_asm_faults::AsmFault;
+
+/// The most lines of all sources.
+const MOST_LINES: u16 = 65535;
+
+/// The number of the line that comes after so many, which is 1 to 65,535.
+///
+/// Error: `TooMuchSource` after 65,535 lines.
+pub fn number_after(read: u16) -> Result<u16, AsmFault>
+    ensures counts { IfOk result (λ number. number ≡ read + 1) }
+    ensures fits { IfOk result (λ _. read < most_lines) }
+    ensures refuses { IfErr result (λ fault. (fault ≡ TooMuchSource) × (read ≡ most_lines)) }
+{
+    if read < MOST_LINES {
+        Ok(read + 1)
+    } else {
+        Err(AsmFault::TooMuchSource)
+    }
+}

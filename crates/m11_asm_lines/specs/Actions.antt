@@ -1,0 +1,44 @@
+-- What the definitions see of what stands after the labels of a line. (MACRO-11 Language Reference Manual, "Operator field".)
+use Rattle.std.specs.Prelude.{ℕ, ◌≤◌, Bool, true, IfSome, List}
+use Rattle.m11_unfold_arguments.specs.Expressions.{IsAlone}
+use Rattle.m11_base.specs.Devices.{Bytes}
+use Rattle.m11_asm_operands.specs.ListedOperations.{has_listed_operation}
+use Rattle.m11_asm_operands.specs.Terms.{AreTerms}
+use Rattle.m11_asm_operands.specs.declared.fields.FieldTerms.{FieldTerms}
+use Rattle.m11_asm_operators.specs.Reading.{operator_fields}
+use Rattle.m11_asm_rules.specs.Fields.{Fields, no_fields}
+use Rattle.m11_asm_rules.specs.Lines as lines
+use Rattle.m11_asm_rules.specs.Tables.{Table}
+use Rattle.m11_asm_rules.specs.declared.fields.Field.{Field}
+use Rattle.m11_asm_lines.specs.declared.actions.Action.{Action}
+use Rattle.m11_asm_lines.specs.declared.actions.Action.TheVariants.{NoAction, Assign, SetCounter, Operate}
+
+abbrev pub action_seen : Action → lines.Action
+action_seen NoAction = lines.NoAction
+action_seen (Assign assignment) = lines.Assign assignment.name assignment.is_global assignment.value
+action_seen (SetCounter value) = lines.SetCounter value
+action_seen (Operate operator start) = lines.Operate operator start
+
+-- its places lie in a line of a size
+abbrev pub IsWithin : ℕ → Action → Type 0
+IsWithin size NoAction = Unit {0}
+IsWithin size (Assign assignment) = assignment.value ≤ size
+IsWithin size (SetCounter value) = value ≤ size
+IsWithin size (Operate operator start) = start ≤ size
+
+-- an instruction among it has an operation that the list of instructions has
+abbrev pub is_listed : Action → Bool
+is_listed (Operate operator start) = has_listed_operation operator
+is_listed other = true
+
+-- the terms of its fields, or that of what it assigns, where they are one term
+abbrev pub AreActionTerms : Bytes → Action → List Field → FieldTerms → Type 0
+AreActionTerms line NoAction fields terms = Unit {0}
+AreActionTerms line (Assign assignment) fields terms = IfSome terms.first (λ term. IsAlone line assignment.value term)
+AreActionTerms line (SetCounter value) fields terms = Unit {0}
+AreActionTerms line (Operate operator start) fields terms = AreTerms line fields terms
+
+-- its fields: those of an instruction
+abbrev pub action_fields : Table → Bytes → Action → Fields
+action_fields table line (Operate operator start) = operator_fields table line start operator
+action_fields table line other = no_fields 0

@@ -1,0 +1,60 @@
+-- Labels that stand elsewhere than a map has them. (MACRO-11 Language Reference Manual, "Diagnostic error message summary", P: phase
+-- error. That the sections of two readings are the same where their names are, and that what is assigned has no place, is this project's
+-- own.)
+use Rattle.std.specs.Prelude.{ℕ, ◌==◌, ◌&&◌, not, Bool, false, true, List, [], ◌∷◌, Option, Some, None}
+use Rattle.std.specs.Int.RustNames.{bit_or}
+use Rattle.m11_base.specs.Devices.{Bytes}
+use Rattle.m11_base.specs.Rad50.{Name, is_same_name}
+use Rattle.m11_scan_statements.specs.Statements.{flag_if}
+use Rattle.m11_scan_statements.specs.declared.labels.Label.{Label}
+use Rattle.m11_scan_statements.specs.declared.labels.LabelKind.{LabelKind}
+use Rattle.m11_scan_statements.specs.declared.labels.LabelKind.TheVariants as label
+use Rattle.m11_asm_rules.specs.Definitions.{is_defined, last_definition}
+use Rattle.m11_asm_rules.specs.Labels.{label_name, with_label}
+use Rattle.m11_asm_rules.specs.Meanings.{Map}
+use Rattle.m11_asm_rules.specs.Tables.{Table, place, section_name}
+use Rattle.m11_asm_rules.specs.declared.definitions.Definition.{Definition}
+use Rattle.m11_asm_rules.specs.declared.definitions.Key.{Key}
+use Rattle.m11_asm_rules.specs.declared.definitions.Key.TheVariants.{Named, Numbered}
+use Rattle.m11_asm_rules.specs.declared.definitions.Standing.{Standing}
+use Rattle.m11_asm_rules.specs.declared.definitions.Standing.TheVariants.{Known, Unknown}
+
+-- the set of the flag P
+abbrev pub flag_P : ℕ
+flag_P = 0o1000
+
+-- a label stands in a section; what is assigned stands in none
+abbrev pub is_in : Name → Option Name → Bool
+is_in section (Some other) = is_same_name other section
+is_in section None = false
+
+-- what is known has a number
+abbrev pub is_at : ℕ → Standing → Bool
+is_at place (Known number kind) = number == place
+is_at place Unknown = false
+
+-- a definition is that of a label which stands where the counter does: in the section of the line, and at its place there
+abbrev pub is_place_of : Table → Option Definition → Bool
+is_place_of table (Some definition) = is_in (section_name table) definition.label && is_at (place table) definition.standing
+is_place_of table None = false
+
+-- P where the map doesn't have the place of a label. A key that is defined before has no place of its own
+abbrev pub moved_key : Map → Table → Key → ℕ
+moved_key map table key =
+    flag_if (not (is_defined key table.definitions) && not (is_place_of table (last_definition key map.definitions))) flag_P
+
+abbrev pub moved_name : Map → Table → Option Name → ℕ
+moved_name map table (Some name) = moved_key map table (Named name)
+moved_name map table None = 0
+
+abbrev pub moved_kind : Map → Table → Option Name → LabelKind → ℕ
+moved_kind map table name label.Ordinary = moved_name map table name
+moved_kind map table name label.Global = moved_name map table name
+moved_kind map table name (label.Local number) = moved_key map table (Numbered table.modes.block number)
+moved_kind map table name label.Outside = 0
+
+-- those of the labels of a line, each asked of the table before it
+abbrev pub moved_flags : Map → Bytes → Table → List Label → ℕ
+moved_flags map line table [] = 0
+moved_flags map line table (named ∷ labels) =
+    bit_or (moved_kind map table (label_name line named) named.kind) (moved_flags map line (with_label line table named) labels)

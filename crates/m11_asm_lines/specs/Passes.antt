@@ -1,0 +1,38 @@
+-- What a pass keeps, and the table of which it is so. (MACRO-11 Language Reference Manual, "Symbols and expressions" and "Program
+-- section directives".)
+use Rattle.std.specs.Prelude.{◌≡◌, ◌<◌, ℕ, max, List, get_or, replicate, slice_set}
+use Rattle.m11_asm_rules.specs.Limits.{local_count, name_count}
+use Rattle.m11_asm_rules.specs.Places.{size_in}
+use Rattle.m11_asm_rules.specs.Tables.{Table, place}
+use Rattle.m11_asm_table.specs.Alike.{Alike}
+
+-- the table of the last definitions, how many names and local symbols are defined, and the sizes of sections by their numbers
+pub record Kept : Type 0 where
+  pub table : Table
+  pub names : ℕ
+  pub local_symbols : ℕ
+  pub sizes : List ℕ
+
+abbrev pub size_at : List ℕ → ℕ → ℕ
+size_at sizes number = get_or sizes number 0
+
+-- a table of all definitions, as the lines of a source make it, of which a pass keeps what counts
+pub record Matches (kept : Kept) (table : Table) : Type 0 where
+  pub alike : Alike kept.table table
+  pub names : kept.names ≡ name_count table
+  pub local_symbols : kept.local_symbols ≡ local_count table
+  pub sizes : (number : ℕ) → number < 64 → size_at kept.sizes number ≡ size_in number table.moves
+
+-- what is kept before and after a change of the table
+abbrev pub Follows : Kept → Kept → (Table → Table) → Type 0
+Follows old new change = (table : Table) → Matches old table → Matches new (change table)
+
+-- before the first line each section has size 0
+unfoldable pub no_sizes : List ℕ
+no_sizes = replicate 64 0
+
+-- the size of the section is the greatest place of its counter
+abbrev pub with_size : Kept → Kept
+with_size kept = record kept {
+  sizes = slice_set kept.sizes kept.table.modes.section (max (size_at kept.sizes kept.table.modes.section) (place kept.table));
+}

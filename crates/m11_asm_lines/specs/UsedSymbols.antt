@@ -1,0 +1,82 @@
+-- The names that lines mention, as a pass gathers them. (MACRO-11 Language Reference Manual, "Table of contents and symbol table" and
+-- ".GLOBL directive". Which of them count against the limit, is this project's own.)
+use Rattle.std.specs.Prelude.{◌≡◌, ◌<◌, ℕ, ◌==◌, ◌||◌, Bool, if◌then◌else◌, List, [], ◌∷◌, ◌++◌, length, map, Result, Ok, Err}
+use Rattle.std.specs.List.{list_any}
+use Rattle.m11_asm_faults.specs.declared.fault.AsmFault.{AsmFault}
+use Rattle.m11_base.specs.Rad50.{Name, is_same_name}
+use Rattle.m11_asm_rules.specs.Definitions.{is_defined, registers}
+use Rattle.m11_asm_rules.specs.Limits.{most_names, with_uses, with_symbol}
+use Rattle.m11_asm_rules.specs.SymbolUses.{SymbolUse, symbol_use}
+use Rattle.m11_asm_rules.specs.declared.definitions.Key.TheVariants.{Named}
+use Rattle.m11_asm_rules.specs.declared.meanings.Context.{Context}
+use Rattle.m11_asm_rules.specs.declared.meanings.Context.TheVariants.{MayBeGlobal}
+use Rattle.m11_asm_lines.specs.Faults.{Refuses}
+use Rattle.m11_scan_values.specs.declared.names.Symbol.{Symbol}
+use Rattle.m11_scan_values.specs.declared.names.Symbol.TheVariants.{Ordinary, Local, Counter}
+
+-- names besides those of the registers, names of registers, and names that stand where one without a definition is a reference to another
+-- object: each once, in the order in which they appear
+pub record Gathered : Type 0 where
+  pub names : List Name
+  pub registers : List Name
+  pub referred : List Name
+
+abbrev pub none_gathered : Gathered
+none_gathered = record { names = []; registers = []; referred = [] }
+
+abbrev pub is_register : Name → Bool
+is_register name = is_defined (Named name) registers
+
+-- a name after others, if it isn't among them
+abbrev pub with_name : Name → List Name → List Name
+with_name name names = if list_any (λ other. is_same_name other name) names then names else names ++ name ∷ []
+
+abbrev pub with_register : Symbol → List Name → List Name
+with_register (Ordinary name) names = if is_register name then with_name name names else names
+with_register (Local number) names = names
+with_register Counter names = names
+
+abbrev pub registers_used : List SymbolUse → List Name → List Name
+registers_used [] names = names
+registers_used (symbol_use ∷ symbol_uses) names = registers_used symbol_uses (with_register symbol_use.symbol names)
+
+abbrev pub with_reference : Symbol → Context → List Name → List Name
+with_reference (Ordinary name) MayBeGlobal names = with_name name names
+with_reference symbol context names = names
+
+abbrev pub names_referred : List SymbolUse → List Name → List Name
+names_referred [] names = names
+names_referred (symbol_use ∷ symbol_uses) names = names_referred symbol_uses (with_reference symbol_use.symbol symbol_use.context names)
+
+-- with a name that is mentioned anywhere
+abbrev pub noted : Name → Gathered → Gathered
+noted name gathered = record gathered {
+  names = with_symbol (Ordinary name) gathered.names;
+  registers = with_register (Ordinary name) gathered.registers;
+}
+
+-- and where one without a definition is a reference
+abbrev pub with_referred : Name → Context → Gathered → Gathered
+with_referred name context gathered = record gathered { referred = with_reference (Ordinary name) context gathered.referred }
+
+-- with further mentions
+abbrev pub with_all : List SymbolUse → Gathered → Gathered
+with_all symbol_uses gathered = record {
+  names = with_uses symbol_uses gathered.names;
+  registers = registers_used symbol_uses gathered.registers;
+  referred = names_referred symbol_uses gathered.referred;
+}
+
+-- they are added, or one of them is a name too many
+abbrev pub Adds : List SymbolUse → Gathered → Gathered → Result (Unit {0}) AsmFault → Type 0
+Adds symbol_uses old new (Ok _) = new ≡ with_all symbol_uses old
+Adds symbol_uses old new (Err fault) = Refuses fault (most_names < length (with_all symbol_uses old).names) ⊥
+
+abbrev pub in_context : Context → List Symbol → List SymbolUse
+in_context context symbols = map (symbol_use context) symbols
+
+-- the words of the first three characters of `R0` to `R5`, `SP` and `PC`
+abbrev pub is_register_word : ℕ → Bool
+is_register_word word =
+    word == 0o72460 || word == 0o72530 || word == 0o72600 || word == 0o72650 || word == 0o72720 || word == 0o72770
+    || word == 0o74500 || word == 0o62170

@@ -1,0 +1,99 @@
+//! What stands after the labels of a line. (MACRO-11 Language Reference Manual, "Operator field" and ".WORD directive".)
+
+ghost use Rattle.std.specs.Prelude.{◌≡◌, ◌≤◌, IsTrue, length};
+ghost use Rattle.m11_asm_rules.specs.Lines as spec;
+ghost use Rattle.m11_asm_operands.specs.Reads.{fields_seen};
+ghost use Rattle.m11_asm_lines.specs.Actions as actions;
+ghost use Rattle.m11_asm_lines.specs.Actions.{AreActionTerms, IsWithin, action_seen, is_listed};
+ghost use Rattle.m11_scan_statements.specs.Labels.{labels_end};
+ghost use Rattle.m11_scan_statements.specs.Order.{BodyStands};
+ghost use Rattle.m11_scan_statements.specs.Statements.{body_of};
+
+use m11_asm_operands::{Fields, operator_named};
+use m11_asm_operators::{no_fields, operator_fields, single_fields};
+use m11_asm_rules::{Directive, Operator};
+use m11_asm_table::Table;
+use m11_scan::{Line, six_characters};
+use m11_scan_statements::{Assignment, Body, Span, labels_and_body_stand_in_order};
+use m11_unfold_arguments::single_term;
+
+/// What a line does after its labels: the manual's operator field, a direct assignment, or nothing of either.
+#[derive(Clone, Copy)]
+pub enum Action {
+    /// Nothing that places anything.
+    NoAction,
+    /// An assignment.
+    Assign(Assignment),
+    /// `.=`, and the place where the expression begins.
+    SetCounter(u8),
+    /// An operator, and the place after its name.
+    Operate(Operator, u8),
+}
+
+/// What stands after the labels of a line. A line that unfolding has done, a call or an operator of its own, places nothing.
+pub fn action_after_labels(is_own: bool, line: &Line, body: Body) -> Action
+    requires { body ≡ body_of line.now.text }
+    ensures action { action_seen result ≡ spec.action is_own line.now.text }
+    ensures within { IsWithin (length line.now.text) result }
+    ensures listed { IsTrue (is_listed result) }
+{
+    labels_and_body_stand_in_order();
+    if is_own {
+        Action::NoAction
+    } else {
+        action_of(line, body)
+    }
+}
+
+/// The fields of what stands after the labels of a line, by the table once they stand: those of an instruction. Of an assignment the first
+/// term is that of its expression. They are read once for what the line puts, mentions and changes.
+pub fn action_fields(table: &Table, line: &Line, action: &Action) -> Fields
+    requires { IsWithin (length line.now.text) action.now }
+    ensures fields { fields_seen result ≡ actions.action_fields table.now line.now.text action.now }
+    ensures ends { result.end ≤ length line.now.text }
+    ensures terms { AreActionTerms line.now.text action.now result.list.items result.terms }
+{
+    match *action {
+        Action::Operate(operator, start) => {
+            operator_fields(table, line, usize::from(start), operator)
+        }
+        Action::Assign(made) => single_fields(single_term(line, usize::from(made.value))),
+        Action::NoAction | Action::SetCounter(_) => no_fields(),
+    }
+}
+
+fn action_of(line: &Line, body: Body) -> Action
+    requires { BodyStands (labels_end line.now.text) (length line.now.text) body }
+    ensures action { action_seen result ≡ spec.action_of line.now.text body }
+    ensures within { IsWithin (length line.now.text) result }
+    ensures listed { IsTrue (is_listed result) }
+{
+    match body {
+        Body::Nothing => Action::NoAction,
+        Body::Assign(assignment) => Action::Assign(assignment),
+        Body::SetCounter(value) => Action::SetCounter(value),
+        Body::Operate(name) => operating(line, name),
+        Body::Words(start) => implied_words(start),
+    }
+}
+
+// What begins with a name: its operator, or words.
+fn operating(line: &Line, name: Span) -> Action
+    requires first { name.start ≤ name.end }
+    requires within { name.end ≤ length line.now.text }
+    ensures action { action_seen result ≡ spec.action_of line.now.text (Body.Operate name) }
+    ensures within { IsWithin (length line.now.text) result }
+    ensures listed { IsTrue (is_listed result) }
+{
+    match operator_named(&six_characters(name.text(line))) {
+        Some(operator) => Action::Operate(operator, name.end),
+        None => implied_words(name.start),
+    }
+}
+
+// All of the text from a place on, as if `.WORD` stood before it.
+fn implied_words(start: u8) -> Action
+    ensures { result ≡ Action.Operate (Operator.Directive Directive.Word) start }
+{
+    Action::Operate(Operator::Directive(Directive::Word), start)
+}

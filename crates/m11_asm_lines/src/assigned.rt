@@ -1,0 +1,229 @@
+//! What an assignment changes, and what is shown of it. (MACRO-11 Language Reference Manual, "Direct assignment statements".)
+
+ghost use Rattle.std.specs.Prelude.{◌≡◌, ◌∷◌, [], ◌≤◌, false, IfOk, IfErr, IfSome, length};
+ghost use Rattle.std.specs.Option.{option_to_list};
+ghost use Rattle.m11_unfold_arguments.specs.Expressions.{IsAlone, symbols_at, symbols_in, value_at};
+ghost use Rattle.m11_asm_rules.specs.Assigning.{assignment};
+ghost use Rattle.m11_asm_rules.specs.Assignments as assignments;
+ghost use Rattle.m11_asm_rules.specs.Changes.{changed, with_value};
+ghost use Rattle.m11_asm_rules.specs.Items.{value_items};
+ghost use Rattle.m11_asm_rules.specs.Labels.{with_definition};
+ghost use Rattle.m11_asm_rules.specs.Meanings.{Map as LineMap, known_at};
+ghost use Rattle.m11_asm_rules.specs.Tables.{Table as LineTable, place};
+ghost use Rattle.m11_asm_rules.specs.declared.definitions.Key.TheVariants.{Named};
+ghost use Rattle.m11_asm_rules.specs.declared.meanings.Context.TheVariants.{LocalOnly};
+ghost use Rattle.m11_asm_lines.specs.Faults.{Overfills};
+ghost use Rattle.m11_asm_lines.specs.Passes.{Follows, Matches};
+ghost use Rattle.m11_scan.specs.Views.{lexeme};
+ghost use Rattle.m11_asm_table.specs.Alike as tables;
+ghost use Rattle.m11_scan_values.specs.Quantities.{quantity};
+
+use crate::items::value_item;
+use crate::pass::Pass;
+use bitflags::Flags;
+use m11_asm_faults::AsmFault;
+use m11_asm_listing::Item;
+use m11_asm_operators::{known_value_by, target};
+use m11_asm_rules::{Definition, Key, Standing};
+use m11_asm_table::{Map, Table};
+use m11_base::Name;
+use m11_scan::{ErrorFlags, Line, Token};
+use m11_scan_statements::{Assignment, Span};
+use m11_scan_values::{Symbol, Value, symbol_of};
+use m11_unfold_arguments::{Notes, note_symbols};
+use std::alloc::{AllocError, Global};
+
+impl Pass {
+    // Does what an assignment changes, and finds what is shown of its value, whether its name takes it or not: the value is found once for both.
+    pub(crate) fn take_assignment(
+        &mut self,
+        map: &Map<'_>,
+        line: &Line,
+        made: Assignment,
+        term: Option<Token>,
+    ) -> Result<Option<Item>, AsmFault>
+        requires within { made.value ≤ length line.now.text }
+        requires term { IfSome term (λ term. IsAlone line.now.text made.value term) }
+        ensures takes { IfOk result (λ _. Follows self.old self.new (λ before. changed map.now line.now.text
+            (assignment line.now.text made.name made.is_global made.value) before)) }
+        ensures tables { IfOk result (λ _. tables.Follows self.old.table self.new.table (λ before. changed map.now line.now.text
+            (assignment line.now.text made.name made.is_global made.value) before)) }
+        ensures symbols { IfOk result (λ _. self.new.local_symbols ≡ self.old.local_symbols) }
+        ensures shows { IfOk result (λ item. option_to_list item
+            ≡ value_items (value_at (known_at map.now LocalOnly self.old.table (place self.old.table)) line.now.text made.value)) }
+        ensures refuses { IfErr result (λ fault. (before : LineTable) → Matches self.old before
+            → Overfills fault (changed map.now line.now.text
+            (assignment line.now.text made.name made.is_global made.value) before)) }
+    {
+        let start = usize::from(made.value);
+        let value = known_value_by(map, &self.table, line, start, term);
+        self.assign_to(line, made.name, made.is_global, start, term, &value)?;
+        Ok(value_item(value))
+    }
+
+    // What is written before the `=`, if it is a name, is assigned the value of the expression at a place.
+    fn assign_to(
+        &mut self,
+        line: &Line,
+        name: Span,
+        is_global: bool,
+        start: usize,
+        term: Option<Token>,
+        value: &Value,
+    ) -> Result<(), AsmFault>
+        requires within { start ≤ length line.now.text }
+        requires term { IfSome term (λ term. IsAlone line.now.text start term) }
+        ensures takes { (map : LineMap)
+            → quantity value.now ≡ value_at (known_at map LocalOnly self.old.table (place self.old.table)) line.now.text start
+            → IfOk result (λ _. Follows self.old self.new (λ before. changed map line.now.text
+            (assignment line.now.text name is_global start) before)) }
+        ensures tables { (map : LineMap)
+            → quantity value.now ≡ value_at (known_at map LocalOnly self.old.table (place self.old.table)) line.now.text start
+            → IfOk result (λ _. tables.Follows self.old.table self.new.table (λ before. changed map line.now.text
+            (assignment line.now.text name is_global start) before)) }
+        ensures symbols { IfOk result (λ _. self.new.local_symbols ≡ self.old.local_symbols) }
+        ensures refuses { (map : LineMap) → IfErr result (λ fault. (before : LineTable) → Matches self.old before
+            → Overfills fault (changed map line.now.text
+            (assignment line.now.text name is_global start) before)) }
+    {
+        match target(line, name) {
+            Some(name) => self.assign(line, name, is_global, start, term, value),
+            None => Ok(()),
+        }
+    }
+
+    // A name is assigned the value of the expression at a place. A label's name becomes doubled.
+    fn assign(
+        &mut self,
+        line: &Line,
+        name: Name,
+        is_global: bool,
+        start: usize,
+        term: Option<Token>,
+        value: &Value,
+    ) -> Result<(), AsmFault>
+        requires within { start ≤ length line.now.text }
+        requires term { IfSome term (λ term. IsAlone line.now.text start term) }
+        ensures assigns { (map : LineMap)
+            → quantity value.now ≡ value_at (known_at map LocalOnly self.old.table (place self.old.table)) line.now.text start
+            → IfOk result (λ _. Follows self.old self.new (with_value map name is_global line.now.text start)) }
+        ensures tables { (map : LineMap)
+            → quantity value.now ≡ value_at (known_at map LocalOnly self.old.table (place self.old.table)) line.now.text start
+            → IfOk result (λ _. tables.Follows self.old.table self.new.table (with_value map name is_global line.now.text start)) }
+        ensures symbols { IfOk result (λ _. self.new.local_symbols ≡ self.old.local_symbols) }
+        ensures refuses { (map : LineMap) → IfErr result (λ fault. (before : LineTable) → Matches self.old before
+            → Overfills fault (with_value map name is_global line.now.text start before)) }
+    {
+        if self.table.is_labelled(&Key::Named(name)) {
+            return self.double(&Key::Named(name));
+        }
+        self.define_assigned(line, name, start, term, value)?;
+        if is_global {
+            self.export(name)?;
+        }
+        Ok(())
+    }
+
+    // What the expression gives the name.
+    fn define_assigned(
+        &mut self,
+        line: &Line,
+        name: Name,
+        start: usize,
+        term: Option<Token>,
+        value: &Value,
+    ) -> Result<(), AsmFault>
+        requires within { start ≤ length line.now.text }
+        requires term { IfSome term (λ term. IsAlone line.now.text start term) }
+        ensures defines { (map : LineMap)
+            → quantity value.now ≡ value_at (known_at map LocalOnly self.old.table (place self.old.table)) line.now.text start
+            → IfOk result (λ _. Follows self.old self.new
+            (λ before. with_definition (assignments.assigned map before (Named name) line.now.text start) before)) }
+        ensures tables { (map : LineMap)
+            → quantity value.now ≡ value_at (known_at map LocalOnly self.old.table (place self.old.table)) line.now.text start
+            → IfOk result (λ _. tables.Follows self.old.table self.new.table
+            (λ before. with_definition (assignments.assigned map before (Named name) line.now.text start) before)) }
+        ensures symbols { IfOk result (λ _. self.new.local_symbols ≡ self.old.local_symbols) }
+        ensures refuses { (map : LineMap) → IfErr result (λ fault. (before : LineTable) → Matches self.old before
+            → Overfills fault (with_definition (assignments.assigned map before (Named name) line.now.text start) before)) }
+    {
+        let is_firm = is_firm_by(self.alloc, &self.table, line, start, term)?;
+        self.define_name(name, &definition_of(name, value, is_firm))
+    }
+}
+
+// What a value gives a name.
+fn definition_of(name: Name, value: &Value, is_firm: bool) -> Definition
+    ensures { result ≡ record {
+      key = Named name;
+      standing = assignments.standing_of (quantity value.now);
+      is_firm = is_firm;
+      label = None;
+    } }
+{
+    Definition {
+        key: Key::Named(name),
+        standing: standing_of(value),
+        is_firm,
+        label: None,
+    }
+}
+
+// Whether all symbols of the expression at a place are firm, with its one token where it is found to be one term.
+fn is_firm_by(
+    alloc: Global,
+    table: &Table,
+    line: &Line,
+    start: usize,
+    term: Option<Token>,
+) -> Result<bool, AllocError>
+    requires within { start ≤ length line.now.text }
+    requires term { IfSome term (λ term. IsAlone line.now.text start term) }
+    ensures { IfOk result (λ firm. firm ≡ assignments.all_firm table.now (symbols_at line.now.text start)) }
+{
+    match term {
+        Some(term) => Ok(is_firm_term(table, line, &term)),
+        None => is_firm_at(alloc, table, line, start),
+    }
+}
+
+// Whether the symbol of a term is firm, if it has one.
+fn is_firm_term(table: &Table, line: &Line, term: &Token) -> bool
+    ensures { result ≡ assignments.all_firm table.now (symbols_in (lexeme line.now.text term.now ∷ [])) }
+{
+    match symbol_of(term, line) {
+        Some(symbol) => table.is_firm(symbol),
+        None => true,
+    }
+}
+
+// Whether all symbols of the expression at a place are firm.
+fn is_firm_at(alloc: Global, table: &Table, line: &Line, start: usize) -> Result<bool, AllocError>
+    requires { start ≤ length line.now.text }
+    ensures { IfOk result (λ firm. firm ≡ assignments.all_firm table.now (symbols_at line.now.text start)) }
+{
+    let mut notes = Notes::new(alloc);
+    note_symbols(line, start, &mut notes)?;
+    Ok(are_all_firm(table, notes.symbols()))
+}
+
+// A value with an unknown name is unknown.
+fn standing_of(value: &Value) -> Standing
+    ensures { result ≡ assignments.standing_of (quantity value.now) }
+{
+    if value.flags.bits() & ErrorFlags::U.bits() == 0 {
+        Standing::Known(value.number, value.kind)
+    } else {
+        Standing::Unknown
+    }
+}
+
+// Whether all of some symbols are firm.
+fn are_all_firm(table: &Table, symbols: &[Symbol]) -> bool
+    ensures { result ≡ assignments.all_firm table.now symbols.now }
+{
+    match symbols {
+        [] => true,
+        [symbol, others @ ..] => table.is_firm(*symbol) && are_all_firm(table, others),
+    }
+}

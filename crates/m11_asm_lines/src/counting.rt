@@ -1,0 +1,60 @@
+//! Which names a reading counts beside those that its table defines. (MACRO-11 Language Reference Manual, "Symbols".)
+
+ghost use Rattle.std.specs.Prelude.{◌≡◌, ◌≤◌, IfErr, length};
+ghost use Rattle.std.specs.List.{flat_map};
+ghost use Rattle.m11_asm_faults.specs.declared.fault.AsmFault.TheVariants.{NoMemory};
+ghost use Rattle.m11_asm_rules.specs.Limits.{most_names};
+ghost use Rattle.m11_asm_rules.specs.SymbolUses.{label_uses};
+ghost use Rattle.m11_asm_lines.specs.Counting.{Counts, gathered_in, names_counted, with_counted};
+ghost use Rattle.m11_asm_lines.specs.Labels.{FitsUpToLabel};
+
+use crate::used_symbols::UsedSymbols;
+use m11_asm_faults::AsmFault;
+use m11_scan::Line;
+use m11_scan_statements::Label;
+use std::alloc::Global;
+
+/// Which names a reading counts beside those that its table defines.
+#[derive(Drop)]
+pub enum Counting {
+    /// Those that its lines mention, in a first reading.
+    SymbolUses(UsedSymbols),
+    /// None, in a second one: it asks nothing of what its lines mention.
+    Definitions,
+}
+
+impl Counting {
+    /// The limit on names holds of those that are counted, after a refusal too. It does nothing.
+    #[inline(always)]
+    pub fn names_are_within_the_limit(&self)
+        ensures { length (names_counted self.now) ≤ most_names }
+    {
+        match self {
+            Counting::SymbolUses(used_symbols) => used_symbols.names_are_within_the_limit(),
+            Counting::Definitions => (),
+        }
+    }
+
+    /// The names of labels, where those that lines mention count. Errors are those of `UsedSymbols::add_labels`.
+    #[inline(always)]
+    pub fn add_labels(&mut self, line: &Line, labels: &[Label]) -> Result<(), AsmFault>
+        ensures counts { Counts (flat_map (label_uses line.now.text) labels.now) self.old self.new result }
+        ensures limit_first { IfErr result (λ fault. fault ≡ NoMemory → FitsUpToLabel labels.now (λ some.
+            length (names_counted (with_counted (flat_map (label_uses line.now.text) some) self.old)) ≤ most_names)) }
+    {
+        match self {
+            Counting::SymbolUses(used_symbols) => used_symbols.add_labels(line, labels),
+            Counting::Definitions => Ok(()),
+        }
+    }
+
+    /// What lines mentioned: nothing where that isn't counted.
+    pub fn into_used(self, alloc: Global) -> UsedSymbols
+        ensures { result ≡ gathered_in self }
+    {
+        match self {
+            Counting::SymbolUses(used_symbols) => used_symbols,
+            Counting::Definitions => UsedSymbols::new(alloc),
+        }
+    }
+}

@@ -1,0 +1,95 @@
+//! What a listing shows of a line: what it puts, or what it assigns. (MACRO-11 Language Reference Manual, "Listing control directives".)
+
+ghost use Rattle.std.specs.Prelude.{◌≡◌, ◌∷◌, ◌++◌, [], IfOk};
+ghost use Rattle.std.specs.Option.{option_to_list};
+ghost use Rattle.m11_asm_operators.specs.Changes.{change_seen};
+ghost use Rattle.m11_asm_rules.specs.Items as spec;
+ghost use Rattle.m11_scan_values.specs.Quantities.{quantity};
+
+use bitflags::Flags;
+use m11_asm_listing::{Item, Mark};
+use m11_asm_operators::Change;
+use m11_asm_rules::Modes;
+use m11_obj_texts::{PieceContent, RelocationKind};
+use m11_scan::ErrorFlags;
+use m11_scan_values::{Kind, Value};
+use std::alloc::AllocError;
+
+/// Adds what is shown of a byte, a word or a pair of limits: its constant, and what a linker does to it.
+/// Error: memory may be refused.
+pub fn add_content_items(items: &mut Vec<Item>, content: &PieceContent) -> Result<(), AllocError>
+    ensures { IfOk result (λ _. items.new.items ≡ items.old.items ++ spec.content_items content.now) }
+{
+    match content {
+        PieceContent::Byte(stored) => {
+            let byte = (stored.constant % 256) as u8;
+            add_item(items, Item::InByte(byte, mark_of(stored.kind)))
+        }
+        PieceContent::Word(stored) => {
+            add_item(items, Item::InWord(stored.constant, mark_of(stored.kind)))
+        }
+        PieceContent::Limits => {
+            add_item(items, Item::InWord(0, Mark::Unmarked))?;
+            add_item(items, Item::InWord(0, Mark::Unmarked))
+        }
+    }
+}
+
+fn add_item(items: &mut Vec<Item>, item: Item) -> Result<(), AllocError>
+    ensures { IfOk result (λ _. items.new.items ≡ items.old.items ++ item ∷ []) }
+{
+    items.push(item)?;
+    Ok(())
+}
+
+/// Whether the levels of listing show a line that has no flags: one of an expansion by `.LIST ME` only.
+pub fn is_shown(modes: &Modes, is_expanded: bool) -> bool
+    ensures { result ≡ spec.is_shown modes.now is_expanded }
+{
+    modes.unlisted <= modes.listed && (!is_expanded || modes.shows_expansions)
+}
+
+// What is shown of a value that is assigned. One that isn't known isn't shown.
+pub(crate) fn value_item(value: Value) -> Option<Item>
+    ensures { option_to_list result ≡ spec.value_items (quantity value) }
+{
+    if value.flags.bits() & ErrorFlags::U.bits() == 0 {
+        Some(Item::InWord(value.number, mark_by(value.kind)))
+    } else {
+        None
+    }
+}
+
+// What is shown of a number that a directive assigns.
+pub(crate) fn number_item(change: &Change) -> Option<Item>
+    ensures { option_to_list result ≡ spec.number_items (change_seen change.now) }
+{
+    match change {
+        Change::Numbers(_, number) => Some(Item::InWord(*number, Mark::Unmarked)),
+        _ => None,
+    }
+}
+
+// By what a linker does.
+fn mark_of(kind: RelocationKind) -> Mark
+    ensures { result ≡ spec.mark_of kind }
+{
+    match kind {
+        RelocationKind::Fixed | RelocationKind::InternalDisplaced => Mark::Unmarked,
+        RelocationKind::Internal => Mark::OfSection,
+        RelocationKind::Global(_) | RelocationKind::GlobalDisplaced(_) => Mark::OfObject,
+        RelocationKind::Section(_) | RelocationKind::SectionDisplaced(_) => Mark::OfSection,
+    }
+}
+
+// By what a value counts from.
+fn mark_by(kind: Kind) -> Mark
+    ensures { result ≡ spec.mark_by kind }
+{
+    match kind {
+        Kind::Absolute => Mark::Unmarked,
+        Kind::Section(_) => Mark::OfSection,
+        Kind::Register => Mark::OfRegister,
+        Kind::Reference(_) => Mark::OfObject,
+    }
+}

@@ -1,0 +1,104 @@
+//! What a line changes and puts, and its flags, once its labels stand. (MACRO-11 Language Reference Manual, "Source program format".)
+
+ghost use Rattle.std.specs.Prelude.{◌≡◌, ◌≤◌, IfOk, IfSome, IsTrue, length};
+ghost use Rattle.m11_unfold_arguments.specs.Expressions.{IsAlone};
+ghost use Rattle.m11_asm_operands.specs.Reads.{fields_seen};
+ghost use Rattle.m11_asm_rules.specs.Contents.{followed_by};
+ghost use Rattle.m11_asm_rules.specs.Lines as spec;
+ghost use Rattle.m11_asm_lines.specs.Actions.{AreActionTerms, IsWithin, action_fields, action_seen, is_listed};
+ghost use Rattle.m11_asm_lines.specs.Lines.{flags_from};
+ghost use Rattle.m11_asm_rules.specs.Assigning as assigning;
+ghost use Rattle.m11_scan.specs.Views.{bits_of};
+
+use crate::actions::Action;
+use m11_asm_operands::Fields;
+use m11_asm_operators::{Put, assignment_flags, counter_flags, put_operator};
+use m11_asm_table::{Map, Table};
+use m11_scan::{ErrorFlags, Line, Token};
+use m11_scan_statements::{Assignment, Body};
+use m11_unfold_arguments::skip_flags;
+use std::alloc::AllocError;
+
+/// What stands after the labels of a line puts at its places, with the flags of the operator and its arguments: under a map, what a whole source gives its names.
+/// Error: memory may be refused.
+pub fn put_action(
+    put: &mut Put,
+    map: &Map<'_>,
+    table: &Table,
+    line: &Line,
+    arguments: Option<u16>,
+    action: &Action,
+    fields: &Fields,
+) -> Result<(), AllocError>
+    requires within { IsWithin (length line.now.text) action.now }
+    requires listed { IsTrue (is_listed action.now) }
+    requires fields { fields_seen fields.now ≡ action_fields table.now line.now.text action.now }
+    requires ends { fields.now.end ≤ length line.now.text }
+    requires terms { AreActionTerms line.now.text action.now fields.now.list.items fields.now.terms }
+    ensures { IfOk result (λ _. put.new
+        ≡ followed_by put.old (spec.put_by map.now table.now line.now.text arguments (action_seen action.now))) }
+{
+    match *action {
+        Action::NoAction => {
+            put.add_flags(ErrorFlags::none());
+            Ok(())
+        }
+        Action::Assign(made) => {
+            put.add_flags(value_flags(map, table, line, made, fields.terms.first));
+            Ok(())
+        }
+        Action::SetCounter(start) => {
+            put.add_flags(counter_flags(table, line, usize::from(start)));
+            Ok(())
+        }
+        Action::Operate(operator, start) => {
+            put_operator(
+                put,
+                map,
+                table,
+                line,
+                usize::from(start),
+                arguments,
+                operator,
+                fields,
+            )
+        }
+    }
+}
+
+// The flags of an assignment.
+fn value_flags(
+    map: &Map<'_>,
+    table: &Table,
+    line: &Line,
+    made: Assignment,
+    term: Option<Token>,
+) -> ErrorFlags
+    requires within { made.value ≤ length line.now.text }
+    requires term { IfSome term (λ term. IsAlone line.now.text made.value term) }
+    ensures { bits_of result
+        ≡ assigning.assignment_flags map.now table.now line.now.text made.name made.value }
+{
+    assignment_flags(map, table, line, made.name, usize::from(made.value), term)
+}
+
+/// The flags of a line: of itself and its labels, of what is skipped after them before the operator, of what it puts, and those that
+/// unfolding found. `own` are those that the line has whatever its body does, and `labels` those of labels that are defined again.
+pub fn line_flags(
+    line: &Line,
+    labels_end: usize,
+    body: Body,
+    own: ErrorFlags,
+    labels: ErrorFlags,
+    put: ErrorFlags,
+    noted: ErrorFlags,
+) -> ErrorFlags
+    ensures { bits_of result ≡ flags_from line.now.text labels_end body (bits_of own) (bits_of labels) (bits_of put) (bits_of noted) }
+{
+    let end = match body {
+        Body::Operate(name) => usize::from(name.start),
+        _ => line.text().len(),
+    };
+    let found = skip_flags(line, labels_end, end);
+    own.with(labels).with(found.with(put.with(noted)))
+}

@@ -1,0 +1,52 @@
+//! Which labels stand elsewhere than a map has them. (MACRO-11 Language Reference Manual, "Diagnostic error message summary", P.)
+
+ghost use Rattle.std.specs.Prelude.{◌≡◌, false};
+ghost use Rattle.m11_asm_rules.specs.Definitions.{is_defined};
+ghost use Rattle.m11_asm_lines.specs.Moved as spec;
+ghost use Rattle.m11_scan.specs.Views.{bits_of};
+
+use bitflags::Flags;
+use m11_asm_rules::{Definition, Key, Standing};
+use m11_asm_table::{Map, Table};
+use m11_base::Name;
+use m11_scan::ErrorFlags;
+
+// The flag of a label whose key no line before it defines.
+pub(crate) fn moved_flag(map: &Map<'_>, table: &Table, key: &Key) -> ErrorFlags
+    requires { is_defined key.now table.now.definitions ≡ false }
+    ensures { bits_of result ≡ spec.moved_key map.now table.now key.now }
+{
+    ErrorFlags::P.when(!is_place_of(table, map.definition(key)))
+}
+
+// Whether a definition is that of a label which stands where the counter does.
+fn is_place_of(table: &Table, found: Option<Definition>) -> bool
+    ensures { result ≡ spec.is_place_of table.now found }
+{
+    match found {
+        Some(definition) => {
+            is_in(table.section_name(), definition.label)
+                && is_at(table.place(), definition.standing)
+        }
+        None => false,
+    }
+}
+
+// Whether a label stands in a section. What is assigned stands in none.
+fn is_in(section: Name, label: Option<Name>) -> bool
+    ensures { result ≡ spec.is_in section label }
+{
+    match label {
+        Some(other) => other == section,
+        None => false,
+    }
+}
+
+fn is_at(place: u16, standing: Standing) -> bool
+    ensures { result ≡ spec.is_at place standing }
+{
+    match standing {
+        Standing::Known(number, _) => number == place,
+        Standing::Unknown => false,
+    }
+}

@@ -1,0 +1,261 @@
+//! What one pass over a source keeps from line to line. (MACRO-11 Language Reference Manual, "Symbols and expressions" and "Program
+//! section directives".)
+
+ghost use Rattle.std.specs.Prelude.{◌≡◌, ◌<◌, ◌≤◌, ◌+◌, ◌^◌, IfOk, IfErr, false, length, true};
+ghost use Rattle.m11_asm_faults.specs.declared.fault.AsmFault.TheVariants.{NoMemory};
+ghost use Rattle.m11_asm_operators.specs.Changes.{move_seen};
+ghost use Rattle.m11_asm_rules.specs.Changes.{with_move, with_section, with_modes};
+ghost use Rattle.m11_asm_rules.specs.Labels.{new_block, with_block, with_definition, with_doubly_defined, with_global};
+ghost use Rattle.m11_asm_rules.specs.Limits.{has_too_many, most_defined_names, most_local_symbols, most_sections};
+ghost use Rattle.m11_asm_rules.specs.Tables.{Table as LineTable, first_table};
+ghost use Rattle.m11_asm_lines.specs.Faults.{Overfills, Refuses};
+ghost use Rattle.m11_asm_lines.specs.Passes.{Follows, Matches, no_sizes, size_at, with_size};
+ghost use Rattle.m11_asm_table.specs.Alike as tables;
+ghost use Rattle.m11_asm_rules.specs.declared.definitions.Key.TheVariants.{Named, Numbered};
+
+use m11_asm_faults::AsmFault;
+use m11_asm_operators::Move;
+use m11_asm_rules::{Definition, Key, Modes};
+use m11_asm_table::Table;
+use m11_base::Name;
+use std::alloc::{AllocError, Global};
+use std::marker::Model;
+
+/// The most names that a table defines, those of the eight registers among them.
+const MOST_DEFINED_NAMES: u32 = 4104;
+
+/// The most local symbols of a source.
+const MOST_LOCAL_SYMBOLS: u32 = 16384;
+
+/// The most sections of an assembly, with the two that each has.
+const MOST_SECTIONS: usize = 64;
+
+/// What one pass over a source keeps from line to line: the table, and the sizes of sections so far.
+/// It has 4,096 names besides those of the registers at most, and 16,384 local symbols.
+#[derive(Drop)]
+pub struct Pass {
+    pub(crate) alloc: Global,
+    pub(crate) table: Table,
+    // How many names are defined, those of the registers among them, and how many local symbols.
+    names: u32,
+    local_symbols: u32,
+    // The greatest place that each counter had after a line, by the numbers of sections.
+    sizes: [u16; 64],
+}
+
+impl Model for Pass {
+    ghost use Rattle.std.specs.Prelude.{◌≤◌};
+    ghost use Rattle.m11_asm_rules.specs.Limits.{most_defined_names, most_local_symbols};
+    ghost use Rattle.m11_asm_lines.specs.Passes.{Kept};
+
+    ghost Value = { Kept };
+
+    ghost view = { λ p. record { table = p.table; names = p.names; local_symbols = p.local_symbols; sizes = p.sizes } };
+
+    ghost invariant = { λ p. (p.names ≤ most_defined_names) × (p.local_symbols ≤ most_local_symbols) };
+}
+
+impl Pass {
+    /// Before the first line. Error: memory may be refused.
+    pub fn new(alloc: Global) -> Result<Pass, AllocError>
+        ensures { IfOk result (λ pass. Matches pass first_table) }
+    {
+        Ok(Pass {
+            alloc,
+            table: Table::new(alloc)?,
+            names: 8,
+            local_symbols: 0,
+            sizes: no_sizes(),
+        })
+    }
+
+    /// The limits on names, local symbols and sections hold of each pass, after a refusal too. It does nothing.
+    #[inline(always)]
+    pub fn counts_are_within_the_limits(&self)
+        ensures names { self.now.names ≤ most_defined_names }
+        ensures symbols { self.now.local_symbols ≤ most_local_symbols }
+        ensures sections { length self.now.table.sections ≤ most_sections }
+    {
+        self.table.sections_are_within_the_limit();
+    }
+
+    /// What the lines so far leave for the next one.
+    pub fn table(&self) -> &Table
+        ensures { result.now ≡ self.now.table }
+    {
+        &self.table
+    }
+
+    /// The size of the section of a number, in bytes: the greatest place that its counter had after a line. Numbers are
+    /// 63 at most.
+    pub fn size(&self, number: usize) -> u16
+        requires { number < 64 }
+        ensures { result ≡ size_at self.now.sizes number }
+    {
+        self.sizes[number]
+    }
+
+    /// The sizes of sections by their numbers, in bytes.
+    pub fn sizes(&self) -> &[u16; 64]
+        ensures { result.now ≡ self.now.sizes }
+    {
+        &self.sizes
+    }
+
+    // One more definition of a name, where it has one or there is room for one more: the limit is asked before anything grows.
+    pub(crate) fn define_name(
+        &mut self,
+        name: Name,
+        definition: &Definition,
+    ) -> Result<(), AsmFault>
+        requires { definition.now.key ≡ Named name }
+        ensures defines { IfOk result (λ _. Follows self.old self.new (with_definition definition.now)) }
+        ensures tables { IfOk result (λ _. tables.Follows self.old.table self.new.table (with_definition definition.now)) }
+        ensures symbols { IfOk result (λ _. self.new.local_symbols ≡ self.old.local_symbols) }
+        ensures modes { IfOk result (λ _. self.new.table.modes ≡ self.old.table.modes) }
+        ensures refuses { IfErr result (λ fault. (before : LineTable) → Matches self.old before
+            → Refuses fault (has_too_many (with_definition definition.now before) ≡ true) ⊥) }
+        ensures limit_first { IfErr result (λ fault. fault ≡ NoMemory → (before : LineTable) → Matches self.old before
+            → has_too_many (with_definition definition.now before) ≡ false) }
+    {
+        // most sources have far fewer, and then the name is looked for once, as it is put in
+        if self.names >= MOST_DEFINED_NAMES && !self.table.is_defined(&definition.key) {
+            return Err(AsmFault::TooManySymbols);
+        }
+        let is_new = self.table.insert(definition)?;
+        self.names += u32::from(is_new);
+        Ok(())
+    }
+
+    // One more definition of a local symbol, where there is room for one: the limit is asked before anything grows.
+    pub(crate) fn define_symbol(
+        &mut self,
+        block: u64,
+        number: u16,
+        definition: &Definition,
+    ) -> Result<(), AsmFault>
+        requires { definition.now.key ≡ Numbered block number }
+        ensures defines { IfOk result (λ _. Follows self.old self.new (with_definition definition.now)) }
+        ensures tables { IfOk result (λ _. tables.Follows self.old.table self.new.table (with_definition definition.now)) }
+        ensures modes { IfOk result (λ _. self.new.table.modes ≡ self.old.table.modes) }
+        ensures refuses { IfErr result (λ fault. (before : LineTable) → Matches self.old before
+            → Refuses fault (has_too_many (with_definition definition.now before) ≡ true) ⊥) }
+        ensures limit_first { IfErr result (λ fault. fault ≡ NoMemory → (before : LineTable) → Matches self.old before
+            → has_too_many (with_definition definition.now before) ≡ false) }
+    {
+        if self.local_symbols >= MOST_LOCAL_SYMBOLS {
+            return Err(AsmFault::TooManySymbols);
+        }
+        self.table.insert(definition)?;
+        self.local_symbols += 1;
+        Ok(())
+    }
+
+    // A key is doubled from here on.
+    pub(crate) fn double(&mut self, key: &Key) -> Result<(), AsmFault>
+        ensures doubles { IfOk result (λ _. Follows self.old self.new (with_doubly_defined key.now)) }
+        ensures tables { IfOk result (λ _. tables.Follows self.old.table self.new.table (with_doubly_defined key.now)) }
+        ensures symbols { IfOk result (λ _. self.new.local_symbols ≡ self.old.local_symbols) }
+        ensures modes { IfOk result (λ _. self.new.table.modes ≡ self.old.table.modes) }
+        ensures refuses { IfErr result (λ fault. fault ≡ NoMemory) }
+    {
+        self.table.double(key)?;
+        Ok(())
+    }
+
+    // A name is global from here on.
+    pub(crate) fn export(&mut self, name: Name) -> Result<(), AsmFault>
+        ensures exports { IfOk result (λ _. Follows self.old self.new (with_global name)) }
+        ensures tables { IfOk result (λ _. tables.Follows self.old.table self.new.table (with_global name)) }
+        ensures symbols { IfOk result (λ _. self.new.local_symbols ≡ self.old.local_symbols) }
+        ensures modes { IfOk result (λ _. self.new.table.modes ≡ self.old.table.modes) }
+        ensures refuses { IfErr result (λ fault. fault ≡ NoMemory) }
+    {
+        self.table.export(name)?;
+        Ok(())
+    }
+
+    // A new block of local symbols begins.
+    pub(crate) fn open_block(&mut self)
+        requires { self.old.table.modes.block + 1 < 2 ^ 64 }
+        ensures opens { Follows self.old self.new with_block }
+        ensures tables { tables.Follows self.old.table self.new.table with_block }
+        ensures symbols { self.new.local_symbols ≡ self.old.local_symbols }
+        ensures modes { self.new.table.modes ≡ new_block self.old.table.modes }
+    {
+        self.table.open_block();
+    }
+
+    // Other settings hold from here on.
+    pub(crate) fn set(&mut self, modes: Modes)
+        ensures sets { Follows self.old self.new (with_modes modes) }
+        ensures tables { tables.Follows self.old.table self.new.table (with_modes modes) }
+        ensures symbols { self.new.local_symbols ≡ self.old.local_symbols }
+    {
+        self.table.set(modes);
+    }
+
+    // A section is selected. One whose name is new has these attributes, where there is room for one: the limit is asked before anything
+    // grows.
+    pub(crate) fn select(&mut self, name: Name, attributes: u8) -> Result<(), AsmFault>
+        requires { self.old.table.modes.block + 1 < 2 ^ 64 }
+        ensures selects { IfOk result (λ _. Follows self.old self.new (with_section name attributes)) }
+        ensures tables { IfOk result (λ _. tables.Follows self.old.table self.new.table (with_section name attributes)) }
+        ensures symbols { IfOk result (λ _. self.new.local_symbols ≡ self.old.local_symbols) }
+        ensures refuses { IfErr result (λ fault. (before : LineTable) → Matches self.old before
+            → Overfills fault (with_section name attributes before)) }
+        ensures limit_first { IfErr result (λ fault. fault ≡ NoMemory → (before : LineTable) → Matches self.old before
+            → length (with_section name attributes before).sections ≤ most_sections) }
+    {
+        self.table.sections_are_within_the_limit();
+        if self.table.section_count() >= MOST_SECTIONS
+            && self.table.section_number(name).is_none()
+        {
+            return Err(AsmFault::TooManySections);
+        }
+        self.table.select(name, attributes)?;
+        Ok(())
+    }
+
+    // The counter of the section goes on, or is set.
+    pub(crate) fn count(&mut self, step: Move)
+        requires { self.old.table.modes.section < 64 }
+        ensures counts { Follows self.old self.new (with_move (move_seen step)) }
+        ensures tables { tables.Follows self.old.table self.new.table (with_move (move_seen step)) }
+        ensures symbols { self.new.local_symbols ≡ self.old.local_symbols }
+    {
+        move_counter(&mut self.table, step);
+        self.note_size();
+    }
+
+    // The size of the section is the greatest place of its counter.
+    fn note_size(&mut self)
+        requires { self.old.table.modes.section < 64 }
+        ensures { self.new ≡ with_size self.old }
+    {
+        let section = usize::from(self.table.modes().section);
+        let place = self.table.place();
+        if self.sizes[section] < place {
+            self.sizes[section] = place;
+        }
+    }
+}
+
+// Before the first line each section has size 0.
+#[tactic(auto, unfolding(crate::specs::Passes::no_sizes))]
+fn no_sizes() -> [u16; 64]
+    ensures { result ≡ no_sizes }
+{
+    [0; 64]
+}
+
+// The counter of the section goes on, or is set.
+fn move_counter(table: &mut Table, step: Move)
+    requires { table.old.modes.section < 64 }
+    ensures { tables.Follows table.old table.new (with_move (move_seen step)) }
+{
+    match step {
+        Move::Steps(size) => table.step(size),
+        Move::Goes(place) => table.go_to(place),
+    }
+}

@@ -1,0 +1,358 @@
+//! The symbols that a line defines or reads. (MACRO-11 Language Reference Manual, "Symbols", "Table of contents and symbol table" and
+//! ".GLOBL directive".)
+
+ghost use Rattle.std.specs.Prelude.{◌≡◌, ◌≤◌, ◌++◌, ◌∷◌, [], length, map, IfErr, IfSome};
+ghost use Rattle.std.specs.List.{flat_map};
+ghost use Rattle.m11_unfold_arguments.specs.Expressions.{IsAlone, symbols_at, symbols_in};
+ghost use Rattle.m11_asm_operators.specs.Changes.{change_seen, names_among};
+ghost use Rattle.m11_asm_operands.specs.Reads.{fields_seen};
+ghost use Rattle.m11_asm_operands.specs.Terms.{AreTerms, IsFieldTerm, IsFormTerm};
+ghost use Rattle.m11_asm_operators.specs.Reading.{operator_fields};
+ghost use Rattle.m11_asm_rules.specs.Assigning.{target};
+ghost use Rattle.m11_asm_rules.specs.declared.meanings.Context.TheVariants.{LocalOnly};
+ghost use Rattle.m11_asm_rules.specs.Elements.{listed_names};
+ghost use Rattle.m11_asm_rules.specs.Limits.{most_names};
+ghost use Rattle.m11_asm_rules.specs.SymbolUses as spec;
+ghost use Rattle.m11_asm_rules.specs.Tables.{Table as LineTable};
+ghost use Rattle.m11_asm_lines.specs.Actions.{AreActionTerms, IsWithin, action_fields, action_seen};
+ghost use Rattle.m11_asm_lines.specs.Labels.{FitsUpToLabel};
+ghost use Rattle.m11_asm_lines.specs.UsedSymbols.{Adds, in_context, with_all};
+ghost use Rattle.m11_asm_faults.specs.declared.fault.AsmFault.TheVariants.{NoMemory};
+ghost use Rattle.m11_scan.specs.Views.{lexeme};
+
+use crate::actions::Action;
+use crate::changing::within;
+use crate::used_symbols::UsedSymbols;
+use m11_asm_faults::AsmFault;
+use m11_asm_operands::{FieldTerms, Fields, elements_at};
+use m11_asm_operators::{Change, listed_names, narg, nchr, parts_at};
+use m11_asm_rules::{Context, Directive, Field, Form, Operator};
+use m11_base::Name;
+use m11_scan::{Line, Token, read_name};
+use m11_scan_statements::{Assignment, Label, LabelKind, Part, PartKind};
+use m11_scan_values::{Symbol, symbol_of};
+use m11_unfold_arguments::{Notes, note_symbols, single_term};
+
+impl UsedSymbols {
+    /// The labels of a line. Errors as those of `add_all`, but `NoMemory` only at a label up to which no name is one too many.
+    pub fn add_labels(&mut self, line: &Line, labels: &[Label]) -> Result<(), AsmFault>
+        ensures adds { Adds (flat_map (spec.label_uses line.now.text) labels.now) self.old self.new result }
+        ensures limit_first { IfErr result (λ fault. fault ≡ NoMemory → FitsUpToLabel labels.now
+            (λ some. length (with_all (flat_map (spec.label_uses line.now.text) some) self.old).names ≤ most_names)) }
+    {
+        match labels {
+            [] => Ok(()),
+            [label, others @ ..] => {
+                self.add_label(line, label)?;
+                self.add_labels(line, others)
+            }
+        }
+    }
+
+    fn add_label(&mut self, line: &Line, label: &Label) -> Result<(), AsmFault>
+        ensures adds { Adds (spec.label_uses line.now.text label.now) self.old self.new result }
+        ensures limit_first { IfErr result (λ fault. fault ≡ NoMemory
+            → length (with_all (spec.label_uses line.now.text label.now) self.old).names ≤ most_names) }
+    {
+        match label.kind {
+            LabelKind::Ordinary | LabelKind::Global => self.define(read_name(
+                label.name.text(line),
+            )),
+            LabelKind::Local(number) => self.add(Symbol::Local(number), Context::LocalOnly),
+            LabelKind::Outside => Ok(()),
+        }
+    }
+
+    // A name that is defined.
+    fn define(&mut self, name: Option<Name>) -> Result<(), AsmFault>
+        ensures adds { Adds (spec.defined name) self.old self.new result }
+        ensures limit_first { IfErr result (λ fault. fault ≡ NoMemory
+            → length (with_all (spec.defined name) self.old).names ≤ most_names) }
+    {
+        match name {
+            Some(name) => self.add(Symbol::Ordinary(name), Context::LocalOnly),
+            None => Ok(()),
+        }
+    }
+
+    /// What stands after the labels of a line, with the number of actuals of a macro around it and the fields that it has by the table once
+    /// its labels stand. Errors as those of `add_all`.
+    // speed: inline, since most lines use nothing, or what the fields of an instruction use.
+    #[inline(always)]
+    pub fn add_action(
+        &mut self,
+        line: &Line,
+        arguments: Option<u16>,
+        action: &Action,
+        fields: &Fields,
+    ) -> Result<(), AsmFault>
+        requires within { IsWithin (length line.now.text) action.now }
+        requires terms { AreActionTerms line.now.text action.now fields.now.list.items fields.now.terms }
+        ensures { (table : LineTable) → fields_seen fields.now ≡ action_fields table line.now.text action.now
+            → Adds (spec.action_uses table line.now.text arguments (action_seen action.now)) self.old self.new result }
+    {
+        match *action {
+            Action::NoAction => Ok(()),
+            Action::Assign(assignment) => self.add_assignment(line, assignment, fields.terms.first),
+            Action::SetCounter(start) => self.read(line, start, Context::LocalOnly),
+            Action::Operate(operator, start) => {
+                self.add_operator(line, start, arguments, operator, fields)
+            }
+        }
+    }
+
+    // The symbols in the arguments of an operator.
+    // speed: inline, since most lines use nothing, or what the fields of an instruction use.
+    #[inline(always)]
+    fn add_operator(
+        &mut self,
+        line: &Line,
+        start: u8,
+        arguments: Option<u16>,
+        operator: Operator,
+        fields: &Fields,
+    ) -> Result<(), AsmFault>
+        requires within { start ≤ length line.now.text }
+        requires terms { AreTerms line.now.text fields.now.list.items fields.now.terms }
+        ensures { (table : LineTable) → fields_seen fields.now ≡ operator_fields table line.now.text start operator
+            → Adds (spec.operator_uses table line.now.text start arguments operator) self.old self.new result }
+    {
+        match operator {
+            Operator::Instruction(_) => {
+                self.add_fields(line, fields.list.as_slice(), &fields.terms)
+            }
+            Operator::Directive(directive) => self.add_directive(line, start, arguments, directive),
+        }
+    }
+
+    // The name of an assignment and what its value reads.
+    // speed: a call, since in the caller each line would save the registers that it needs.
+    #[inline(never)]
+    fn add_assignment(
+        &mut self,
+        line: &Line,
+        assignment: Assignment,
+        term: Option<Token>,
+    ) -> Result<(), AsmFault>
+        requires { IfSome term (λ term. IsAlone line.now.text assignment.value term) }
+        ensures { Adds (spec.defined (target line.now.text assignment.name) ++ spec.read_at LocalOnly line.now.text assignment.value) self.old self.new result }
+    {
+        self.define(read_name(assignment.name.text(line)))?;
+        self.read_by(line, assignment.value, term, Context::LocalOnly)
+    }
+
+    // The symbols of the expression at a place. Most expressions are one term, of which no list need be made.
+    fn read(&mut self, line: &Line, start: u8, context: Context) -> Result<(), AsmFault>
+        ensures { Adds (spec.read_at context line.now.text start) self.old self.new result }
+    {
+        let place = within(line, start);
+        match single_term(line, place) {
+            Some(term) => self.read_term(line, &term, context),
+            None => self.read_all(line, place, context),
+        }
+    }
+
+    // What an expression reads, with its one token where it was found to be one term.
+    fn read_by(
+        &mut self,
+        line: &Line,
+        start: u8,
+        term: Option<Token>,
+        context: Context,
+    ) -> Result<(), AsmFault>
+        requires { IfSome term (λ term. IsAlone line.now.text start term) }
+        ensures { Adds (spec.read_at context line.now.text start) self.old self.new result }
+    {
+        match term {
+            Some(term) => self.read_term(line, &term, context),
+            None => self.read(line, start, context),
+        }
+    }
+
+    fn read_term(&mut self, line: &Line, term: &Token, context: Context) -> Result<(), AsmFault>
+        ensures { Adds (in_context context (symbols_in (lexeme line.now.text term.now ∷ []))) self.old self.new result }
+    {
+        match symbol_of(term, line) {
+            Some(symbol) => self.add(symbol, context),
+            None => Ok(()),
+        }
+    }
+
+    fn read_all(&mut self, line: &Line, place: usize, context: Context) -> Result<(), AsmFault>
+        requires { place ≤ length line.now.text }
+        ensures { Adds (in_context context (symbols_at line.now.text place)) self.old self.new result }
+    {
+        let mut notes = Notes::new(self.alloc);
+        note_symbols(line, place, &mut notes)?;
+        self.add_all(notes.symbols(), context)
+    }
+}
+
+impl UsedSymbols {
+    fn add_fields(
+        &mut self,
+        line: &Line,
+        fields: &[Field],
+        terms: &FieldTerms,
+    ) -> Result<(), AsmFault>
+        requires { AreTerms line.now.text fields.now terms.now }
+        ensures { Adds (flat_map (spec.field_uses line.now.text) fields.now) self.old self.new result }
+    {
+        match fields {
+            [] => Ok(()),
+            [field, others @ ..] => {
+                self.add_field(line, *field, terms.first)?;
+                self.add_fields(line, others, &terms.others())
+            }
+        }
+    }
+
+    fn add_field(&mut self, line: &Line, field: Field, term: Option<Token>) -> Result<(), AsmFault>
+        requires { IfSome term (λ term. IsFieldTerm line.now.text field term) }
+        ensures { Adds (spec.field_uses line.now.text field) self.old self.new result }
+    {
+        match field {
+            Field::Formed(form) => self.add_form(line, form, term),
+            Field::Registered(start) | Field::Targeted(start) | Field::Numbered(start) => {
+                self.read_by(line, start, term, Context::LocalOnly)
+            }
+            Field::Missing => Ok(()),
+        }
+    }
+
+    // The word after an instruction may refer to another object. A register may not.
+    fn add_form(&mut self, line: &Line, form: Form, term: Option<Token>) -> Result<(), AsmFault>
+        requires { IfSome term (λ term. IsFormTerm line.now.text form term) }
+        ensures { Adds (spec.form_uses line.now.text form) self.old self.new result }
+    {
+        match form {
+            Form::Absent => Ok(()),
+            Form::InRegister(_, start) | Form::Unindexed(start) => {
+                self.read_by(line, start, term, Context::LocalOnly)
+            }
+            Form::Indexed(_, start, index) => {
+                self.read(line, index, Context::MayBeGlobal)?;
+                self.read_by(line, start, term, Context::LocalOnly)
+            }
+            Form::AfterCounter(_, start) => self.read_by(line, start, term, Context::MayBeGlobal),
+        }
+    }
+
+    // The symbols in the arguments of a directive.
+    // speed: a call, since in the caller each line would save the registers that it needs.
+    #[inline(never)]
+    fn add_directive(
+        &mut self,
+        line: &Line,
+        start: u8,
+        arguments: Option<u16>,
+        directive: Directive,
+    ) -> Result<(), AsmFault>
+        requires { start ≤ length line.now.text }
+        ensures { Adds (spec.directive_uses line.now.text start arguments directive) self.old self.new result }
+    {
+        let place = usize::from(start);
+        match directive {
+            Directive::Word | Directive::Byte => self.add_list(line, place),
+            Directive::Ascii | Directive::Asciz => self.add_text(line, place, Context::MayBeGlobal),
+            Directive::Rad50 => self.add_text(line, place, Context::LocalOnly),
+            Directive::Blkb | Directive::Blkw | Directive::End => {
+                self.read(line, start, Context::LocalOnly)
+            }
+            Directive::Globl | Directive::Weak => self.add_exports(line, place),
+            Directive::Narg => self.add_number(&narg(arguments, line, place)),
+            Directive::Nchr => self.add_number(&nchr(line, place)),
+            _ => Ok(()),
+        }
+    }
+
+    // The symbols of the list at a place.
+    // speed: a call, since in the caller room for the elements of one would be cleared for each directive.
+    #[inline(never)]
+    fn add_list(&mut self, line: &Line, start: usize) -> Result<(), AsmFault>
+        requires { start ≤ length line.now.text }
+        ensures { Adds (spec.element_uses line.now.text start) self.old self.new result }
+    {
+        let elements = elements_at(line, start);
+        self.add_elements(line, elements.places.as_slice())
+    }
+
+    // The names that become global or weak.
+    // speed: a call, since in the caller room for their list would be cleared for each directive.
+    #[inline(never)]
+    fn add_exports(&mut self, line: &Line, start: usize) -> Result<(), AsmFault>
+        requires { start ≤ length line.now.text }
+        ensures { Adds (map spec.named (listed_names line.now.text start)) self.old self.new result }
+    {
+        let names = listed_names(line, start);
+        self.add_names(names.as_slice())
+    }
+
+    // The elements of a list of words or bytes.
+    fn add_elements(&mut self, line: &Line, places: &[u8]) -> Result<(), AsmFault>
+        ensures { Adds (flat_map (spec.read_at Context.MayBeGlobal line.now.text) places.now) self.old self.new result }
+    {
+        match places {
+            [] => Ok(()),
+            [place, others @ ..] => {
+                self.read(line, *place, Context::MayBeGlobal)?;
+                self.add_elements(line, others)
+            }
+        }
+    }
+
+    // The symbols of the expressions among the parts of a text.
+    // speed: a call, since in the caller room for the parts would be cleared for each directive.
+    #[inline(never)]
+    fn add_text(&mut self, line: &Line, start: usize, context: Context) -> Result<(), AsmFault>
+        requires { start ≤ length line.now.text }
+        ensures { Adds (spec.part_uses context line.now.text start) self.old self.new result }
+    {
+        let parts = parts_at(line, start);
+        self.add_parts(line, parts.list.as_slice(), context)
+    }
+
+    fn add_parts(&mut self, line: &Line, parts: &[Part], context: Context) -> Result<(), AsmFault>
+        ensures { Adds (flat_map (λ part. spec.part_use context line.now.text part part.kind) parts.now) self.old self.new result }
+    {
+        match parts {
+            [] => Ok(()),
+            [part, others @ ..] => {
+                self.add_part(line, part, context)?;
+                self.add_parts(line, others, context)
+            }
+        }
+    }
+
+    fn add_part(&mut self, line: &Line, part: &Part, context: Context) -> Result<(), AsmFault>
+        ensures { Adds (spec.part_use context line.now.text part.now part.now.kind) self.old self.new result }
+    {
+        match part.kind {
+            PartKind::Text => Ok(()),
+            PartKind::Expression => self.read(line, part.inside.start, context),
+        }
+    }
+
+    // The names of a list. An element that is none is passed over.
+    fn add_names(&mut self, names: &[Option<Name>]) -> Result<(), AsmFault>
+        ensures { Adds (map spec.named (names_among names.now)) self.old self.new result }
+    {
+        match names {
+            [] => Ok(()),
+            [name, others @ ..] => {
+                self.define(*name)?;
+                self.add_names(others)
+            }
+        }
+    }
+
+    // The name that is assigned a number.
+    fn add_number(&mut self, change: &Change) -> Result<(), AsmFault>
+        ensures { Adds (spec.numbered_use (change_seen change.now)) self.old self.new result }
+    {
+        match change {
+            Change::Numbers(name, _) => self.define(Some(*name)),
+            _ => Ok(()),
+        }
+    }
+}

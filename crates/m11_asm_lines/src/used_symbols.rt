@@ -1,0 +1,210 @@
+//! The names that lines mention. (MACRO-11 Language Reference Manual, "Table of contents and symbol table" and ".GLOBL directive".)
+
+ghost use Rattle.std.specs.Prelude.{◌≡◌, ◌<◌, ◌≤◌, ◌∷◌, [], IfOk, IfErr, length, true};
+ghost use Rattle.m11_asm_rules.specs.Limits.{most_names};
+ghost use Rattle.m11_asm_rules.specs.SymbolUses.{symbol_use};
+ghost use Rattle.m11_asm_lines.specs.Faults.{Refuses};
+ghost use Rattle.m11_asm_lines.specs.UsedSymbols as spec;
+ghost use Rattle.m11_asm_lines.specs.UsedSymbols.{Adds, in_context, none_gathered, noted, with_all, with_referred};
+ghost use Rattle.m11_asm_faults.specs.declared.fault.AsmFault.TheVariants.{NoMemory};
+
+use indexmap::IndexSet;
+use m11_asm_faults::AsmFault;
+use m11_asm_rules::Context;
+use m11_base::Name;
+use m11_scan_values::Symbol;
+use std::alloc::{AllocError, Global};
+use std::marker::Model;
+
+/// The most names of a source besides those of the registers.
+const MOST_NAMES: usize = 4096;
+
+/// The names that lines mention, each once, in the order in which they appear: 4,096 at most besides those of the registers.
+#[derive(Drop)]
+pub struct UsedSymbols {
+    pub(crate) alloc: Global,
+    // Besides those of the registers.
+    names: IndexSet<Name>,
+    registers: IndexSet<Name>,
+    // Where a name without a definition is a reference to another object.
+    referred: IndexSet<Name>,
+}
+
+impl Model for UsedSymbols {
+    ghost use Rattle.std.specs.Prelude.{◌≤◌, length};
+    ghost use Rattle.m11_asm_rules.specs.Limits.{most_names};
+    ghost use Rattle.m11_asm_lines.specs.UsedSymbols.{Gathered};
+
+    ghost Value = { Gathered };
+
+    ghost view = { λ m. record { names = m.names.keys; registers = m.registers.keys; referred = m.referred.keys } };
+
+    ghost invariant = { λ m. length m.names.keys ≤ most_names };
+}
+
+impl UsedSymbols {
+    /// Before the first line.
+    pub fn new(alloc: Global) -> UsedSymbols
+        ensures { result ≡ none_gathered }
+    {
+        UsedSymbols {
+            alloc,
+            names: IndexSet::new(alloc),
+            registers: IndexSet::new(alloc),
+            referred: IndexSet::new(alloc),
+        }
+    }
+
+    /// The limit on names holds of all that is gathered, after a refusal too. It does nothing.
+    #[inline(always)]
+    pub fn names_are_within_the_limit(&self)
+        ensures { length self.now.names ≤ most_names }
+    {
+        let _names = &self.names;
+    }
+
+    /// The names besides those of the registers.
+    pub fn names(&self) -> &IndexSet<Name>
+        ensures { result.now.keys ≡ self.now.names }
+    {
+        &self.names
+    }
+
+    /// The names of registers.
+    pub fn registers(&self) -> &IndexSet<Name>
+        ensures { result.now.keys ≡ self.now.registers }
+    {
+        &self.registers
+    }
+
+    /// The names that stand where a name without a definition is a reference to another object.
+    pub fn referred(&self) -> &IndexSet<Name>
+        ensures { result.now.keys ≡ self.now.referred }
+    {
+        &self.referred
+    }
+
+    /// Symbols that are mentioned one after the other.
+    ///
+    /// Errors: `TooManySymbols` where there would be more than 4,096 names besides those of the registers, and `NoMemory`. Memory may be
+    /// refused at a symbol before the one whose name is one too many.
+    // speed: inline, since each line comes here, and most read none.
+    #[inline(always)]
+    pub fn add_all(&mut self, symbols: &[Symbol], context: Context) -> Result<(), AsmFault>
+        ensures { Adds (in_context context symbols.now) self.old self.new result }
+    {
+        match symbols {
+            [] => Ok(()),
+            _ => self.add_each(symbols, context),
+        }
+    }
+
+    fn add_each(&mut self, symbols: &[Symbol], context: Context) -> Result<(), AsmFault>
+        ensures { Adds (in_context context symbols.now) self.old self.new result }
+    {
+        match symbols {
+            [] => Ok(()),
+            [symbol, others @ ..] => {
+                self.add(*symbol, context)?;
+                self.add_each(others, context)
+            }
+        }
+    }
+
+    /// A symbol that is mentioned. Errors are those of `add_all`, but `NoMemory` only where its name isn't one too many.
+    pub fn add(&mut self, symbol: Symbol, context: Context) -> Result<(), AsmFault>
+        ensures adds { Adds (symbol_use context symbol ∷ []) self.old self.new result }
+        ensures limit_first { IfErr result (λ fault. fault ≡ NoMemory
+            → length (with_all (symbol_use context symbol ∷ []) self.old).names ≤ most_names) }
+    {
+        match symbol {
+            Symbol::Ordinary(name) => self.add_name(name, context),
+            Symbol::Local(_) | Symbol::Counter => Ok(()),
+        }
+    }
+
+    fn add_name(&mut self, name: Name, context: Context) -> Result<(), AsmFault>
+        ensures adds { Adds (symbol_use context (Symbol.Ordinary name) ∷ []) self.old self.new result }
+        ensures limit_first { IfErr result (λ fault. fault ≡ NoMemory → length (noted name self.old).names ≤ most_names) }
+    {
+        self.note_name(name)?;
+        self.names_are_within_the_limit();
+        self.note_reference(name, context)?;
+        Ok(())
+    }
+
+    // A name that is mentioned anywhere. The limit is asked before anything grows.
+    #[tactic(auto, using(crate::proofs::Gathering::noted_register, crate::proofs::Gathering::noted_other))]
+    fn note_name(&mut self, name: Name) -> Result<(), AsmFault>
+        ensures notes { IfOk result (λ _. self.new ≡ noted name self.old) }
+        ensures refuses { IfErr result (λ fault. Refuses fault (most_names < length (noted name self.old).names) ⊥) }
+        ensures limit_first { IfErr result (λ fault. fault ≡ NoMemory → length (noted name self.old).names ≤ most_names) }
+    {
+        if is_register(name) {
+            self.names_are_within_the_limit();
+            self.note_register(name)?;
+            Ok(())
+        } else {
+            self.count_name(name)
+        }
+    }
+
+    // It stands where one without a definition is a reference to another object.
+    fn note_reference(&mut self, name: Name, context: Context) -> Result<(), AllocError>
+        ensures { IfOk result (λ _. self.new ≡ with_referred name context self.old) }
+    {
+        match context {
+            Context::MayBeGlobal => self.note_referred(name),
+            Context::LocalOnly => Ok(()),
+        }
+    }
+
+    fn note_referred(&mut self, name: Name) -> Result<(), AllocError>
+        ensures { IfOk result (λ _. self.new ≡ record self.old { referred = spec.with_name name self.old.referred }) }
+    {
+        self.referred.insert(name)?;
+        Ok(())
+    }
+
+    fn note_register(&mut self, name: Name) -> Result<(), AllocError>
+        ensures { IfOk result (λ _. self.new ≡ record self.old { registers = spec.with_name name self.old.registers }) }
+    {
+        self.registers.insert(name)?;
+        Ok(())
+    }
+
+    // A name that is none of a register's.
+    fn count_name(&mut self, name: Name) -> Result<(), AsmFault>
+        ensures notes { IfOk result (λ _. self.new ≡ record self.old { names = spec.with_name name self.old.names }) }
+        ensures refuses { IfErr result (λ fault. Refuses fault
+            (most_names < length (spec.with_name name self.old.names)) ⊥) }
+        ensures limit_first { IfErr result (λ fault. fault ≡ NoMemory
+            → length (spec.with_name name self.old.names) ≤ most_names) }
+    {
+        // most sources have far fewer, and then it is looked for once, as it is put in
+        if self.names.len() >= MOST_NAMES && !self.names.contains(&name) {
+            return Err(AsmFault::TooManySymbols);
+        }
+        self.names.insert(name)?;
+        Ok(())
+    }
+}
+
+// Whether a name is that of a register.
+#[tactic(auto, unfolding(m11_base::specs::Rad50::code_of, m11_base::specs::Rad50::alphabet))]
+fn is_register(name: Name) -> bool
+    ensures { result ≡ spec.is_register name }
+{
+    let (first, second) = name.words();
+    second == 0 && is_register_word(first)
+}
+
+// The words of the first three characters of `R0` to `R5`, `SP` and `PC`.
+fn is_register_word(word: u16) -> bool
+    ensures { result ≡ spec.is_register_word word }
+{
+    matches!(
+        word,
+        0o72460 | 0o72530 | 0o72600 | 0o72650 | 0o72720 | 0o72770 | 0o74500 | 0o62170
+    )
+}

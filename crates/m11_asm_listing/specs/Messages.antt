@@ -1,0 +1,14 @@
+-- What an assembly says of flagged lines. (This project's own.)
+use Rattle.std.specs.Prelude.{ℕ, [], ◌∷◌, ◌++◌, codes}
+use Rattle.std.specs.Fmt.{decimal}
+use Rattle.m11_base.specs.Devices.{Bytes}
+use Rattle.m11_asm_listing.specs.Columns.{printed}
+use Rattle.m11_obj_print.specs.Lines.{line_of}
+
+-- the flags, the number and the text of a flagged line
+abbrev pub message_line : Bytes → ℕ → Bytes → Bytes
+message_line flags number text = line_of (flags ++ codes " " ++ decimal number ++ codes ": " ++ printed text)
+
+-- how many lines are flagged
+abbrev pub count_line : ℕ → Bytes
+count_line count = codes "ERRORS DETECTED: " ++ decimal count ++ 0o12 ∷ []

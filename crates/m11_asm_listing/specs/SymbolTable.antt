@@ -1,0 +1,84 @@
+-- The symbol table: the names that a source uses, and its sections. (This project's own: the columns and their widths, in decimal. That
+-- `R` stands for relocatable, `%` for a register and `G` for a global is as in tables of DEC's MACRO-11.)
+--
+--     1234567890123456789012
+--     START    000000 RG   1
+--     X      = 000005
+--     . ABS. 000000   0 RW,I,GBL,ABS,OVR
+use Rattle.std.specs.Prelude.{ℕ, Bool, if◌then◌else◌, List, [], ◌∷◌, ◌++◌, codes, map}
+use Rattle.std.specs.Fmt.{decimal}
+use Rattle.m11_base.specs.Devices.{Bytes}
+use Rattle.m11_base.specs.Octal.{octal_text}
+use Rattle.m11_base.specs.Rad50.{name_text}
+use Rattle.m11_asm_listing.specs.declared.symbol_table.SectionEntry.{SectionEntry}
+use Rattle.m11_asm_listing.specs.declared.symbol_table.SymbolEntry.{SymbolEntry}
+use Rattle.m11_asm_listing.specs.declared.symbol_table.SymbolValue.{SymbolValue}
+use Rattle.m11_asm_listing.specs.declared.symbol_table.SymbolValue.TheVariants.{Unknown, Absolute, Relocatable, Register}
+use Rattle.m11_asm_listing.specs.Columns.{at_right, blanks}
+use Rattle.m11_asm_listing.specs.Messages.{count_line}
+use Rattle.m11_obj_print.specs.Attributes.{attributes_text, bits_of}
+use Rattle.m11_obj_print.specs.Lines.{line_of}
+
+-- ---- columns of a name, which itself has six
+
+-- 3 columns
+abbrev pub assignment_column : Bool → Bytes
+assignment_column is_assigned = if is_assigned then codes " = " else codes "   "
+
+-- 6 columns
+abbrev pub value_column : SymbolValue → Bytes
+value_column Unknown = codes "******"
+value_column (Absolute number) = octal_text number
+value_column (Relocatable place section) = octal_text place
+value_column (Register number) = octal_text number
+
+-- `R` for relocatable, `%` for a register
+abbrev pub kind_character : SymbolValue → ℕ
+kind_character Unknown = 0o40
+kind_character (Absolute number) = 0o40
+kind_character (Relocatable place section) = 0o122
+kind_character (Register number) = 0o45
+
+-- `G` for a global
+abbrev pub scope_character : Bool → ℕ
+scope_character is_global = if is_global then 0o107 else 0o40
+
+-- 3 columns: the number of a section
+abbrev pub number_column : ℕ → Bytes
+number_column number = at_right 3 (decimal number)
+
+-- 3 columns
+abbrev pub section_column : SymbolValue → Bytes
+section_column Unknown = blanks 3
+section_column (Absolute number) = blanks 3
+section_column (Relocatable place section) = number_column section
+section_column (Register number) = blanks 3
+
+-- ---- lines
+
+-- a name
+abbrev pub symbol_line : SymbolEntry → Bytes
+symbol_line symbol =
+    line_of (name_text symbol.name ++ assignment_column symbol.is_assigned ++ value_column symbol.value
+    ++ (0o40 ∷ kind_character symbol.value ∷ scope_character symbol.is_global ∷ 0o40 ∷ []) ++ section_column symbol.value)
+
+-- 18 columns: the name, size and number of a section, with a blank after each
+abbrev pub section_columns : SectionEntry → Bytes
+section_columns section = name_text section.name ++ blanks 1 ++ octal_text section.size ++ blanks 1 ++ number_column section.number ++ blanks 1
+
+-- a section: these columns, and its attributes
+abbrev pub section_line : SectionEntry → Bytes
+section_line section = line_of (section_columns section ++ attributes_text (bits_of section.attributes))
+
+abbrev pub empty_line : Bytes
+empty_line = 0o12 ∷ []
+
+abbrev pub title_line : Bytes
+title_line = codes "SYMBOL TABLE\n"
+
+-- ---- what stands in a listing after the source lines
+
+abbrev pub last_lines : List SymbolEntry → List SectionEntry → ℕ → List Bytes
+last_lines symbols sections count =
+    (empty_line ∷ title_line ∷ map symbol_line symbols) ++ (empty_line ∷ map section_line sections)
+    ++ empty_line ∷ count_line count ∷ []

@@ -1,0 +1,61 @@
+//! Columns: texts at the left or at the right of a width, and the texts of source lines.
+
+ghost use Rattle.std.specs.Prelude.{◌≡◌, ◌≤◌, ◌+◌, ◌++◌, length};
+ghost use Rattle.arrayvec.specs.ArrayVec.{array_vec_len};
+ghost use Rattle.m11_asm_listing.specs.Columns as spec;
+
+use m11_obj_print::{Line, put};
+
+/// Adds blanks.
+pub(crate) fn put_blanks(line: &mut Line, count: usize)
+    requires { array_vec_len line.old + count ≤ 175 }
+    ensures items { line.new.items ≡ line.old.items ++ spec.blanks count }
+    ensures size { array_vec_len line.new ≡ array_vec_len line.old + count }
+{
+    'blanks: for _ in 0..count {
+        line.push(b' ');
+    }
+}
+
+/// Adds a text at the left of a column.
+pub(crate) fn put_left(line: &mut Line, width: usize, text: &[u8])
+    requires fits { length text.now ≤ width }
+    requires room { array_vec_len line.old + width ≤ 175 }
+    ensures items { line.new.items ≡ line.old.items ++ spec.at_left width text.now }
+    ensures size { array_vec_len line.new ≡ array_vec_len line.old + width }
+{
+    put(line, text);
+    put_blanks(line, width - text.len());
+}
+
+/// Adds a text at the right of a column.
+pub(crate) fn put_right(line: &mut Line, width: usize, text: &[u8])
+    requires fits { length text.now ≤ width }
+    requires room { array_vec_len line.old + width ≤ 175 }
+    ensures items { line.new.items ≡ line.old.items ++ spec.at_right width text.now }
+    ensures size { array_vec_len line.new ≡ array_vec_len line.old + width }
+{
+    put_blanks(line, width - text.len());
+    put(line, text);
+}
+
+// A byte as it is printed.
+fn shown(byte: u8) -> u8
+    ensures { result ≡ spec.shown byte }
+{
+    match byte {
+        b' '..=b'~' | b'\t' => byte,
+        _ => b'?',
+    }
+}
+
+/// Adds the text of a source line.
+pub(crate) fn put_printed(line: &mut Line, text: &[u8])
+    requires { array_vec_len line.old + length text.now ≤ 175 }
+    ensures items { line.new.items ≡ line.old.items ++ spec.printed text.now }
+    ensures size { array_vec_len line.new ≡ array_vec_len line.old + length text.now }
+{
+    for byte in text {
+        line.push(shown(*byte));
+    }
+}

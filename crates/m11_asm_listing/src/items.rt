@@ -1,0 +1,105 @@
+//! What a listed line shows of what it puts or assigns: bytes and words, each with a mark.
+
+ghost use Rattle.std.specs.Prelude.{◌≡◌, ◌≤◌, ◌+◌, ◌++◌};
+ghost use Rattle.std.specs.List.{slice_get};
+ghost use Rattle.arrayvec.specs.ArrayVec.{array_vec_len};
+ghost use Rattle.m11_asm_listing.specs.Items as spec;
+
+use m11_base::octal6;
+use m11_obj_print::{Line, put};
+
+/// What the number of an item counts from.
+#[derive(Clone, Copy, Debug, PartialEq, Eq)]
+pub enum Mark {
+    /// Nothing: it stands as it is.
+    Unmarked,
+    /// The beginning of a section.
+    OfSection,
+    /// A global of an object.
+    OfObject,
+    /// The registers.
+    OfRegister,
+}
+
+/// A byte or a word that a line puts, or the word that it assigns.
+#[derive(Clone, Copy, Debug, PartialEq, Eq)]
+pub enum Item {
+    /// A byte, with its mark.
+    InByte(u8, Mark),
+    /// A word, with its mark.
+    InWord(u16, Mark),
+}
+
+impl Mark {
+    // The character that stands for it.
+    fn character(self) -> u8
+        ensures { result ≡ spec.mark_character self }
+    {
+        match self {
+            Mark::Unmarked => b' ',
+            Mark::OfSection => b'\'',
+            Mark::OfObject => b'G',
+            Mark::OfRegister => b'%',
+        }
+    }
+}
+
+impl Item {
+    // How many bytes it has.
+    fn size(self) -> u16
+        ensures { result ≡ spec.item_size self }
+    {
+        match self {
+            Item::InByte(_, _) => 1,
+            Item::InWord(_, _) => 2,
+        }
+    }
+
+    // Its column.
+    fn column(self) -> [u8; 8]
+        ensures { result ≡ spec.item_text self }
+    {
+        match self {
+            Item::InByte(byte, mark) => {
+                let [_, _, _, a, b, c] = octal6(u16::from(byte));
+                [b' ', b' ', b' ', b' ', a, b, c, mark.character()]
+            }
+            Item::InWord(word, mark) => {
+                let [a, b, c, d, e, f] = octal6(word);
+                [b' ', a, b, c, d, e, f, mark.character()]
+            }
+        }
+    }
+}
+
+// The column of the item at this index: blanks where there is none.
+fn column_at(items: &[Item], index: usize) -> [u8; 8]
+    ensures { result ≡ spec.item_column (slice_get items.now index) }
+{
+    match items.get(index) {
+        Some(item) => item.column(),
+        None => [b' '; 8],
+    }
+}
+
+/// Adds the first three items, each in its column.
+pub(crate) fn put_items(line: &mut Line, items: &[Item])
+    requires { array_vec_len line.old ≤ 151 }
+    ensures items { line.new.items ≡ line.old.items ++ spec.items_column items.now }
+    ensures size { array_vec_len line.new ≡ array_vec_len line.old + 24 }
+{
+    put(line, &column_at(items, 0));
+    put(line, &column_at(items, 1));
+    put(line, &column_at(items, 2));
+}
+
+/// The place after items that begin at a place.
+pub fn place_after(place: u16, items: &[Item]) -> u16
+    ensures { result ≡ spec.place_after place items.now }
+{
+    let mut after = place;
+    for item in items {
+        after = after.wrapping_add(item.size());
+    }
+    after
+}

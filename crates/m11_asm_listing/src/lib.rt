@@ -1,0 +1,24 @@
+//! What an assembly prints, as texts: the lines of its listing, its symbol table and its messages. No output, no source and
+//! no memory is taken: flags, numbers, items and texts are handed in; a call gives one line, or the place after items. (This project's
+//! own.)
+#![tactic(auto)]
+
+mod columns;
+mod items;
+mod laws;
+mod listing;
+mod messages;
+mod symbol_table;
+
+pub use items::{Item, Mark, place_after};
+pub use laws::{
+    a_further_line_has_at_most_41_characters, a_listed_line_has_at_most_42_characters_and_its_text,
+    a_message_shows_its_text, further_lines_go_by_threes, no_line_ends_with_a_blank,
+    the_text_of_a_listed_line_begins_in_column_43,
+};
+pub use listing::{further_line, listed_line};
+pub use m11_obj_print::Line;
+pub use messages::{count_line, message_line};
+pub use symbol_table::{
+    SectionEntry, SymbolEntry, SymbolValue, empty_line, section_line, symbol_line, title_line,
+};

@@ -1,0 +1,64 @@
+//! The lines of a listing. A source line has one line with its text, and further ones where it has more than three items.
+
+ghost use Rattle.std.specs.Prelude.{◌≡◌, ◌≤◌, ◌+◌, ◌++◌, length, take};
+ghost use Rattle.arrayvec.specs.ArrayVec.{array_vec_len};
+ghost use Rattle.m11_asm_listing.specs.Listing as spec;
+
+use crate::columns::{put_blanks, put_left, put_printed, put_right};
+use crate::items::{Item, put_items};
+use itoa::Buffer;
+use m11_base::octal6;
+use m11_obj_print::{Line, ended, put};
+
+// At most four of the flags.
+fn first_flags(flags: &[u8]) -> &[u8]
+    ensures value { result.now ≡ take 4 flags.now }
+    ensures few { length result.now ≤ 4 }
+{
+    if flags.len() > 4 { &flags[..4] } else { flags }
+}
+
+// Adds the columns of flags and number.
+fn put_head(line: &mut Line, flags: &[u8], number: u16)
+    requires { array_vec_len line.old ≤ 100 }
+    ensures items { line.new.items ≡ line.old.items ++ spec.head flags.now number }
+    ensures size { array_vec_len line.new ≡ array_vec_len line.old + 10 }
+{
+    put_left(line, 4, first_flags(flags));
+    put_right(line, 6, Buffer::new().format(number).as_bytes());
+}
+
+// Adds the columns of a place and its items.
+fn put_places(line: &mut Line, place: u16, items: &[Item])
+    requires { array_vec_len line.old ≤ 100 }
+    ensures items { line.new.items ≡ line.old.items ++ spec.places place items.now }
+    ensures size { array_vec_len line.new ≡ array_vec_len line.old + 31 }
+{
+    put(line, b" ");
+    put(line, &octal6(place));
+    put_items(line, items);
+}
+
+/// The line of a source line: the first four of its flags, its number, a place, the first three of its items, and its text, which has
+/// at most 132 characters.
+pub fn listed_line(flags: &[u8], number: u16, place: u16, items: &[Item], text: &[u8]) -> Line
+    requires { length text.now ≤ 132 }
+    ensures { result.items ≡ spec.listed_line flags.now number place items.now text.now }
+{
+    let mut line = Line::new();
+    put_head(&mut line, flags, number);
+    put_places(&mut line, place, items);
+    put(&mut line, b" ");
+    put_printed(&mut line, text);
+    ended(line)
+}
+
+/// A further line of a source line: three more items at most, and the place of the first of them.
+pub fn further_line(place: u16, items: &[Item]) -> Line
+    ensures { result.items ≡ spec.further_line place items.now }
+{
+    let mut line = Line::new();
+    put_blanks(&mut line, 10);
+    put_places(&mut line, place, items);
+    ended(line)
+}

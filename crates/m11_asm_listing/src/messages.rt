@@ -1,0 +1,34 @@
+//! Messages: a line for each flagged line, and the count of them.
+
+ghost use Rattle.std.specs.Prelude.{◌≡◌, ◌≤◌, length};
+ghost use Rattle.m11_asm_listing.specs.Messages as spec;
+
+use crate::columns::put_printed;
+use itoa::Buffer;
+use m11_obj_print::{Line, ended, put};
+
+/// The message of a flagged line: its flags, 14 at most, its number, and its text of at most 132 characters.
+pub fn message_line(flags: &[u8], number: u16, text: &[u8]) -> Line
+    requires few { length flags.now ≤ 14 }
+    requires short { length text.now ≤ 132 }
+    ensures { result.items ≡ spec.message_line flags.now number text.now }
+{
+    let mut line = Line::new();
+    put(&mut line, flags);
+    put(&mut line, b" ");
+    put(&mut line, Buffer::new().format(number).as_bytes());
+    put(&mut line, b": ");
+    put_printed(&mut line, text);
+    ended(line)
+}
+
+/// The last line of listing and messages: how many lines are flagged.
+pub fn count_line(count: u32) -> Line
+    ensures { result.items ≡ spec.count_line count }
+{
+    let mut line = Line::new();
+    put(&mut line, b"ERRORS DETECTED: ");
+    put(&mut line, Buffer::new().format(count).as_bytes());
+    put(&mut line, b"\n");
+    line
+}

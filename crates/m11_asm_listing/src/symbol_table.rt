@@ -1,0 +1,167 @@
+//! The symbol table: the names that a source uses, and its sections.
+
+ghost use Rattle.std.specs.Prelude.{◌≡◌, ◌≤◌, ◌+◌, ◌++◌};
+ghost use Rattle.arrayvec.specs.ArrayVec.{array_vec_len};
+ghost use Rattle.m11_asm_listing.specs.SymbolTable as spec;
+
+use crate::columns::{put_blanks, put_right};
+use itoa::Buffer;
+use m11_base::{Name, octal6};
+use m11_obj::SectionFlags;
+use m11_obj_print::{Line, ended, put, put_attributes};
+
+/// The value that a name has at the end of the first pass.
+#[derive(Clone, Copy, Debug, PartialEq, Eq)]
+pub enum SymbolValue {
+    /// It has none.
+    Unknown,
+    /// A number that no section moves.
+    Absolute(u16),
+    /// A place of the section of this number.
+    Relocatable { place: u16, section: u8 },
+    /// The number of a register.
+    Register(u16),
+}
+
+/// A name of the table.
+#[derive(Clone, Copy, Debug, PartialEq, Eq)]
+pub struct SymbolEntry {
+    /// Its six characters.
+    pub name: Name,
+    /// Whether its last definition is another than a label.
+    pub is_assigned: bool,
+    /// Its value, if it has one.
+    pub value: SymbolValue,
+    /// Whether the object has it, as a definition or as a reference.
+    pub is_global: bool,
+}
+
+/// A section of the table, with its size in bytes.
+#[derive(Clone, Copy, Debug, PartialEq, Eq)]
+pub struct SectionEntry {
+    /// Its six characters.
+    pub name: Name,
+    /// From 0 to the greatest place that its counter had after a line.
+    pub size: u16,
+    /// 63 at most, in the order in which sections appear.
+    pub number: u8,
+    /// Those of the first directive that names it. A later one changes none.
+    pub attributes: SectionFlags,
+}
+
+/// The line between the parts of a listing.
+pub fn empty_line() -> Line
+    ensures { result.items ≡ spec.empty_line }
+{
+    let mut line = Line::new();
+    put(&mut line, b"\n");
+    line
+}
+
+/// The title of the symbol table.
+pub fn title_line() -> Line
+    ensures { result.items ≡ spec.title_line }
+{
+    let mut line = Line::new();
+    put(&mut line, b"SYMBOL TABLE\n");
+    line
+}
+
+// How a name is defined: by an assignment, or by a label or not at all.
+fn assignment(is_assigned: bool) -> &'static [u8; 3]
+    ensures { result.now ≡ spec.assignment_column is_assigned }
+{
+    if is_assigned { b" = " } else { b"   " }
+}
+
+// The digits of a value.
+fn value_digits(value: SymbolValue) -> [u8; 6]
+    ensures { result ≡ spec.value_column value }
+{
+    match value {
+        SymbolValue::Unknown => *b"******",
+        SymbolValue::Absolute(number) => octal6(number),
+        SymbolValue::Relocatable { place, section: _ } => octal6(place),
+        SymbolValue::Register(number) => octal6(number),
+    }
+}
+
+// What a value counts from.
+fn kind_character(value: SymbolValue) -> u8
+    ensures { result ≡ spec.kind_character value }
+{
+    match value {
+        SymbolValue::Unknown | SymbolValue::Absolute(_) => b' ',
+        SymbolValue::Relocatable { .. } => b'R',
+        SymbolValue::Register(_) => b'%',
+    }
+}
+
+// Whether a name is global.
+fn scope_character(is_global: bool) -> u8
+    ensures { result ≡ spec.scope_character is_global }
+{
+    if is_global { b'G' } else { b' ' }
+}
+
+// Adds the number of the section that a value counts from.
+fn put_section_number(line: &mut Line, value: SymbolValue)
+    requires { array_vec_len line.old ≤ 100 }
+    ensures items { line.new.items ≡ line.old.items ++ spec.section_column value }
+    ensures size { array_vec_len line.new ≡ array_vec_len line.old + 3 }
+{
+    match value {
+        SymbolValue::Relocatable { place: _, section } => put_number(line, section),
+        SymbolValue::Unknown => put_blanks(line, 3),
+        SymbolValue::Absolute(_) => put_blanks(line, 3),
+        SymbolValue::Register(_) => put_blanks(line, 3),
+    }
+}
+
+// Adds the number of a section.
+fn put_number(line: &mut Line, number: u8)
+    requires { array_vec_len line.old ≤ 100 }
+    ensures items { line.new.items ≡ line.old.items ++ spec.number_column number }
+    ensures size { array_vec_len line.new ≡ array_vec_len line.old + 3 }
+{
+    put_right(line, 3, Buffer::new().format(number).as_bytes());
+}
+
+/// The line of a name.
+pub fn symbol_line(symbol: &SymbolEntry) -> Line
+    ensures { result.items ≡ spec.symbol_line symbol.now }
+{
+    let mut line = Line::new();
+    put(&mut line, &symbol.name.characters());
+    put(&mut line, assignment(symbol.is_assigned));
+    put(&mut line, &value_digits(symbol.value));
+    let kind = kind_character(symbol.value);
+    let scope = scope_character(symbol.is_global);
+    put(&mut line, &[b' ', kind, scope, b' ']);
+    put_section_number(&mut line, symbol.value);
+    ended(line)
+}
+
+// The columns of a section before its attributes.
+fn section_columns(section: &SectionEntry) -> Line
+    ensures items { result.items ≡ spec.section_columns section.now }
+    ensures size { array_vec_len result ≡ 18 }
+{
+    let mut line = Line::new();
+    put(&mut line, &section.name.characters());
+    put(&mut line, b" ");
+    put(&mut line, &octal6(section.size));
+    put(&mut line, b" ");
+    put_number(&mut line, section.number);
+    put(&mut line, b" ");
+    line
+}
+
+/// The line of a section.
+pub fn section_line(section: &SectionEntry) -> Line
+    ensures { result.items ≡ spec.section_line section.now }
+{
+    let mut line = section_columns(section);
+    put_attributes(&mut line, section.attributes);
+    ended(line)
+}

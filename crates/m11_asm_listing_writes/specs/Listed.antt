@@ -1,0 +1,35 @@
+-- What the listing of an assembly has of its lines, and after them. (MACRO-11 Language Reference Manual, "Listing control directives" and
+-- "Table of contents and symbol table". That the counter which a line shows is that before it, is this project's own.)
+use Rattle.std.specs.Prelude.{ℕ, if◌then◌else◌, List, [], map as each}
+use Rattle.m11_asm_outputs.specs.Outputs.{Write, to_listing}
+use Rattle.m11_base.specs.Devices.{Bytes}
+use Rattle.m11_asm_listing.specs.Listing.{listed_lines}
+use Rattle.m11_scan.specs.ErrorFlags.{flags_text}
+use Rattle.m11_unfold_rules.specs.Unfolding.{Given}
+use Rattle.m11_asm_rules.specs.Items.{is_listed, items}
+use Rattle.m11_asm_rules.specs.Lines.{after_line, action, put_place, stands}
+use Rattle.m11_asm_rules.specs.Meanings.{Map}
+use Rattle.m11_asm_rules.specs.Tables.{Table, place}
+
+-- lines, one after the other
+abbrev pub all_to_listing : List Bytes → List Write
+all_to_listing lines = each to_listing lines
+
+-- ---- a line of the source, after a table
+
+-- its items lie from the place on where it puts them
+abbrev pub lines_of : Map → Table → ℕ → ℕ → Given → List Bytes
+lines_of map table flags number given =
+    listed_lines (flags_text flags) number (place table)
+    (put_place (stands table given) (action given.is_own given.live.line.text)) (items map table given) given.live.line.text
+
+-- the levels after it decide whether it is listed, where it isn't flagged
+unfoldable pub listing_writes : Map → Table → ℕ → ℕ → Given → List Write
+listing_writes map table flags number given =
+    if is_listed (after_line map table given) given flags then all_to_listing (lines_of map table flags number given) else []
+
+-- ---- the end
+
+-- an empty line that is added, with its flags, where the counter stands
+abbrev pub added_lines : ℕ → ℕ → ℕ → List Bytes
+added_lines flags number place = listed_lines (flags_text flags) number place place [] []

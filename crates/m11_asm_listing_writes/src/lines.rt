@@ -1,0 +1,66 @@
+//! The lines of a source line in the listing, where there is one. (MACRO-11 Language Reference Manual, "Listing control directives".)
+
+ghost use Rattle.std.specs.Prelude.{◌≡◌, ◌≤◌, length, take, drop};
+ghost use Rattle.m11_asm_listing.specs.Listing.{further_lines, listed_lines};
+ghost use Rattle.m11_scan.specs.ErrorFlags.{flags_text};
+ghost use Rattle.m11_scan.specs.Views.{bits_of};
+ghost use Rattle.m11_base_writes.specs.Outputs.{Output, optional_output};
+ghost use Rattle.m11_asm_outputs.specs.Outputs.{Writes, outputs};
+ghost use Rattle.m11_asm_listing_writes.specs.Listed.{all_to_listing};
+
+use m11_asm_faults::AsmFault;
+use m11_asm_listing::{Item, further_line, listed_line, place_after};
+use m11_asm_outputs::put_listing;
+use m11_base::Sink;
+use m11_scan::ErrorFlags;
+
+/// The lines of a source line: its flags, its number, the place of the counter before it, its items, which lie from another place on,
+/// and its text, which has at most 132 bytes.
+///
+/// Fault: `Write` of the listing.
+pub fn put_listed<T: Sink>(
+    listing: &mut Option<T>,
+    flags: ErrorFlags,
+    number: u16,
+    place: u16,
+    first_item_place: u16,
+    items: &[Item],
+    text: &[u8],
+) -> Result<(), AsmFault>
+    requires { length text.now ≤ 132 }
+    ensures { (object messages : Output) → Writes
+        (outputs object (optional_output T.Sink listing.old) messages)
+        (outputs object (optional_output T.Sink listing.new) messages)
+        (all_to_listing (listed_lines (flags_text (bits_of flags)) number place first_item_place items.now text.now)) result }
+{
+    let line = listed_line(flags.text().as_slice(), number, place, items, text);
+    put_listing(listing, line.as_slice())?;
+    let (shown, more) = three(items);
+    put_further(listing, place_after(first_item_place, shown), more)
+}
+
+// The first three items, and the others.
+fn three(items: &[Item]) -> (&[Item], &[Item])
+    ensures first { result.0.now ≡ take 3 items.now }
+    ensures more { result.1.now ≡ drop 3 items.now }
+{
+    items.split_at(items.len().min(3))
+}
+
+// The lines of further items, three on each.
+fn put_further<T: Sink>(listing: &mut Option<T>, place: u16, items: &[Item]) -> Result<(), AsmFault>
+    ensures { (object messages : Output) → Writes
+        (outputs object (optional_output T.Sink listing.old) messages)
+        (outputs object (optional_output T.Sink listing.new) messages)
+        (all_to_listing (further_lines place items.now)) result }
+{
+    let mut place = place;
+    let mut left = items;
+    'lines: while !left.is_empty() {
+        put_listing(listing, further_line(place, left).as_slice())?;
+        let (shown, more) = three(left);
+        place = place_after(place, shown);
+        left = more;
+    }
+    Ok(())
+}

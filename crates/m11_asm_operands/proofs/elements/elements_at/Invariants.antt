@@ -1,0 +1,16 @@
+use Rattle.std.proofs.Common.{◌≡◌, ◌≤◌, ◌+◌, ◌++◌, length}
+use Rattle.arrayvec.specs.ArrayVec.{array_vec_len}
+use Rattle.m11_asm_rules.specs.Elements.{elements_at, elements_within}
+use Rattle.m11_asm_operands.proofs.elements.elements_at.Given as goal
+
+abbrev pub invariant-elements : goal.invariant-elements
+invariant-elements l = record {
+  places :
+      l.places.items ++ (elements_within l.left l.line.text l.begin).places ≡ (elements_at l.line.text l.place).places;
+  end : (elements_within l.left l.line.text l.begin).end ≡ (elements_at l.line.text l.place).end;
+  room : array_vec_len l.places + l.left ≤ 133;
+  within : l.begin ≤ length l.line.text;
+}
+
+abbrev pub decreases-elements : goal.decreases-elements
+decreases-elements l = l.left

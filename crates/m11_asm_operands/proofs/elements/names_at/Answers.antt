@@ -1,0 +1,26 @@
+use Rattle.std.proofs.Common.{◌≡◌, ◌≤◌, suc, ◌-◌, List, ℕ, ◌∷◌, [], ◌++◌, length, sym, ap, ◌∙◌, subst, arith}
+use Rattle.std.proofs.lemmas.List.{append_assoc}
+use Rattle.m11_asm_rules.specs.Elements.{Names, names_within}
+use Rattle.m11_scan_statements.specs.declared.spans.Span.{Span}
+use Rattle.std.proofs.Common.{Option}
+use Rattle.m11_asm_operands.proofs.Listing.{name_on}
+use Rattle.m11_asm_operands.proofs.elements.names_at.Goals as goal
+
+pub names-preserved : goal.names-preserved
+names-preserved c =
+    let some = c.names-test.true in
+    let is : c.names.left ≡ suc (c.names.left - 1) = omega arith in
+    let line = c.args.line.now.text in
+    let more = names_within (c.names.left - 1) line c.from-begin.result in
+    let step = name_on line c.names.left (c.names.left - 1) c.names.begin is c.listed_name-element.result
+    c.listed_name-element.ensures.element c.from-begin.result c.from-begin.ensures c.if-not-element.false in
+    let P : ℕ → Type 0 = λ n. n ≤ length line in
+    record {
+      list =
+          ap (λ (l : List (Option Span)). l ++ more.list) c.push.ensures.items
+          ∙ append_assoc c.names.list.items (c.listed_name-element.result.name ∷ []) more.list
+          ∙ ap (λ (e : Names). c.names.list.items ++ e.list) (sym step) ∙ c.names.invariant.list;
+      end = ap (λ (e : Names). e.end) (sym step) ∙ c.names.invariant.end;
+      room = omega arith;
+      within = subst P (sym c.from-begin.ensures) c.listed_name-element.ensures.within;
+    }

@@ -1,0 +1,324 @@
+//! The fields of an instruction, as they stand in a line. (PDP-11/40 Processor Handbook, "Instruction set"; MACRO-11 Language Reference
+//! Manual, "Operand field".)
+
+ghost use Rattle.std.specs.Prelude.{◌≡◌, ◌≤◌, ◌*◌, ◌∷◌, [], length, IfSome, List, None};
+ghost use Rattle.m11_unfold_arguments.specs.Expressions.{IsAlone, has_expression, known_by};
+ghost use Rattle.m11_base.specs.Devices.{Bytes};
+ghost use Rattle.m11_asm_operands.specs.Reads.{alone, bytes_in, field_seen, fields_seen, places_in};
+ghost use Rattle.m11_asm_operands.specs.Terms.{AreTerms, IsFieldTerm};
+ghost use Rattle.m11_asm_rules.specs.Codes.{others};
+ghost use Rattle.m11_asm_rules.specs.Fields as spec;
+ghost use Rattle.m11_asm_rules.specs.Operands as operand;
+ghost use Rattle.m11_scan.specs.Views.{bits_of};
+
+use crate::operands::operand_at;
+use arrayvec::ArrayVec;
+use m11_asm_rules::{Field, FieldPlace, Form};
+use m11_base::Op;
+use m11_scan::{ErrorFlags, Line, Token};
+use m11_scan_values::Names;
+use m11_unfold_arguments::{after_comma, expression_end_at, has_expression, place_in};
+
+/// The fields of an instruction.
+#[derive(Drop)]
+pub struct Fields {
+    /// What stands in them, in the order in which they are written.
+    pub list: ArrayVec<Field, 2>,
+    /// The place after them.
+    pub end: u8,
+    /// A for each operand, register or target that is missing, and for each missing `)`.
+    pub flags: ErrorFlags,
+    /// The tokens of those that are one term.
+    pub terms: FieldTerms,
+}
+
+/// The tokens of the expressions in the fields of an instruction, each where the expression is found to be one term.
+#[derive(Clone, Copy)]
+pub struct FieldTerms {
+    /// The token of the first field, where it is one term.
+    pub first: Option<Token>,
+    /// The token of the second field, where it is one term.
+    pub second: Option<Token>,
+}
+
+impl FieldTerms {
+    /// No field is known to be one term.
+    pub fn none() -> FieldTerms
+        ensures { (line : Bytes) (fields : List Field) → AreTerms line fields result }
+    {
+        FieldTerms {
+            first: None,
+            second: None,
+        }
+    }
+
+    /// The tokens of the fields after the first one.
+    pub fn others(&self) -> FieldTerms
+        ensures { (line : Bytes) (fields : List Field) → AreTerms line fields self.now → AreTerms line (others fields) result }
+    {
+        FieldTerms {
+            first: self.second,
+            second: None,
+        }
+    }
+}
+
+// A field, as it stands in a line.
+#[derive(Clone, Copy)]
+pub struct FieldRead {
+    pub(crate) field: Field,
+    // The place after it.
+    pub(crate) end: u8,
+    pub(crate) flags: ErrorFlags,
+    // Its token, where it is one term.
+    pub(crate) term: Option<Token>,
+}
+
+// The fields that an operation has.
+#[derive(Clone, Copy)]
+pub enum Places {
+    Zero,
+    One(FieldPlace),
+    Two(FieldPlace, FieldPlace),
+}
+
+/// The fields of an operation, which begin at a place of a line, with a comma between two of them. The forms of operands are asked of
+/// names: those of the lines before.
+pub fn fields_at<N: Names>(line: &Line, start: usize, operation: Op, names: &N) -> Fields
+    requires { start ≤ length line.now.text }
+    ensures fields { fields_seen result
+        ≡ spec.fields_at (known_by (N.base names.now) (N.stands_for names.now)) line.now.text start operation }
+    ensures within { result.end ≤ length line.now.text }
+    ensures terms { AreTerms line.now.text result.list.items result.terms }
+{
+    match places_of(operation) {
+        Places::Zero => no_fields(line, start),
+        Places::One(place) => one_field(field_at(line, start, place, names)),
+        Places::Two(first, second) => {
+            let first = field_at(line, start, first, names);
+            let second = field_after(line, first.end, second, names);
+            two_fields(first, second)
+        }
+    }
+}
+
+// Which fields an operation has, in the order in which they are written.
+fn places_of(operation: Op) -> Places
+    ensures { places_in result ≡ spec.places_of operation }
+{
+    match operation {
+        Op::Double(_, _) => Places::Two(FieldPlace::Operand, FieldPlace::Operand),
+        Op::Extended(_) => Places::Two(FieldPlace::Operand, FieldPlace::Register),
+        Op::Register(_) => Places::Two(FieldPlace::Register, FieldPlace::Operand),
+        Op::Sob => Places::Two(FieldPlace::Register, FieldPlace::Target),
+        Op::Single(_, _) | Op::Call => Places::One(FieldPlace::Operand),
+        Op::Rts => Places::One(FieldPlace::Register),
+        Op::Number(_) => Places::One(FieldPlace::Number),
+        Op::Branch(_) => Places::One(FieldPlace::Target),
+        Op::Bare(_) | Op::Condition(_) | Op::Return | Op::Codes(_, _) => Places::Zero,
+    }
+}
+
+fn no_fields(line: &Line, place: usize) -> Fields
+    requires { place ≤ length line.now.text }
+    ensures fields { fields_seen result ≡ spec.no_fields place }
+    ensures within { result.end ≤ length line.now.text }
+    ensures terms { AreTerms line.now.text result.list.items result.terms }
+{
+    Fields {
+        list: ArrayVec::new(),
+        end: place_in(line, place),
+        flags: ErrorFlags::none(),
+        terms: FieldTerms::none(),
+    }
+}
+
+fn one_field(field: FieldRead) -> Fields
+    ensures fields { fields_seen result ≡ alone (field_seen field) }
+    ensures end { result.end ≡ field.end }
+    ensures terms { (line : Bytes) → IfSome field.term (λ term. IsFieldTerm line field.field term)
+        → AreTerms line result.list.items result.terms }
+{
+    let mut list = ArrayVec::new();
+    list.push(field.field);
+    Fields {
+        list,
+        end: field.end,
+        flags: field.flags,
+        terms: FieldTerms {
+            first: field.term,
+            second: None,
+        },
+    }
+}
+
+fn two_fields(first: FieldRead, second: FieldRead) -> Fields
+    ensures fields { fields_seen result ≡ spec.before (field_seen first) (alone (field_seen second)) }
+    ensures end { result.end ≡ second.end }
+    ensures terms { (line : Bytes) → IfSome first.term (λ term. IsFieldTerm line first.field term)
+        → IfSome second.term (λ term. IsFieldTerm line second.field term)
+        → AreTerms line result.list.items result.terms }
+{
+    let mut list = ArrayVec::new();
+    list.push(first.field);
+    list.push(second.field);
+    Fields {
+        list,
+        end: second.end,
+        flags: first.flags.with(second.flags),
+        terms: FieldTerms {
+            first: first.term,
+            second: second.term,
+        },
+    }
+}
+
+// The field that stands after another one: after its comma, or else it is missing.
+fn field_after<N: Names>(line: &Line, end: u8, place: FieldPlace, names: &N) -> FieldRead
+    requires { end ≤ length line.now.text }
+    ensures field { alone (field_seen result) ≡ spec.fields_after
+        (known_by (N.base names.now) (N.stands_for names.now)) line.now.text end (place ∷ []) }
+    ensures within { result.end ≤ length line.now.text }
+    ensures term { IfSome result.term (λ term. IsFieldTerm line.now.text result.field term) }
+{
+    match after_comma(line, usize::from(end)) {
+        Some(next) => field_at(line, usize::from(next), place, names),
+        None => missing(place, end),
+    }
+}
+
+// A field before which its comma is missing. Nothing stands in it.
+fn missing(place: FieldPlace, end: u8) -> FieldRead
+    ensures field { alone (field_seen result) ≡ spec.missing_fields end (place ∷ []) }
+    ensures end { result.end ≡ end }
+    ensures term { result.term ≡ None }
+{
+    match place {
+        FieldPlace::Operand => field_read(Field::Formed(Form::Absent), end, ErrorFlags::A),
+        FieldPlace::Register | FieldPlace::Target => field_read(Field::Missing, end, ErrorFlags::A),
+        FieldPlace::Number => field_read(Field::Missing, end, ErrorFlags::none()),
+    }
+}
+
+fn field_read(field: Field, end: u8, flags: ErrorFlags) -> FieldRead
+    ensures field { field_seen result ≡ spec.field_read field end (bits_of flags) }
+    ensures end { result.end ≡ end }
+    ensures term { result.term ≡ None }
+{
+    FieldRead {
+        field,
+        end,
+        flags,
+        term: None,
+    }
+}
+
+// The field at a place.
+#[tactic(auto, using(crate::proofs::Terms::registered_term, crate::proofs::Terms::targeted_term, crate::proofs::Terms::numbered_term))]
+fn field_at<N: Names>(line: &Line, start: usize, place: FieldPlace, names: &N) -> FieldRead
+    requires { start ≤ length line.now.text }
+    ensures field { field_seen result ≡ spec.field_at
+        (known_by (N.base names.now) (N.stands_for names.now)) line.now.text start place }
+    ensures within { result.end ≤ length line.now.text }
+    ensures term { IfSome result.term (λ term. IsFieldTerm line.now.text result.field term) }
+{
+    let begin = place_in(line, start);
+    match place {
+        FieldPlace::Operand => operand(line, start, names),
+        FieldPlace::Register => expression(line, begin, Field::Registered(begin), ErrorFlags::A),
+        FieldPlace::Target => expression(line, begin, Field::Targeted(begin), ErrorFlags::A),
+        FieldPlace::Number => expression(line, begin, Field::Numbered(begin), ErrorFlags::none()),
+    }
+}
+
+// The operand at a place.
+fn operand<N: Names>(line: &Line, start: usize, names: &N) -> FieldRead
+    requires { start ≤ length line.now.text }
+    ensures field { field_seen result ≡ spec.operand_read (operand.operand_at
+        (known_by (N.base names.now) (N.stands_for names.now)) line.now.text start) }
+    ensures within { result.end ≤ length line.now.text }
+    ensures term { IfSome result.term (λ term. IsFieldTerm line.now.text result.field term) }
+{
+    let operand = operand_at(line, start, names);
+    FieldRead {
+        field: Field::Formed(operand.form),
+        end: operand.end,
+        flags: operand.flags,
+        term: operand.term,
+    }
+}
+
+// A field that is an expression at a place, or with flags where none stands there.
+fn expression(line: &Line, start: u8, field: Field, flags: ErrorFlags) -> FieldRead
+    requires { start ≤ length line.now.text }
+    ensures field { field_seen result
+        ≡ spec.expression_read field (bits_of flags) line.now.text start }
+    ensures within { result.end ≤ length line.now.text }
+    ensures same { IfSome result.term (λ _. result.field ≡ field) }
+    ensures term { IfSome result.term (λ term. IsAlone line.now.text start term) }
+{
+    let expression_end = expression_end_at(line, usize::from(start));
+    if stands(line, start, expression_end.term) {
+        FieldRead {
+            field,
+            end: expression_end.end,
+            flags: ErrorFlags::none(),
+            term: expression_end.term,
+        }
+    } else {
+        FieldRead {
+            field: Field::Missing,
+            end: start,
+            flags,
+            term: None,
+        }
+    }
+}
+
+// Whether an expression stands at a place. Where it is found to be one term, this is its token, and no token need be cut.
+fn stands(line: &Line, start: u8, term: Option<Token>) -> bool
+    requires within { start ≤ length line.now.text }
+    requires term { IfSome term (λ term. IsAlone line.now.text start term) }
+    ensures { result ≡ has_expression line.now.text start }
+{
+    match term {
+        Some(_) => true,
+        None => has_expression(line, usize::from(start)),
+    }
+}
+
+/// How many words stand after an instruction for an operand.
+pub fn words_of(form: Form) -> u16
+    ensures words { result ≡ operand.words_of form }
+    ensures most { result ≤ 1 }
+{
+    match form {
+        Form::Absent | Form::InRegister(_, _) => 0,
+        Form::Indexed(_, _, _) | Form::Unindexed(_) | Form::AfterCounter(_, _) => 1,
+    }
+}
+
+/// The size of an instruction in bytes, by its fields: 2 to 6.
+pub fn instruction_size(fields: &[Field]) -> u16
+    requires { length fields.now ≤ 2 }
+    ensures { result ≡ operand.instruction_size (spec.forms_of fields.now) }
+{
+    let mut size = 2;
+    let mut rest = fields;
+    'fields: while let [field, others @ ..] = rest {
+        size += bytes_of(*field);
+        rest = others;
+    }
+    size
+}
+
+// How many bytes stand after an instruction for a field.
+fn bytes_of(field: Field) -> u16
+    ensures bytes { result ≡ bytes_in field }
+    ensures most { result ≤ 2 }
+{
+    match field {
+        Field::Formed(form) => words_of(form) * 2,
+        _ => 0,
+    }
+}

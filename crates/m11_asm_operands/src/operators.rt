@@ -1,0 +1,115 @@
+//! The operators that place something or change what is kept, by their names. (MACRO-11 Language Reference Manual, "Permanent symbol
+//! table".)
+
+ghost use Rattle.std.specs.Prelude.{◌≡◌, IfSome, IsTrue};
+ghost use Rattle.m11_base.specs.Instructions.{other_names, rows};
+ghost use Rattle.m11_base.specs.Mnemonics.{named_in, or_else};
+ghost use Rattle.m11_asm_operands.specs.Directives.{directive_named};
+ghost use Rattle.m11_asm_operands.specs.ListedOperations.{has_listed_operation};
+ghost use Rattle.m11_asm_rules.specs.Operators as spec;
+
+use crate::operations::operation_of;
+use m11_asm_rules::{Directive, DirectiveRow, Operator};
+use m11_scan::is_same_six;
+
+macro_rules! row {
+    ($name:literal, $directive:expr) => {
+        DirectiveRow {
+            name: *$name,
+            directive: $directive,
+        }
+    };
+}
+
+// The directives, each with its name of six characters.
+const DIRECTIVES: [DirectiveRow; 27] = [
+    row!(b".WORD ", Directive::Word),
+    row!(b".BYTE ", Directive::Byte),
+    row!(b".ASCII", Directive::Ascii),
+    row!(b".ASCIZ", Directive::Asciz),
+    row!(b".RAD50", Directive::Rad50),
+    row!(b".BLKB ", Directive::Blkb),
+    row!(b".BLKW ", Directive::Blkw),
+    row!(b".EVEN ", Directive::Even),
+    row!(b".ODD  ", Directive::Odd),
+    row!(b".LIMIT", Directive::Limit),
+    row!(b".RADIX", Directive::Radix),
+    row!(b".ASECT", Directive::Asect),
+    row!(b".CSECT", Directive::Csect),
+    row!(b".PSECT", Directive::Psect),
+    row!(b".GLOBL", Directive::Globl),
+    row!(b".WEAK ", Directive::Weak),
+    row!(b".TITLE", Directive::Title),
+    row!(b".IDENT", Directive::Ident),
+    row!(b".SBTTL", Directive::Sbttl),
+    row!(b".PAGE ", Directive::Page),
+    row!(b".LIST ", Directive::List),
+    row!(b".NLIST", Directive::Nlist),
+    row!(b".ENABL", Directive::Enabl),
+    row!(b".DSABL", Directive::Dsabl),
+    row!(b".NARG ", Directive::Narg),
+    row!(b".NCHR ", Directive::Nchr),
+    row!(b".END  ", Directive::End),
+];
+
+/// The operator of a name of six characters in upper case, with blanks where there are fewer: a directive, or else an instruction.
+#[tactic(auto, using(crate::proofs::NamedOperations::found_listed))]
+pub fn operator_named(name: &[u8; 6]) -> Option<Operator>
+    ensures operator { result ≡ spec.operator_named name.now }
+    ensures listed { IfSome result (λ operator. IsTrue (has_listed_operation operator)) }
+{
+    find_operator(name)
+}
+
+fn find_operator(name: &[u8; 6]) -> Option<Operator>
+    ensures { result ≡ spec.operator_named name.now }
+{
+    match directive_of(name) {
+        Some(directive) => Some(Operator::Directive(directive)),
+        None => instruction_of(name),
+    }
+}
+
+// The directive of a name.
+fn directive_of(name: &[u8; 6]) -> Option<Directive>
+    ensures { result ≡ directive_named name.now }
+{
+    // each begins so, and most operators don't
+    if name[0] != b'.' {
+        return None;
+    }
+    let found = DIRECTIVES.iter().find(|row| is_same_six(&row.name, name));
+    match found {
+        Some(row) => Some(row.directive),
+        None => None,
+    }
+}
+
+// The instruction of a name.
+fn instruction_of(name: &[u8; 6]) -> Option<Operator>
+    ensures { result ≡ spec.instruction_in (or_else (named_in rows name.now) (named_in other_names name.now)) }
+{
+    match operation_of(name) {
+        Some(operation) => Some(Operator::Instruction(operation)),
+        None => None,
+    }
+}
+
+/// Whether an operator puts words or leaves room for them, and so stands at an even place.
+pub fn is_even(operator: Operator) -> bool
+    ensures { result ≡ spec.is_even operator }
+{
+    match operator {
+        Operator::Instruction(_) => true,
+        Operator::Directive(directive) => is_even_directive(directive),
+    }
+}
+
+fn is_even_directive(directive: Directive) -> bool
+    ensures { result ≡ spec.is_even_directive directive }
+{
+    match directive {
+        Directive::Word | Directive::Rad50 | Directive::Blkw | Directive::Limit => true,
+        _ => false,
+    }
+}

@@ -1,0 +1,71 @@
+//! `.END`. (MACRO-11 Language Reference Manual, ".END directive".)
+
+ghost use Rattle.std.specs.Prelude.{◌≡◌, ◌≤◌, length, option_map};
+ghost use Rattle.std.specs.Int.RustNames.{bit_and};
+ghost use Rattle.m11_scan.specs.Views.{bits_of};
+ghost use Rattle.m11_scan_values.specs.Quantities.{quantity};
+ghost use Rattle.m11_asm_rules.specs.Exports as spec;
+
+use crate::assigning::known_value;
+use bitflags::Flags;
+use m11_asm_table::{Map, Table, register_flags};
+use m11_scan::{ErrorFlags, Line, expression_end};
+use m11_scan_values::Value;
+use m11_unfold_arguments::{has_expression, left_over, skip_flags};
+
+/// The address where the program begins, if a `.END` has one.
+pub fn transfer(map: &Map<'_>, table: &Table, line: &Line, start: usize) -> Option<Value>
+    requires { start ≤ length line.now.text }
+    ensures { option_map quantity result ≡ spec.transfer map.now table.now line.now.text start }
+{
+    if has_expression(line, start) {
+        Some(known_value(map, table, line, start))
+    } else {
+        None
+    }
+}
+
+// A, D, R and U: names decide them.
+const DECIDED_BY_NAMES: u16 = 0o24005;
+
+// N, Q and T: whatever names stand for, the value of an expression has the same ones.
+const DECIDED_BY_TEXT: u16 = 0o12200;
+
+/// The flags of that address which names decide, and R for a register.
+pub fn transfer_flags(address: Option<Value>) -> ErrorFlags
+    ensures { bits_of result ≡ spec.transfer_flags (option_map quantity address) }
+{
+    match address {
+        Some(value) => among(
+            value.flags.with(register_flags(value.kind)),
+            DECIDED_BY_NAMES,
+        ),
+        None => ErrorFlags::none(),
+    }
+}
+
+// The flags of an expression that its text decides.
+fn expression_flags(address: Option<Value>) -> ErrorFlags
+    ensures { bits_of result ≡ spec.expression_flags (option_map quantity address) }
+{
+    match address {
+        Some(value) => among(value.flags, DECIDED_BY_TEXT),
+        None => ErrorFlags::none(),
+    }
+}
+
+fn among(flags: ErrorFlags, set: u16) -> ErrorFlags
+    ensures { bits_of result ≡ bit_and (bits_of flags) set }
+{
+    ErrorFlags::from_bits_retain(flags.bits() & set)
+}
+
+/// The flags of the text of a `.END`: those of its expression that names don't decide, of what is skipped, and of what is left over.
+pub fn end_flags(map: &Map<'_>, table: &Table, line: &Line, start: usize) -> ErrorFlags
+    requires { start ≤ length line.now.text }
+    ensures { bits_of result ≡ spec.end_flags map.now table.now line.now.text start }
+{
+    let end = expression_end(line, start);
+    let rest = skip_flags(line, start, end).with(left_over(line, end));
+    expression_flags(transfer(map, table, line, start)).with(rest)
+}

@@ -1,0 +1,48 @@
+//! Whole runs over known sources.
+
+ghost use Rattle.std.specs.Prelude.{List, Result};
+ghost use Rattle.m11_asm.specs.Outcome.{Outcome};
+ghost use Rattle.m11_asm.specs.Passes.{pass_of};
+ghost use Rattle.m11_asm.specs.Run.{AsmRuns};
+ghost use Rattle.m11_asm.specs.declared.done.AsmDone.{AsmDone};
+ghost use Rattle.m11_asm_faults.specs.declared.fault.AsmFault.{AsmFault};
+ghost use Rattle.m11_asm_outputs.specs.Outputs.{Outputs};
+ghost use Rattle.m11_base.specs.Devices.{Bytes};
+ghost use Rattle.m11_asm_outcome_laws.specs.Beginnings.{AreKnown, IsDecided};
+ghost use Rattle.m11_asm_outcome_laws.specs.Live.{ComesTo};
+ghost use Rattle.m11_asm_outcome_laws.specs.Sources.{AssembleTo};
+
+use m11_asm_pass_laws::{
+    a_pass_has_one_end, a_second_pass_over_the_same_lines_passes_no_limit,
+    the_same_lines_are_read_alike,
+};
+use m11_base::Feed;
+
+/// Where both passes get the same known bytes, their outcome decides the run. If they are assembled, a run that is Ok has written
+/// exactly what the outcome says, to the object, the listing and the messages, and no other faults come than `Read`, `Write` and
+/// `NoMemory`, after which each of the three has a beginning of that, and no other bytes. If they are refused, the run returns
+/// that refusal, `Read` or `NoMemory`, and writes nothing.
+pub fn known_sources_decide_the_run<F: Feed>()
+    ensures { (first again second later : List F) (sources : List Bytes) (outcome : Outcome) (old new : Outputs)
+        (returned : Result AsmDone AsmFault) → AssembleTo sources outcome → AreKnown F.text first sources
+        → AreKnown F.text second sources
+        → AsmRuns (pass_of F.text F.faults first again) (pass_of F.text F.faults second later) old new returned
+        → IsDecided outcome old new returned }
+{
+    a_pass_has_one_end();
+    the_same_lines_are_read_alike();
+    a_second_pass_over_the_same_lines_passes_no_limit();
+}
+
+/// Where both passes get the same known bytes, a run that is Ok has written exactly what their live lines write, each record of the object
+/// fits its block, and these lines are those of the first pass. Of any other run a device or memory was refused, or its fault is the first
+/// refusal of the sources.
+pub fn known_sources_write_their_live_lines<F: Feed>()
+    ensures { (first again second later : List F) (sources : List Bytes) (old new : Outputs) (returned : Result AsmDone AsmFault)
+        → AreKnown F.text first sources → AreKnown F.text second sources
+        → AsmRuns (pass_of F.text F.faults first again) (pass_of F.text F.faults second later) old new returned
+        → ComesTo sources old new returned }
+{
+    the_same_lines_are_read_alike();
+    a_second_pass_over_the_same_lines_passes_no_limit();
+}

@@ -1,0 +1,167 @@
+-- Under a map that solves a source, each label that is the first of its key stands where the map has it.
+use Rattle.std.proofs.Common.{◌≡◌, ◌∙◌, ℕ, ◌&&◌, not, Bool, true, false, List, [], ◌∷◌, ◌++◌, append_assoc, Option, Some, None, refl, ap, subst}
+use Rattle.std.proofs.lemmas.Bool.{eq-eqb}
+use Rattle.std.proofs.lemmas.List.{map-append}
+use Rattle.std.specs.Int.RustNames.{bit_or}
+use Rattle.std.specs.Option.{is_some}
+use Rattle.std.specs.Prelude.{if◌then◌else◌, ◌==◌}
+use Rattle.m11_base.specs.Devices.{Bytes}
+use Rattle.m11_base.proofs.SameNames.{same_name_itself}
+use Rattle.m11_base.specs.Rad50.{Name, is_same_name}
+use Rattle.m11_scan_lines.specs.Line.{SourceLine}
+use Rattle.m11_asm_lines.specs.declared.counting.Counting.{Counting}
+use Rattle.m11_asm_passes.specs.Lines.{Numbered, PassLines, givens}
+use Rattle.m11_asm_passes.specs.Lines as lines
+use Rattle.m11_asm_rules.specs.Definitions.{firm_part, firm_standing, is_defined, last_definition}
+use Rattle.m11_asm_rules.specs.Equation.{Solves, is_label_or_firm, label_or_value, label_or_value_of}
+use Rattle.m11_asm_rules.specs.Labels.{global_if, label_name, labelled, with_block, with_definition, with_doubly_defined, with_kind, with_label, with_labels, with_name}
+use Rattle.m11_asm_rules.specs.Lines.{after_line, line_change, stands}
+use Rattle.m11_asm_rules.specs.Meanings.{Map}
+use Rattle.m11_asm_rules.specs.Placements.{after_lines, program_map, table_after}
+use Rattle.m11_asm_rules.specs.Tables.{Table, firm_table, first_table, kind_here, place, section_name}
+use Rattle.m11_asm_rules.specs.declared.definitions.Definition.{Definition}
+use Rattle.m11_asm_rules.specs.declared.definitions.Key.{Key}
+use Rattle.m11_asm_rules.specs.declared.definitions.Key.TheVariants.{Named}
+use Rattle.m11_asm_rules.specs.declared.definitions.Key.TheVariants as of_key
+use Rattle.m11_asm_rules.specs.declared.definitions.Standing.{Standing}
+use Rattle.m11_asm_rules.specs.declared.definitions.Standing.TheVariants.{Known}
+use Rattle.m11_asm_lines.specs.Moved.{is_at, is_in, is_place_of, flag_P, moved_key, moved_kind, moved_flags, moved_name}
+use Rattle.m11_scan_statements.specs.Labels.{labels_at}
+use Rattle.m11_scan_statements.specs.Statements.{flag_if}
+use Rattle.m11_scan_statements.specs.declared.labels.Label.{Label}
+use Rattle.m11_scan_statements.specs.declared.labels.LabelKind.{LabelKind}
+use Rattle.m11_scan_statements.specs.declared.labels.LabelKind.TheVariants as kind
+use Rattle.m11_unfold_rules.specs.Stages.{Stage}
+use Rattle.m11_unfold_rules.specs.Unfolding.{Given}
+use Rattle.m11_asm_pass_laws.proofs.Freely.{begins_with}
+use Rattle.m11_asm_pass_laws.proofs.Labelled.{StandsIn, change_stays, labels_stay, lines_stay, stands_now}
+use Rattle.m11_asm_pass_laws.proofs.KnownAlike.{PlaceAlike, after_both}
+use Rattle.m11_asm_pass_laws.specs.Beginnings.{BeginWith}
+use Rattle.m11_asm_pass_laws.specs.Ends.{EndsAfter}
+use Rattle.m11_asm_pass_laws.specs.Second.{map_from, moved_after}
+
+-- labels of the first table stand in the second
+abbrev Keeps : Table → Table → Type 0
+Keeps table final = (key : Key) (label : Definition) → is_some label.label ≡ true → StandsIn key label table → StandsIn key label final
+
+-- ---- a place is the place of itself
+
+same_place : (table : Table) → (is_same_name (section_name table) (section_name table) && (place table == place table)) ≡ true
+same_place table =
+    ap (λ (b : Bool). b && (place table == place table)) (same_name_itself (section_name table))
+    ∙ eq-eqb (place table) (place table) refl
+
+standing_by : (is_firm : Bool) (standing known : Standing) → is_firm ≡ true → firm_standing is_firm standing ≡ known → standing ≡ known
+standing_by true standing known firm same = same
+standing_by false standing known firm same = absurd (cc)
+
+part_of : (is_asked : Bool) (part label : Definition) → (if is_asked then Some part else None) ≡ Some label → part ≡ label
+part_of true part label same = cc
+part_of false part label same = absurd (cc)
+
+found_place : (table : Table) (key : Key) (found : Option Definition) → label_or_value found ≡ Some (labelled table key)
+    → is_place_of table found ≡ true
+found_place table key None same = absurd (cc)
+found_place table key (Some definition) same =
+    let part : firm_part definition ≡ labelled table key
+    = part_of (is_label_or_firm definition) (firm_part definition) (labelled table key) same in
+    ap (λ (label : Option Name). is_in (section_name table) label && is_at (place table) definition.standing)
+    (ap (λ (d : Definition). d.label) part)
+    ∙ ap (λ (standing : Standing). is_in (section_name table) (Some (section_name table)) && is_at (place table) standing)
+    (standing_by definition.is_firm definition.standing (Known (place table) (kind_here table))
+    (ap (λ (d : Definition). d.is_firm) part) (ap (λ (d : Definition). d.standing) part))
+    ∙ same_place table
+
+-- ---- the labels of a line
+
+module _ (map : Map) (final : Table)
+    (solves : (key : Key) → label_or_value_of key map.definitions ≡ label_or_value_of key final.definitions) where
+  unmoved_by : (is_known is_place : Bool) → (is_known ≡ false → is_place ≡ true)
+      → flag_if (not is_known && not is_place) flag_P ≡ 0
+  unmoved_by true is_place found = refl
+  unmoved_by false true found = refl
+  unmoved_by false false found = absurd (let same = found refl in cc same)
+
+  key_unmoved : (table : Table) (key : Key) → (is_defined key table.definitions ≡ false → StandsIn key (labelled table key) final)
+      → moved_key map table key ≡ 0
+  key_unmoved table key stands =
+      unmoved_by (is_defined key table.definitions) (is_place_of table (last_definition key map.definitions))
+      (λ none. found_place table key (last_definition key map.definitions) (solves key ∙ ap label_or_value (stands none)))
+
+  -- a label of a key that has no definition defines it
+  name_by : (is_there is_global : Bool) (table : Table) (name : Name) → is_there ≡ false
+      → StandsIn (Named name) (labelled table (Named name)) (if is_there then with_doubly_defined (Named name) table
+      else global_if is_global name (with_block (with_definition (labelled table (Named name)) table)))
+  name_by true is_global table name none = absurd (cc)
+  name_by false true table name none = stands_now (Named name) (labelled table (Named name)) table refl
+  name_by false false table name none = stands_now (Named name) (labelled table (Named name)) table refl
+
+  key_by : (is_there : Bool) (table : Table) (key : Key) → is_there ≡ false
+      → StandsIn key (labelled table key) (if is_there then with_doubly_defined key table else with_definition (labelled table key) table)
+  key_by true table key none = absurd (cc)
+  key_by false table key none = stands_now key (labelled table key) table refl
+
+  name_unmoved : (is_global : Bool) (table : Table) (name : Option Name) → Keeps (with_name is_global table name) final
+      → moved_name map table name ≡ 0
+  name_unmoved is_global table (Some name) keeps =
+      key_unmoved table (Named name) (λ none. keeps (Named name) (labelled table (Named name)) refl
+      (name_by (is_defined (Named name) table.definitions) is_global table name none))
+  name_unmoved is_global table None keeps = refl
+
+  kind_unmoved : (table : Table) (name : Option Name) (of : LabelKind) → Keeps (with_kind table name of) final
+      → moved_kind map table name of ≡ 0
+  kind_unmoved table name kind.Ordinary keeps = name_unmoved false table name keeps
+  kind_unmoved table name kind.Global keeps = name_unmoved true table name keeps
+  kind_unmoved table name (kind.Local number) keeps =
+      let key : Key = of_key.Numbered table.modes.block number in
+      key_unmoved table key (λ none. keeps key (labelled table key) refl
+      (key_by (is_defined key table.definitions) table key none))
+  kind_unmoved table name kind.Outside keeps = refl
+
+  labels_unmoved : (line : Bytes) (table : Table) (labels : List Label) → Keeps (with_labels line table labels) final
+      → moved_flags map line table labels ≡ 0
+  labels_unmoved line table [] keeps = refl
+  labels_unmoved line table (named ∷ labels) keeps =
+      let here : moved_kind map table (label_name line named) named.kind ≡ 0
+      = kind_unmoved table (label_name line named) named.kind (λ key label is_label stood.
+      keeps key label is_label (labels_stay key label is_label line (with_label line table named) labels stood)) in
+      ap (λ (n : ℕ). bit_or n (moved_flags map line (with_label line table named) labels)) here
+      ∙ ap (bit_or 0) (labels_unmoved line (with_label line table named) labels keeps)
+
+-- ---- a line among others
+
+line_unmoved : (map : Map) (before more : List Given) (one : Given) → Solves map (before ++ one ∷ more)
+    → moved_flags map one.live.line.text (table_after map before) (labels_at one.live.line.text) ≡ 0
+line_unmoved map before more one solves =
+    let table : Table = table_after map before in
+    let final : Table = table_after map (before ++ one ∷ more) in
+    let whole : final ≡ after_lines map (after_line map table one) more = after_both map before (one ∷ more) first_table in
+    labels_unmoved map final solves one.live.line.text table (labels_at one.live.line.text) (λ key label is_label stood.
+    ap (λ (t : Table). last_definition key t.definitions) whole
+    ∙ lines_stay key label is_label map (after_line map table one) more
+    (change_stays key label is_label map one.live.line.text (line_change (firm_table (stands table one)) one) (stands table one) stood))
+
+pub none_moved : (map : Map) (before more : List Numbered) (one : Numbered) → Solves map (givens (before ++ one ∷ more))
+    → moved_after map before one ≡ 0
+none_moved map before more one solves =
+    let same : givens (before ++ one ∷ more) ≡ givens before ++ one.given ∷ givens more
+    = map-append lines.given_in before (one ∷ more) in
+    line_unmoved map (givens before) (givens more) one.given (subst (Solves map) same solves)
+
+-- ---- in a second pass over the lines of a first one
+
+-- the map of a source solves it
+abbrev pub MapSolves : Type 0
+MapSolves = (lines : List Given) → Solves (program_map lines) lines
+
+pub none_moves : PlaceAlike → MapSolves → (one : Map) (counting others : Counting) (all source read rest : List SourceLine)
+    (lines later before more : List Numbered) (this : Numbered) (stage after : Stage) → EndsAfter one counting all source lines stage
+    → PassLines (map_from lines) others read later after → read ++ rest ≡ all → later ≡ before ++ this ∷ more
+    → moved_after (map_from lines) before this ≡ 0
+none_moves alike solves one counting others all source read rest lines later before more this stage after ends passes whole parts =
+    let begins : BeginWith lines later
+    = begins_with alike one (map_from lines) counting others all source lines stage ends read rest later after passes whole in
+    let same : lines ≡ before ++ this ∷ (more ++ begins.0)
+    = begins.1 ∙ ap (λ (ls : List Numbered). ls ++ begins.0) parts ∙ append_assoc before (this ∷ more) begins.0 in
+    none_moved (map_from lines) before (more ++ begins.0) this
+    (subst (λ (ls : List Numbered). Solves (map_from lines) (givens ls)) same (solves (givens lines)))

@@ -1,0 +1,304 @@
+-- A live line goes through the calls of a pass as its definition says.
+use Rattle.std.proofs.Common.{◌≡◌, ◌∙◌, ◌<◌, ◌≤◌, ℕ, ◌||◌, Bool, true, false, if◌then◌else◌, List, ◌++◌, length, map, append_assoc, Option, Some, None, refl, sym, ap, subst, arith}
+use Rattle.std.proofs.lemmas.Bool.Decides.{nat_tests}
+use Rattle.std.specs.Prelude.{nat_lt}
+use Rattle.m11_unfold_arguments.specs.Expressions.{Known}
+use Rattle.m11_unfold_arguments.specs.Notes.{Notes}
+use Rattle.m11_asm_faults.specs.Faults.{of_unfolding}
+use Rattle.m11_asm_faults.specs.declared.fault.AsmFault.TheVariants.{TooManySymbols, TooManySections}
+use Rattle.m11_base.specs.Devices.{Bytes}
+use Rattle.m11_base.specs.Rad50.{Name}
+use Rattle.m11_unfold_rules.specs.Acting.{act, act_fault}
+use Rattle.m11_unfold_rules.specs.Stages.{Stage}
+use Rattle.m11_unfold_rules.specs.Taking.{Live}
+use Rattle.m11_unfold_rules.specs.Unfolding.{Given}
+use Rattle.m11_unfold_rules.specs.declared.fault.UnfoldFault.{UnfoldFault}
+use Rattle.m11_unfold_bodies.specs.Left.{argument_count}
+use Rattle.m11_asm_rules.specs.Assignments.{assigned, with_assigned}
+use Rattle.m11_asm_rules.specs.Changes.{Change, Keeps, Counts, Selects, Assigns, Numbers, Exports, Sets, becomes_global, changed, numbered}
+use Rattle.m11_asm_rules.specs.Definitions.{is_labelled}
+use Rattle.m11_asm_rules.specs.Contents.{Put}
+use Rattle.m11_asm_rules.specs.Labels.{global_if, labels_stand, with_definition, with_doubly_defined}
+use Rattle.m11_asm_rules.specs.declared.definitions.Key.TheVariants.{Named}
+use Rattle.m11_asm_rules.specs.Limits as limits
+use Rattle.m11_asm_rules.specs.Limits.{has_too_many, limit_fault, most_defined_names, most_local_symbols, most_names, most_sections}
+use Rattle.m11_asm_rules.specs.Lines.{after_line, action, line_change, line_put, put_by, stands}
+use Rattle.m11_asm_rules.specs.Meanings.{Map, empty_map, firm_known}
+use Rattle.m11_asm_rules.specs.declared.meanings.Context.TheVariants.{LocalOnly}
+use Rattle.m11_asm_rules.specs.SymbolUses.{SymbolUse, action_uses, symbol_use, symbol_uses}
+use Rattle.m11_asm_rules.specs.Tables.{Table, firm_table, place}
+use Rattle.m11_asm_rules.specs.declared.sections.Section.{Section}
+use Rattle.m11_asm_rules.specs.Unfolded.{known_after_labels}
+use Rattle.m11_asm_lines.proofs.Alike.{alike_known, alike_place}
+use Rattle.m11_asm_lines.proofs.Gathering.{all_joined}
+use Rattle.m11_asm_lines.proofs.LinesAlike.{firm_alike}
+use Rattle.m11_asm_lines.proofs.LinesTaken.{changes_as, line_used, line_written}
+use Rattle.m11_asm_lines.proofs.Room.{few_told}
+use Rattle.m11_asm_lines.specs.Lines.{uses_by}
+use Rattle.m11_asm_lines.specs.Counting.{names_counted, with_counted}
+use Rattle.m11_asm_lines.specs.declared.counting.Counting.{Counting}
+use Rattle.m11_asm_lines.specs.declared.counting.Counting.TheVariants.{SymbolUses, Definitions}
+use Rattle.m11_asm_lines.specs.Passes.{Follows, Kept, Matches}
+use Rattle.m11_asm_table.specs.Alike.{Alike}
+use Rattle.m11_asm_passes.specs.Lines.{acted}
+use Rattle.m11_asm_passes.specs.Operated.{change_after, uses_after}
+use Rattle.m11_asm_passes.specs.Refusals.{given_by, labels_fault, line_fault, uses_of_labels, of_limit}
+
+-- ---- what unfolding is told
+
+told_alike : (one other : Table) → Alike one other → known_after_labels one ≡ known_after_labels other
+told_alike one other alike =
+    alike_known (firm_table one) (firm_table other) (firm_alike one other alike) empty_map LocalOnly (place one)
+    ∙ ap (λ (p : ℕ). firm_known other p) (alike_place one other alike)
+
+-- ---- limits
+
+pub within : (most some : ℕ) → some ≤ most → nat_lt most some ≡ false
+within most some few = grind (arith, nat_tests, few)
+
+past : (most some : ℕ) → most < some → nat_lt most some ≡ true
+past most some many = grind (arith, nat_tests, many)
+
+pub fits_limits : (names : List Name) (table : Table) → length names ≤ most_names → has_too_many table ≡ false
+    → length table.sections ≤ most_sections → limit_fault names table ≡ None
+fits_limits names table few room sections =
+    limit_by (nat_lt most_names (length names)) (has_too_many table) (nat_lt most_sections (length table.sections))
+    (within most_names (length names) few) room ∙ ap (λ (b : Bool). if b then Some limits.TooManySections else None)
+    (within most_sections (length table.sections) sections)
+  where
+    limit_by : (names many sections : Bool) → names ≡ false → many ≡ false
+        → (if names || many then Some limits.TooManySymbols else (if sections then Some limits.TooManySections else None))
+        ≡ (if sections then Some limits.TooManySections else None)
+    limit_by names many sections few room =
+        ap (λ (b : Bool). if b || many then Some limits.TooManySymbols else (if sections then Some limits.TooManySections else None)) few
+        ∙ ap (λ (b : Bool). if b then Some limits.TooManySymbols else (if sections then Some limits.TooManySections else None)) room
+
+names_past : (names : List Name) (table : Table) → most_names < length names
+    → of_limit (limit_fault names table) ≡ Some TooManySymbols
+names_past names table many = rw (past most_names (length names) many) refl
+
+or_true : (b : Bool) → (b || true) ≡ true
+or_true true = refl
+or_true false = refl
+
+-- the table has too many names or local symbols
+table_past : (names : List Name) (table : Table) → has_too_many table ≡ true
+    → of_limit (limit_fault names table) ≡ Some TooManySymbols
+table_past names table many =
+    ap (λ (b : Bool). of_limit (if b then Some limits.TooManySymbols
+    else (if nat_lt most_sections (length table.sections) then Some limits.TooManySections else None)))
+    (ap (λ (b : Bool). nat_lt most_names (length names) || b) many ∙ or_true (nat_lt most_names (length names)))
+
+sections_past : (names : List Name) (table : Table) → length names ≤ most_names → has_too_many table ≡ false
+    → most_sections < length table.sections → of_limit (limit_fault names table) ≡ Some TooManySections
+sections_past names table few room many =
+    ap (λ (b : Bool). of_limit (if b then Some limits.TooManySymbols
+    else (if nat_lt most_sections (length table.sections) then Some limits.TooManySections else None)))
+    (ap (λ (b : Bool). b || has_too_many table) (within most_names (length names) few) ∙ room)
+    ∙ ap (λ (b : Bool). of_limit (if b then Some limits.TooManySections else None)) (past most_sections (length table.sections) many)
+
+-- ---- a change after which there are more sections than may be selects one, so that it defines nothing
+
+too_few : (some : ℕ) → some ≤ most_sections → most_sections < some → ⊥
+too_few some few many = omega (arith, few, many)
+
+choice_sections : (choice : Bool) (one other : Table) (sections : List Section) → one.sections ≡ sections → other.sections ≡ sections
+    → (if choice then one else other).sections ≡ sections
+choice_sections true one other sections first second = first
+choice_sections false one other sections first second = second
+
+global_sections : (is_global : Bool) (name : Name) (table : Table) → (global_if is_global name table).sections ≡ table.sections
+global_sections true name table = refl
+global_sections false name table = refl
+
+selects_only : (map_ : Map) (line : Bytes) (change : Change) (table : Table) → length table.sections ≤ most_sections
+    → most_sections < length (changed map_ line change table).sections
+    → has_too_many (changed map_ line change table) ≡ has_too_many table
+selects_only map_ line Keeps table few many = refl
+selects_only map_ line (Counts move) table few many = refl
+selects_only map_ line (Selects name attributes) table few many = refl
+selects_only map_ line (Assigns name is_global start) table few many =
+    let M : List Section → Type 0 = λ l. most_sections < length l in
+    absurd (too_few (length table.sections) few
+    (subst M (global_sections (becomes_global is_global name table) name (with_assigned map_ (Named name) line start table)
+    ∙ choice_sections (is_labelled (Named name) table.definitions) (with_doubly_defined (Named name) table)
+    (with_definition (assigned map_ table (Named name) line start) table) table.sections refl refl) many))
+selects_only map_ line (Numbers name number) table few many =
+    let M : List Section → Type 0 = λ l. most_sections < length l in
+    absurd (too_few (length table.sections) few
+    (subst M (choice_sections (is_labelled (Named name) table.definitions) (with_doubly_defined (Named name) table)
+    (with_definition (numbered name number) table) table.sections refl refl) many))
+selects_only map_ line (Exports start) table few many = refl
+selects_only map_ line (Sets modes) table few many = refl
+
+-- ---- mentions in two parts
+
+counted_joined : (first second : List SymbolUse) (counting : Counting)
+    → with_counted (first ++ second) counting ≡ with_counted second (with_counted first counting)
+counted_joined first second (SymbolUses gathered) = ap SymbolUses (all_joined first second gathered)
+counted_joined first second Definitions = refl
+
+used_then : (table : Table) (given : Given) (counting : Counting)
+    → with_counted (symbol_uses table given) counting
+    ≡ with_counted (map (symbol_use LocalOnly) given.notes.symbols ++ uses_by (stands table given) given)
+    (with_counted (uses_of_labels given.live.line.text) counting)
+used_then table given counting =
+    ap (λ (ms : List SymbolUse). with_counted ms counting)
+    (append_assoc (uses_of_labels given.live.line.text) (map (symbol_use LocalOnly) given.notes.symbols)
+    (uses_by (stands table given) given))
+    ∙ counted_joined (uses_of_labels given.live.line.text)
+    (map (symbol_use LocalOnly) given.notes.symbols ++ uses_by (stands table given) given) counting
+
+-- ---- one line, by the table before it
+
+-- what the operator of a line did, as unfolding gave it
+pub record Act : Type 0 where
+  pub is_own : Bool
+  pub notes : Notes
+  pub arguments : Option ℕ
+
+pub record IsActOf (known : Known) (text : Bytes) (before after : Stage) (done : Act) : Type 0 where
+  pub fits : act_fault before text ≡ None
+  pub stage_is : after ≡ (act known before text).after
+  pub own_is : done.is_own ≡ (act known before text).is_own
+  pub notes_are : done.notes ≡ (act known before text).notes
+  pub arguments_are : done.arguments ≡ argument_count before.left
+
+module _ (map_ : Map) (table : Table) (live : Live) (before after : Stage) (done : Act) (stood : Kept) (counting : Counting)
+    (stand : Matches stood (labels_stand table live.line.text))
+    (acts : IsActOf (known_after_labels stood.table) live.line.text before after done) where
+  abbrev text : Bytes
+  text = live.line.text
+
+  abbrev line : Given
+  line = given_by table live before
+
+  known_so : known_after_labels stood.table ≡ line.known
+  known_so = told_alike stood.table (labels_stand table text) stand.alike
+
+  own_so : done.is_own ≡ line.is_own
+  own_so = acts.own_is ∙ ap (λ (k : Known). (act k before text).is_own) known_so
+
+  pub notes_so : done.notes ≡ line.notes
+  notes_so = acts.notes_are ∙ ap (λ (k : Known). (act k before text).notes) known_so
+
+  pub stage_so : after ≡ acted table live before
+  stage_so = acts.stage_is ∙ ap (λ (k : Known). (act k before text).after) known_so
+
+  pub action_so : action done.is_own text ≡ action line.is_own text
+  action_so = ap (λ (b : Bool). action b text) own_so
+
+  put_so : put_by map_ stood.table text done.arguments (action done.is_own text) ≡ line_put map_ (stands table line) line
+  put_so =
+      ap (λ (b : Bool). put_by map_ stood.table text done.arguments (action b text)) own_so
+      ∙ ap (λ (n : Option ℕ). put_by map_ stood.table text n (action line.is_own text)) acts.arguments_are
+      ∙ line_written stood map_ table line stand
+
+  pub puts : (put : Put) → put ≡ put_by map_ stood.table text done.arguments (action done.is_own text)
+      → put ≡ line_put map_ (stands table line) line
+  puts put e = e ∙ put_so
+
+  operator_uses_so : action_uses stood.table text done.arguments (action done.is_own text) ≡ uses_by (stands table line) line
+  operator_uses_so =
+      ap (λ (b : Bool). action_uses stood.table text done.arguments (action b text)) own_so
+      ∙ ap (λ (n : Option ℕ). action_uses stood.table text n (action line.is_own text)) acts.arguments_are
+      ∙ line_used stood table line stand
+
+  uses_so : uses_after stood.table text done.notes done.arguments (action done.is_own text)
+      ≡ map (symbol_use LocalOnly) line.notes.symbols ++ uses_by (stands table line) line
+  uses_so =
+      ap (λ (n : Notes). map (symbol_use LocalOnly) n.symbols ++ action_uses stood.table text done.arguments (action done.is_own text)) notes_so
+      ∙ ap (λ (ms : List SymbolUse). map (symbol_use LocalOnly) line.notes.symbols ++ ms) operator_uses_so
+
+  pub counting_so : with_counted (uses_after stood.table text done.notes done.arguments (action done.is_own text))
+      (with_counted (uses_of_labels text) counting) ≡ with_counted (symbol_uses table line) counting
+  counting_so =
+      ap (λ (ms : List SymbolUse). with_counted ms (with_counted (uses_of_labels text) counting)) uses_so
+      ∙ sym (used_then table line counting)
+
+  change_so : change_after stood.table text done.arguments (action done.is_own text)
+      ≡ change_after stood.table text line.arguments (action line.is_own text)
+  change_so =
+      ap (λ (b : Bool). change_after stood.table text done.arguments (action b text)) own_so
+      ∙ ap (λ (n : Option ℕ). change_after stood.table text n (action line.is_own text)) acts.arguments_are
+
+  -- ---- a refusal
+
+  module _ (fits : labels_fault counting table text ≡ None) where
+    -- unfolding refuses
+    acting_refused : (fault : UnfoldFault) → act_fault before text ≡ Some fault
+        → line_fault map_ table counting live before ≡ Some (of_unfolding fault)
+    acting_refused fault refused = rw (fits, refused) refl
+
+    -- what is mentioned passes a limit
+    pub uses_refused : most_names < length (names_counted (with_counted (uses_after stood.table text done.notes done.arguments
+        (action done.is_own text)) (with_counted (uses_of_labels text) counting)))
+        → line_fault map_ table counting live before ≡ Some TooManySymbols
+    uses_refused many =
+        let P : Counting → Type 0 = λ g. most_names < length (names_counted g) in
+        let there = subst P counting_so many in
+        rw (fits, acts.fits)
+        (names_past (names_counted (with_counted (symbol_uses table line) counting)) (after_line map_ table line) there)
+
+    -- ---- what is mentioned stays within its limit
+
+    module _ (named : Counting) (named_are : named ≡ with_counted (uses_of_labels text) counting) (after_all : Counting)
+        (all_are : after_all ≡ with_counted (uses_after stood.table text done.notes done.arguments (action done.is_own text)) named)
+      where
+        pub all_so : after_all ≡ with_counted (symbol_uses table line) counting
+        all_so =
+            all_are
+            ∙ ap (with_counted (uses_after stood.table text done.notes done.arguments (action done.is_own text))) named_are
+            ∙ counting_so
+
+        -- ---- what changes
+
+        pub change_is : change_after stood.table text done.arguments (action done.is_own text) ≡ line_change (firm_table (stands table line)) line
+        change_is = change_so ∙ changes_as stood.table (stands table line) line stand.alike
+
+        -- a name that the line defines is one too many
+        pub defined_refused : has_too_many (changed map_ text
+            (change_after stood.table text done.arguments (action done.is_own text)) (labels_stand table text)) ≡ true
+            → line_fault map_ table counting live before ≡ Some TooManySymbols
+        defined_refused many =
+            let P : Change → Type 0 = λ c. has_too_many (changed map_ text c (labels_stand table text)) ≡ true in
+            rw (fits, acts.fits)
+            (table_past (names_counted (with_counted (symbol_uses table line) counting)) (after_line map_ table line) (subst P change_is many))
+
+        module _ (few : length (names_counted after_all) ≤ most_names) where
+          few_used : length (names_counted (with_counted (symbol_uses table line) counting)) ≤ most_names
+          few_used = let P : Counting → Type 0 = λ g. length (names_counted g) ≤ most_names in subst P all_so few
+
+          -- its section is one too many
+          pub sections_refused : stood.names ≤ most_defined_names → stood.local_symbols ≤ most_local_symbols
+              → length stood.table.sections ≤ most_sections
+              → most_sections < length (changed map_ text
+              (change_after stood.table text done.arguments (action done.is_own text)) (labels_stand table text)).sections
+              → line_fault map_ table counting live before ≡ Some TooManySections
+          sections_refused names symbols sections many =
+              let P : Change → Type 0 = λ c. most_sections < length (changed map_ text c (labels_stand table text)).sections in
+              let S : List Section → Type 0 = λ l. length l ≤ most_sections in
+              let past = subst P change_is many in
+              let same = selects_only map_ text (line_change (firm_table (stands table line)) line) (labels_stand table text)
+              (subst S stand.alike.sections sections) past in
+              rw (fits, acts.fits)
+              (sections_past (names_counted (with_counted (symbol_uses table line) counting)) (after_line map_ table line) few_used
+              (same ∙ few_told stood (labels_stand table text) stand names symbols) past)
+
+          module _ (new : Kept)
+              (follows : Follows stood new
+              (λ t. changed map_ text (change_after stood.table text done.arguments (action done.is_own text)) t)) where
+            pub matches_so : Matches new (after_line map_ table line)
+            matches_so =
+                let P : Change → Type 0 = λ c. Matches new (changed map_ text c (labels_stand table text)) in
+                subst P change_is (follows (labels_stand table text) stand)
+
+            -- the line passes no limit
+            pub line_fits : new.names ≤ most_defined_names → new.local_symbols ≤ most_local_symbols
+                → length new.table.sections ≤ most_sections → line_fault map_ table counting live before ≡ None
+            line_fits names symbols sections =
+                let L : List Section → Type 0 = λ s. length s ≤ most_sections in
+                rw (fits, acts.fits)
+                (ap of_limit
+                (fits_limits (names_counted (with_counted (symbol_uses table line) counting)) (after_line map_ table line) few_used
+                (few_told new (after_line map_ table line) matches_so names symbols) (subst L matches_so.alike.sections sections)))

@@ -1,0 +1,42 @@
+use Rattle.std.proofs.Common.{◌≡◌, ◌∙◌, ◌≤◌, List, false, flat_map, length, inl, inr, ap, subst}
+use Rattle.m11_asm_rules.specs.Labels.{with_labels}
+use Rattle.m11_asm_rules.specs.Limits.{has_too_many, most_names}
+use Rattle.m11_asm_rules.specs.SymbolUses.{label_uses}
+use Rattle.m11_asm_rules.specs.Tables.{Table}
+use Rattle.m11_asm_lines.specs.Labels.{FitsUpToLabel}
+use Rattle.m11_asm_lines.specs.Counting.{names_counted, with_counted}
+use Rattle.m11_asm_lines.specs.declared.counting.Counting.{Counting}
+use Rattle.m11_asm_lines.specs.Passes.{Matches}
+use Rattle.m11_scan_statements.specs.declared.labels.Label.{Label}
+use Rattle.m11_asm_lines.proofs.Refusals.{handed_on}
+use Rattle.m11_asm_passes.specs.Labelled.{FitUpToOne}
+use Rattle.m11_asm_faults.specs.declared.fault.AsmFault.{AsmFault}
+use Rattle.m11_asm_faults.specs.declared.fault.AsmFault.TheVariants.{NoMemory}
+use Rattle.m11_asm_passes.proofs.labelling.define_all.Goals as goal
+
+pub returns-in_err-add_labels-clause-limit_first : goal.returns-in_err-add_labels-clause-limit_first
+returns-in_err-add_labels-clause-limit_first c =
+    let P : AsmFault → Type 0 = λ fault. fault ≡ NoMemory → (before : Table) → Matches c.args.pass.now before
+    → FitUpToOne c.args.counting.now before c.args.line.now.text in
+    let L : List Label → Type 0 = λ labels. FitsUpToLabel labels (λ (some : List Label).
+    length (names_counted (with_counted (flat_map (label_uses c.args.line.now.text) some) c.args.counting.now)) ≤ most_names) in
+    handed_on P c.in_err-add_labels.field-0.0 c.from_residual.result
+    (λ none before matches. inl (subst L c.requires.are (c.in_err-add_labels.ensures.limit_first none)))
+    c.from_residual.ensures.1
+
+pub returns-in_err-flags-clause-limit_first : goal.returns-in_err-flags-clause-limit_first
+returns-in_err-flags-clause-limit_first c =
+    let P : AsmFault → Type 0 = λ fault. fault ≡ NoMemory → (before : Table) → Matches c.args.pass.now before
+    → FitUpToOne c.args.counting.now before c.args.line.now.text in
+    let G : Counting → Type 0 = λ g. length (names_counted g) ≤ most_names in
+    let all = c.in_ok-add_labels.ensures.counts
+    ∙ ap (λ (labels : List Label). with_counted (flat_map (label_uses c.args.line.now.text) labels) c.args.counting.now) c.requires.are in
+    handed_on P c.in_err-flags.field-0.0 c.from_residual-in_err-flags.result
+    (λ none before matches.
+    let L : List Label → Type 0 = λ labels. FitsUpToLabel labels (λ (some : List Label).
+    has_too_many (with_labels c.args.line.now.text before some) ≡ false) in
+    inr (
+      subst G all c.names_are_within_the_limit.ensures,
+      subst L c.requires.are (c.in_err-flags.ensures.limit_first none before matches),
+    ))
+    c.from_residual-in_err-flags.ensures.1

@@ -1,0 +1,39 @@
+-- What the labels of a line leave. (MACRO-11 Language Reference Manual, "Label field", "Local symbols" and "Diagnostic error message
+-- summary", M and P.)
+use Rattle.std.specs.Prelude.{◌≡◌, ◌≤◌, ◌⊎◌, false, None, length}
+use Rattle.std.specs.List.{flat_map}
+use Rattle.m11_base.specs.Devices.{Bytes}
+use Rattle.m11_scan.specs.Views.{bits_of}
+use Rattle.m11_scan_statements.specs.Labels.{labels_at}
+use Rattle.m11_asm_rules.specs.Labels.{labels_flags, labels_stand, with_labels}
+use Rattle.m11_asm_rules.specs.Limits.{has_too_many, most_names}
+use Rattle.m11_asm_rules.specs.Meanings.{Map}
+use Rattle.m11_asm_rules.specs.SymbolUses.{label_uses}
+use Rattle.m11_asm_rules.specs.Tables.{Table}
+use Rattle.m11_asm_lines.specs.Labels.{FitsUpToLabel}
+use Rattle.m11_asm_lines.specs.Counting.{names_counted, with_counted}
+use Rattle.m11_asm_lines.specs.Moved.{moved_flags}
+use Rattle.m11_asm_lines.specs.Passes.{Kept, Matches}
+use Rattle.m11_asm_lines.specs.declared.counting.Counting.{Counting}
+use Rattle.m11_asm_lines.specs.declared.labels.LabelFlags.{LabelFlags}
+use Rattle.m11_asm_passes.specs.Refusals.{labels_fault, uses_of_labels}
+
+pub record LabelsStand (map : Map) (counting : Counting) (line : Bytes) (table : Table) (new : Kept) (flags : LabelFlags) : Type 0 where
+  pub fits : labels_fault counting table line ≡ None
+  pub matches : Matches new (labels_stand table line)
+  pub doubly_defined : bits_of flags.doubly_defined ≡ labels_flags line table (labels_at line)
+  pub moved : bits_of flags.moved ≡ moved_flags map line table (labels_at line)
+
+-- whatever the lines before it are
+abbrev pub Labels : Map → Counting → Bytes → Kept → Kept → LabelFlags → Type 0
+Labels map counting line old new flags =
+    (table : Table) → Matches old table → LabelsStand map counting line table new flags
+
+-- memory was refused at one of the labels: the names that are counted up to it are none too many, or all that are counted are none too
+-- many, and neither are the names and local symbols that the table defines up to it
+abbrev pub FitUpToOne : Counting → Table → Bytes → Type 0
+FitUpToOne old table line =
+    FitsUpToLabel (labels_at line)
+    (λ some. length (names_counted (with_counted (flat_map (label_uses line) some) old)) ≤ most_names)
+    ⊎ ((length (names_counted (with_counted (uses_of_labels line) old)) ≤ most_names)
+    × FitsUpToLabel (labels_at line) (λ some. has_too_many (with_labels line table some) ≡ false))

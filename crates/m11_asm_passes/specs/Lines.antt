@@ -1,0 +1,75 @@
+-- The live lines of a source in one pass over it. Lines are read one after the other; each is unfolded as far as it goes before the next
+-- one is read, and what is asked at a live line is said by the lines before it. No line passes a limit. (MACRO-11 Language Reference
+-- Manual, "Source program format", "Macro directives" and "Symbols and expressions".)
+use Rattle.std.specs.Prelude.{◌≡◌, ℕ, false, List, [], ◌∷◌, ◌++◌, length, map, None}
+use Rattle.m11_unfold_bodies.specs.Left.{Line}
+use Rattle.m11_scan_lines.specs.Line.{SourceLine}
+use Rattle.m11_unfold_rules.specs.Acting.{act}
+use Rattle.m11_unfold_rules.specs.Limits.{next_fault}
+use Rattle.m11_unfold_rules.specs.Stages.{Stage, start}
+use Rattle.m11_unfold_rules.specs.Taking.{Gives, Live, move}
+use Rattle.m11_unfold_rules.specs.Unfolding.{Given, Leads}
+use Rattle.m11_asm_rules.specs.Lines.{after_line}
+use Rattle.m11_asm_rules.specs.Meanings.{Map}
+use Rattle.m11_asm_rules.specs.SymbolUses.{symbol_uses}
+use Rattle.m11_asm_rules.specs.Placements.{table_after}
+use Rattle.m11_asm_rules.specs.Tables.{Table, first_table}
+use Rattle.m11_asm_lines.specs.Counting.{with_counted}
+use Rattle.m11_asm_lines.specs.declared.counting.Counting.{Counting}
+use Rattle.m11_asm_passes.specs.Refusals.{given_by, line_fault}
+
+-- a live line, and the number of lines of the source that were read when it became live
+pub record Numbered : Type 0 where
+  pub number : ℕ
+  pub given : Given
+
+abbrev pub numbered : ℕ → Given → Numbered
+numbered number given = record { number = number; given = given }
+
+abbrev pub given_in : Numbered → Given
+given_in line = line.given
+
+abbrev pub givens : List Numbered → List Given
+givens lines = map given_in lines
+
+-- the table after some lines, and which names count after them
+abbrev pub table_at : Map → List Numbered → Table
+table_at map lines = table_after map (givens lines)
+
+abbrev pub counting_after : Map → Table → List Given → Counting → Counting
+counting_after map table [] counting = counting
+counting_after map table (given ∷ lines) counting =
+    counting_after map (after_line map table given) lines (with_counted (symbol_uses table given) counting)
+
+abbrev pub counting_at : Map → Counting → List Numbered → Counting
+counting_at map counting lines = counting_after map first_table (givens lines) counting
+
+-- one more line of the source is there to be taken
+abbrev pub with_line : SourceLine → Stage → Stage
+with_line line stage = record stage { left = Line line ∷ [] }
+
+-- the stage after the operator of a live line is done
+abbrev pub acted : Table → Live → Stage → Stage
+acted table live stage = (act (given_by table live stage).known stage live.line.text).after
+
+-- moves that give no line
+abbrev pub Passed : Stage → Stage → Type 0
+Passed before after = Leads before [] after
+
+-- the live lines of a source, under a map and by which names count in a reading, up to a stage of its unfolding
+pub data PassLines (map : Map) (counting : Counting) : List SourceLine → List Numbered → Stage → Type 0 where
+  Begins : PassLines map counting [] [] (start [])
+  -- the next line of the source is read where nothing is left to take, and `.END` didn't come
+  Reading : (source : List SourceLine) (lines : List Numbered) (stage : Stage) (line : SourceLine)
+      → PassLines map counting source lines stage → stage.left ≡ [] → stage.has_ended ≡ false
+      → PassLines map counting (source ++ line ∷ []) lines (with_line line stage)
+  -- something is taken, and no line becomes live
+  Passing : (source : List SourceLine) (lines : List Numbered) (before after : Stage)
+      → PassLines map counting source lines before → Passed before after → PassLines map counting source lines after
+  -- a line becomes live, and is placed
+  Placing : (source : List SourceLine) (lines : List Numbered) (before after : Stage) (live : Live)
+      → PassLines map counting source lines before → next_fault before ≡ None → move before ≡ Gives live after
+      → line_fault map (table_at map lines) (counting_at map counting lines) live after ≡ None
+      → PassLines map counting source
+      (lines ++ numbered (length source) (given_by (table_at map lines) live after) ∷ [])
+      (acted (table_at map lines) live after)

@@ -1,0 +1,49 @@
+-- Where a pass over a source stands after a call. (This project's own.)
+use Rattle.std.specs.Prelude.{◌≡◌, true, false, List, [], ◌∷◌, ◌++◌, length, Some, None, Result, Ok, Err}
+use Rattle.m11_asm_faults.specs.Faults.{of_unfolding}
+use Rattle.m11_asm_faults.specs.declared.fault.AsmFault.{AsmFault}
+use Rattle.m11_asm_faults.specs.declared.fault.AsmFault.TheVariants.{Read, Write, TooMuchSource, NoMemory}
+use Rattle.m11_scan_lines.specs.Line.{SourceLine}
+use Rattle.m11_unfold_rules.specs.Limits.{next_fault}
+use Rattle.m11_unfold_rules.specs.Stages.{Stage}
+use Rattle.m11_unfold_rules.specs.Taking.{Gives, Live, move}
+use Rattle.m11_unfold_rules.specs.declared.fault.UnfoldFault.{UnfoldFault}
+use Rattle.m11_asm_rules.specs.Meanings.{Map}
+use Rattle.m11_asm_lines.specs.declared.counting.Counting.{Counting}
+use Rattle.m11_asm_passes.specs.Lines.{Numbered, PassLines, counting_at, numbered, table_at}
+use Rattle.m11_asm_passes.specs.Refusals.{given_by, line_fault}
+use Rattle.m11_asm_passes.specs.States.{Going, PassStands}
+use Rattle.m11_asm_passes.specs.Turns.{Said}
+use Rattle.m11_asm_passes.specs.declared.turns.Turn.{Turn}
+use Rattle.m11_asm_passes.specs.declared.turns.Turn.TheVariants.{NeedLine, End, Line}
+
+-- after these live lines of a source its unfolding passes a limit before the next one, or the next one passes a limit
+pub data Exceeds (map : Map) (counting : Counting) (source : List SourceLine) (lines : List Numbered) (fault : AsmFault) : Type 0 where
+  BeforeLine : (stage : Stage) (inner : UnfoldFault) → PassLines map counting source lines stage → next_fault stage ≡ Some inner
+      → fault ≡ of_unfolding inner → Exceeds map counting source lines fault
+  AtLine : (stage after : Stage) (live : Live) → PassLines map counting source lines stage → next_fault stage ≡ None
+      → move stage ≡ Gives live after → line_fault map (table_at map lines) (counting_at map counting lines) live after ≡ Some fault
+      → Exceeds map counting source lines fault
+
+-- want of memory, or such a limit. A pass reads and writes nothing itself, and counts no lines of its source
+abbrev pub Refused : Map → Counting → List SourceLine → List Numbered → AsmFault → Type 0
+Refused map counting source lines NoMemory = Unit {0}
+Refused map counting source lines Read = ⊥
+Refused map counting source lines (Write output) = ⊥
+Refused map counting source lines TooMuchSource = ⊥
+Refused map counting source lines fault = Exceeds map counting source lines fault
+
+-- the next live line of a source is placed, and this is said of it
+pub record PlacesLine (map : Map) (before : Counting) (source : List SourceLine) (lines : List Numbered) (new : Going)
+    (live : Live) (said : Said) : Type 0 where
+  pub stage : Stage
+  pub stands : PassStands map before source
+      (lines ++ numbered (length source) (given_by (table_at map lines) live stage) ∷ []) new
+  pub is_said : said (table_at map lines) (given_by (table_at map lines) live stage)
+
+abbrev pub Reaches : Map → Counting → List SourceLine → List Numbered → Going → Live → Said → Result Turn AsmFault → Type 0
+Reaches map before source lines new live said (Ok NeedLine) =
+    PassStands map before source lines new × (new.unfolder.stage.left ≡ []) × (new.unfolder.stage.has_ended ≡ false)
+Reaches map before source lines new live said (Ok End) = PassStands map before source lines new × (new.unfolder.stage.has_ended ≡ true)
+Reaches map before source lines new live said (Ok Line) = PlacesLine map before source lines new live said
+Reaches map before source lines new live said (Err fault) = Refused map before source lines fault

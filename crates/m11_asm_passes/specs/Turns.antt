@@ -1,0 +1,96 @@
+-- What the calls of a pass do. (This project's own.)
+use Rattle.std.specs.Prelude.{◌≡◌, ◌<◌, ◌≤◌, ℕ, [], None, Result, Ok, Err}
+use Rattle.m11_asm_faults.specs.Faults.{of_unfolding}
+use Rattle.m11_asm_faults.specs.declared.fault.AsmFault.{AsmFault}
+use Rattle.m11_unfold.specs.Unfolder.{Comes, Steps, Stops}
+use Rattle.m11_unfold.specs.declared.steps.Step.TheVariants as step
+use Rattle.m11_unfold_rules.specs.Limits.{most_lines}
+use Rattle.m11_unfold_rules.specs.Stages.{Stage}
+use Rattle.m11_unfold_rules.specs.Taking.{Live}
+use Rattle.m11_unfold_rules.specs.Unfolding.{Given}
+use Rattle.m11_unfold_rules.specs.declared.fault.UnfoldFault.{UnfoldFault}
+use Rattle.m11_asm_rules.specs.Contents.{Put}
+use Rattle.m11_asm_rules.specs.Lines.{after_line}
+use Rattle.m11_asm_rules.specs.Meanings.{Map}
+use Rattle.m11_asm_rules.specs.SymbolUses.{symbol_uses}
+use Rattle.m11_asm_rules.specs.Tables.{Table}
+use Rattle.m11_asm_lines.specs.Counting.{with_counted}
+use Rattle.m11_asm_lines.specs.Passes.{Matches}
+use Rattle.m11_asm_passes.specs.Faults.{Fails}
+use Rattle.m11_asm_passes.specs.Lines.{acted}
+use Rattle.m11_asm_passes.specs.Placed.{IsLive, IsPlaced}
+use Rattle.m11_asm_passes.specs.Refusals.{given_by, line_fault}
+use Rattle.m11_asm_passes.specs.States.{Going}
+use Rattle.m11_asm_passes.specs.declared.placed.LiveLine.{LiveLine}
+use Rattle.m11_asm_passes.specs.declared.placed.PlacedLine.{PlacedLine}
+use Rattle.m11_asm_passes.specs.declared.turns.Turn.{Turn}
+use Rattle.m11_asm_passes.specs.declared.turns.Turn.TheVariants.{NeedLine, End, Line}
+
+-- a line that became live, up to a stage, passes no limit, and the pass stands after it
+pub record LeavesAfter (map : Map) (table : Table) (live : Live) (stage : Stage) (old new : Going) : Type 0 where
+  pub fits : line_fault map table old.counting live stage ≡ None
+  pub stage_is : new.unfolder.stage ≡ acted table live stage
+  pub matches : Matches new.kept (after_line map table (given_by table live stage))
+  pub counting : new.counting ≡ with_counted (symbol_uses table (given_by table live stage)) old.counting
+
+-- what a call says of a line, by the table before it: that it is placed so, or what stands after its labels alone
+abbrev pub Said : Type 1
+Said = Table → Given → Type 0
+
+abbrev pub SaysPlaced : Map → PlacedLine → Put → Said
+SaysPlaced map placed put = λ table given. IsPlaced map table given placed put
+
+abbrev pub SaysLive : LiveLine → Said
+SaysLive live = λ table given. IsLive given live
+
+-- it is placed after a table, and this is said of it
+pub record PlacesAfter (map : Map) (table : Table) (live : Live) (stage : Stage) (old new : Going) (said : Said) : Type 0 where
+  pub leaves : LeavesAfter map table live stage old new
+  pub is_said : said table (given_by table live stage)
+
+-- whatever table it is of which the pass keeps what counts; or the line passes a limit
+abbrev pub Places : Map → Live → Stage → Going → Going → Said → Result (Unit {0}) AsmFault → Type 0
+Places map live stage old new said (Ok _) =
+    (table : Table) → Matches old.kept table → PlacesAfter map table live stage old new said
+Places map live stage old new said (Err fault) =
+    (table : Table) → Matches old.kept table → Fails (line_fault map table old.counting live stage) fault
+
+-- nothing is placed
+pub record IsUnplaced (old new : Going) : Type 0 where
+  pub kept : new.kept ≡ old.kept
+  pub counting : new.counting ≡ old.counting
+
+-- a line becomes live, and is placed
+pub record PlacesNext (map : Map) (old new : Going) (live : Live) (said : Said) : Type 0 where
+  pub stage : Stage
+  pub comes : Comes old.unfolder.stage live stage
+  pub places : Places map live stage old new said (Ok tt)
+
+-- a limit is passed before a line becomes live, or at one that becomes live
+pub data FailsAt (map : Map) (old : Going) (fault : AsmFault) : Type 0 where
+  BeforeLine : (inner : UnfoldFault) → fault ≡ of_unfolding inner → Stops old.unfolder.stage inner → FailsAt map old fault
+  AtLine : (live : Live) (stage : Stage) → Comes old.unfolder.stage live stage
+      → ((table : Table) → Matches old.kept table → Fails (line_fault map table old.counting live stage) fault)
+      → FailsAt map old fault
+
+-- from one live line to the next, which stands where the call puts it, or to the end of what is left
+abbrev pub Turns : Map → Going → Going → Live → Said → Result Turn AsmFault → Type 0
+Turns map old new live said (Ok NeedLine) =
+    Steps old.unfolder.stage new.unfolder.stage live.line (Ok step.NeedLine) × IsUnplaced old new
+Turns map old new live said (Ok End) = Steps old.unfolder.stage new.unfolder.stage live.line (Ok step.End) × IsUnplaced old new
+Turns map old new live said (Ok Line) = PlacesNext map old new live said
+Turns map old new live said (Err fault) = FailsAt map old fault
+
+-- a line is needed only where nothing is left
+abbrev pub IsEmpty : Stage → Result Turn AsmFault → Type 0
+IsEmpty after (Ok NeedLine) = after.left ≡ []
+IsEmpty after (Ok End) = Unit {0}
+IsEmpty after (Ok Line) = Unit {0}
+IsEmpty after (Err fault) = Unit {0}
+
+-- and at a live line more lines were taken than before, within the limit
+abbrev pub IsNext : ℕ → Stage → Result Turn AsmFault → Type 0
+IsNext taken after (Ok NeedLine) = after.left ≡ []
+IsNext taken after (Ok End) = Unit {0}
+IsNext taken after (Ok Line) = (taken < after.taken) × (after.taken ≤ most_lines)
+IsNext taken after (Err fault) = Unit {0}

@@ -1,0 +1,119 @@
+//! How a live line begins: its labels, and what unfolding does of its operator. (MACRO-11 Language Reference Manual, "Label field" and
+//! "Operator field".)
+
+ghost use Rattle.std.specs.Prelude.{◌≡◌, ◌≤◌, ◌∷◌, [], IfOk, IfErr, IfSome, IsTrue, false, None, length};
+ghost use Rattle.m11_unfold_arguments.specs.Directives.{operator as line_operator};
+ghost use Rattle.m11_asm_rules.specs.Tables.{Table as LineTable};
+ghost use Rattle.m11_asm_rules.specs.Unfolded.{known_after_labels};
+ghost use Rattle.m11_asm_lines.specs.Actions.{AreActionTerms, IsWithin, is_listed};
+ghost use Rattle.m11_asm_lines.specs.Passes.{Matches};
+ghost use Rattle.m11_scan_statements.specs.Labels.{labels_at};
+ghost use Rattle.m11_unfold.specs.Unfolder as steps;
+ghost use Rattle.m11_asm_passes.specs.Begun.{Begins, States};
+ghost use Rattle.m11_asm_passes.specs.Bounds.{HasRoom};
+ghost use Rattle.m11_asm_passes.specs.Faults.{Fails};
+ghost use Rattle.m11_asm_passes.specs.Placed.{live_in};
+ghost use Rattle.m11_asm_passes.specs.Refusals.{line_fault};
+ghost use Rattle.m11_asm_passes.specs.States.{going_of};
+
+use crate::labelling::define_labels;
+use crate::placed::LiveLine;
+use crate::state::State;
+use m11_asm_faults::AsmFault;
+use m11_asm_lines::{LabelFlags, Pass, action_after_labels, action_fields};
+use m11_asm_operands::Fields;
+use m11_asm_table::{FirmNames, Map, Table};
+use m11_scan::Line;
+use m11_scan_statements::{Span, Statement};
+use m11_unfold::{Act, Unfolder};
+use m11_unfold_arguments::operator_in;
+use m11_unfold_rules::UnfoldFault;
+
+// What was found of a line whose labels stand and whose operator unfolding has done.
+#[derive(Drop)]
+pub struct Begun {
+    // The flags of its labels.
+    pub(crate) found: LabelFlags,
+    pub(crate) act: Act,
+    // The fields of what stands after its labels, or the term of what it assigns.
+    pub(crate) fields: Fields,
+}
+
+impl State {
+    // Defines the labels of a line, lets unfolding do its operator, and finds what it does after its labels.
+    pub(crate) fn begin(
+        &mut self,
+        map: &Map<'_>,
+        live: &mut LiveLine,
+        statement: &Statement,
+    ) -> Result<Begun, AsmFault>
+        requires unlabelled { statement.now.labels_end ≡ 0 → labels_at live.old.line.text ≡ [] }
+        requires single { IfSome statement.now.only_label (λ label. labels_at live.old.line.text ≡ label ∷ []) }
+        requires states { States (live_in live.old) statement.now }
+        requires goes_on { self.old.unfolder.fault ≡ None }
+        requires free { self.old.unfolder.has_statement ≡ false }
+        requires room { HasRoom self.old.unfolder.stage.taken 67 1 self.old.pass.table }
+        ensures same { live_in live.new ≡ live_in live.old }
+        ensures begins { IfOk result (λ begun. Begins map.now (live_in live.new) (going_of self.old) (going_of self.new) live.new.action begun) }
+        ensures fails { IfErr result (λ fault. (table : LineTable) → Matches self.old.pass table
+            → Fails (line_fault map.now table self.old.counting (live_in live.old) self.old.unfolder.stage) fault) }
+        ensures within { IfOk result (λ _. IsWithin (length live.old.line.text) live.new.action) }
+        ensures ends { IfOk result (λ begun. begun.fields.end ≤ length live.old.line.text) }
+        ensures terms { IfOk result (λ begun. AreActionTerms live.old.line.text live.new.action begun.fields.list.items begun.fields.terms) }
+        ensures listed { IfOk result (λ _. IsTrue (is_listed live.new.action)) }
+        ensures room { IfOk result (λ _. HasRoom self.old.unfolder.stage.taken 1 1 self.new.pass.table) }
+        ensures taken { IfOk result (λ _. self.new.unfolder.stage.taken ≡ self.old.unfolder.stage.taken) }
+        ensures goes_on { IfOk result (λ _. self.new.unfolder.fault ≡ None) }
+    {
+        self.unfolder.is_within_the_limits();
+        let line = &live.line;
+        let found = define_labels(
+            &mut self.pass,
+            &mut self.counting,
+            map,
+            line,
+            statement.labels_end,
+            statement.only_label,
+        )?;
+        let operator = operator_in(statement.body);
+        let act = act_on(&mut self.unfolder, line, operator, &self.pass)?;
+        live.action = action_after_labels(act.is_own, &live.line, statement.body);
+        Ok(Begun {
+            found,
+            act,
+            fields: action_fields(self.pass.table(), &live.line, &live.action),
+        })
+    }
+}
+
+// What unfolding does of a line, once its labels stand.
+fn act_on(
+    unfolder: &mut Unfolder,
+    line: &Line,
+    operator: Option<Span>,
+    pass: &Pass,
+) -> Result<Act, UnfoldFault>
+    requires operator { operator ≡ line_operator line.now.text }
+    requires free { unfolder.old.has_statement ≡ false }
+    requires goes_on { unfolder.old.fault ≡ None }
+    ensures acts { steps.Acts (known_after_labels pass.now.table) line.now.text unfolder.old.stage unfolder.new.stage result }
+    ensures goes_on { IfOk result (λ _. unfolder.new.fault ≡ None) }
+{
+    act_under(unfolder, line, operator, pass.table())
+}
+
+// Under the firm names of a table.
+fn act_under(
+    unfolder: &mut Unfolder,
+    line: &Line,
+    operator: Option<Span>,
+    table: &Table,
+) -> Result<Act, UnfoldFault>
+    requires operator { operator ≡ line_operator line.now.text }
+    requires free { unfolder.old.has_statement ≡ false }
+    requires goes_on { unfolder.old.fault ≡ None }
+    ensures acts { steps.Acts (known_after_labels table.now) line.now.text unfolder.old.stage unfolder.new.stage result }
+    ensures goes_on { IfOk result (λ _. unfolder.new.fault ≡ None) }
+{
+    unfolder.act(line, operator, &FirmNames::new(table, table.place()))
+}

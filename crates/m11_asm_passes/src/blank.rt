@@ -1,0 +1,52 @@
+//! Live lines that say nothing: empty ones, and those of a comment alone. A third of the lines of a usual source are such lines, so they
+//! are found first, and go through none of what others need. (MACRO-11 Language Reference Manual, "Source program format".)
+
+ghost use Rattle.std.specs.Prelude.{◌≡◌, true};
+ghost use Rattle.m11_asm_rules.specs.Meanings.{Map};
+ghost use Rattle.m11_asm_rules.specs.Tables.{Table};
+ghost use Rattle.m11_asm_lines.specs.Passes.{Matches};
+ghost use Rattle.m11_scan_statements.specs.declared.bodies.Body.TheVariants.{Nothing};
+ghost use Rattle.m11_unfold_rules.specs.Stages.{Stage};
+ghost use Rattle.m11_asm_passes.specs.Begun.{States};
+ghost use Rattle.m11_asm_passes.specs.Blank.{IsBlank};
+ghost use Rattle.m11_asm_passes.specs.Placed.{IsPlaced, live_in};
+ghost use Rattle.m11_asm_passes.specs.Refusals.{given_by};
+
+use crate::operating::{counter, is_shown, section_name};
+use crate::placed::PlacedLine;
+use m11_asm_lines::{Action, Pass};
+use m11_asm_operators::Put;
+use m11_scan_statements::{Body, Statement};
+use m11_unfold_arguments::rest_flags;
+
+// Whether a statement has neither a label nor anything after its labels.
+pub(crate) fn is_blank(statement: &Statement) -> bool
+    ensures unlabelled { result ≡ true → statement.now.labels_end ≡ 0 }
+    ensures bodiless { result ≡ true → statement.now.body ≡ Nothing }
+    ensures blank { statement.now.labels_end ≡ 0 → statement.now.body ≡ Nothing → result ≡ true }
+{
+    statement.labels_end == 0 && matches!(statement.body, Body::Nothing)
+}
+
+// Places a line that says nothing. It puts nothing, in place of what the line before it put.
+pub(crate) fn place_blank(
+    pass: &Pass,
+    put: &mut Put,
+    statement: &Statement,
+    placed: &mut PlacedLine,
+)
+    requires blank { IsBlank placed.old.live.line.text }
+    requires states { States (live_in placed.old.live) statement.now }
+    ensures same { live_in placed.new.live ≡ live_in placed.old.live }
+    ensures placed { (whole : Map) (table : Table) (stage : Stage) → Matches pass.now table
+        → IsPlaced whole table (given_by table (live_in placed.old.live) stage) placed.new put.new }
+{
+    put.clear();
+    placed.live.action = Action::NoAction;
+    placed.flags = statement.label_flags.with(rest_flags(&placed.live.line, 0));
+    placed.section = section_name(pass);
+    placed.counter = counter(pass);
+    placed.place = placed.counter;
+    placed.assigned = None;
+    placed.is_shown = is_shown(pass, placed.live.is_expanded);
+}

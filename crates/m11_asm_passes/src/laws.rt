@@ -1,0 +1,33 @@
+//! That the calls of a pass place the lines of a source. It is the contract of a function that does nothing.
+
+ghost use Rattle.std.specs.Prelude.{◌≡◌, ◌++◌, ◌∷◌, List, [], Result, false};
+ghost use Rattle.m11_asm_faults.specs.declared.fault.AsmFault.{AsmFault};
+ghost use Rattle.m11_scan_lines.specs.Line.{SourceLine};
+ghost use Rattle.m11_asm_rules.specs.Meanings.{Map, empty_map};
+ghost use Rattle.m11_asm_lines.specs.declared.counting.Counting.{Counting};
+ghost use Rattle.m11_asm_passes.specs.Lines.{Numbered};
+ghost use Rattle.m11_asm_passes.specs.Reaching.{Reaches};
+ghost use Rattle.m11_asm_passes.specs.States.{Going, PassStands, fed};
+ghost use Rattle.m11_asm_passes.specs.Placed.{live_in};
+ghost use Rattle.m11_asm_passes.specs.Turns.{SaysLive, SaysPlaced, Turns};
+ghost use Rattle.m11_asm_passes.specs.declared.placed.LiveLine.{LiveLine};
+ghost use Rattle.m11_asm_passes.specs.declared.placed.PlacedLine.{PlacedLine};
+ghost use Rattle.m11_asm_passes.specs.declared.turns.Turn.{Turn};
+
+/// A pass that stands after the live lines of a source stands for a source of one line more once that is fed; and after `next` or `define`
+/// it stands after the line too that became live, which is the next one of the source, with what the call says of it; or the fault is that
+/// of the first limit that the source passes.
+#[tactic(auto, using(crate::proofs::Standing::feeds, crate::proofs::Standing::next_turns, crate::proofs::Standing::define_turns))]
+pub fn the_calls_place_the_lines_of_a_source()
+    ensures feeds { (map : Map) (before : Counting) (source : List SourceLine) (lines : List Numbered) (line : SourceLine) (going : Going)
+        → PassStands map before source lines going → going.unfolder.stage.left ≡ [] → going.unfolder.stage.has_ended ≡ false
+        → PassStands map before (source ++ line ∷ []) lines (fed line going) }
+    ensures turns { (map : Map) (before : Counting) (source : List SourceLine) (lines : List Numbered) (old new : Going)
+        (placed : PlacedLine) (result : Result Turn AsmFault) → PassStands map before source lines old
+        → Turns map old new (live_in placed.live) (SaysPlaced map placed new.put) result
+        → Reaches map before source lines new (live_in placed.live) (SaysPlaced map placed new.put) result }
+    ensures defines { (before : Counting) (source : List SourceLine) (lines : List Numbered) (old new : Going)
+        (live : LiveLine) (result : Result Turn AsmFault) → PassStands empty_map before source lines old
+        → Turns empty_map old new (live_in live) (SaysLive live) result
+        → Reaches empty_map before source lines new (live_in live) (SaysLive live) result }
+{}

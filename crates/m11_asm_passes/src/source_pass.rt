@@ -1,0 +1,148 @@
+//! One pass over a source. (MACRO-11 Language Reference Manual, "Source program format" and "Symbols and expressions".)
+
+ghost use Rattle.std.specs.Prelude.{◌≡◌, ◌<◌, [], None, Some, Err, IfOk};
+ghost use Rattle.std.specs.Result.{result_err};
+ghost use Rattle.m11_scan_lines.specs.Line.{no_line};
+ghost use Rattle.m11_asm_lines.specs.Counting.{gathered_in};
+ghost use Rattle.m11_asm_lines.specs.Passes.{size_at};
+ghost use Rattle.m11_unfold.specs.Unfolder.{needs_line};
+ghost use Rattle.m11_unfold_rules.specs.Stages.{start};
+ghost use Rattle.m11_asm_passes.specs.Placed.{live_in};
+ghost use Rattle.m11_asm_passes.specs.States.{PassStands, fed};
+ghost use Rattle.m11_asm_passes.specs.Turns.{IsEmpty, IsNext, SaysLive, SaysPlaced, Turns};
+ghost use Rattle.m11_asm_rules.specs.Meanings.{Map as Meanings, empty_map};
+
+use crate::operating::section_name;
+use crate::placed::{LiveLine, PlacedLine};
+use crate::state::State;
+use crate::turns::Turn;
+use m11_asm_faults::AsmFault;
+use m11_asm_lines::{Counting, Pass, UsedSymbols};
+use m11_asm_table::{Map, Table};
+use m11_base::Latch;
+use m11_obj_texts::PieceContent;
+use m11_scan::Line;
+use std::alloc::{AllocError, Global};
+use std::marker::Model;
+
+/// One pass over a source: lines are fed in order, and `next` gives each live line as it is placed, or `define` gives it with what it
+/// defines alone. It defines at most 4,096 names besides those of the registers, and mentions at most as many where that counts; it keeps
+/// at most 16,384 local symbols, 64 sections, and what an unfolder keeps. After a fault each call returns it again.
+#[derive(Drop)]
+pub struct SourcePass {
+    alloc: Global,
+    state: State,
+    fault: Latch<AsmFault>,
+}
+
+impl Model for SourcePass {
+    ghost use Rattle.m11_asm_passes.specs.Bounds.{IsSoundUntil};
+    ghost use Rattle.m11_asm_passes.specs.States.{GoesOnUntil, PassState, going_of};
+
+    ghost Value = { PassState };
+
+    ghost view = { λ p. record { going = going_of p.state; fault = p.fault } };
+
+    ghost invariant = { λ p. IsSoundUntil p.fault p.state.unfolder.stage.taken p.state.pass.table
+        × GoesOnUntil p.fault p.state.unfolder.fault };
+}
+
+impl SourcePass {
+    /// Before the first line, with the names that count so far beside those that the table defines. Error: memory may be refused.
+    pub fn new(alloc: Global, counting: Counting) -> Result<SourcePass, AllocError>
+        ensures stands { IfOk result (λ pass. (map : Meanings) → PassStands map counting [] [] pass.going) }
+        ensures begins { IfOk result (λ pass. pass.going.unfolder.stage ≡ start []) }
+        ensures goes_on { IfOk result (λ pass. pass.fault ≡ None) }
+    {
+        Ok(SourcePass {
+            alloc,
+            state: State::new(alloc, counting)?,
+            fault: Latch::new(),
+        })
+    }
+
+    /// The next line of the source, where nothing is left to take: at the start, and after `NeedLine`.
+    pub fn feed(&mut self, line: &Line)
+        requires { self.old.going.unfolder.stage.left ≡ [] }
+        ensures { self.new ≡ record { going = fed line.now self.old.going; fault = self.old.fault } }
+    {
+        self.state.unfolder.feed(line);
+    }
+
+    /// Room for the lines that this pass places: a line without a character.
+    pub fn room_for_line(&self) -> PlacedLine
+        ensures { result.live.line ≡ no_line }
+    {
+        PlacedLine::new(section_name(&self.state.pass))
+    }
+
+    /// What comes next, under what the whole source gives its names. A line that becomes live is placed in `placed`.
+    ///
+    /// Errors: `Unfold` where a limit of unfolding is passed, `TooManySymbols`, `TooManySections`, the first one in the order of the lines,
+    /// and within a line in that of labels, operator and arguments; and `NoMemory`.
+    pub fn next(&mut self, map: &Map<'_>, placed: &mut PlacedLine) -> Result<Turn, AsmFault>
+        ensures turns { self.old.fault ≡ None → Turns map.now self.old.going self.new.going (live_in placed.new.live)
+            (SaysPlaced map.now placed.new self.new.going.put) result }
+        ensures again { (fault : AsmFault) → self.old.fault ≡ Some fault → result ≡ Err fault }
+        ensures fault { self.new.fault ≡ result_err result }
+        ensures empty { IsEmpty self.new.going.unfolder.stage result }
+        ensures next { self.old.fault ≡ None → IsNext self.old.going.unfolder.stage.taken self.new.going.unfolder.stage result }
+    {
+        self.fault.check()?;
+        let turn = self.state.next(map, placed);
+        self.fault.keep(turn)
+    }
+
+    /// What comes next in a first pass, where the whole source has given its names nothing. A line that becomes live stands in `live`, and
+    /// what it puts is not asked for. Errors as those of `next`.
+    pub fn define(&mut self, live: &mut LiveLine) -> Result<Turn, AsmFault>
+        ensures turns { self.old.fault ≡ None → Turns empty_map self.old.going self.new.going (live_in live.new)
+            (SaysLive live.new) result }
+        ensures again { (fault : AsmFault) → self.old.fault ≡ Some fault → result ≡ Err fault }
+        ensures fault { self.new.fault ≡ result_err result }
+        ensures empty { IsEmpty self.new.going.unfolder.stage result }
+        ensures next { self.old.fault ≡ None → IsNext self.old.going.unfolder.stage.taken self.new.going.unfolder.stage result }
+    {
+        self.fault.check()?;
+        let turn = self.state.define_next(live);
+        self.fault.keep(turn)
+    }
+
+    /// Whether nothing is left to take and `.END` isn't live, so that `next` and `define` would say `NeedLine`.
+    pub fn needs_line(&self) -> bool
+        ensures { result ≡ needs_line self.now.going.unfolder.stage }
+    {
+        self.state.unfolder.needs_line()
+    }
+
+    /// What the lines so far leave for the next one.
+    pub fn table(&self) -> &Table
+        ensures { result.now ≡ self.now.going.kept.table }
+    {
+        self.state.pass.table()
+    }
+
+    /// The size of the section of a number, 63 at most, in bytes.
+    pub fn size(&self, number: usize) -> u16
+        requires { number < 64 }
+        ensures { result ≡ size_at self.now.going.kept.sizes number }
+    {
+        self.state.pass.size(number)
+    }
+
+    /// What the pass leaves: its table with the sizes of sections, and the names that its lines mention, none where they don't count.
+    pub fn end(self) -> (Pass, UsedSymbols)
+        ensures pass { result.0 ≡ self.going.kept }
+        ensures used_symbols { result.1 ≡ gathered_in self.going.counting }
+    {
+        let state = self.state;
+        (state.pass, state.counting.into_used(self.alloc))
+    }
+
+    /// What the last placed line puts.
+    pub fn contents(&self) -> &[PieceContent]
+        ensures { result.now ≡ self.now.going.put.contents }
+    {
+        self.state.put.contents()
+    }
+}

@@ -1,0 +1,247 @@
+//! What a pass keeps from line to line, and how a live line goes through it. (MACRO-11 Language Reference Manual, "Source program format".)
+
+ghost use Rattle.std.specs.Prelude.{◌≡◌, ◌≤◌, [], IfOk, false, None, length};
+ghost use Rattle.std.specs.Int.RustNames.{bit_or};
+ghost use Rattle.m11_asm_rules.specs.Limits.{most_defined_names, most_local_symbols, most_names, most_sections};
+ghost use Rattle.m11_asm_rules.specs.Meanings.{empty_map};
+ghost use Rattle.m11_asm_rules.specs.Tables.{first_table};
+ghost use Rattle.m11_asm_operands.specs.Reads.{fields_seen};
+ghost use Rattle.m11_asm_lines.specs.Counting.{names_counted};
+ghost use Rattle.m11_asm_lines.specs.Actions.{AreActionTerms, IsWithin, action_fields};
+ghost use Rattle.m11_asm_lines.specs.Lines.{flags_from};
+ghost use Rattle.m11_asm_lines.specs.Passes.{Matches};
+ghost use Rattle.m11_scan.specs.Views.{bits_of};
+ghost use Rattle.m11_unfold.specs.Kept.{IsKept};
+ghost use Rattle.m11_unfold_rules.specs.Stages.{start};
+ghost use Rattle.m11_asm_passes.specs.Begun.{Begins, Finishes};
+ghost use Rattle.m11_asm_passes.specs.Bounds.{HasRoom};
+ghost use Rattle.m11_asm_passes.specs.Placed.{live_in};
+ghost use Rattle.m11_asm_passes.specs.States.{Going, going_of};
+ghost use Rattle.m11_asm_passes.specs.Turns.{IsEmpty, IsNext, Places, SaysLive, SaysPlaced, Turns};
+
+use crate::begun::Begun;
+use crate::blank::{is_blank, place_blank};
+use crate::operating::{
+    change_line, count_line, counter, is_shown, put_line, put_place, section_name,
+};
+use crate::placed::{LiveLine, PlacedLine};
+use crate::turns::Turn;
+use m11_asm_faults::AsmFault;
+use m11_asm_lines::{Action, Counting, Pass, line_flags};
+use m11_asm_listing::Item;
+use m11_asm_operators::Put;
+use m11_asm_table::Map;
+use m11_scan::{ErrorFlags, Line};
+use m11_scan_statements::{Statement, statement};
+use m11_unfold::{Step, Unfolder};
+use std::alloc::{AllocError, Global};
+
+// What a pass keeps from line to line.
+#[derive(Drop)]
+pub struct State {
+    pub(crate) unfolder: Unfolder,
+    pub(crate) pass: Pass,
+    // Which names count beside those that the table defines.
+    pub(crate) counting: Counting,
+    // What the last line put.
+    pub(crate) put: Put,
+}
+
+impl State {
+    // Before the first line.
+    pub(crate) fn new(alloc: Global, counting: Counting) -> Result<State, AllocError>
+        ensures unfolder { IfOk result (λ state. state.unfolder ≡ record { stage = start []; has_statement = false; fault = None }) }
+        ensures pass { IfOk result (λ state. Matches state.pass first_table) }
+        ensures counting { IfOk result (λ state. state.counting ≡ counting) }
+    {
+        match Pass::new(alloc) {
+            Ok(pass) => Ok(State {
+                unfolder: Unfolder::new(alloc),
+                pass,
+                counting,
+                put: Put::new(alloc),
+            }),
+            Err(error) => {
+                // proof: a value of several maps that goes in place takes minutes to prove
+                drop(counting);
+                Err(error)
+            }
+        }
+    }
+
+    // What comes next. A line that becomes live is placed in `placed`.
+    pub(crate) fn next(&mut self, map: &Map<'_>, placed: &mut PlacedLine) -> Result<Turn, AsmFault>
+        requires goes_on { self.old.unfolder.fault ≡ None }
+        requires sound { HasRoom self.old.unfolder.stage.taken 0 0 self.old.pass.table }
+        ensures turns { Turns map.now (going_of self.old) (going_of self.new) (live_in placed.new.live)
+            (SaysPlaced map.now placed.new self.new.put) result }
+        ensures empty { IsEmpty self.new.unfolder.stage result }
+        ensures next { IsNext self.old.unfolder.stage.taken self.new.unfolder.stage result }
+        ensures goes_on { IfOk result (λ _. self.new.unfolder.fault ≡ None) }
+        ensures sound { IfOk result (λ _. HasRoom self.new.unfolder.stage.taken 0 0 self.new.pass.table) }
+    {
+        match self.unfolder.next(&mut placed.live.line)? {
+            Step::NeedLine => Ok(Turn::NeedLine),
+            Step::End => Ok(Turn::End),
+            Step::Line(is_expanded) => {
+                placed.live.is_expanded = is_expanded;
+                self.place(map, placed)?;
+                Ok(Turn::Line)
+            }
+        }
+    }
+
+    // What comes next, where nothing is put: a line that becomes live stands in `live`.
+    pub(crate) fn define_next(&mut self, live: &mut LiveLine) -> Result<Turn, AsmFault>
+        requires goes_on { self.old.unfolder.fault ≡ None }
+        requires sound { HasRoom self.old.unfolder.stage.taken 0 0 self.old.pass.table }
+        ensures turns { Turns empty_map (going_of self.old) (going_of self.new) (live_in live.new) (SaysLive live.new) result }
+        ensures empty { IsEmpty self.new.unfolder.stage result }
+        ensures next { IsNext self.old.unfolder.stage.taken self.new.unfolder.stage result }
+        ensures goes_on { IfOk result (λ _. self.new.unfolder.fault ≡ None) }
+        ensures sound { IfOk result (λ _. HasRoom self.new.unfolder.stage.taken 0 0 self.new.pass.table) }
+    {
+        match self.unfolder.next(&mut live.line)? {
+            Step::NeedLine => Ok(Turn::NeedLine),
+            Step::End => Ok(Turn::End),
+            Step::Line(is_expanded) => {
+                live.is_expanded = is_expanded;
+                self.define(live)?;
+                Ok(Turn::Line)
+            }
+        }
+    }
+
+    // Places a line that became live.
+    fn place(&mut self, map: &Map<'_>, placed: &mut PlacedLine) -> Result<(), AsmFault>
+        requires goes_on { self.old.unfolder.fault ≡ None }
+        requires free { self.old.unfolder.has_statement ≡ false }
+        requires room { HasRoom self.old.unfolder.stage.taken 67 1 self.old.pass.table }
+        ensures same { live_in placed.new.live ≡ live_in placed.old.live }
+        ensures places { Places map.now (live_in placed.old.live) self.old.unfolder.stage (going_of self.old) (going_of self.new)
+            (SaysPlaced map.now placed.new self.new.put) result }
+        ensures taken { IfOk result (λ _. self.new.unfolder.stage.taken ≡ self.old.unfolder.stage.taken) }
+        ensures goes_on { IfOk result (λ _. self.new.unfolder.fault ≡ None) }
+        ensures sound { IfOk result (λ _. HasRoom self.new.unfolder.stage.taken 0 0 self.new.pass.table) }
+    {
+        self.counts_are_within_the_limits();
+        let statement = statement(&placed.live.line);
+        if is_blank(&statement) {
+            place_blank(&self.pass, &mut self.put, &statement, placed);
+            return Ok(());
+        }
+        let begun = self.begin(map, &mut placed.live, &statement)?;
+        placed.section = section_name(&self.pass);
+        placed.place = put_place(&self.pass, &placed.live.action);
+        placed.counter = counter(&self.pass);
+        put_line(
+            &mut self.put,
+            map,
+            &self.pass,
+            &placed.live.line,
+            begun.act.arguments,
+            &placed.live.action,
+            &begun.fields,
+        )?;
+        placed.flags = all_flags(&placed.live.line, &statement, &begun, &self.put);
+        placed.assigned = self.finish(map, &placed.live, &begun)?;
+        placed.is_shown = is_shown(&self.pass, placed.live.is_expanded);
+        Ok(())
+    }
+
+    // Defines what a line that became live defines.
+    fn define(&mut self, live: &mut LiveLine) -> Result<(), AsmFault>
+        requires goes_on { self.old.unfolder.fault ≡ None }
+        requires free { self.old.unfolder.has_statement ≡ false }
+        requires room { HasRoom self.old.unfolder.stage.taken 67 1 self.old.pass.table }
+        ensures same { live_in live.new ≡ live_in live.old }
+        ensures places { Places empty_map (live_in live.old) self.old.unfolder.stage (going_of self.old) (going_of self.new)
+            (SaysLive live.new) result }
+        ensures taken { IfOk result (λ _. self.new.unfolder.stage.taken ≡ self.old.unfolder.stage.taken) }
+        ensures goes_on { IfOk result (λ _. self.new.unfolder.fault ≡ None) }
+        ensures sound { IfOk result (λ _. HasRoom self.new.unfolder.stage.taken 0 0 self.new.pass.table) }
+    {
+        self.counts_are_within_the_limits();
+        let statement = statement(&live.line);
+        if is_blank(&statement) {
+            live.action = Action::NoAction;
+            return Ok(());
+        }
+        let map = Map::none();
+        let begun = self.begin(&map, live, &statement)?;
+        self.finish(&map, live, &begun)?;
+        Ok(())
+    }
+
+    // What a line that has begun mentions, where that counts, and changes, and what a listing shows of what it assigns. It is put into both
+    // callers: the call, and the move of what it returns, took a sixth of its instructions.
+    #[inline(always)]
+    fn finish(
+        &mut self,
+        map: &Map<'_>,
+        live: &LiveLine,
+        begun: &Begun,
+    ) -> Result<Option<Item>, AsmFault>
+        requires within { IsWithin (length live.now.line.text) live.now.action }
+        requires fields { fields_seen begun.now.fields ≡ action_fields self.old.pass.table live.now.line.text live.now.action }
+        requires terms { AreActionTerms live.now.line.text live.now.action begun.now.fields.list.items begun.now.fields.terms }
+        requires room { HasRoom self.old.unfolder.stage.taken 1 1 self.old.pass.table }
+        ensures finishes { (old : Going) → Begins map.now (live_in live.now) old (going_of self.old) live.now.action begun.now
+            → Finishes map.now (live_in live.now) old.unfolder.stage old (going_of self.new) result }
+        ensures unfolder { self.new.unfolder ≡ self.old.unfolder }
+        ensures put { self.new.put ≡ self.old.put }
+        ensures sound { IfOk result (λ _. HasRoom self.new.unfolder.stage.taken 0 0 self.new.pass.table) }
+    {
+        let line = &live.line;
+        let arguments = begun.act.arguments;
+        count_line(
+            &mut self.counting,
+            line,
+            &begun.act.notes,
+            arguments,
+            &live.action,
+            &begun.fields,
+        )?;
+        self.counts_are_within_the_limits();
+        change_line(
+            &mut self.pass,
+            map,
+            line,
+            arguments,
+            &live.action,
+            &begun.fields,
+        )
+    }
+
+    // The limits hold of each pass. It does nothing.
+    #[inline(always)]
+    fn counts_are_within_the_limits(&self)
+        ensures defined { self.now.pass.names ≤ most_defined_names }
+        ensures symbols { self.now.pass.local_symbols ≤ most_local_symbols }
+        ensures sections { length self.now.pass.table.sections ≤ most_sections }
+        ensures names { length (names_counted self.now.counting) ≤ most_names }
+        ensures unfolding { IsKept self.now.unfolder.stage }
+    {
+        self.unfolder.is_within_the_limits();
+        self.pass.counts_are_within_the_limits();
+        self.counting.names_are_within_the_limit();
+    }
+}
+
+// The flags of a line: those that the line's definition has, and P where a label of it has moved.
+fn all_flags(line: &Line, statement: &Statement, begun: &Begun, put: &Put) -> ErrorFlags
+    ensures { bits_of result ≡ bit_or (flags_from line.now.text statement.now.labels_end statement.now.body
+        (bits_of statement.now.label_flags) (bits_of begun.now.found.doubly_defined) put.now.flags begun.now.act.notes.flags)
+        (bits_of begun.now.found.moved) }
+{
+    let flags = line_flags(
+        line,
+        usize::from(statement.labels_end),
+        statement.body,
+        statement.label_flags,
+        begun.found.doubly_defined,
+        put.flags(),
+        begun.act.notes.flags(),
+    );
+    flags.with(begun.found.moved)
+}

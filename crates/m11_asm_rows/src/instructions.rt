@@ -1,0 +1,30 @@
+//! Instructions as they were worked by hand. (PDP-11/40 Processor Handbook, "Instruction set" and "Addressing modes".)
+
+ghost use Rattle.std.specs.Prelude.{◌≡◌, map};
+ghost use Rattle.m11_asm_rows.specs.InstructionRows.{branch_rows, missing_rows, operand_rows, place_rows, register_rows};
+ghost use Rattle.m11_asm_rows.specs.Worked.{found, expected};
+
+/// Operands in registers, by registers and in the words after an instruction.
+pub fn operands_are_as_worked()
+    ensures { map found operand_rows ≡ map expected operand_rows }
+{}
+
+/// Relative operands, and places as numbers.
+pub fn relative_operands_are_as_worked()
+    ensures { map found place_rows ≡ map expected place_rows }
+{}
+
+/// Operands that are missing or not closed, and registers where none may be.
+pub fn missing_operands_are_as_worked()
+    ensures { map found missing_rows ≡ map expected missing_rows }
+{}
+
+/// Registers whose expressions have names that aren't firm.
+pub fn registers_are_as_worked()
+    ensures { map found register_rows ≡ map expected register_rows }
+{}
+
+/// Branches, SOB, and numbers in a code.
+pub fn branches_are_as_worked()
+    ensures { map found branch_rows ≡ map expected branch_rows }
+{}

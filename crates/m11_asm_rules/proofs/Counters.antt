@@ -1,0 +1,92 @@
+-- How a counter runs on: each line changes it by what the line does.
+use Rattle.std.proofs.Common.{◌≡◌, ◌∙◌, ◌≢◌, ℕ, ◌+◌, ◌%◌, Bool, true, false, List, [], ◌∷◌, ◌++◌, refl, sym, ap, arith}
+use Rattle.std.specs.Prelude.{◌==◌, if◌then◌else◌}
+use Rattle.std.proofs.Math.Nat.{mod-add-mod}
+use Rattle.std.proofs.lemmas.Bool.Decides.{nat_tests}
+use Rattle.m11_asm_rules.specs.Places.{Move, Moved, Steps, Goes, has_set, in_section, last_set, moves_in, place_after, place_in, sizes_since}
+
+-- ---- one section
+
+set_before_steps : (moves : List Move) (size : ℕ) → has_set (moves ++ Steps size ∷ []) ≡ has_set moves
+set_before_steps [] size = refl
+set_before_steps (Steps more ∷ moves) size = set_before_steps moves size
+set_before_steps (Goes place ∷ moves) size = refl
+
+last_before_steps : (moves : List Move) (size : ℕ) → last_set (moves ++ Steps size ∷ []) ≡ last_set moves
+last_before_steps [] size = refl
+last_before_steps (Steps more ∷ moves) size = last_before_steps moves size
+last_before_steps (Goes place ∷ moves) size = rw (set_before_steps moves size, last_before_steps moves size) refl
+
+added_by : (is_set : Bool) (more sizes size : ℕ)
+    → (if is_set then sizes + size else more + (sizes + size)) ≡ (if is_set then sizes else more + sizes) + size
+added_by true more sizes size = refl
+added_by false more sizes size = omega arith
+
+sizes_with_steps : (moves : List Move) (size : ℕ) → sizes_since (moves ++ Steps size ∷ []) ≡ sizes_since moves + size
+sizes_with_steps [] size = omega arith
+sizes_with_steps (Steps more ∷ moves) size =
+    rw (set_before_steps moves size, sizes_with_steps moves size) (added_by (has_set moves) more (sizes_since moves) size)
+sizes_with_steps (Goes place ∷ moves) size = sizes_with_steps moves size
+
+steps_in_section : (moves : List Move) (size : ℕ) → place_after (moves ++ Steps size ∷ []) ≡ (place_after moves + size) % 65536
+steps_in_section moves size =
+    let sum : last_set moves + (sizes_since moves + size) ≡ last_set moves + sizes_since moves + size = omega arith in
+    rw (last_before_steps moves size, sizes_with_steps moves size, sum)
+    (sym (mod-add-mod (last_set moves + sizes_since moves) 65536 size))
+
+set_before_goes : (moves : List Move) (place : ℕ) → has_set (moves ++ Goes place ∷ []) ≡ true
+set_before_goes [] place = refl
+set_before_goes (Steps size ∷ moves) place = set_before_goes moves place
+set_before_goes (Goes other ∷ moves) place = refl
+
+last_at_goes : (moves : List Move) (place : ℕ) → last_set (moves ++ Goes place ∷ []) ≡ place
+last_at_goes [] place = refl
+last_at_goes (Steps size ∷ moves) place = last_at_goes moves place
+last_at_goes (Goes other ∷ moves) place = rw (set_before_goes moves place) (last_at_goes moves place)
+
+no_sizes_at_goes : (moves : List Move) (place : ℕ) → sizes_since (moves ++ Goes place ∷ []) ≡ 0
+no_sizes_at_goes [] place = refl
+no_sizes_at_goes (Steps size ∷ moves) place = rw (set_before_goes moves place) (no_sizes_at_goes moves place)
+no_sizes_at_goes (Goes other ∷ moves) place = no_sizes_at_goes moves place
+
+goes_in_section : (moves : List Move) (place : ℕ) → place_after (moves ++ Goes place ∷ []) ≡ place % 65536
+goes_in_section moves place =
+    let none : place + 0 ≡ place = omega arith in
+    rw (last_at_goes moves place, no_sizes_at_goes moves place, none) refl
+
+-- ---- lines of all sections
+
+is_itself : (section : ℕ) → (section == section) ≡ true
+is_itself section = grind (arith, nat_tests)
+
+is_no_other : (section other : ℕ) → other ≢ section → (other == section) ≡ false
+is_no_other section other differs = grind (arith, nat_tests)
+
+moves_here : (section : ℕ) (moves : List Moved) (move : Move)
+    → moves_in section (moves ++ in_section section move ∷ []) ≡ moves_in section moves ++ move ∷ []
+moves_here section [] move = rw (is_itself section) refl
+moves_here section (first ∷ moves) move =
+    rw (moves_here section moves move) (by_first (first.section == section) first.move (moves_in section moves) move)
+  where
+    by_first : (is_here : Bool) (first : Move) (before : List Move) (move : Move)
+        → (if is_here then first ∷ (before ++ move ∷ []) else before ++ move ∷ [])
+        ≡ (if is_here then first ∷ before else before) ++ move ∷ []
+    by_first true first before move = refl
+    by_first false first before move = refl
+
+moves_there : (section other : ℕ) → other ≢ section → (moves : List Moved) (move : Move)
+    → moves_in section (moves ++ in_section other move ∷ []) ≡ moves_in section moves
+moves_there section other differs [] move = rw (is_no_other section other differs) refl
+moves_there section other differs (first ∷ moves) move = rw (moves_there section other differs moves move) refl
+
+pub steps_on : (section size : ℕ) (moves : List Moved)
+    → place_in section (moves ++ in_section section (Steps size) ∷ []) ≡ (place_in section moves + size) % 65536
+steps_on section size moves = rw (moves_here section moves (Steps size)) (steps_in_section (moves_in section moves) size)
+
+pub goes_there : (section place : ℕ) (moves : List Moved)
+    → place_in section (moves ++ in_section section (Goes place) ∷ []) ≡ place % 65536
+goes_there section place moves = rw (moves_here section moves (Goes place)) (goes_in_section (moves_in section moves) place)
+
+pub stays_there : (section other : ℕ) (move : Move) (moves : List Moved) → other ≢ section
+    → place_in section (moves ++ in_section other move ∷ []) ≡ place_in section moves
+stays_there section other move moves differs = ap place_after (moves_there section other differs moves move)

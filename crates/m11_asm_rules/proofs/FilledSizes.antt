@@ -1,0 +1,146 @@
+-- What each operator puts has as many bytes as its counter goes on by.
+use Rattle.std.proofs.Common.{◌≡◌, ◌∙◌, ℕ, suc, ◌+◌, ◌*◌, ◌/◌, Bool, true, false, List, [], ◌∷◌, ◌++◌, length, map, refl, ap, arith}
+use Rattle.m11_unfold_arguments.specs.Expressions.{Known}
+use Rattle.m11_base.specs.Devices.{Bytes}
+use Rattle.m11_obj_texts.specs.declared.pieces.PieceContent.{PieceContent}
+use Rattle.m11_scan_statements.specs.declared.parts.Part.{Part}
+use Rattle.m11_scan_statements.specs.declared.parts.PartKind.{PartKind}
+use Rattle.m11_scan_statements.specs.declared.parts.PartKind.TheVariants.{Text, Expression}
+use Rattle.m11_asm_rules.specs.Codes.{LineContext, form_words, words_from}
+use Rattle.m11_asm_rules.specs.Contents.{contents_size, fixed_byte, further}
+use Rattle.m11_asm_rules.specs.Definitions.{Definition, Standing, firm_part, firm_parts, firm_standing}
+use Rattle.m11_asm_rules.specs.Meanings.{Map}
+use Rattle.m11_asm_rules.specs.declared.operands.Form.{Form}
+use Rattle.m11_asm_rules.specs.declared.operands.Form.TheVariants.{Absent, InRegister, Indexed, Unindexed, AfterCounter}
+use Rattle.m11_asm_rules.specs.Operands.{instruction_size, words_of}
+use Rattle.m11_asm_rules.specs.Storage as storage
+use Rattle.m11_asm_rules.specs.Strings as strings
+use Rattle.m11_asm_rules.specs.Tables.{Table, firm_table}
+
+-- ---- one thing put after another
+
+pub sizes_add : (first next : List PieceContent) → contents_size (first ++ next) ≡ contents_size first + contents_size next
+sizes_add [] next = omega arith
+sizes_add (content ∷ first) next =
+    let rest : contents_size (first ++ next) ≡ contents_size first + contents_size next = sizes_add first next in
+    rw rest (omega arith)
+
+-- ---- .WORD, .BYTE
+
+pub words_fill : (map : Map) (table : Table) (line : Bytes) (place : ℕ) (starts : List ℕ)
+    → contents_size (storage.words_from map table line place starts).contents ≡ length starts * 2
+words_fill map table line place [] = refl
+words_fill map table line place (start ∷ starts) =
+    let rest : contents_size (storage.words_from map table line (further place 2) starts).contents ≡ length starts * 2
+    = words_fill map table line (further place 2) starts in
+    omega (arith, rest)
+
+pub bytes_fill : (map : Map) (table : Table) (line : Bytes) (place : ℕ) (starts : List ℕ)
+    → contents_size (storage.bytes_from map table line place starts).contents ≡ length starts
+bytes_fill map table line place [] = refl
+bytes_fill map table line place (start ∷ starts) =
+    let rest : contents_size (storage.bytes_from map table line (further place 1) starts).contents ≡ length starts
+    = bytes_fill map table line (further place 1) starts in
+    omega (arith, rest)
+
+-- ---- texts
+
+characters_fill : (text : Bytes) → contents_size (map fixed_byte text) ≡ length text
+characters_fill [] = refl
+characters_fill (character ∷ text) =
+    let rest : contents_size (map fixed_byte text) ≡ length text = characters_fill text in
+    omega (arith, rest)
+
+part_fills : (known : Map) (table : Table) (place : ℕ) (line : Bytes) (part : Part) (kind : PartKind)
+    → contents_size (strings.part_bytes known table place line part kind).contents ≡ strings.part_size line part kind
+part_fills known table place line part Text = characters_fill (strings.part_text line part)
+part_fills known table place line part Expression = refl
+
+pub parts_fill : (known : Map) (table : Table) (place : ℕ) (line : Bytes) (parts : List Part)
+    → contents_size (strings.parts_bytes known table place line parts).contents ≡ strings.parts_size line parts
+parts_fill known table place line [] = refl
+parts_fill known table place line (part ∷ parts) =
+    sizes_add (strings.part_bytes known table place line part part.kind).contents
+    (strings.parts_bytes known table (further place (strings.part_size line part part.kind)) line parts).contents
+    ∙ ap (λ (n : ℕ). n + contents_size
+    (strings.parts_bytes known table (further place (strings.part_size line part part.kind)) line parts).contents)
+    (part_fills known table place line part part.kind)
+    ∙ ap (λ (n : ℕ). strings.part_size line part part.kind + n)
+    (parts_fill known table (further place (strings.part_size line part part.kind)) line parts)
+
+-- ---- .RAD50
+
+length_map : (f : ℕ → ℕ) (text : List ℕ) → length (map f text) ≡ length text
+length_map f [] = refl
+length_map f (character ∷ text) = ap suc (length_map f text)
+
+length_joined : (first next : List ℕ) → length (first ++ next) ≡ length first + length next
+length_joined [] next = omega arith
+length_joined (code ∷ first) next =
+    let rest : length (first ++ next) ≡ length first + length next = length_joined first next in
+    omega (arith, rest)
+
+part_counts : (known : Known) (line : Bytes) (part : Part) (kind : PartKind)
+    → length (strings.part_codes known line part kind).codes ≡ strings.part_size line part kind
+part_counts known line part Text = length_map strings.character_code (strings.part_text line part)
+part_counts known line part Expression = refl
+
+pub parts_count : (known : Known) (line : Bytes) (parts : List Part)
+    → length (strings.parts_codes known line parts).codes ≡ strings.parts_size line parts
+parts_count known line [] = refl
+parts_count known line (part ∷ parts) =
+    length_joined (strings.part_codes known line part part.kind).codes (strings.parts_codes known line parts).codes
+    ∙ ap (λ (n : ℕ). n + length (strings.parts_codes known line parts).codes) (part_counts known line part part.kind)
+    ∙ ap (λ (n : ℕ). strings.part_size line part part.kind + n) (parts_count known line parts)
+
+pub packed_fill : (codes : List ℕ) → contents_size (strings.packed_words codes) ≡ (length codes + 2) / 3 * 2
+packed_fill [] = refl
+packed_fill (first ∷ []) = refl
+packed_fill (first ∷ (second ∷ [])) = refl
+packed_fill (first ∷ (second ∷ (third ∷ codes))) =
+    let rest : contents_size (strings.packed_words codes) ≡ (length codes + 2) / 3 * 2 = packed_fill codes in
+    omega (arith, rest)
+
+-- ---- instructions
+
+form_fills : (line_context : LineContext) (place : ℕ) (form : Form)
+    → contents_size (form_words line_context place form).contents ≡ words_of form * 2
+form_fills line_context place Absent = refl
+form_fills line_context place (InRegister kind register) = refl
+form_fills line_context place (Indexed kind register index) = refl
+form_fills line_context place (Unindexed register) = refl
+form_fills line_context place (AfterCounter kind start) = refl
+
+pub forms_fill : (line_context : LineContext) (place : ℕ) (forms : List Form)
+    → 2 + contents_size (words_from line_context place forms).contents ≡ instruction_size forms
+forms_fill line_context place [] = refl
+forms_fill line_context place (form ∷ forms) =
+    let both : contents_size (words_from line_context place (form ∷ forms)).contents
+    ≡ contents_size (form_words line_context place form).contents
+    + contents_size (words_from line_context (further place (words_of form * 2)) forms).contents
+    = sizes_add (form_words line_context place form).contents
+    (words_from line_context (further place (words_of form * 2)) forms).contents in
+    let first : contents_size (form_words line_context place form).contents ≡ words_of form * 2 = form_fills line_context place form in
+    let rest : 2 + contents_size (words_from line_context (further place (words_of form * 2)) forms).contents ≡ instruction_size forms
+    = forms_fill line_context (further place (words_of form * 2)) forms in
+    omega (arith, both, first, rest)
+
+-- ---- firm parts
+
+standing_twice : (firm : Bool) (standing : Standing) → firm_standing firm (firm_standing firm standing) ≡ firm_standing firm standing
+standing_twice true standing = refl
+standing_twice false standing = refl
+
+abbrev with_standing : Definition → Standing → Definition
+with_standing definition standing = record definition { standing = standing }
+
+parts_twice : (definitions : List Definition) → firm_parts (firm_parts definitions) ≡ firm_parts definitions
+parts_twice [] = refl
+parts_twice (definition ∷ definitions) =
+    ap (λ (s : Standing). with_standing definition s ∷ firm_parts (firm_parts definitions))
+    (standing_twice definition.is_firm definition.standing)
+    ∙ ap (λ (l : List Definition). firm_part definition ∷ l) (parts_twice definitions)
+
+pub table_twice : (table : Table) → firm_table (firm_table table) ≡ firm_table table
+table_twice table =
+    ap (λ (l : List Definition). record table { definitions = l }) (parts_twice table.definitions)

@@ -1,0 +1,87 @@
+-- Firm names stand for the same under every map.
+use Rattle.std.proofs.Common.{◌≡◌, ◌∙◌, ℕ, Bool, true, false, List, [], ◌∷◌, map, Option, Some, None, refl, sym, ap, true≢false}
+use Rattle.m11_unfold_arguments.specs.Expressions as expressions
+use Rattle.m11_scan.specs.Cutting.{Lexeme, tokens_from}
+use Rattle.m11_scan.specs.declared.radix.Radix.{Radix}
+use Rattle.m11_scan_values.proofs.Meanings.{atom_agrees, first_agrees, others_agree, with_atom}
+use Rattle.m11_scan_values.specs.declared.names.Symbol.{Symbol}
+use Rattle.m11_scan_values.specs.declared.names.Symbol.TheVariants.{Ordinary, Local, Counter}
+use Rattle.m11_scan_values.specs.Quantities.{Quantity}
+use Rattle.m11_scan_values.specs.Symbols.{AgreeOn}
+use Rattle.m11_scan_values.specs.Terms.{Atom, Item, atom_of, item, symbol_in}
+use Rattle.m11_scan_values.specs.Values.{value_of}
+use Rattle.m11_asm_rules.specs.Definitions.{Definition, Key, Named, Numbered, firm_part, firm_parts, is_same, last_definition, later_or}
+use Rattle.m11_asm_rules.specs.Meanings.{AreFirm, Context, LocalOnly, Map, defined_or, empty_map, firm_known, is_firm, is_firm_in, known_at, stands_for, undefined}
+use Rattle.m11_asm_rules.specs.Tables.{Table, firm_table}
+
+-- ---- symbols
+
+abbrev pub firm_option : Option Definition → Option Definition
+firm_option (Some definition) = Some (firm_part definition)
+firm_option None = None
+
+later_firm : (later : Option Definition) (is_this : Bool) (definition : Definition)
+    → later_or (firm_option later) is_this (firm_part definition) ≡ firm_option (later_or later is_this definition)
+later_firm (Some later) is_this definition = refl
+later_firm None true definition = refl
+later_firm None false definition = refl
+
+pub last_firm : (key : Key) (definitions : List Definition)
+    → last_definition key (firm_parts definitions) ≡ firm_option (last_definition key definitions)
+last_firm key [] = refl
+last_firm key (definition ∷ definitions) =
+    rw (last_firm key definitions)
+    (later_firm (last_definition key definitions) (is_same definition.key key) definition)
+
+firm_alike : (key : Key) (doubly_defined : List Key) (one other : Quantity) (found : Option Definition) → is_firm_in found ≡ true
+    → defined_or key doubly_defined one found ≡ defined_or key doubly_defined other (firm_option found)
+firm_alike key doubly_defined one other (Some definition) firm = rw firm refl
+firm_alike key doubly_defined one other None firm = absurd (true≢false (sym firm))
+
+meaning_alike : (key : Key) (doubly_defined : List Key) (definitions : List Definition) (one other : Quantity)
+    → is_firm_in (last_definition key definitions) ≡ true
+    → defined_or key doubly_defined one (last_definition key definitions)
+    ≡ defined_or key doubly_defined other (last_definition key (firm_parts definitions))
+meaning_alike key doubly_defined definitions one other firm =
+    rw (last_firm key definitions) (firm_alike key doubly_defined one other (last_definition key definitions) firm)
+
+pub symbol_alike : (map : Map) (context : Context) (table : Table) (place : ℕ) (symbol : Symbol) → is_firm table symbol ≡ true
+    → stands_for map context table place symbol ≡ stands_for empty_map LocalOnly (firm_table table) place symbol
+symbol_alike map context table place (Ordinary name) firm =
+    meaning_alike (Named name) table.doubly_defined table.definitions
+    (defined_or (Named name) map.doubly_defined (undefined context (Ordinary name)) (last_definition (Named name) map.definitions))
+    (undefined LocalOnly (Ordinary name)) firm
+symbol_alike map context table place (Local number) firm =
+    meaning_alike (Numbered table.modes.block number) table.doubly_defined table.definitions
+    (defined_or (Numbered table.modes.block number) map.doubly_defined (undefined context (Local number))
+    (last_definition (Numbered table.modes.block number) map.definitions))
+    (undefined LocalOnly (Local number)) firm
+symbol_alike map context table place Counter firm = refl
+
+symbols_alike : (map : Map) (context : Context) (table : Table) (place : ℕ) (symbols : List Symbol) → AreFirm table symbols
+    → AgreeOn symbols (stands_for map context table place) (stands_for empty_map LocalOnly (firm_table table) place)
+symbols_alike map context table place [] firm = tt
+symbols_alike map context table place (symbol ∷ symbols) firm =
+    (symbol_alike map context table place symbol firm.0, symbols_alike map context table place symbols firm.1)
+
+-- ---- expressions
+
+items_agree : (first second : Symbol → Quantity) (tokens : List Lexeme) → AgreeOn (expressions.symbols_in tokens) first second
+    → map (item first) tokens ≡ map (item second) tokens
+items_agree first second [] agree = refl
+items_agree first second (token ∷ tokens) agree =
+    let read : Option Symbol = symbol_in token.sort token.text in
+    let here : atom_of first token.sort token.text ≡ atom_of second token.sort token.text =
+    atom_agrees first second token.sort token.text (first_agrees first second read (expressions.symbols_in tokens) agree) in
+    ap (λ (a : Atom). with_atom token.sort a (map (item first) tokens)) here
+    ∙ ap (λ (l : List Item). item second token ∷ l)
+    (items_agree first second tokens (others_agree first second read (expressions.symbols_in tokens) agree))
+
+pub value_alike : (map : Map) (context : Context) (table : Table) (place : ℕ) (line : List ℕ) (start : ℕ)
+    → AreFirm table (expressions.symbols_at line start)
+    → expressions.value_at (known_at map context table place) line start ≡ expressions.value_at (firm_known table place) line start
+value_alike map context table place line start firm =
+    ap (λ (l : List Item). value_of table.modes.radix l)
+    (items_agree (stands_for map context table place) (stands_for empty_map LocalOnly (firm_table table) place)
+    (expressions.expression_in (tokens_from line start))
+    (symbols_alike map context table place (expressions.symbols_at line start) firm))

@@ -1,0 +1,142 @@
+-- What a line puts fills what its counter goes on by.
+use Rattle.std.proofs.Common.{◌≡◌, ◌∙◌, ℕ, ◌+◌, ◌*◌, ◌/◌, [], ◌∷◌, length, Option, refl, sym, ap, inl, inr}
+use Rattle.m11_unfold_arguments.specs.Expressions.{Known}
+use Rattle.m11_base.specs.Devices.{Bytes}
+use Rattle.m11_base.specs.declared.instruction.Op.{Op}
+use Rattle.m11_unfold_rules.specs.Unfolding.{Given}
+use Rattle.m11_asm_rules.proofs.FilledSizes.{bytes_fill, forms_fill, packed_fill, parts_count, parts_fill, sizes_add, table_twice, words_fill}
+use Rattle.m11_asm_rules.specs.Alignment.{gap, place_for}
+use Rattle.m11_asm_rules.specs.Changes.{Change, Counts}
+use Rattle.m11_asm_rules.specs.Contents.{contents_size, fixed_byte, further}
+use Rattle.m11_asm_rules.specs.Effects.{change_by, directive_change, directive_put, operator_put}
+use Rattle.m11_asm_rules.specs.Elements.{elements_at}
+use Rattle.m11_asm_rules.specs.Fields.{fields_at, forms_of}
+use Rattle.m11_asm_rules.specs.Filling.{Fills, gap_before}
+use Rattle.m11_asm_rules.specs.Instructions as instructions
+use Rattle.m11_asm_rules.specs.Lines.{Action, NoAction, Assign, SetCounter, Operate, change_of, action, line_change, line_put, put_by}
+use Rattle.m11_asm_rules.specs.Meanings.{LocalOnly, Map, empty_map, known_at}
+use Rattle.m11_asm_rules.specs.declared.operators.Directive.{Directive}
+use Rattle.m11_asm_rules.specs.declared.operators.Operator.{Operator}
+use Rattle.m11_asm_rules.specs.declared.operators.Operator.TheVariants as operators
+use Rattle.m11_asm_rules.specs.Operators.{is_even}
+use Rattle.m11_asm_rules.specs.declared.operators.Directive.TheVariants as word
+use Rattle.m11_asm_rules.specs.Operands.{instruction_size}
+use Rattle.m11_asm_rules.specs.Places.{Steps}
+use Rattle.m11_asm_rules.specs.Strings as strings
+use Rattle.m11_asm_rules.specs.Tables.{Table, firm_table, place}
+
+-- the step of an operator that puts something
+abbrev step : ℕ → ℕ → Change
+step gap size = Counts (Steps (gap + size))
+
+same_step : (gap one other : ℕ) → one ≡ other → step gap one ≡ step gap other
+same_step gap one other same = ap (λ (n : ℕ). step gap n) same
+
+-- ---- directives: each that puts something
+
+rad50_fills : (map : Map) (table : Table) (here : ℕ) (line : Bytes) (start : ℕ)
+    → strings.rad50_size line start ≡ contents_size (strings.rad50 map table here line start).contents
+rad50_fills map table here line start =
+    sym (packed_fill (strings.parts_codes (known_at map LocalOnly table here) line (strings.parts_at line start).list).codes
+    ∙ ap (λ (n : ℕ). (n + 2) / 3 * 2)
+    (parts_count (known_at map LocalOnly table here) line (strings.parts_at line start).list))
+
+asciz_fills : (map : Map) (table : Table) (here : ℕ) (line : Bytes) (start : ℕ)
+    → strings.asciz_size line start ≡ contents_size (strings.asciz map table here line start).contents
+asciz_fills map table here line start =
+    sym (sizes_add (strings.ascii map table here line start).contents (fixed_byte 0 ∷ [])
+    ∙ ap (λ (n : ℕ). n + 1) (parts_fill map table here line (strings.parts_at line start).list))
+
+directive_fills : (map : Map) (firm table : Table) (passed here : ℕ) (line : Bytes) (start : ℕ) (arguments : Option ℕ)
+    (directive : Directive)
+    → Fills passed (directive_put map table here line start arguments directive).contents
+    (directive_change firm passed here line start arguments directive)
+directive_fills map firm table passed here line start arguments word.Word =
+    inr (same_step passed (length (elements_at line start).places * 2)
+    (contents_size (directive_put map table here line start arguments word.Word).contents)
+    (sym (words_fill map table line here (elements_at line start).places)))
+directive_fills map firm table passed here line start arguments word.Byte =
+    inr (same_step passed (length (elements_at line start).places)
+    (contents_size (directive_put map table here line start arguments word.Byte).contents)
+    (sym (bytes_fill map table line here (elements_at line start).places)))
+directive_fills map firm table passed here line start arguments word.Ascii =
+    inr (same_step passed (strings.ascii_size line start)
+    (contents_size (directive_put map table here line start arguments word.Ascii).contents)
+    (sym (parts_fill map table here line (strings.parts_at line start).list)))
+directive_fills map firm table passed here line start arguments word.Asciz =
+    inr (same_step passed (strings.asciz_size line start)
+    (contents_size (directive_put map table here line start arguments word.Asciz).contents)
+    (asciz_fills map table here line start))
+directive_fills map firm table passed here line start arguments word.Rad50 =
+    inr (same_step passed (strings.rad50_size line start)
+    (contents_size (directive_put map table here line start arguments word.Rad50).contents)
+    (rad50_fills map table here line start))
+directive_fills map firm table passed here line start arguments word.Blkb = inl refl
+directive_fills map firm table passed here line start arguments word.Blkw = inl refl
+directive_fills map firm table passed here line start arguments word.Even = inl refl
+directive_fills map firm table passed here line start arguments word.Odd = inl refl
+directive_fills map firm table passed here line start arguments word.Limit = inr refl
+directive_fills map firm table passed here line start arguments word.Radix = inl refl
+directive_fills map firm table passed here line start arguments word.Asect = inl refl
+directive_fills map firm table passed here line start arguments word.Csect = inl refl
+directive_fills map firm table passed here line start arguments word.Psect = inl refl
+directive_fills map firm table passed here line start arguments word.Globl = inl refl
+directive_fills map firm table passed here line start arguments word.Weak = inl refl
+directive_fills map firm table passed here line start arguments word.Title = inl refl
+directive_fills map firm table passed here line start arguments word.Ident = inl refl
+directive_fills map firm table passed here line start arguments word.Sbttl = inl refl
+directive_fills map firm table passed here line start arguments word.Page = inl refl
+directive_fills map firm table passed here line start arguments word.List = inl refl
+directive_fills map firm table passed here line start arguments word.Nlist = inl refl
+directive_fills map firm table passed here line start arguments word.Enabl = inl refl
+directive_fills map firm table passed here line start arguments word.Dsabl = inl refl
+directive_fills map firm table passed here line start arguments word.Narg = inl refl
+directive_fills map firm table passed here line start arguments word.Nchr = inl refl
+directive_fills map firm table passed here line start arguments word.End = inl refl
+
+-- ---- instructions
+
+abbrev size_in : Known → Bytes → ℕ → Op → ℕ
+size_in firm line start operation = instruction_size (forms_of (fields_at firm line start operation).list)
+
+-- the fields are the same by the firm table alone
+size_firm : (table : Table) (here : ℕ) (line : Bytes) (start : ℕ) (operation : Op)
+    → instructions.size (firm_table table) here line start operation ≡ instructions.size table here line start operation
+size_firm table here line start operation =
+    ap (λ (t : Table). size_in (known_at empty_map LocalOnly t here) line start operation) (table_twice table)
+
+instruction_fills : (map : Map) (table : Table) (here : ℕ) (line : Bytes) (start : ℕ) (operation : Op)
+    → instructions.size (firm_table table) here line start operation
+    ≡ contents_size (instructions.words map table here line start operation).contents
+instruction_fills map table here line start operation =
+    size_firm table here line start operation
+    ∙ sym (forms_fill (instructions.line_context map table here line) (further here 2)
+    (forms_of (instructions.fields table here line start operation).list))
+
+operator_fills : (map : Map) (table : Table) (passed here : ℕ) (line : Bytes) (start : ℕ) (arguments : Option ℕ)
+    (operator : Operator)
+    → Fills passed (operator_put map table here line start arguments operator).contents
+    (change_by (firm_table table) passed here line start arguments operator)
+operator_fills map table passed here line start arguments (operators.Instruction operation) =
+    inr (same_step passed (instructions.size (firm_table table) here line start operation)
+    (contents_size (instructions.words map table here line start operation).contents)
+    (instruction_fills map table here line start operation))
+operator_fills map table passed here line start arguments (operators.Directive directive) =
+    directive_fills map (firm_table table) table passed here line start arguments directive
+
+action_fills : (map : Map) (table : Table) (line : Bytes) (arguments : Option ℕ) (does : Action)
+    → Fills (gap_before table does) (put_by map table line arguments does).contents
+    (change_of (firm_table table) line arguments does)
+action_fills map table line arguments NoAction = inl refl
+action_fills map table line arguments (Assign name is_global start) = inl refl
+action_fills map table line arguments (SetCounter start) = inl refl
+action_fills map table line arguments (Operate operator start) =
+    operator_fills map table (gap (is_even operator) (place table)) (place_for (is_even operator) (place table)) line start
+    arguments operator
+
+pub lines_fill : (map : Map) (table : Table) (given : Given)
+    → Fills (gap_before table (action given.is_own given.live.line.text)) (line_put map table given).contents
+    (line_change (firm_table table) given)
+unfolding line_put line_change
+lines_fill map table given =
+    action_fills map table given.live.line.text given.arguments (action given.is_own given.live.line.text)

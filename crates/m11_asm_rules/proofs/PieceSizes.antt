@@ -1,0 +1,286 @@
+-- The sizes of what a line puts are asked of firm names alone.
+use Rattle.std.proofs.Common.{◌≡◌, ◌∙◌, ℕ, List, [], ◌∷◌, ◌++◌, ◌*◌, map, Option, refl, sym, ap}
+use Rattle.std.proofs.lemmas.List.{map-append}
+use Rattle.m11_unfold_arguments.specs.Expressions.{Known}
+use Rattle.m11_base.specs.Devices.{Bytes}
+use Rattle.m11_base.specs.Rad50.{Name}
+use Rattle.m11_obj_texts.specs.declared.pieces.PieceContent.{PieceContent}
+use Rattle.m11_scan_statements.specs.declared.parts.Part.{Part}
+use Rattle.m11_scan_statements.specs.declared.parts.PartKind.{PartKind}
+use Rattle.m11_scan_statements.specs.declared.parts.PartKind.TheVariants.{Text, Expression}
+use Rattle.m11_unfold_rules.specs.Unfolding.{Given}
+use Rattle.m11_asm_rules.proofs.FirmLines.{line_alike, stands_alike}
+use Rattle.m11_asm_rules.specs.Alignment.{place_for}
+use Rattle.m11_asm_rules.specs.Codes as codes
+use Rattle.m11_asm_rules.specs.Contents.{content_size, fixed_byte, further, pieces_from}
+use Rattle.m11_asm_rules.specs.Effects.{directive_put, operator_put}
+use Rattle.m11_asm_rules.specs.Elements.{elements_at}
+use Rattle.m11_asm_rules.specs.Fields.{fields_at, forms_of}
+use Rattle.m11_asm_rules.specs.Instructions as instructions
+use Rattle.m11_asm_rules.specs.Lines.{Assign, Action, Operate, NoAction, SetCounter, after_line, action, line_put, pieces, put_by, put_place, stands}
+use Rattle.m11_asm_rules.specs.Meanings.{LocalOnly, Map, empty_map, known_at}
+use Rattle.m11_asm_rules.specs.declared.operands.Form.{Form}
+use Rattle.m11_asm_rules.specs.declared.operands.Form.TheVariants.{Absent, InRegister, Indexed, Unindexed, AfterCounter}
+use Rattle.m11_asm_rules.specs.Operands.{words_of}
+use Rattle.m11_asm_rules.specs.declared.operators.Directive.{Directive}
+use Rattle.m11_asm_rules.specs.declared.operators.Operator.{Operator}
+use Rattle.m11_asm_rules.specs.declared.operators.Operator.TheVariants as operators
+use Rattle.m11_asm_rules.specs.Operators.{is_even}
+use Rattle.m11_asm_rules.specs.declared.operators.Directive.TheVariants as word
+use Rattle.m11_asm_rules.specs.Placements.{placed_from, placement}
+use Rattle.m11_asm_rules.specs.Shapes.{Shape, shape_of, shapes_in}
+use Rattle.m11_asm_rules.specs.Storage as storage
+use Rattle.m11_asm_rules.specs.Strings as strings
+use Rattle.m11_asm_rules.specs.Tables.{Table, firm_table, first_table, place, section_name}
+
+abbrev sizes : List PieceContent → List ℕ
+sizes contents = map content_size contents
+
+-- one of a size for each of a list
+abbrev twos : {A : Type 0} → List A → List ℕ
+twos list = map (λ one. 2) list
+
+abbrev ones : {A : Type 0} → List A → List ℕ
+ones list = map (λ one. 1) list
+
+words_sized : (known : Map) (table : Table) (line : Bytes) (here : ℕ) (starts : List ℕ)
+    → sizes (storage.words_from known table line here starts).contents ≡ twos starts
+words_sized known table line here [] = refl
+words_sized known table line here (start ∷ starts) =
+    ap (λ (l : List ℕ). 2 ∷ l) (words_sized known table line (further here 2) starts)
+
+bytes_sized : (known : Map) (table : Table) (line : Bytes) (here : ℕ) (starts : List ℕ)
+    → sizes (storage.bytes_from known table line here starts).contents ≡ ones starts
+bytes_sized known table line here [] = refl
+bytes_sized known table line here (start ∷ starts) =
+    ap (λ (l : List ℕ). 1 ∷ l) (bytes_sized known table line (further here 1) starts)
+
+-- ---- texts
+
+characters_sized : (text : Bytes) → sizes (map fixed_byte text) ≡ ones text
+characters_sized [] = refl
+characters_sized (character ∷ text) = ap (λ (l : List ℕ). 1 ∷ l) (characters_sized text)
+
+abbrev part_ones : Bytes → Part → PartKind → List ℕ
+part_ones line part Text = ones (strings.part_text line part)
+part_ones line part Expression = 1 ∷ []
+
+abbrev parts_ones : Bytes → List Part → List ℕ
+parts_ones line [] = []
+parts_ones line (part ∷ parts) = part_ones line part part.kind ++ parts_ones line parts
+
+part_sized : (known : Map) (table : Table) (here : ℕ) (line : Bytes) (part : Part) (kind : PartKind)
+    → sizes (strings.part_bytes known table here line part kind).contents ≡ part_ones line part kind
+part_sized known table here line part Text = characters_sized (strings.part_text line part)
+part_sized known table here line part Expression = refl
+
+parts_sized : (known : Map) (table : Table) (here : ℕ) (line : Bytes) (parts : List Part)
+    → sizes (strings.parts_bytes known table here line parts).contents ≡ parts_ones line parts
+parts_sized known table here line [] = refl
+parts_sized known table here line (part ∷ parts) =
+    map-append content_size (strings.part_bytes known table here line part part.kind).contents
+    (strings.parts_bytes known table (further here (strings.part_size line part part.kind)) line parts).contents
+    ∙ ap (λ (l : List ℕ). l ++ sizes
+    (strings.parts_bytes known table (further here (strings.part_size line part part.kind)) line parts).contents)
+    (part_sized known table here line part part.kind)
+    ∙ ap (λ (l : List ℕ). part_ones line part part.kind ++ l)
+    (parts_sized known table (further here (strings.part_size line part part.kind)) line parts)
+
+-- ---- .RAD50
+
+abbrev triples : List ℕ → List ℕ
+triples [] = []
+triples (first ∷ []) = 2 ∷ []
+triples (first ∷ (second ∷ [])) = 2 ∷ []
+triples (first ∷ (second ∷ (third ∷ others))) = 2 ∷ triples others
+
+packed_sized : (found : List ℕ) → sizes (strings.packed_words found) ≡ triples (ones found)
+packed_sized [] = refl
+packed_sized (first ∷ []) = refl
+packed_sized (first ∷ (second ∷ [])) = refl
+packed_sized (first ∷ (second ∷ (third ∷ others))) = ap (λ (l : List ℕ). 2 ∷ l) (packed_sized others)
+
+ones_of : (f : ℕ → ℕ) (text : List ℕ) → ones (map f text) ≡ ones text
+ones_of f [] = refl
+ones_of f (character ∷ text) = ap (λ (l : List ℕ). 1 ∷ l) (ones_of f text)
+
+part_coded : (known : Known) (line : Bytes) (part : Part) (kind : PartKind)
+    → ones (strings.part_codes known line part kind).codes ≡ part_ones line part kind
+part_coded known line part Text = ones_of strings.character_code (strings.part_text line part)
+part_coded known line part Expression = refl
+
+parts_coded : (known : Known) (line : Bytes) (parts : List Part)
+    → ones (strings.parts_codes known line parts).codes ≡ parts_ones line parts
+parts_coded known line [] = refl
+parts_coded known line (part ∷ parts) =
+    map-append (λ one. 1) (strings.part_codes known line part part.kind).codes (strings.parts_codes known line parts).codes
+    ∙ ap (λ (l : List ℕ). l ++ ones (strings.parts_codes known line parts).codes) (part_coded known line part part.kind)
+    ∙ ap (λ (l : List ℕ). part_ones line part part.kind ++ l) (parts_coded known line parts)
+
+-- ---- instructions
+
+abbrev form_twos : Form → List ℕ
+form_twos Absent = []
+form_twos (InRegister kind register) = []
+form_twos (Indexed kind register index) = 2 ∷ []
+form_twos (Unindexed register) = 2 ∷ []
+form_twos (AfterCounter kind start) = 2 ∷ []
+
+abbrev forms_twos : List Form → List ℕ
+forms_twos [] = []
+forms_twos (form ∷ forms) = form_twos form ++ forms_twos forms
+
+form_sized : (line_context : codes.LineContext) (here : ℕ) (form : Form)
+    → sizes (codes.form_words line_context here form).contents ≡ form_twos form
+form_sized line_context here Absent = refl
+form_sized line_context here (InRegister kind register) = refl
+form_sized line_context here (Indexed kind register index) = refl
+form_sized line_context here (Unindexed register) = refl
+form_sized line_context here (AfterCounter kind start) = refl
+
+forms_sized : (line_context : codes.LineContext) (here : ℕ) (forms : List Form)
+    → sizes (codes.words_from line_context here forms).contents ≡ forms_twos forms
+forms_sized line_context here [] = refl
+forms_sized line_context here (form ∷ forms) =
+    map-append content_size (codes.form_words line_context here form).contents
+    (codes.words_from line_context (further here (words_of form * 2)) forms).contents
+    ∙ ap (λ (l : List ℕ). l ++ sizes (codes.words_from line_context (further here (words_of form * 2)) forms).contents)
+    (form_sized line_context here form)
+    ∙ ap (λ (l : List ℕ). form_twos form ++ l) (forms_sized line_context (further here (words_of form * 2)) forms)
+
+-- ---- by the firm table alone
+
+abbrev directive_sizes : Bytes → ℕ → Directive → List ℕ
+directive_sizes line start word.Word = twos (elements_at line start).places
+directive_sizes line start word.Byte = ones (elements_at line start).places
+directive_sizes line start word.Ascii = parts_ones line (strings.parts_at line start).list
+directive_sizes line start word.Asciz = parts_ones line (strings.parts_at line start).list ++ 1 ∷ []
+directive_sizes line start word.Rad50 = triples (parts_ones line (strings.parts_at line start).list)
+directive_sizes line start word.Limit = 4 ∷ []
+directive_sizes line start other = []
+
+directive_sized : (known : Map) (table : Table) (here : ℕ) (line : Bytes) (start : ℕ) (arguments : Option ℕ) (directive : Directive)
+    → sizes (directive_put known table here line start arguments directive).contents ≡ directive_sizes line start directive
+directive_sized known table here line start arguments word.Word = words_sized known table line here (elements_at line start).places
+directive_sized known table here line start arguments word.Byte = bytes_sized known table line here (elements_at line start).places
+directive_sized known table here line start arguments word.Ascii =
+    parts_sized known table here line (strings.parts_at line start).list
+directive_sized known table here line start arguments word.Asciz =
+    map-append content_size (strings.ascii known table here line start).contents (fixed_byte 0 ∷ [])
+    ∙ ap (λ (l : List ℕ). l ++ 1 ∷ []) (parts_sized known table here line (strings.parts_at line start).list)
+directive_sized known table here line start arguments word.Rad50 =
+    packed_sized (strings.parts_codes (known_at known LocalOnly table here) line (strings.parts_at line start).list).codes
+    ∙ ap triples (parts_coded (known_at known LocalOnly table here) line (strings.parts_at line start).list)
+directive_sized known table here line start arguments word.Limit = refl
+directive_sized known table here line start arguments word.Blkb = refl
+directive_sized known table here line start arguments word.Blkw = refl
+directive_sized known table here line start arguments word.Even = refl
+directive_sized known table here line start arguments word.Odd = refl
+directive_sized known table here line start arguments word.Radix = refl
+directive_sized known table here line start arguments word.Asect = refl
+directive_sized known table here line start arguments word.Csect = refl
+directive_sized known table here line start arguments word.Psect = refl
+directive_sized known table here line start arguments word.Globl = refl
+directive_sized known table here line start arguments word.Weak = refl
+directive_sized known table here line start arguments word.Title = refl
+directive_sized known table here line start arguments word.Ident = refl
+directive_sized known table here line start arguments word.Sbttl = refl
+directive_sized known table here line start arguments word.Page = refl
+directive_sized known table here line start arguments word.List = refl
+directive_sized known table here line start arguments word.Nlist = refl
+directive_sized known table here line start arguments word.Enabl = refl
+directive_sized known table here line start arguments word.Dsabl = refl
+directive_sized known table here line start arguments word.Narg = refl
+directive_sized known table here line start arguments word.Nchr = refl
+directive_sized known table here line start arguments word.End = refl
+
+abbrev operator_sizes : Table → ℕ → Bytes → ℕ → Operator → List ℕ
+operator_sizes firm here line start (operators.Instruction operation) =
+    2 ∷ forms_twos (forms_of (fields_at (known_at empty_map LocalOnly firm here) line start operation).list)
+operator_sizes firm here line start (operators.Directive directive) = directive_sizes line start directive
+
+operator_sized : (known : Map) (table : Table) (here : ℕ) (line : Bytes) (start : ℕ) (arguments : Option ℕ) (operator : Operator)
+    → sizes (operator_put known table here line start arguments operator).contents
+    ≡ operator_sizes (firm_table table) here line start operator
+operator_sized known table here line start arguments (operators.Instruction operation) =
+    ap (λ (l : List ℕ). 2 ∷ l) (forms_sized (instructions.line_context known table here line) (further here 2)
+    (forms_of (instructions.fields table here line start operation).list))
+operator_sized known table here line start arguments (operators.Directive directive) =
+    directive_sized known table here line start arguments directive
+
+abbrev action_sizes : Table → Bytes → Action → List ℕ
+action_sizes firm line NoAction = []
+action_sizes firm line (Assign name is_global start) = []
+action_sizes firm line (SetCounter start) = []
+action_sizes firm line (Operate operator start) =
+    operator_sizes firm (place_for (is_even operator) (place firm)) line start operator
+
+action_sized : (known : Map) (table : Table) (line : Bytes) (arguments : Option ℕ) (does : Action)
+    → sizes (put_by known table line arguments does).contents ≡ action_sizes (firm_table table) line does
+action_sized known table line arguments NoAction = refl
+action_sized known table line arguments (Assign name is_global start) = refl
+action_sized known table line arguments (SetCounter start) = refl
+action_sized known table line arguments (Operate operator start) =
+    operator_sized known table (place_for (is_even operator) (place table)) line start arguments operator
+
+line_sized : (known : Map) (stood : Table) (given : Given)
+    → sizes (line_put known stood given).contents
+    ≡ action_sizes (firm_table stood) given.live.line.text (action given.is_own given.live.line.text)
+unfolding line_put
+line_sized known stood given =
+    action_sized known stood given.live.line.text given.arguments (action given.is_own given.live.line.text)
+
+-- ---- shapes
+
+abbrev shape : Name → ℕ → ℕ → Shape
+shape section here size = record { section = section; place = here; size = size }
+
+abbrev shapes : Name → ℕ → List ℕ → List Shape
+shapes section here [] = []
+shapes section here (size ∷ more) = shape section here size ∷ shapes section (further here size) more
+
+shaped : (section : Name) (here : ℕ) (contents : List PieceContent)
+    → map shape_of (pieces_from section here contents) ≡ shapes section here (sizes contents)
+shaped section here [] = refl
+shaped section here (content ∷ contents) =
+    ap (λ (l : List Shape). shape section here (content_size content) ∷ l)
+    (shaped section (further here (content_size content)) contents)
+
+abbrev firm_shapes : Table → Bytes → Action → List Shape
+firm_shapes firm line does = shapes (section_name firm) (put_place firm does) (action_sizes firm line does)
+
+start_firm : (table : Table) (does : Action) → put_place table does ≡ put_place (firm_table table) does
+start_firm table NoAction = refl
+start_firm table (Assign name is_global start) = refl
+start_firm table (SetCounter start) = refl
+start_firm table (Operate operator start) = refl
+
+line_shaped : (known : Map) (table : Table) (given : Given)
+    → map shape_of (pieces known table given)
+    ≡ firm_shapes (firm_table (stands table given)) given.live.line.text (action given.is_own given.live.line.text)
+line_shaped known table given =
+    shaped (section_name (stands table given)) (put_place (stands table given) (action given.is_own given.live.line.text))
+    (line_put known (stands table given) given).contents
+    ∙ ap (λ (l : List ℕ). shapes (section_name (stands table given))
+    (put_place (stands table given) (action given.is_own given.live.line.text)) l)
+    (line_sized known (stands table given) given)
+    ∙ ap (λ (n : ℕ). shapes (section_name (stands table given)) n
+    (action_sizes (firm_table (stands table given)) given.live.line.text (action given.is_own given.live.line.text)))
+    (start_firm (stands table given) (action given.is_own given.live.line.text))
+
+lines_shaped : (one other : Map) (lines : List Given) (first second : Table) → firm_table first ≡ firm_table second
+    → map shapes_in (placed_from one first lines) ≡ map shapes_in (placed_from other second lines)
+lines_shaped one other [] first second same = refl
+lines_shaped one other (given ∷ lines) first second same =
+    ap (λ (l : List Shape). l ∷ map shapes_in (placed_from one (after_line one first given) lines))
+    (line_shaped one first given
+    ∙ ap (λ (t : Table). firm_shapes t given.live.line.text (action given.is_own given.live.line.text))
+    (stands_alike given first second same)
+    ∙ sym (line_shaped other second given))
+    ∙ ap (λ (l : List (List Shape)). map shape_of (pieces other second given) ∷ l)
+    (lines_shaped one other lines (after_line one first given) (after_line other second given)
+    (line_alike one other given first second same))
+
+pub shapes_alike : (one other : Map) (lines : List Given)
+    → map shapes_in (placement one lines) ≡ map shapes_in (placement other lines)
+shapes_alike one other lines = lines_shaped one other lines first_table first_table refl

@@ -1,0 +1,102 @@
+-- `name=e`, `name==e` and `.=e`. (MACRO-11 Language Reference Manual, "Direct assignment statements" and "Current location counter". That
+-- `.=` outside its section is ignored with A, and that each assignment to a global of unknown value has U, is this project's own.)
+use Rattle.std.specs.Prelude.{ℕ, ◌&&◌, Bool, true, false, if◌then◌else◌, Option, Some, None}
+use Rattle.std.specs.List.{list_any}
+use Rattle.std.specs.Int.RustNames.{bit_or}
+use Rattle.m11_unfold_arguments.specs.Definedness.{flag_U}
+use Rattle.m11_unfold_arguments.specs.Expressions.{value_at}
+use Rattle.m11_unfold_arguments.specs.LeftOvers.{has_token}
+use Rattle.m11_base.specs.Devices.{Bytes}
+use Rattle.m11_base.specs.Mnemonics.{six_of}
+use Rattle.m11_base.specs.Rad50.{Name, is_same_name, name_of}
+use Rattle.m11_scan.specs.Cutting.{text_between, tokens_from}
+use Rattle.m11_scan.specs.Ends.{expression_end}
+use Rattle.m11_scan.specs.ErrorFlags.{flag_A, flag_Q}
+use Rattle.m11_scan_statements.specs.Statements.{flag_if}
+use Rattle.m11_scan_statements.specs.declared.spans.Span.{Span}
+use Rattle.m11_scan_values.specs.Quantities.{Quantity}
+use Rattle.m11_asm_rules.specs.Changes.{Assigns, Change, Counts, Keeps, Numbers}
+use Rattle.m11_asm_rules.specs.Contents.{register_flags}
+use Rattle.m11_asm_rules.specs.Definitions.{Definition, Named, Standing, Known, Unknown, is_labelled, last_definition}
+use Rattle.m11_asm_rules.specs.Labels.{flag_M}
+use Rattle.m11_asm_rules.specs.Meanings.{LocalOnly, Map, firm_known, known_at}
+use Rattle.m11_asm_rules.specs.Places.{Goes}
+use Rattle.m11_asm_rules.specs.Relocations.{is_here}
+use Rattle.m11_asm_rules.specs.Tables.{Table, place}
+
+-- Q for what stands after the expression at a place
+abbrev pub after_expression : Bytes → ℕ → ℕ
+after_expression line start = flag_if (has_token (tokens_from line (expression_end line start))) flag_Q
+
+-- ---- name=e, name==e
+
+abbrev pub target : Bytes → Span → Option Name
+target line name = name_of (six_of (text_between line name.start name.end))
+
+abbrev pub assignment_to : Bool → ℕ → Option Name → Change
+assignment_to is_global start (Some name) = Assigns name is_global start
+assignment_to is_global start None = Keeps
+
+abbrev pub assignment : Bytes → Span → Bool → ℕ → Change
+assignment line name is_global start = assignment_to is_global start (target line name)
+
+-- M for a label's name
+abbrev pub label_flags : Table → Name → ℕ
+label_flags table name = flag_if (is_labelled (Named name) table.definitions) flag_M
+
+-- a standing that isn't known
+abbrev pub is_unknown_as : Standing → Bool
+is_unknown_as (Known number kind) = false
+is_unknown_as Unknown = true
+
+abbrev pub is_unknown : Option Definition → Bool
+is_unknown (Some definition) = is_unknown_as definition.standing
+is_unknown None = false
+
+abbrev pub is_exported : Name → Map → Bool
+is_exported name map = list_any (λ other. is_same_name other name) map.globals
+
+-- U for a name that is global, and whose value isn't known when the whole source was read
+abbrev pub globl_flags : Map → Name → ℕ
+globl_flags map name =
+    flag_if (is_exported name map && is_unknown (last_definition (Named name) map.definitions)) flag_U
+
+-- flags of any definition of a name that isn't a label's
+abbrev pub definition_flags : Map → Table → Name → ℕ
+definition_flags map table name = bit_or (label_flags table name) (globl_flags map name)
+
+-- of a change that assigns a number
+abbrev pub number_flags : Map → Table → Change → ℕ
+number_flags map table (Numbers name number) = definition_flags map table name
+number_flags map table other = 0
+
+abbrev pub target_flags : Map → Table → Option Name → ℕ
+target_flags map table (Some name) = definition_flags map table name
+target_flags map table None = 0
+
+abbrev pub assignment_flags : Map → Table → Bytes → Span → ℕ → ℕ
+assignment_flags map table line name start =
+    bit_or (target_flags map table (target line name))
+    (bit_or (value_at (known_at map LocalOnly table (place table)) line start).flags (after_expression line start))
+
+-- ---- .=e: asked of firm names
+
+abbrev pub counter_value : Table → Bytes → ℕ → Quantity
+counter_value table line start = value_at (firm_known table (place table)) line start
+
+abbrev pub counter_to : Table → Quantity → Change
+counter_to table value = if is_here table value.kind then Counts (Goes value.number) else Keeps
+
+abbrev pub counter_change : Table → Bytes → ℕ → Change
+counter_change table line start = counter_to table (counter_value table line start)
+
+abbrev pub outside_flags : Table → Quantity → ℕ
+outside_flags table value = if is_here table value.kind then 0 else flag_A
+
+abbrev pub counter_flags_of : Table → Quantity → ℕ
+counter_flags_of table value =
+    bit_or value.flags (bit_or (register_flags value.kind) (outside_flags table value))
+
+abbrev pub counter_flags : Table → Bytes → ℕ → ℕ
+counter_flags table line start =
+    bit_or (counter_flags_of table (counter_value table line start)) (after_expression line start)

@@ -1,0 +1,35 @@
+-- What an assignment defines. (MACRO-11 Language Reference Manual, "Direct assignment statements". That a label's name can't be assigned,
+-- and that an assignment is firm where all its names are, is this project's own.)
+use Rattle.std.specs.Prelude.{ℕ, Bool, true, false, ◌&&◌, if◌then◌else◌, List, [], ◌∷◌, None}
+use Rattle.m11_unfold_arguments.specs.Definedness.{is_defined}
+use Rattle.m11_unfold_arguments.specs.Expressions.{symbols_at, value_at}
+use Rattle.m11_base.specs.Devices.{Bytes}
+use Rattle.m11_scan_values.specs.declared.names.Symbol.{Symbol}
+use Rattle.m11_scan_values.specs.Quantities.{Quantity}
+use Rattle.m11_asm_rules.specs.Definitions.{Definition, Key, Standing, Known, Unknown, is_labelled}
+use Rattle.m11_asm_rules.specs.Labels.{with_definition, with_doubly_defined}
+use Rattle.m11_asm_rules.specs.Meanings.{LocalOnly, Map, is_firm, known_at}
+use Rattle.m11_asm_rules.specs.Tables.{Table, place}
+
+-- a value with an unknown name is unknown
+abbrev pub standing_of : Quantity → Standing
+standing_of value = if is_defined value then Known value.number value.kind else Unknown
+
+abbrev pub all_firm : Table → List Symbol → Bool
+all_firm table [] = true
+all_firm table (symbol ∷ symbols) = is_firm table symbol && all_firm table symbols
+
+-- what the expression at a place of a line gives a key
+abbrev pub assigned : Map → Table → Key → Bytes → ℕ → Definition
+assigned map table key line start = record {
+  key = key;
+  standing = standing_of (value_at (known_at map LocalOnly table (place table)) line start);
+  is_firm = all_firm table (symbols_at line start);
+  label = None;
+}
+
+-- the table after an assignment: a label's name becomes doubled
+abbrev pub with_assigned : Map → Key → Bytes → ℕ → Table → Table
+with_assigned map key line start table =
+    if is_labelled key table.definitions then with_doubly_defined key table
+    else with_definition (assigned map table key line start) table

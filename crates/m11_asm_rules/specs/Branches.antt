@@ -1,0 +1,40 @@
+-- Where branches and SOB go. (PDP-11/40 Processor Handbook, "Branch instructions" and "SOB"; MACRO-11 Language Reference Manual,
+-- "Diagnostic error message summary", A. That the offset of a target which can't be reached is 0, and that distances count modulo
+-- 65536, is this project's own.)
+use Rattle.std.specs.Prelude.{ℕ, ◌-◌, ◌/◌, ◌%◌, ◌==◌, ◌&&◌, ◌||◌, not, nat_le, Bool, if◌then◌else◌}
+use Rattle.m11_scan_values.specs.Quantities.{Quantity}
+use Rattle.m11_scan.specs.ErrorFlags.{flag_A}
+use Rattle.m11_scan_statements.specs.Statements.{flag_if}
+use Rattle.m11_asm_rules.specs.Relocations.{distance, is_here}
+use Rattle.m11_asm_rules.specs.Tables.{Table}
+
+-- 128 words back to 127 on, from the place after the branch
+abbrev pub in_reach : ℕ → Bool
+in_reach bytes = bytes % 2 == 0 && (nat_le bytes 0o376 || nat_le 0o177400 bytes)
+
+-- a branch at a place reaches a target of its section
+abbrev pub branch_reaches : Table → ℕ → Quantity → Bool
+branch_reaches table place target = is_here table target.kind && in_reach (distance place target.number)
+
+-- the words to go, as eight bits
+abbrev pub branch_offset : Table → ℕ → Quantity → ℕ
+branch_offset table place target =
+    if branch_reaches table place target then distance place target.number / 2 % 256 else 0
+
+-- how far back a target lies from the place after a word, modulo 65536
+abbrev pub back : ℕ → ℕ → ℕ
+back place target = (65536 - distance place target) % 65536
+
+-- SOB at a place reaches a target of its section: 0 to 63 words back, from the place after it
+abbrev pub loop_reaches : Table → ℕ → Quantity → Bool
+loop_reaches table place target =
+    is_here table target.kind && (back place target.number % 2 == 0 && nat_le (back place target.number) 0o176)
+
+-- the words to go back for SOB
+abbrev pub loop_offset : Table → ℕ → Quantity → ℕ
+loop_offset table place target =
+    if loop_reaches table place target then back place target.number / 2 else 0
+
+-- A for a target that isn't reached
+abbrev pub target_flags : Bool → ℕ
+target_flags reaches = flag_if (not reaches) flag_A

@@ -1,0 +1,94 @@
+-- What a line puts at its places, one after the other, with its flags. (MACRO-11 Language Reference Manual, "Expressions" and
+-- "Diagnostic error message summary", R and T.)
+use Rattle.std.specs.Prelude.{ℕ, ◌+◌, ◌/◌, ◌%◌, ◌==◌, ◌||◌, not, Bool, false, if◌then◌else◌, List, [], ◌∷◌, ◌++◌, length}
+use Rattle.std.specs.Int.RustNames.{bit_or}
+use Rattle.m11_unfold_arguments.specs.Expressions.{Known, has_expression, value_at}
+use Rattle.m11_base.specs.Devices.{Bytes}
+use Rattle.m11_base.specs.Rad50.{Name}
+use Rattle.m11_obj_texts.specs.declared.pieces.Piece.{Piece}
+use Rattle.m11_obj_texts.specs.declared.pieces.PieceContent.{PieceContent}
+use Rattle.m11_obj_texts.specs.declared.pieces.PieceContent.TheVariants.{Byte, Word}
+use Rattle.m11_obj_texts.specs.Pieces.{content_bytes}
+use Rattle.m11_scan.specs.ErrorFlags.{flag_T}
+use Rattle.m11_scan_statements.specs.Statements.{flag_if}
+use Rattle.m11_scan_values.specs.declared.kinds.Kind.{Kind}
+use Rattle.m11_scan_values.specs.Kinds.{is_register, flag_R}
+use Rattle.m11_scan_values.specs.Quantities.{Quantity, absolute}
+use Rattle.m11_asm_rules.specs.Relocations.{fixed, stored}
+use Rattle.m11_asm_rules.specs.Tables.{Table}
+
+-- what is put, and flags
+pub record Put : Type 0 where
+  pub contents : List PieceContent
+  pub flags : ℕ
+
+abbrev pub put : List PieceContent → ℕ → Put
+put contents flags = record { contents = contents; flags = flags }
+
+-- nothing, with flags
+abbrev pub nothing : ℕ → Put
+nothing flags = put [] flags
+
+-- one thing put after another
+abbrev pub followed_by : Put → Put → Put
+followed_by first next = put (first.contents ++ next.contents) (bit_or first.flags next.flags)
+
+abbrev pub with_flags : ℕ → Put → Put
+with_flags flags what = put what.contents (bit_or flags what.flags)
+
+-- ---- sizes and places
+
+abbrev pub content_size : PieceContent → ℕ
+content_size content = length (content_bytes content)
+
+abbrev pub contents_size : List PieceContent → ℕ
+contents_size [] = 0
+contents_size (content ∷ contents) = content_size content + contents_size contents
+
+-- the place that is a number of bytes after another
+abbrev pub further : ℕ → ℕ → ℕ
+further place size = (place + size) % 65536
+
+abbrev pub piece : Name → ℕ → PieceContent → Piece
+piece section place content = record { section = section; place = place; content = content }
+
+-- what is put from a place of a section on: each piece stands after the one before it
+abbrev pub pieces_from : Name → ℕ → List PieceContent → List Piece
+pieces_from section place [] = []
+pieces_from section place (content ∷ contents) =
+    piece section place content ∷ pieces_from section (further place (content_size content)) contents
+
+-- ---- values
+
+-- an empty element counts as 0
+abbrev pub element_value : Known → Bytes → ℕ → Quantity
+element_value known line place = if has_expression line place then value_at known line place else absolute 0 0
+
+-- R for a register where none may be
+abbrev pub register_flags : Kind → ℕ
+register_flags kind = flag_if (is_register kind) flag_R
+
+-- a high byte that is 000 or 377
+abbrev pub is_byte_high : ℕ → Bool
+is_byte_high number = number == 0 || number == 0o377
+
+-- T for a byte whose high byte is neither
+abbrev pub byte_flags : ℕ → ℕ
+byte_flags number = flag_if (not (is_byte_high (number / 256))) flag_T
+
+-- a value as a word, relative to the place after it or not
+abbrev pub word : Table → Bool → ℕ → Quantity → Put
+word table is_relative place value =
+    put (Word (stored table is_relative place value) ∷ []) (bit_or value.flags (register_flags value.kind))
+
+-- a value as a byte: its number is asked, whatever it counts from
+abbrev pub byte : Table → ℕ → Quantity → Put
+byte table place value =
+    put (Byte (stored table false place value) ∷ [])
+    (bit_or (bit_or value.flags (register_flags value.kind)) (byte_flags value.number))
+
+abbrev pub fixed_word : ℕ → PieceContent
+fixed_word number = Word (fixed number)
+
+abbrev pub fixed_byte : ℕ → PieceContent
+fixed_byte number = Byte (fixed number)

@@ -1,0 +1,98 @@
+-- Lists of expressions and of names. (MACRO-11 Language Reference Manual, ".WORD directive", ".BYTE directive" and ".GLOBL directive". That
+-- a list ends where no comma stands next, and that an element which is no name is passed over with A, is this project's own.)
+use Rattle.std.specs.Prelude.{ℕ, zero, suc, if◌then◌else◌, List, [], ◌∷◌, length, Option, Some, None}
+use Rattle.m11_unfold_arguments.specs.Immediate.{after_comma}
+use Rattle.m11_base.specs.Devices.{Bytes}
+use Rattle.m11_base.specs.Mnemonics.{six_of}
+use Rattle.m11_base.specs.Rad50.{Name, name_of}
+use Rattle.m11_scan.specs.Cutting.{text_between, tokens_from}
+use Rattle.m11_scan.specs.Ends.{expression_end}
+use Rattle.m11_scan.specs.ErrorFlags.{flag_A}
+use Rattle.m11_scan_statements.specs.Listed.{listed_name}
+use Rattle.m11_scan_statements.specs.declared.listed.ListedName.{ListedName}
+use Rattle.m11_scan_statements.specs.declared.spans.Span.{Span}
+
+-- the place after the comma that stands next
+abbrev pub next_element : Bytes → ℕ → Option ℕ
+next_element line place = after_comma (tokens_from line place)
+
+-- a line has no more elements than characters, and one
+abbrev pub most_elements : Bytes → ℕ
+most_elements line = suc (length line)
+
+-- ---- expressions
+
+-- the places of the elements of a list, and the place after it
+pub record Elements : Type 0 where
+  pub places : List ℕ
+  pub end : ℕ
+
+abbrev pub last_element : ℕ → ℕ → Elements
+last_element place end = record { places = place ∷ []; end = end }
+
+abbrev pub element_before : ℕ → Elements → Elements
+element_before place more = record { places = place ∷ more.places; end = more.end }
+
+abbrev pub elements_by : (ℕ → Elements) → ℕ → ℕ → Option ℕ → Elements
+elements_by more place end None = last_element place end
+elements_by more place end (Some next) = element_before place (more next)
+
+abbrev pub elements_within : ℕ → Bytes → ℕ → Elements
+elements_within zero line place = record { places = []; end = place }
+elements_within (suc bound) line place =
+    elements_by (λ next. elements_within bound line next) place (expression_end line place)
+    (next_element line (expression_end line place))
+
+-- the elements of a list that begins at a place: one at least
+abbrev pub elements_at : Bytes → ℕ → Elements
+elements_at line place = elements_within (most_elements line) line place
+
+-- ---- names
+
+-- the elements of a list of names, where one that is no name is none, and the place after it
+pub record Names : Type 0 where
+  pub list : List (Option Span)
+  pub end : ℕ
+
+abbrev pub last_name : ListedName → Names
+last_name element = record { list = element.name ∷ []; end = element.end }
+
+abbrev pub name_before : ListedName → Names → Names
+name_before element more = record { list = element.name ∷ more.list; end = more.end }
+
+abbrev pub names_by : (ℕ → Names) → ListedName → Names
+names_by more element = if element.goes_on then name_before element (more element.end) else last_name element
+
+abbrev pub names_within : ℕ → Bytes → ℕ → Names
+names_within zero line place = record { list = []; end = place }
+names_within (suc bound) line place =
+    names_by (λ next. names_within bound line next) (listed_name place (tokens_from line place))
+
+-- the names of a list that begins at a place: one element at least
+abbrev pub names_at : Bytes → ℕ → Names
+names_at line place = names_within (most_elements line) line place
+
+-- the six characters of each name
+abbrev pub texts_of : Bytes → List (Option Span) → List Bytes
+texts_of line [] = []
+texts_of line (Some name ∷ names) = six_of (text_between line name.start name.end) ∷ texts_of line names
+texts_of line (None ∷ names) = texts_of line names
+
+abbrev pub with_name : Option Name → List Name → List Name
+with_name (Some name) names = name ∷ names
+with_name None names = names
+
+-- the names themselves
+abbrev pub names_of : List Bytes → List Name
+names_of [] = []
+names_of (text ∷ texts) = with_name (name_of text) (names_of texts)
+
+-- the names of a list that begins at a place
+abbrev pub listed_names : Bytes → ℕ → List Name
+listed_names line start = names_of (texts_of line (names_at line start).list)
+
+-- A for an element that is no name
+abbrev pub bad_flags : List (Option Span) → ℕ
+bad_flags [] = 0
+bad_flags (Some name ∷ names) = bad_flags names
+bad_flags (None ∷ names) = flag_A

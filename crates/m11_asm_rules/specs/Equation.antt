@@ -1,0 +1,30 @@
+-- Which maps are the map of a source. (MACRO-11 Language Reference Manual, "Symbols and expressions". That a source is read twice, and
+-- that one map has to serve both readings, is this project's own.)
+use Rattle.std.specs.Prelude.{◌≡◌, ◌||◌, Bool, if◌then◌else◌, List, Option, Some, None}
+use Rattle.std.specs.Option.{is_some}
+use Rattle.m11_unfold_rules.specs.Unfolding.{Given}
+use Rattle.m11_asm_rules.specs.Definitions.{Definition, Key, firm_part, last_definition}
+use Rattle.m11_asm_rules.specs.Meanings.{Map}
+use Rattle.m11_asm_rules.specs.Placements.{table_after}
+
+-- a definition is that of a label, or gives a firm value
+abbrev pub is_label_or_firm : Definition → Bool
+is_label_or_firm definition = is_some definition.label || definition.is_firm
+
+-- a label with its section and its place, or a firm value. Of any other definition nothing is asked
+abbrev pub label_or_value : Option Definition → Option Definition
+label_or_value (Some definition) = if is_label_or_firm definition then Some (firm_part definition) else None
+label_or_value None = None
+
+-- the label or the firm value of a key, by its last definition
+abbrev pub label_or_value_of : Key → List Definition → Option Definition
+label_or_value_of key definitions = label_or_value (last_definition key definitions)
+
+-- a map solves a source where the placement under it gives again the labels and the firm values that the map has
+abbrev pub Solves : Map → List Given → Type 0
+Solves map lines = (key : Key)
+    → label_or_value_of key map.definitions ≡ label_or_value_of key (table_after map lines).definitions
+
+-- two maps have the same labels and the same firm values
+abbrev pub AreAlike : Map → Map → Type 0
+AreAlike one other = (key : Key) → label_or_value_of key one.definitions ≡ label_or_value_of key other.definitions

@@ -1,0 +1,116 @@
+-- `.GLOBL`, `.WEAK`, `.TITLE`, `.IDENT` and `.END`. (MACRO-11 Language Reference Manual, ".GLOBL directive", ".WEAK directive", ".TITLE
+-- directive", ".IDENT directive" and ".END directive". That a bad element of a list is passed over, and that a bad title or
+-- ident is none, is this project's own.)
+use Rattle.std.specs.Prelude.{ℕ, ◌+◌, ◌-◌, ◌*◌, true, if◌then◌else◌, List, [], ◌∷◌, take, Option, Some, None}
+use Rattle.std.specs.Int.RustNames.{bit_and, bit_or}
+use Rattle.m11_unfold_arguments.specs.Expressions.{has_expression, value_at}
+use Rattle.m11_unfold_arguments.specs.LeftOvers.{left_over, flags_before, rest_flags, skip_flags}
+use Rattle.m11_base.specs.Devices.{Bytes}
+use Rattle.m11_base.specs.Mnemonics.{six_of}
+use Rattle.m11_base.specs.Rad50.{Name, name_of}
+use Rattle.m11_scan.specs.Cutting.{Lexeme, tokens_from}
+use Rattle.m11_scan.specs.Ends.{expression_end}
+use Rattle.m11_scan.specs.ErrorFlags.{flag_A}
+use Rattle.m11_scan.specs.declared.sort.Sort.{Sort}
+use Rattle.m11_scan.specs.declared.sort.Sort.TheVariants as sorts
+use Rattle.m11_scan_statements.specs.Parts.{next_part, part_flags}
+use Rattle.m11_scan_statements.specs.declared.parts.Part.{Part}
+use Rattle.m11_scan_statements.specs.declared.parts.PartKind.{PartKind}
+use Rattle.m11_scan_statements.specs.declared.parts.PartKind.TheVariants.{Text, Expression}
+use Rattle.m11_scan_values.specs.Quantities.{Quantity}
+use Rattle.m11_asm_rules.specs.Contents.{register_flags}
+use Rattle.m11_asm_rules.specs.Elements.{Names, bad_flags, names_at}
+use Rattle.m11_asm_rules.specs.Meanings.{LocalOnly, Map, known_at}
+use Rattle.m11_asm_rules.specs.Strings.{character_flags, part_text, six_codes}
+use Rattle.m11_asm_rules.specs.Tables.{Table, place}
+
+-- ---- .GLOBL n,.. and .WEAK n,..
+
+abbrev pub list_flags : Bytes → ℕ → Names → ℕ
+list_flags line start names =
+    bit_or (bad_flags names.list) (bit_or (skip_flags line start names.end) (left_over line names.end))
+
+abbrev pub globl_flags : Bytes → ℕ → ℕ
+globl_flags line start = list_flags line start (names_at line start)
+
+-- ---- .TITLE n: any text may follow the name
+
+abbrev pub title_in : Sort → Bytes → Option Name
+title_in sorts.Name text = name_of (six_of text)
+title_in sort text = None
+
+abbrev pub title_by : List Lexeme → Option Name
+title_by [] = None
+title_by (token ∷ tokens) = title_in token.sort token.text
+
+abbrev pub title : Bytes → ℕ → Option Name
+title line start = title_by (tokens_from line start)
+
+abbrev pub title_flags_of : Bytes → ℕ → Option Name → ℕ
+title_flags_of line start (Some name) = flags_before line start
+title_flags_of line start None = bit_or flag_A (rest_flags line start)
+
+abbrev pub title_flags : Bytes → ℕ → ℕ
+title_flags line start = title_flags_of line start (title line start)
+
+-- ---- .IDENT /text/: six characters count, and no further one is looked at
+
+abbrev pub name_of_codes : List ℕ → Option Name
+name_of_codes (a ∷ (b ∷ (c ∷ (d ∷ (e ∷ (f ∷ codes)))))) = Some (a * 1600 + b * 40 + c, d * 1600 + e * 40 + f)
+name_of_codes codes = None
+
+abbrev pub first_six : Bytes → Bytes
+first_six text = take 6 text
+
+abbrev pub ident_in : Bytes → Part → PartKind → Option Name
+ident_in line part Text = name_of_codes (six_codes (first_six (part_text line part)))
+ident_in line part Expression = None
+
+abbrev pub ident_by : Bytes → Option Part → Option Name
+ident_by line (Some part) = ident_in line part part.kind
+ident_by line None = None
+
+abbrev pub ident : Bytes → ℕ → Option Name
+ident line start = ident_by line (next_part line start true)
+
+abbrev pub text_flags : Bytes → ℕ → Part → PartKind → ℕ
+text_flags line start part Text =
+    bit_or (bit_or (skip_flags line start (part.inside.start - 1)) (part_flags part))
+    (bit_or (character_flags (first_six (part_text line part))) (left_over line part.end))
+text_flags line start part Expression = bit_or flag_A (rest_flags line start)
+
+abbrev pub ident_flags_of : Bytes → ℕ → Option Part → ℕ
+ident_flags_of line start (Some part) = text_flags line start part part.kind
+ident_flags_of line start None = bit_or flag_A (rest_flags line start)
+
+abbrev pub ident_flags : Bytes → ℕ → ℕ
+ident_flags line start = ident_flags_of line start (next_part line start true)
+
+-- ---- .END e: the address where the program begins. Its value is asked of the first pass, for the whole source, and with it the flags
+-- that names decide; those that the text decides are asked of the line itself, in each pass
+
+abbrev pub transfer : Map → Table → Bytes → ℕ → Option Quantity
+transfer map table line start =
+    if has_expression line start then Some (value_at (known_at map LocalOnly table (place table)) line start) else None
+
+-- A, D, R and U
+abbrev pub decided_by_names : ℕ
+decided_by_names = 0o24005
+
+-- N, Q and T: whatever names stand for, the value of an expression has the same ones
+abbrev pub decided_by_text : ℕ
+decided_by_text = 0o12200
+
+abbrev pub transfer_flags : Option Quantity → ℕ
+transfer_flags (Some value) = bit_and (bit_or value.flags (register_flags value.kind)) decided_by_names
+transfer_flags None = 0
+
+abbrev pub expression_flags : Option Quantity → ℕ
+expression_flags (Some value) = bit_and value.flags decided_by_text
+expression_flags None = 0
+
+-- of the text: its expression, what is skipped, and what is left over
+abbrev pub end_flags : Map → Table → Bytes → ℕ → ℕ
+end_flags map table line start =
+    bit_or (expression_flags (transfer map table line start))
+    (bit_or (skip_flags line start (expression_end line start)) (left_over line (expression_end line start)))

@@ -1,0 +1,44 @@
+-- Instructions: the word of the code, and the words after it, those of the source first. (PDP-11/40 Processor Handbook, "Instruction
+-- set" and "Addressing modes"; MACRO-11 Language Reference Manual, "Operand field".)
+use Rattle.std.specs.Prelude.{ℕ}
+use Rattle.std.specs.Int.RustNames.{bit_or}
+use Rattle.m11_unfold_arguments.specs.LeftOvers.{left_over, skip_flags}
+use Rattle.m11_base.specs.Devices.{Bytes}
+use Rattle.m11_base.specs.declared.instruction.Op.{Op}
+use Rattle.m11_asm_rules.specs.Codes.{LineContext, code, words_from}
+use Rattle.m11_asm_rules.specs.Contents.{Put, followed_by, further, with_flags}
+use Rattle.m11_asm_rules.specs.Fields.{Fields, fields_at, forms_of}
+use Rattle.m11_asm_rules.specs.Meanings.{LocalOnly, Map, MayBeGlobal, firm_known, known_at}
+use Rattle.m11_asm_rules.specs.Operands.{instruction_size}
+use Rattle.m11_asm_rules.specs.Tables.{Table}
+
+abbrev pub fields : Table → ℕ → Bytes → ℕ → Op → Fields
+fields table place line start operation = fields_at (firm_known table place) line start operation
+
+-- the bytes of an instruction at a place, whose fields begin at a place of its line
+abbrev pub size : Table → ℕ → Bytes → ℕ → Op → ℕ
+size table place line start operation = instruction_size (forms_of (fields table place line start operation).list)
+
+abbrev pub line_context : Map → Table → ℕ → Bytes → LineContext
+line_context map table place line = record {
+  table = table;
+  place = place;
+  known = known_at map LocalOnly table place;
+  refers = known_at map MayBeGlobal table place;
+  line = line;
+}
+
+-- flags of the line itself: what is missing, skipped or left over
+abbrev pub line_flags : Bytes → ℕ → Fields → ℕ
+line_flags line start fields =
+    bit_or fields.flags (bit_or (skip_flags line start fields.end) (left_over line fields.end))
+
+abbrev pub assembled : LineContext → ℕ → Op → Fields → Put
+assembled line_context start operation fields =
+    with_flags (line_flags line_context.line start fields)
+    (followed_by (code line_context operation fields.list) (words_from line_context (further line_context.place 2) (forms_of fields.list)))
+
+-- the words of an instruction
+abbrev pub words : Map → Table → ℕ → Bytes → ℕ → Op → Put
+words map table place line start operation =
+    assembled (line_context map table place line) start operation (fields table place line start operation)

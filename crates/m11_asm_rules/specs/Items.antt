@@ -1,0 +1,86 @@
+-- What a listing shows of a line, and which lines it has: the items are what a line puts, or what it assigns. (MACRO-11 Language Reference
+-- Manual, "Listing control directives". Which mark an item has, and that flagged lines always stand in it, is this project's own.)
+use Rattle.std.specs.Prelude.{ℕ, ◌%◌, ◌==◌, ◌&&◌, ◌||◌, not, nat_le, Bool, if◌then◌else◌, List, [], ◌∷◌, ◌++◌}
+use Rattle.std.specs.List.{flat_map}
+use Rattle.m11_unfold_arguments.specs.Definedness.{is_defined}
+use Rattle.m11_unfold_arguments.specs.Expressions.{value_at}
+use Rattle.m11_base.specs.Devices.{Bytes}
+use Rattle.m11_asm_listing.specs.declared.items.Item.{Item}
+use Rattle.m11_asm_listing.specs.declared.items.Item.TheVariants.{InByte, InWord}
+use Rattle.m11_asm_listing.specs.declared.items.Mark.{Mark}
+use Rattle.m11_asm_listing.specs.declared.items.Mark.TheVariants.{Unmarked, OfSection, OfObject, OfRegister}
+use Rattle.m11_obj_texts.specs.declared.pieces.PieceContent.{PieceContent}
+use Rattle.m11_obj_texts.specs.declared.pieces.PieceContent.TheVariants.{Byte, Word, Limits}
+use Rattle.m11_obj_texts.specs.declared.pieces.RelocationKind.{RelocationKind}
+use Rattle.m11_obj_texts.specs.declared.pieces.RelocationKind.TheVariants as relocation
+use Rattle.m11_unfold_rules.specs.Unfolding.{Given}
+use Rattle.m11_scan_values.specs.declared.kinds.Kind.{Kind}
+use Rattle.m11_scan_values.specs.declared.kinds.Kind.TheVariants as kind
+use Rattle.m11_scan_values.specs.Quantities.{Quantity}
+use Rattle.m11_asm_rules.specs.Changes.{Change, Numbers}
+use Rattle.m11_asm_rules.specs.Lines.{Assign, Action, Operate, NoAction, SetCounter, action, line_change, line_put, stands}
+use Rattle.m11_asm_rules.specs.Meanings.{LocalOnly, Map, known_at}
+use Rattle.m11_asm_rules.specs.Tables.{Modes, Table, firm_table, place}
+
+-- ---- what is put: the constant, by what the place is relocated by
+
+abbrev pub mark_of : RelocationKind → Mark
+mark_of relocation.Fixed = Unmarked
+mark_of relocation.Internal = OfSection
+mark_of relocation.InternalDisplaced = Unmarked
+mark_of (relocation.Global name) = OfObject
+mark_of (relocation.GlobalDisplaced name) = OfObject
+mark_of (relocation.Section name) = OfSection
+mark_of (relocation.SectionDisplaced name) = OfSection
+
+-- limits are two words that a linker fills
+abbrev pub content_items : PieceContent → List Item
+content_items (Byte stored) = InByte (stored.constant % 256) (mark_of stored.kind) ∷ []
+content_items (Word stored) = InWord stored.constant (mark_of stored.kind) ∷ []
+content_items Limits = InWord 0 Unmarked ∷ InWord 0 Unmarked ∷ []
+
+-- ---- what is assigned: the value, by what it counts from
+
+abbrev pub mark_by : Kind → Mark
+mark_by kind.Absolute = Unmarked
+mark_by (kind.Section name) = OfSection
+mark_by kind.Register = OfRegister
+mark_by (kind.Reference name) = OfObject
+
+-- a value that isn't known isn't shown
+abbrev pub value_items : Quantity → List Item
+value_items value = if is_defined value then InWord value.number (mark_by value.kind) ∷ [] else []
+
+abbrev pub number_items : Change → List Item
+number_items (Numbers name number) = InWord number Unmarked ∷ []
+number_items other = []
+
+-- whether its name takes it or not; `.=` is no assignment
+abbrev pub action_items : Map → Table → Bytes → Change → Action → List Item
+action_items map table line change NoAction = []
+action_items map table line change (Assign name is_global start) =
+    value_items (value_at (known_at map LocalOnly table (place table)) line start)
+action_items map table line change (SetCounter start) = []
+action_items map table line change (Operate operator start) = number_items change
+
+abbrev pub assigned_items : Map → Table → Given → List Item
+assigned_items map table given =
+    action_items map (stands table given) given.live.line.text (line_change (firm_table (stands table given)) given)
+    (action given.is_own given.live.line.text)
+
+-- ---- a line: what it puts, and what it assigns. No line does both
+
+abbrev pub items_of : List PieceContent → List Item
+items_of contents = flat_map content_items contents
+
+abbrev pub items : Map → Table → Given → List Item
+items map table given = items_of (line_put map (stands table given) given).contents ++ assigned_items map table given
+
+-- ---- which lines stand in a listing: flagged ones; others where the level after them isn't below 0, and those of expansions by `.LIST ME`
+
+abbrev pub is_shown : Modes → Bool → Bool
+is_shown modes is_expanded =
+    nat_le modes.unlisted modes.listed && (not is_expanded || modes.shows_expansions)
+
+abbrev pub is_listed : Table → Given → ℕ → Bool
+is_listed after given flags = not (flags == 0) || is_shown after.modes given.live.is_expanded

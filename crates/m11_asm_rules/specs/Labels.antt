@@ -1,0 +1,97 @@
+-- What the labels of a line define. (MACRO-11 Language Reference Manual, "Label field", "Local symbols" and "Multiple definition of
+-- symbols". That a label of a defined name opens no block and makes nothing global is this project's own.)
+use Rattle.std.specs.Prelude.{ℕ, ◌+◌, Bool, true, false, if◌then◌else◌, List, [], ◌∷◌, ◌++◌, Option, Some, None}
+use Rattle.std.specs.Int.RustNames.{bit_or}
+use Rattle.m11_base.specs.Devices.{Bytes}
+use Rattle.m11_base.specs.Mnemonics.{six_of}
+use Rattle.m11_base.specs.Rad50.{Name, name_of}
+use Rattle.m11_scan.specs.Cutting.{text_between}
+use Rattle.m11_scan_statements.specs.Labels.{labels_at}
+use Rattle.m11_scan_statements.specs.declared.labels.Label.{Label}
+use Rattle.m11_scan_statements.specs.declared.labels.LabelKind.{LabelKind}
+use Rattle.m11_scan_statements.specs.declared.labels.LabelKind.TheVariants as label
+use Rattle.m11_asm_rules.specs.Definitions.{Definition, Key, Named, Numbered, Known, is_defined}
+use Rattle.m11_asm_rules.specs.Tables.{Modes, Table, kind_here, place, section_name}
+
+-- the set of the flag M
+abbrev pub flag_M : ℕ
+flag_M = 0o100
+
+-- a label keeps its section. Its place is firm as soon as it stands
+abbrev pub labelled : Table → Key → Definition
+labelled table key = record {
+  key = key;
+  standing = Known (place table) (kind_here table);
+  is_firm = true;
+  label = Some (section_name table);
+}
+
+abbrev pub with_definition : Definition → Table → Table
+with_definition definition table = record table { definitions = table.definitions ++ definition ∷ [] }
+
+abbrev pub with_doubly_defined : Key → Table → Table
+with_doubly_defined key table = record table { doubly_defined = table.doubly_defined ++ key ∷ [] }
+
+abbrev pub with_global : Name → Table → Table
+with_global name table = record table { globals = table.globals ++ name ∷ [] }
+
+-- a new block of local symbols
+abbrev pub new_block : Modes → Modes
+new_block modes = record modes { block = modes.block + 1 }
+
+abbrev pub with_block : Table → Table
+with_block table = record table { modes = new_block table.modes }
+
+abbrev pub global_if : Bool → Name → Table → Table
+global_if is_global name table = if is_global then with_global name table else table
+
+-- a name that is new opens a block; one that is defined becomes doubled
+abbrev pub with_name : Bool → Table → Option Name → Table
+with_name is_global table (Some name) =
+    if is_defined (Named name) table.definitions then with_doubly_defined (Named name) table
+    else global_if is_global name (with_block (with_definition (labelled table (Named name)) table))
+with_name is_global table None = table
+
+-- a local symbol belongs to the block that is open
+abbrev pub with_key : Key → Table → Table
+with_key key table =
+    if is_defined key table.definitions then with_doubly_defined key table else with_definition (labelled table key) table
+
+abbrev pub label_name : Bytes → Label → Option Name
+label_name line named = name_of (six_of (text_between line named.name.start named.name.end))
+
+abbrev pub with_kind : Table → Option Name → LabelKind → Table
+with_kind table name label.Ordinary = with_name false table name
+with_kind table name label.Global = with_name true table name
+with_kind table name (label.Local number) = with_key (Numbered table.modes.block number) table
+with_kind table name label.Outside = table
+
+abbrev pub with_label : Bytes → Table → Label → Table
+with_label line table named = with_kind table (label_name line named) named.kind
+
+abbrev pub with_labels : Bytes → Table → List Label → Table
+with_labels line table [] = table
+with_labels line table (named ∷ labels) = with_labels line (with_label line table named) labels
+
+-- the table once the labels of a line stand
+abbrev pub labels_stand : Table → Bytes → Table
+labels_stand table line = with_labels line table (labels_at line)
+
+-- M where a label's key is defined before it
+abbrev pub key_flags : Table → Key → ℕ
+key_flags table key = if is_defined key table.definitions then flag_M else 0
+
+abbrev pub name_flags : Table → Option Name → ℕ
+name_flags table (Some name) = key_flags table (Named name)
+name_flags table None = 0
+
+abbrev pub kind_flags : Table → Option Name → LabelKind → ℕ
+kind_flags table name label.Ordinary = name_flags table name
+kind_flags table name label.Global = name_flags table name
+kind_flags table name (label.Local number) = key_flags table (Numbered table.modes.block number)
+kind_flags table name label.Outside = 0
+
+abbrev pub labels_flags : Bytes → Table → List Label → ℕ
+labels_flags line table [] = 0
+labels_flags line table (named ∷ labels) =
+    bit_or (kind_flags table (label_name line named) named.kind) (labels_flags line (with_label line table named) labels)

@@ -1,0 +1,129 @@
+-- What a line of a source does: the pieces that it puts at its places, its flags, and what holds after it. (MACRO-11 Language Reference
+-- Manual, "Source program format", "Operator field" and ".WORD directive". That a line which unfolding has done places nothing, is this
+-- project's own.)
+use Rattle.std.specs.Prelude.{ℕ, Bool, if◌then◌else◌, List, length, Option, Some, None}
+use Rattle.std.specs.Int.RustNames.{bit_or}
+use Rattle.m11_unfold_arguments.specs.LeftOvers.{skip_flags}
+use Rattle.m11_base.specs.Devices.{Bytes}
+use Rattle.m11_base.specs.Mnemonics.{six_of}
+use Rattle.m11_obj_texts.specs.declared.pieces.Piece.{Piece}
+use Rattle.m11_scan.specs.Cutting.{text_between}
+use Rattle.m11_scan_statements.specs.Labels.{labels_at, labels_end}
+use Rattle.m11_scan_statements.specs.Statements.{body_of, label_flags}
+use Rattle.m11_scan_statements.specs.declared.bodies.Body.{Body}
+use Rattle.m11_scan_statements.specs.declared.bodies.Body.TheVariants as body
+use Rattle.m11_scan_statements.specs.declared.spans.Span.{Span}
+use Rattle.m11_unfold_rules.specs.Unfolding.{Given}
+use Rattle.m11_asm_rules.specs.Alignment.{gap_flags, place_for}
+use Rattle.m11_asm_rules.specs.Assigning.{assignment, assignment_flags, counter_change, counter_flags}
+use Rattle.m11_asm_rules.specs.Changes.{Change, Keeps, changed}
+use Rattle.m11_asm_rules.specs.Contents.{Put, nothing, pieces_from, with_flags}
+use Rattle.m11_asm_rules.specs.Effects.{operator_change, operator_put}
+use Rattle.m11_asm_rules.specs.Labels.{labels_flags, labels_stand}
+use Rattle.m11_asm_rules.specs.Meanings.{Map}
+use Rattle.m11_asm_rules.specs.declared.operators.Operator.{Operator}
+use Rattle.m11_asm_rules.specs.declared.operators.Operator.TheVariants as operators
+use Rattle.m11_asm_rules.specs.Operators.{is_even, operator_named}
+use Rattle.m11_asm_rules.specs.declared.operators.Directive.TheVariants as word
+use Rattle.m11_asm_rules.specs.Tables.{Table, firm_table, place, section_name}
+
+-- ---- what stands after the labels of a line
+
+pub data Action : Type 0 where
+  -- nothing that places anything
+  NoAction : Action
+  -- an assignment: a name, whether it becomes global, and where the expression begins
+  Assign : Span → Bool → ℕ → Action
+  -- `.=`, and where the expression begins
+  SetCounter : ℕ → Action
+  -- an operator, and the place after its name
+  Operate : Operator → ℕ → Action
+
+-- all of the text from a place on, as if `.WORD` stood before it
+abbrev pub implied_words : ℕ → Action
+implied_words start = Operate (operators.Directive word.Word) start
+
+abbrev pub operating : Option Operator → Span → Action
+operating (Some operator) name = Operate operator name.end
+operating None name = implied_words name.start
+
+abbrev pub action_of : Bytes → Body → Action
+action_of line body.Nothing = NoAction
+action_of line (body.Assign assignment) = Assign assignment.name assignment.is_global assignment.value
+action_of line (body.SetCounter value) = SetCounter value
+action_of line (body.Operate name) = operating (operator_named (six_of (text_between line name.start name.end))) name
+action_of line (body.Words start) = implied_words start
+
+-- a line that unfolding has done, a call or an operator of its own, places nothing
+abbrev pub action : Bool → Bytes → Action
+action is_own line = if is_own then NoAction else action_of line (body_of line)
+
+-- ---- what changes, by the table once the labels stand, as far as it is firm
+
+abbrev pub change_of : Table → Bytes → Option ℕ → Action → Change
+change_of table line arguments NoAction = Keeps
+change_of table line arguments (Assign name is_global start) = assignment line name is_global start
+change_of table line arguments (SetCounter start) = counter_change table line start
+change_of table line arguments (Operate operator start) = operator_change table line start arguments operator
+
+abbrev pub stands : Table → Given → Table
+stands table given = labels_stand table given.live.line.text
+
+unfoldable pub line_change : Table → Given → Change
+line_change firm given =
+    change_of firm given.live.line.text given.arguments (action given.is_own given.live.line.text)
+
+-- the table after a line: what its operator changes is asked of firm names alone, and no map changes it
+abbrev pub after_operator : Map → Table → Given → Table
+after_operator map stood given =
+    changed map given.live.line.text (line_change (firm_table stood) given) stood
+
+abbrev pub after_line : Map → Table → Given → Table
+after_line map table given = after_operator map (stands table given) given
+
+-- ---- what is put
+
+abbrev pub operation_put : Map → Table → Bytes → Option ℕ → Operator → ℕ → Put
+operation_put map table line arguments operator start =
+    with_flags (gap_flags (is_even operator) (place table))
+    (operator_put map table (place_for (is_even operator) (place table)) line start arguments operator)
+
+abbrev pub put_by : Map → Table → Bytes → Option ℕ → Action → Put
+put_by map table line arguments NoAction = nothing 0
+put_by map table line arguments (Assign name is_global start) = nothing (assignment_flags map table line name start)
+put_by map table line arguments (SetCounter start) = nothing (counter_flags table line start)
+put_by map table line arguments (Operate operator start) = operation_put map table line arguments operator start
+
+unfoldable pub line_put : Map → Table → Given → Put
+line_put map stood given =
+    put_by map stood given.live.line.text given.arguments (action given.is_own given.live.line.text)
+
+-- where the operator of a line puts what it puts
+abbrev pub put_place : Table → Action → ℕ
+put_place table NoAction = place table
+put_place table (Assign name is_global start) = place table
+put_place table (SetCounter start) = place table
+put_place table (Operate operator start) = place_for (is_even operator) (place table)
+
+-- the pieces of a line
+abbrev pub pieces : Map → Table → Given → List Piece
+pieces map table given =
+    pieces_from (section_name (stands table given))
+    (put_place (stands table given) (action given.is_own given.live.line.text))
+    (line_put map (stands table given) given).contents
+
+-- ---- flags
+
+-- where the text ends that is made of tokens whatever the operator is: the operator looks at what stands after its name
+abbrev pub known_end : Bytes → Body → ℕ
+known_end line (body.Operate name) = name.start
+known_end line other = length line
+
+-- M of its labels; L, A and I of the line; the flags of its operator, and what unfolding found
+abbrev pub flags : Map → Table → Given → ℕ
+flags map table given =
+    bit_or
+    (bit_or (label_flags given.live.line) (labels_flags given.live.line.text table (labels_at given.live.line.text)))
+    (bit_or (skip_flags given.live.line.text (labels_end given.live.line.text)
+    (known_end given.live.line.text (body_of given.live.line.text)))
+    (bit_or (line_put map (stands table given) given).flags given.notes.flags))

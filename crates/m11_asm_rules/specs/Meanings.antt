@@ -1,0 +1,87 @@
+-- What symbols stand for at a line. (MACRO-11 Language Reference Manual, "Symbols", "Local symbols" and "Current location counter". That
+-- the last definition before a line counts, and then what the whole source gives a name, is this project's own.)
+use Rattle.std.specs.Prelude.{◌≡◌, ℕ, Bool, true, false, List, [], ◌∷◌, Option, Some, None, ⊤}
+use Rattle.std.specs.Int.RustNames.{bit_or}
+use Rattle.m11_base.specs.Rad50.{Name}
+use Rattle.m11_unfold_arguments.specs.Definedness.{flag_U}
+use Rattle.m11_unfold_arguments.specs.Expressions as expressions
+use Rattle.m11_scan_statements.specs.Statements.{flag_if}
+use Rattle.m11_scan_values.specs.declared.kinds.Kind.TheVariants.{Reference}
+use Rattle.m11_scan_values.specs.declared.names.Symbol.{Symbol}
+use Rattle.m11_scan_values.specs.declared.names.Symbol.TheVariants.{Ordinary, Local, Counter}
+use Rattle.m11_scan_values.specs.Quantities.{Quantity, absolute}
+pub use Rattle.m11_asm_rules.specs.declared.meanings.Context.{Context}
+pub use Rattle.m11_asm_rules.specs.declared.meanings.Context.TheVariants.{MayBeGlobal, LocalOnly}
+use Rattle.m11_asm_rules.specs.Definitions.{Definition, Key, Named, Numbered, Standing, Known, Unknown, has_key, last_definition}
+use Rattle.m11_asm_rules.specs.Tables.{Table, firm_table, kind_here}
+
+-- what a whole source gives its names in the end
+pub record Map : Type 0 where
+  pub definitions : List Definition
+  pub doubly_defined : List Key
+  pub globals : List Name
+
+abbrev pub empty_map : Map
+empty_map = record { definitions = []; doubly_defined = []; globals = [] }
+
+-- the map of a source is what its lines define
+abbrev pub map_of : Table → Map
+map_of table = record { definitions = table.definitions; doubly_defined = table.doubly_defined; globals = table.globals }
+
+-- the set of the flag D
+abbrev pub flag_D : ℕ
+flag_D = 0o4
+
+-- a number, or 0 with U where none is known
+abbrev pub quantity_of : ℕ → Standing → Quantity
+quantity_of flags (Known number kind) = record { number = number; kind = kind; flags = flags }
+quantity_of flags Unknown = absolute 0 (bit_or flags flag_U)
+
+-- what a symbol without a definition stands for
+abbrev pub undefined : Context → Symbol → Quantity
+undefined MayBeGlobal (Ordinary name) = record { number = 0; kind = Reference name; flags = 0 }
+undefined context symbol = absolute 0 flag_U
+
+-- what a definition gives, with D where its key is doubled; without one there is something else
+abbrev pub defined_or : Key → List Key → Quantity → Option Definition → Quantity
+defined_or key doubly_defined other (Some definition) =
+    quantity_of (flag_if (has_key key doubly_defined) flag_D) definition.standing
+defined_or key doubly_defined other None = other
+
+-- the last definition before the line, or else that of the map
+abbrev pub meaning_of : Map → Quantity → Table → Key → Quantity
+meaning_of map other table key =
+    defined_or key table.doubly_defined (defined_or key map.doubly_defined other (last_definition key map.definitions))
+    (last_definition key table.definitions)
+
+-- what a symbol stands for where `.` is a place
+abbrev pub stands_for : Map → Context → Table → ℕ → Symbol → Quantity
+stands_for map context table place (Ordinary name) =
+    meaning_of map (undefined context (Ordinary name)) table (Named name)
+stands_for map context table place (Local number) =
+    meaning_of map (undefined context (Local number)) table (Numbered table.modes.block number)
+stands_for map context table place Counter = record { number = place; kind = kind_here table; flags = 0 }
+
+abbrev pub known_at : Map → Context → Table → ℕ → expressions.Known
+known_at map context table place =
+    expressions.known_by table.modes.radix (stands_for map context table place)
+
+-- what sizes, places, conditions and repeats see: firm names of the lines before alone. Any other counts as 0, with U
+abbrev pub firm_known : Table → ℕ → expressions.Known
+firm_known table place = known_at empty_map LocalOnly (firm_table table) place
+
+-- ---- which symbols are firm
+
+abbrev pub is_firm_in : Option Definition → Bool
+is_firm_in (Some definition) = definition.is_firm
+is_firm_in None = false
+
+-- a symbol is firm where its last definition before is, and `.` always
+abbrev pub is_firm : Table → Symbol → Bool
+is_firm table (Ordinary name) = is_firm_in (last_definition (Named name) table.definitions)
+is_firm table (Local number) = is_firm_in (last_definition (Numbered table.modes.block number) table.definitions)
+is_firm table Counter = true
+
+abbrev pub AreFirm : Table → List Symbol → Type 0
+AreFirm table [] = ⊤
+AreFirm table (symbol ∷ symbols) = (is_firm table symbol ≡ true) × AreFirm table symbols

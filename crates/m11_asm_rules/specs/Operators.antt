@@ -1,0 +1,74 @@
+-- The operators that place something or change what is kept, by their names. (MACRO-11 Language Reference Manual, "Permanent symbol
+-- table".)
+use Rattle.std.specs.Prelude.{Bool, true, false, List, [], ◌∷◌, codes, find, Option, Some, None}
+use Rattle.std.specs.Str.{bytes_eq}
+use Rattle.m11_base.specs.Devices.{Bytes}
+use Rattle.m11_base.specs.Instructions.{other_names, rows}
+use Rattle.m11_base.specs.Mnemonics.{named_in, or_else}
+use Rattle.m11_base.specs.declared.instruction.Op.{Op}
+use Rattle.m11_asm_rules.specs.declared.operators.Directive.{Directive}
+use Rattle.m11_asm_rules.specs.declared.operators.Directive.TheVariants as word
+use Rattle.m11_asm_rules.specs.declared.operators.DirectiveRow.{DirectiveRow}
+use Rattle.m11_asm_rules.specs.declared.operators.Operator.{Operator}
+use Rattle.m11_asm_rules.specs.declared.operators.Operator.TheVariants as operators
+
+-- a directive with its name of six characters
+abbrev pub named : Bytes → Directive → DirectiveRow
+named name directive = record { name = name; directive = directive }
+
+abbrev pub directive_rows : List DirectiveRow
+directive_rows =
+    named (codes ".WORD ") word.Word
+    ∷ named (codes ".BYTE ") word.Byte
+    ∷ named (codes ".ASCII") word.Ascii
+    ∷ named (codes ".ASCIZ") word.Asciz
+    ∷ named (codes ".RAD50") word.Rad50
+    ∷ named (codes ".BLKB ") word.Blkb
+    ∷ named (codes ".BLKW ") word.Blkw
+    ∷ named (codes ".EVEN ") word.Even
+    ∷ named (codes ".ODD  ") word.Odd
+    ∷ named (codes ".LIMIT") word.Limit
+    ∷ named (codes ".RADIX") word.Radix
+    ∷ named (codes ".ASECT") word.Asect
+    ∷ named (codes ".CSECT") word.Csect
+    ∷ named (codes ".PSECT") word.Psect
+    ∷ named (codes ".GLOBL") word.Globl
+    ∷ named (codes ".WEAK ") word.Weak
+    ∷ named (codes ".TITLE") word.Title
+    ∷ named (codes ".IDENT") word.Ident
+    ∷ named (codes ".SBTTL") word.Sbttl
+    ∷ named (codes ".PAGE ") word.Page
+    ∷ named (codes ".LIST ") word.List
+    ∷ named (codes ".NLIST") word.Nlist
+    ∷ named (codes ".ENABL") word.Enabl
+    ∷ named (codes ".DSABL") word.Dsabl
+    ∷ named (codes ".NARG ") word.Narg
+    ∷ named (codes ".NCHR ") word.Nchr
+    ∷ named (codes ".END  ") word.End
+    ∷ []
+
+abbrev pub instruction_in : Option Op → Option Operator
+instruction_in (Some operation) = Some (operators.Instruction operation)
+instruction_in None = None
+
+abbrev pub directive_or : Option DirectiveRow → Option Operator → Option Operator
+directive_or (Some row) other = Some (operators.Directive row.directive)
+directive_or None other = other
+
+-- the operator of a name of six characters
+abbrev pub operator_named : Bytes → Option Operator
+operator_named name =
+    directive_or (find (λ row. bytes_eq row.name name) directive_rows)
+    (instruction_in (or_else (named_in rows name) (named_in other_names name)))
+
+-- the directives that put words stand at even places; so do instructions
+abbrev pub is_even_directive : Directive → Bool
+is_even_directive word.Word = true
+is_even_directive word.Rad50 = true
+is_even_directive word.Blkw = true
+is_even_directive word.Limit = true
+is_even_directive directive = false
+
+abbrev pub is_even : Operator → Bool
+is_even (operators.Instruction operation) = true
+is_even (operators.Directive directive) = is_even_directive directive

@@ -1,0 +1,24 @@
+-- Pieces that lie one after the other. (MACRO-11 Language Reference Manual, "Current location counter".)
+use Rattle.std.specs.Prelude.{ℕ, ◌+◌, ◌≤◌, ◌==◌, Bool, true, false, List, [], ◌∷◌, ◌++◌, ⊤}
+use Rattle.m11_obj_texts.specs.declared.pieces.Piece.{Piece}
+use Rattle.m11_unfold_rules.specs.Unfolding.{Given}
+use Rattle.m11_asm_rules.specs.Contents.{content_size}
+use Rattle.m11_asm_rules.specs.Lines.{after_line, pieces, stands}
+use Rattle.m11_asm_rules.specs.Meanings.{Map}
+use Rattle.m11_asm_rules.specs.Tables.{Table}
+
+-- each piece begins no earlier than the one before it ends, and the first no earlier than a place
+abbrev pub LieFrom : ℕ → List Piece → Type 0
+LieFrom place [] = ⊤
+LieFrom place (piece ∷ pieces) = (place ≤ piece.place) × LieFrom (piece.place + content_size piece.content) pieces
+
+abbrev pub pieces_if : Bool → List Piece → List Piece
+pieces_if true pieces = pieces
+pieces_if false pieces = []
+
+-- the pieces of lines in the section of a number, in the order of the lines
+abbrev pub pieces_in : ℕ → Map → Table → List Given → List Piece
+pieces_in section map table [] = []
+pieces_in section map table (given ∷ lines) =
+    pieces_if ((stands table given).modes.section == section) (pieces map table given)
+    ++ pieces_in section map (after_line map table given) lines

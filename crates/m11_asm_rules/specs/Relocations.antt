@@ -1,0 +1,87 @@
+-- What a linker does to the values that a line puts at its places. (MACRO-11 Language Reference Manual, "Relocation and linking"; RT-11
+-- Volume and File Formats Manual, "Object file format", RLD block. Which command stands for which value is this project's own.)
+use Rattle.std.specs.Prelude.{ℕ, ◌+◌, ◌-◌, ◌%◌, not, Bool, true, false, if◌then◌else◌}
+use Rattle.m11_base.specs.Rad50.{Name, is_same_name}
+use Rattle.m11_obj_texts.specs.declared.pieces.RelocationKind.{RelocationKind}
+use Rattle.m11_obj_texts.specs.declared.pieces.RelocationKind.TheVariants as relocation
+use Rattle.m11_obj_texts.specs.declared.pieces.Stored.{Stored}
+use Rattle.m11_scan_values.specs.declared.kinds.Kind.{Kind}
+use Rattle.m11_scan_values.specs.declared.kinds.Kind.TheVariants as kind
+use Rattle.m11_scan_values.specs.Quantities.{Quantity}
+use Rattle.m11_asm_rules.specs.Sections.{is_relocatable, numbered}
+use Rattle.m11_asm_rules.specs.Tables.{Table, section_name}
+
+-- what a value counts from, as a line sees it
+pub data Origin : Type 0 where
+  -- the section of the line
+  Here : Origin
+  -- 0
+  Zero : Origin
+  -- another section
+  InSection : Name → Origin
+  -- a name of another object
+  InObject : Name → Origin
+
+-- a register counts as a number where it may not stand
+abbrev pub origin_of : Table → Kind → Origin
+origin_of table kind.Absolute = Zero
+origin_of table kind.Register = Zero
+origin_of table (kind.Section name) = if is_same_name name (section_name table) then Here else InSection name
+origin_of table (kind.Reference name) = InObject name
+
+-- what a linker does to a value in a word or a byte; in a relative operand of a section with REL; and in one of a section with ABS
+pub record Row : Type 0 where
+  pub in_word : RelocationKind
+  pub in_relocatable : RelocationKind
+  pub in_absolute : RelocationKind
+
+abbrev pub row : RelocationKind → RelocationKind → RelocationKind → Row
+row in_word in_relocatable in_absolute =
+    record { in_word = in_word; in_relocatable = in_relocatable; in_absolute = in_absolute }
+
+-- the rows
+abbrev pub row_of : Origin → Row
+row_of Here = row relocation.Internal relocation.Fixed relocation.Fixed
+row_of Zero = row relocation.Fixed relocation.InternalDisplaced relocation.Fixed
+row_of (InSection name) =
+    row (relocation.Section name) (relocation.SectionDisplaced name) (relocation.SectionDisplaced name)
+row_of (InObject name) = row (relocation.Global name) (relocation.GlobalDisplaced name) (relocation.GlobalDisplaced name)
+
+abbrev pub is_moved : Table → Bool
+is_moved table = is_relocatable (numbered table.modes.section table.sections)
+
+abbrev pub relocation_by : Bool → Bool → Row → RelocationKind
+relocation_by is_relative is_moved row =
+    if is_relative then (if is_moved then row.in_relocatable else row.in_absolute) else row.in_word
+
+abbrev pub relocation_of : Table → Bool → Kind → RelocationKind
+relocation_of table is_relative kind = relocation_by is_relative (is_moved table) (row_of (origin_of table kind))
+
+-- how far a target lies from the place after a word, modulo 65536
+abbrev pub distance : ℕ → ℕ → ℕ
+distance place target = (target + 131072 - (place + 2)) % 65536
+
+-- a relative operand that no linker changes has its distance; any other value its number
+abbrev pub constant : Bool → RelocationKind → ℕ → ℕ → ℕ
+constant true relocation.Fixed place number = distance place number
+constant is_relative other place number = number
+
+abbrev pub stored_as : Bool → RelocationKind → ℕ → ℕ → Stored
+stored_as is_relative kind place number =
+    record { constant = constant is_relative kind place number; kind = kind }
+
+-- what stands at a place for a value
+abbrev pub stored : Table → Bool → ℕ → Quantity → Stored
+stored table is_relative place value =
+    stored_as is_relative (relocation_of table is_relative value.kind) place value.number
+
+-- a number that stands as it is
+abbrev pub fixed : ℕ → Stored
+fixed number = record { constant = number; kind = relocation.Fixed }
+
+-- whether a value counts from the section of the line: in one with ABS every absolute number does
+abbrev pub is_here : Table → Kind → Bool
+is_here table kind.Absolute = not (is_moved table)
+is_here table kind.Register = not (is_moved table)
+is_here table (kind.Section name) = is_same_name name (section_name table)
+is_here table (kind.Reference name) = false

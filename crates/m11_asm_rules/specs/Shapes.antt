@@ -1,0 +1,19 @@
+-- Where pieces lie, whatever they hold. (MACRO-11 Language Reference Manual, "Current location counter".)
+use Rattle.std.specs.Prelude.{ℕ, List, map}
+use Rattle.m11_base.specs.Rad50.{Name}
+use Rattle.m11_obj_texts.specs.declared.pieces.Piece.{Piece}
+use Rattle.m11_asm_rules.specs.Contents.{content_size}
+use Rattle.m11_asm_rules.specs.Placements.{Placed}
+
+-- a piece by its section, its place and its size
+pub record Shape : Type 0 where
+  pub section : Name
+  pub place : ℕ
+  pub size : ℕ
+
+abbrev pub shape_of : Piece → Shape
+shape_of piece = record { section = piece.section; place = piece.place; size = content_size piece.content }
+
+-- the shapes of the pieces of a placed line
+abbrev pub shapes_in : Placed → List Shape
+shapes_in line = map shape_of line.pieces

@@ -1,0 +1,81 @@
+-- Directives that put words and bytes, or leave room for them. (MACRO-11 Language Reference Manual, ".WORD directive", ".BYTE directive",
+-- ".LIMIT directive", ".BLKB and .BLKW directives", ".EVEN directive" and ".ODD directive". That an empty element is 0, and that what
+-- follows an element without a comma is left over, is this project's own.)
+use Rattle.std.specs.Prelude.{ℕ, ◌*◌, false, if◌then◌else◌, List, [], ◌∷◌, length}
+use Rattle.std.specs.Int.RustNames.{bit_or}
+use Rattle.m11_unfold_arguments.specs.Expressions.{has_expression, number_at, number_flags}
+use Rattle.m11_unfold_arguments.specs.LeftOvers.{left_over, skip_flags}
+use Rattle.m11_base.specs.Devices.{Bytes}
+use Rattle.m11_obj_texts.specs.declared.pieces.PieceContent.TheVariants.{Limits}
+use Rattle.m11_scan.specs.Ends.{expression_end}
+use Rattle.m11_asm_rules.specs.Contents.{Put, byte, element_value, followed_by, further, nothing, put, with_flags, word}
+use Rattle.m11_asm_rules.specs.Elements.{Elements, elements_at}
+use Rattle.m11_asm_rules.specs.Meanings.{Map, MayBeGlobal, firm_known, known_at}
+use Rattle.m11_asm_rules.specs.Tables.{Table}
+
+-- what is skipped up to the end of arguments, and what is left over after it
+abbrev pub end_flags : Bytes → ℕ → ℕ → ℕ
+end_flags line start end = bit_or (skip_flags line start end) (left_over line end)
+
+-- ---- .WORD e,..
+
+abbrev pub word_size : Bytes → ℕ → ℕ
+word_size line start = length (elements_at line start).places * 2
+
+-- each element has its own place, which is `.` in it
+abbrev pub words_from : Map → Table → Bytes → ℕ → List ℕ → Put
+words_from map table line place [] = nothing 0
+words_from map table line place (start ∷ starts) =
+    followed_by (word table false place (element_value (known_at map MayBeGlobal table place) line start))
+    (words_from map table line (further place 2) starts)
+
+abbrev pub words_of : Map → Table → ℕ → Bytes → ℕ → Elements → Put
+words_of map table place line start elements =
+    with_flags (end_flags line start elements.end) (words_from map table line place elements.places)
+
+abbrev pub words : Map → Table → ℕ → Bytes → ℕ → Put
+words map table place line start = words_of map table place line start (elements_at line start)
+
+-- ---- .BYTE e,..
+
+abbrev pub byte_size : Bytes → ℕ → ℕ
+byte_size line start = length (elements_at line start).places
+
+abbrev pub bytes_from : Map → Table → Bytes → ℕ → List ℕ → Put
+bytes_from map table line place [] = nothing 0
+bytes_from map table line place (start ∷ starts) =
+    followed_by (byte table place (element_value (known_at map MayBeGlobal table place) line start))
+    (bytes_from map table line (further place 1) starts)
+
+abbrev pub bytes_of : Map → Table → ℕ → Bytes → ℕ → Elements → Put
+bytes_of map table place line start elements =
+    with_flags (end_flags line start elements.end) (bytes_from map table line place elements.places)
+
+abbrev pub bytes : Map → Table → ℕ → Bytes → ℕ → Put
+bytes map table place line start = bytes_of map table place line start (elements_at line start)
+
+-- ---- .LIMIT
+
+abbrev pub limit_size : ℕ
+limit_size = 4
+
+abbrev pub limits : Bytes → ℕ → Put
+limits line start = put (Limits ∷ []) (left_over line start)
+
+-- ---- .BLKB e, .BLKW e: 1 without e, which is asked of firm names
+
+abbrev pub block_count : Table → ℕ → Bytes → ℕ → ℕ
+block_count table place line start =
+    if has_expression line start then number_at (firm_known table place) line start else 1
+
+abbrev pub block_flags : Table → ℕ → Bytes → ℕ → ℕ
+block_flags table place line start =
+    if has_expression line start then
+    bit_or (number_flags (firm_known table place) line start) (left_over line (expression_end line start))
+    else left_over line start
+
+abbrev pub blkb_size : Table → ℕ → Bytes → ℕ → ℕ
+blkb_size table place line start = block_count table place line start
+
+abbrev pub blkw_size : Table → ℕ → Bytes → ℕ → ℕ
+blkw_size table place line start = block_count table place line start * 2

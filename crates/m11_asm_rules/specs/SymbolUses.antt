@@ -1,0 +1,136 @@
+-- The symbols that a line defines or reads, in the order in which they stand. (MACRO-11 Language Reference Manual, "Symbols", "Table of
+-- contents and symbol table" and ".GLOBL directive". That what is left over of a line mentions nothing is this project's own.)
+use Rattle.std.specs.Prelude.{ℕ, true, List, [], ◌∷◌, ◌++◌, map, Option, Some, None}
+use Rattle.std.specs.List.{flat_map}
+use Rattle.m11_unfold_arguments.specs.Expressions.{symbols_at}
+use Rattle.m11_base.specs.Devices.{Bytes}
+use Rattle.m11_base.specs.Rad50.{Name}
+use Rattle.m11_scan_statements.specs.Labels.{labels_at}
+use Rattle.m11_scan_statements.specs.declared.labels.Label.{Label}
+use Rattle.m11_scan_statements.specs.declared.labels.LabelKind.{LabelKind}
+use Rattle.m11_scan_statements.specs.declared.labels.LabelKind.TheVariants as label
+use Rattle.m11_scan_statements.specs.declared.parts.Part.{Part}
+use Rattle.m11_scan_statements.specs.declared.parts.PartKind.{PartKind}
+use Rattle.m11_scan_statements.specs.declared.parts.PartKind.TheVariants.{Text, Expression}
+use Rattle.m11_unfold_rules.specs.Unfolding.{Given}
+use Rattle.m11_scan_values.specs.declared.names.Symbol.{Symbol}
+use Rattle.m11_scan_values.specs.declared.names.Symbol.TheVariants.{Ordinary, Local}
+use Rattle.m11_asm_rules.specs.Alignment.{place_for}
+use Rattle.m11_asm_rules.specs.Assigning.{target}
+use Rattle.m11_asm_rules.specs.Changes.{Change, Numbers}
+use Rattle.m11_asm_rules.specs.Counts as counts
+use Rattle.m11_asm_rules.specs.Elements.{elements_at, listed_names}
+use Rattle.m11_asm_rules.specs.declared.fields.Field.{Field}
+use Rattle.m11_asm_rules.specs.declared.fields.Field.TheVariants.{Formed, Registered, Targeted, Numbered, Missing}
+use Rattle.m11_asm_rules.specs.Instructions as instructions
+use Rattle.m11_asm_rules.specs.Labels.{label_name}
+use Rattle.m11_asm_rules.specs.Lines.{Assign, Action, Operate, NoAction, SetCounter, action, stands}
+use Rattle.m11_asm_rules.specs.Meanings.{Context, LocalOnly, MayBeGlobal}
+use Rattle.m11_asm_rules.specs.declared.operands.Form.{Form}
+use Rattle.m11_asm_rules.specs.declared.operands.Form.TheVariants.{Absent, InRegister, Indexed, Unindexed, AfterCounter}
+use Rattle.m11_asm_rules.specs.declared.operators.Directive.{Directive}
+use Rattle.m11_asm_rules.specs.declared.operators.Operator.{Operator}
+use Rattle.m11_asm_rules.specs.declared.operators.Operator.TheVariants as operators
+use Rattle.m11_asm_rules.specs.declared.operators.Directive.TheVariants as word
+use Rattle.m11_asm_rules.specs.Strings.{parts_at}
+use Rattle.m11_asm_rules.specs.Tables.{Table, place}
+
+-- a symbol, and whether a name that no line defines is a reference there
+pub record SymbolUse : Type 0 where
+  pub symbol : Symbol
+  pub context : Context
+
+abbrev pub symbol_use : Context → Symbol → SymbolUse
+symbol_use context symbol = record { symbol = symbol; context = context }
+
+-- those of the expression at a place
+abbrev pub read_at : Context → Bytes → ℕ → List SymbolUse
+read_at context line start = map (symbol_use context) (symbols_at line start)
+
+-- a name that is defined
+abbrev pub defined : Option Name → List SymbolUse
+defined (Some name) = symbol_use LocalOnly (Ordinary name) ∷ []
+defined None = []
+
+abbrev pub named : Name → SymbolUse
+named name = symbol_use LocalOnly (Ordinary name)
+
+-- ---- labels
+
+abbrev pub label_use : Option Name → LabelKind → List SymbolUse
+label_use name label.Ordinary = defined name
+label_use name label.Global = defined name
+label_use name (label.Local number) = symbol_use LocalOnly (Local number) ∷ []
+label_use name label.Outside = []
+
+abbrev pub label_uses : Bytes → Label → List SymbolUse
+label_uses line label = label_use (label_name line label) label.kind
+
+-- ---- instructions
+
+-- the word of an operand may refer to another object; a register may not
+abbrev pub form_uses : Bytes → Form → List SymbolUse
+form_uses line Absent = []
+form_uses line (InRegister kind start) = read_at LocalOnly line start
+form_uses line (Indexed kind start index) = read_at MayBeGlobal line index ++ read_at LocalOnly line start
+form_uses line (Unindexed start) = read_at LocalOnly line start
+form_uses line (AfterCounter kind start) = read_at MayBeGlobal line start
+
+abbrev pub field_uses : Bytes → Field → List SymbolUse
+field_uses line (Formed form) = form_uses line form
+field_uses line (Registered start) = read_at LocalOnly line start
+field_uses line (Targeted start) = read_at LocalOnly line start
+field_uses line (Numbered start) = read_at LocalOnly line start
+field_uses line Missing = []
+
+-- ---- directives
+
+abbrev pub element_uses : Bytes → ℕ → List SymbolUse
+element_uses line start = flat_map (read_at MayBeGlobal line) (elements_at line start).places
+
+abbrev pub part_use : Context → Bytes → Part → PartKind → List SymbolUse
+part_use context line part Text = []
+part_use context line part Expression = read_at context line part.inside.start
+
+abbrev pub part_uses : Context → Bytes → ℕ → List SymbolUse
+part_uses context line start = flat_map (λ part. part_use context line part part.kind) (parts_at line start).list
+
+abbrev pub numbered_use : Change → List SymbolUse
+numbered_use (Numbers name number) = named name ∷ []
+numbered_use other = []
+
+abbrev pub directive_uses : Bytes → ℕ → Option ℕ → Directive → List SymbolUse
+directive_uses line start arguments word.Word = element_uses line start
+directive_uses line start arguments word.Byte = element_uses line start
+directive_uses line start arguments word.Ascii = part_uses MayBeGlobal line start
+directive_uses line start arguments word.Asciz = part_uses MayBeGlobal line start
+directive_uses line start arguments word.Rad50 = part_uses LocalOnly line start
+directive_uses line start arguments word.Blkb = read_at LocalOnly line start
+directive_uses line start arguments word.Blkw = read_at LocalOnly line start
+directive_uses line start arguments word.Globl = map named (listed_names line start)
+directive_uses line start arguments word.Weak = map named (listed_names line start)
+directive_uses line start arguments word.Narg = numbered_use (counts.narg arguments line start)
+directive_uses line start arguments word.Nchr = numbered_use (counts.nchr line start)
+directive_uses line start arguments word.End = read_at LocalOnly line start
+directive_uses line start arguments other = []
+
+-- ---- a line
+
+abbrev pub operator_uses : Table → Bytes → ℕ → Option ℕ → Operator → List SymbolUse
+operator_uses table line start arguments (operators.Instruction operation) =
+    flat_map (field_uses line)
+    (instructions.fields table (place_for true (place table)) line start operation).list
+operator_uses table line start arguments (operators.Directive directive) = directive_uses line start arguments directive
+
+abbrev pub action_uses : Table → Bytes → Option ℕ → Action → List SymbolUse
+action_uses table line arguments NoAction = []
+action_uses table line arguments (Assign name is_global start) = defined (target line name) ++ read_at LocalOnly line start
+action_uses table line arguments (SetCounter start) = read_at LocalOnly line start
+action_uses table line arguments (Operate operator start) = operator_uses table line start arguments operator
+
+-- those of a line: of its labels, those that unfolding read, and those of its operator
+abbrev pub symbol_uses : Table → Given → List SymbolUse
+symbol_uses table given =
+    flat_map (label_uses given.live.line.text) (labels_at given.live.line.text)
+    ++ map (symbol_use LocalOnly) given.notes.symbols
+    ++ action_uses (stands table given) given.live.line.text given.arguments (action given.is_own given.live.line.text)

@@ -1,0 +1,24 @@
+-- The lines of a source under a map: unfolding gives them, and each operator is done by what the lines before it say. (MACRO-11 Language
+-- Reference Manual, "Macro directives", "Conditional assembly directives" and "Symbols and expressions". That conditions and repeats ask
+-- firm names alone is this project's own.)
+use Rattle.std.specs.Prelude.{◌≡◌, List, [], ◌∷◌, ⊤}
+use Rattle.m11_unfold_arguments.specs.Expressions.{Known}
+use Rattle.m11_scan_lines.specs.Line.{SourceLine}
+use Rattle.m11_unfold_rules.specs.Stages.{Stage}
+use Rattle.m11_unfold_rules.specs.Unfolding.{Given, Unfolds}
+use Rattle.m11_asm_rules.specs.Lines.{after_line, stands}
+use Rattle.m11_asm_rules.specs.Meanings.{Map, firm_known}
+use Rattle.m11_asm_rules.specs.Tables.{Table, first_table, place}
+
+-- what conditions, repeats and macros know once the labels of their line stand
+abbrev pub known_after_labels : Table → Known
+known_after_labels stood = firm_known stood (place stood)
+
+-- each line knows what the lines before it say
+abbrev pub KnowLinesBefore : Map → Table → List Given → Type 0
+KnowLinesBefore map table [] = ⊤
+KnowLinesBefore map table (given ∷ lines) = (given.known ≡ known_after_labels (stands table given)) × KnowLinesBefore map (after_line map table given) lines
+
+-- the live lines of a source, up to a stage of its unfolding, placed under a map
+abbrev pub AreLines : Map → List SourceLine → List Given → Stage → Type 0
+AreLines map source lines stage = Unfolds source lines stage × KnowLinesBefore map first_table lines

@@ -1,0 +1,124 @@
+//! Laws of placing. Each is the contract of a function that does nothing.
+
+ghost use Rattle.std.specs.Prelude.{◌≡◌, ◌≢◌, ◌+◌, ◌≤◌, ◌%◌, ℕ, true, false, List, [], ◌∷◌, ◌++◌, map};
+ghost use Rattle.m11_unfold_arguments.specs.Expressions.{symbols_at, value_at};
+ghost use Rattle.m11_base.specs.Devices.{Bytes};
+ghost use Rattle.m11_scan_lines.specs.Line.{SourceLine};
+ghost use Rattle.m11_asm_rules.specs.Assignments.{assigned};
+ghost use Rattle.m11_asm_rules.specs.Definitions.{Key, firm_part};
+ghost use Rattle.m11_asm_rules.specs.Equation.{AreAlike, Solves};
+ghost use Rattle.m11_asm_rules.specs.Filling.{Fills, gap_before};
+ghost use Rattle.m11_asm_rules.specs.Labels.{labels_stand};
+ghost use Rattle.m11_asm_rules.specs.Lines.{action, line_change, line_put};
+ghost use Rattle.m11_asm_rules.specs.Meanings.{AreFirm, Context, Map, firm_known, known_at};
+ghost use Rattle.m11_asm_rules.specs.Operands.{words_of};
+ghost use Rattle.m11_asm_rules.specs.declared.operands.Form.{Form};
+ghost use Rattle.m11_asm_rules.specs.Order.{LieFrom, pieces_in};
+ghost use Rattle.m11_asm_rules.specs.Placements.{placement, program_map, table_after};
+ghost use Rattle.m11_asm_rules.specs.Places.{Goes, Move, Moved, Steps, has_set, in_section, moves_in, place_in, sizes_since};
+ghost use Rattle.m11_asm_rules.specs.Shapes.{shapes_in};
+ghost use Rattle.m11_asm_rules.specs.Strings.{parts_at};
+ghost use Rattle.m11_asm_rules.specs.Tables.{Table, firm_table, first_table, place};
+ghost use Rattle.m11_asm_rules.specs.Unfolded.{AreLines};
+ghost use Rattle.m11_scan_statements.specs.Parts.{AreParts};
+ghost use Rattle.m11_unfold_rules.specs.Stages.{Stage};
+ghost use Rattle.m11_unfold_rules.specs.Unfolding.{Given};
+
+/// After a line that goes on, the counter of its section stands as many bytes further, modulo 65536.
+#[tactic(auto, using(crate::proofs::Counters::steps_on))]
+pub fn a_line_steps_the_counter()
+    ensures { (section size : ℕ) (moves : List Moved) → place_in section (moves ++ in_section section (Steps size) ∷ [])
+        ≡ (place_in section moves + size) % 65536 }
+{}
+
+/// After a line that sets the counter of its section, it stands at that place, whatever stood before.
+#[tactic(auto, using(crate::proofs::Counters::goes_there))]
+pub fn a_line_sets_the_counter()
+    ensures { (section place : ℕ) (moves : List Moved) → place_in section (moves ++ in_section section (Goes place) ∷ [])
+        ≡ place % 65536 }
+{}
+
+/// A line leaves the counters of other sections where they stand.
+#[tactic(auto, using(crate::proofs::Counters::stays_there))]
+pub fn other_sections_keep_their_counter()
+    ensures { (section other : ℕ) (move : Move) (moves : List Moved) → other ≢ section
+        → place_in section (moves ++ in_section other move ∷ []) ≡ place_in section moves }
+{}
+
+/// An expression whose symbols are all firm has the same value under every map: the one that sizes and places are asked of. So no
+/// map, and nothing that stands later in the source, decides it.
+pub fn firm_values_are_those_of_every_map()
+    ensures { (map : Map) (context : Context) (table : Table) (here : ℕ) (line : Bytes) (start : ℕ)
+        → AreFirm table (symbols_at line start)
+        → value_at (known_at map context table here) line start ≡ value_at (firm_known table here) line start }
+{}
+
+/// All labels of a line stand at one place: they leave the counter where it stands.
+pub fn labels_keep_the_counter()
+    ensures { (table : Table) (line : Bytes) → place (labels_stand table line) ≡ place table }
+{}
+
+/// An operand has at most one word after its instruction.
+pub fn an_operand_has_at_most_one_word()
+    ensures { (form : Form) → words_of form ≤ 1 }
+{}
+
+/// Where two tables are the same as far as they are firm, an assignment leaves the same firm part in both, whatever maps there are.
+pub fn firm_assignments_are_those_of_every_map()
+    ensures { (one other : Map) (first second : Table) (key : Key) (line : Bytes) (start : ℕ)
+        → firm_table first ≡ firm_table second
+        → firm_part (assigned one first key line start) ≡ firm_part (assigned other second key line start) }
+{}
+
+/// Any two maps place live lines alike: after them the tables are the same as far as they are firm, so sections, the places of their
+/// counters, sizes, labels and firm values are the same. The lines are any, so this holds after each line of a source.
+pub fn placements_are_the_same_under_every_map()
+    ensures { (one other : Map) (lines : List Given)
+        → firm_table (table_after one lines) ≡ firm_table (table_after other lines) }
+{}
+
+/// What a line puts has as many bytes as its counter goes on by, but for those that are passed over before it; a line that leaves room
+/// puts nothing.
+pub fn a_line_fills_what_it_steps_by()
+    ensures { (map : Map) (table : Table) (given : Given)
+        → Fills (gap_before table (action given.is_own given.live.line.text)) (line_put map table given).contents
+        (line_change (firm_table table) given) }
+{}
+
+/// The map of a source solves its equation: the placement under it gives again each label with its place, and each firm value. It is
+/// asked of no other name.
+pub fn the_map_of_a_source_solves_it()
+    ensures { (lines : List Given) → Solves (program_map lines) lines }
+{}
+
+/// Every map that solves a source has the labels of the source's own map, with their places, and its firm values, whatever else it has.
+pub fn solutions_are_alike()
+    ensures { (map : Map) (lines : List Given) → Solves map lines → AreAlike map (program_map lines) }
+{}
+
+/// A source has the same live lines under every map: no condition, no repeat and no macro asks what stands later in the source.
+pub fn sources_have_the_same_lines_under_every_map()
+    ensures { (one other : Map) (source : List SourceLine) (lines : List Given) (stage : Stage)
+        → AreLines one source lines stage → AreLines other source lines stage }
+{}
+
+/// In a section where no place is set, and whose sizes don't pass the end of the addresses, pieces lie in the order of the lines, and none
+/// begins before the one before it ends.
+pub fn pieces_lie_in_the_order_of_lines()
+    ensures { (map : Map) (lines : List Given) (section : ℕ)
+        → has_set (moves_in section (table_after map lines).moves) ≡ false
+        → sizes_since (moves_in section (table_after map lines).moves) ≤ 65535
+        → LieFrom 0 (pieces_in section map first_table lines) }
+{}
+
+/// The pieces of each line lie in the same sections, at the same places and with the same sizes under every map: a map says only what
+/// they hold.
+pub fn pieces_lie_alike_under_every_map()
+    ensures { (one other : Map) (lines : List Given) → map shapes_in (placement one lines) ≡ map shapes_in (placement other lines) }
+{}
+
+/// The parts of a text stand one after the other, up to where none stands next or one has no end: no bound cuts them off.
+#[tactic(auto, using(crate::proofs::TextParts::text_parts))]
+pub fn the_parts_of_a_text_stand_one_after_the_other()
+    ensures { (line : Bytes) (start : ℕ) → AreParts line true start (parts_at line start).list (parts_at line start).end }
+{}

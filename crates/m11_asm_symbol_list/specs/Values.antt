@@ -1,0 +1,38 @@
+-- What the symbol table shows of a name's last definition. (MACRO-11 Language Reference Manual, "Table of contents and symbol table". That
+-- the last definition of the first pass decides, and that ` = ` stands for every name which isn't a label's, is this project's own.)
+use Rattle.std.specs.Prelude.{ℕ, Bool, false, is_none, List, Option, Some, None}
+use Rattle.m11_asm_listing.specs.declared.symbol_table.SymbolValue.{SymbolValue}
+use Rattle.m11_asm_listing.specs.declared.symbol_table.SymbolValue.TheVariants as shown
+use Rattle.m11_asm_rules.specs.declared.definitions.Definition.{Definition}
+use Rattle.m11_asm_rules.specs.declared.definitions.Standing.{Standing}
+use Rattle.m11_asm_rules.specs.declared.definitions.Standing.TheVariants.{Known, Unknown}
+use Rattle.m11_asm_rules.specs.declared.sections.Section.{Section}
+use Rattle.m11_asm_rules.specs.Sections.{number_of}
+use Rattle.m11_scan_values.specs.declared.kinds.Kind.{Kind}
+use Rattle.m11_scan_values.specs.declared.kinds.Kind.TheVariants as kind
+
+-- a place is shown with the number of its section. Each section of a definition is one of the table
+abbrev pub place_value : ℕ → Option ℕ → SymbolValue
+place_value number (Some section) = shown.Relocatable number section
+place_value number None = shown.Absolute number
+
+-- no definition has the kind of a reference: in an assignment a name without a definition is unknown
+abbrev pub known_value : List Section → ℕ → Kind → SymbolValue
+known_value sections number kind.Absolute = shown.Absolute number
+known_value sections number (kind.Section name) = place_value number (number_of name sections)
+known_value sections number kind.Register = shown.Register number
+known_value sections number (kind.Reference name) = shown.Absolute number
+
+abbrev pub value_of : List Section → Standing → SymbolValue
+value_of sections (Known number counted) = known_value sections number counted
+value_of sections Unknown = shown.Unknown
+
+-- by the last definition, if there is one
+abbrev pub symbol_value : List Section → Option Definition → SymbolValue
+symbol_value sections (Some definition) = value_of sections definition.standing
+symbol_value sections None = shown.Unknown
+
+-- ` = ` stands for what is defined otherwise than by a label
+abbrev pub is_assigned : Option Definition → Bool
+is_assigned (Some definition) = is_none definition.label
+is_assigned None = false

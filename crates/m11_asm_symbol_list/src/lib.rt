@@ -1,0 +1,15 @@
+//! The symbol table of a source, from what its first pass finds: an entry for each name that its lines mention, and one for each section.
+//! m11_asm_listing has their lines. (MACRO-11 Language Reference Manual, "Table of contents and symbol table".)
+#![tactic(auto)]
+
+mod laws;
+mod sections;
+mod symbols;
+mod values;
+
+pub use laws::{
+    a_symbol_table_is_as_worked, each_name_stands_once_and_in_order,
+    first_passes_that_agree_have_the_same_sections, first_passes_that_agree_have_the_same_symbols,
+};
+pub use sections::section_entries;
+pub use symbols::symbol_entries;

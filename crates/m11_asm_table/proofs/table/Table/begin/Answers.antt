@@ -1,0 +1,30 @@
+use Rattle.std.proofs.Common.{◌∙◌, ap}
+use Rattle.m11_base.specs.Rad50.{Name}
+use Rattle.m11_asm_rules.specs.Sections.{of_absolute, of_program, section}
+use Rattle.m11_asm_table.specs.Entries.{with_new_section}
+use Rattle.m11_asm_table.proofs.Starting.{blank_is_new, first_alike, room_at_first, room_for_blank}
+use Rattle.m11_asm_table.proofs.table.Table.begin.Goals as goal
+
+pub add_section-requires-clause-room : goal.add_section-requires-clause-room
+add_section-requires-clause-room c = room_at_first c.args.self.now c.requires
+
+pub add_section-requires-2-clause-absent : goal.add_section-requires-2-clause-absent
+add_section-requires-2-clause-absent c =
+    blank_is_new c.args.self.now c.add_section.new.self c.blank_name.result c.requires
+    (c.in_ok-add_section.ensures
+    ∙ ap (λ (n : Name). with_new_section (section n of_absolute) c.args.self.now) c.absolute_section.ensures)
+    c.blank_name.ensures.words
+
+pub add_section-requires-2-clause-room : goal.add_section-requires-2-clause-room
+add_section-requires-2-clause-room c =
+    room_for_blank c.args.self.now c.add_section.new.self _ c.requires c.in_ok-add_section.ensures
+
+pub returns : goal.returns
+returns c =
+    first_alike c.args.self.now c.add_section.new.self c.add_section-2.new.self c.add_registers.new.self
+    c.requires
+    (c.in_ok-add_section.ensures
+    ∙ ap (λ (n : Name). with_new_section (section n of_absolute) c.args.self.now) c.absolute_section.ensures)
+    (c.in_ok-add_section-2.ensures
+    ∙ ap (λ (n : Name). with_new_section (section n of_program) c.add_section.new.self) c.blank_name.ensures.words)
+    c.in_ok-add_registers.ensures

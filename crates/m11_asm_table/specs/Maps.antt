@@ -1,0 +1,9 @@
+-- What a whole source gives its names, as the definitions of placing have it. (MACRO-11 Language Reference Manual, "Symbols".)
+use Rattle.std.specs.Prelude.{Option, Some, None}
+use Rattle.m11_asm_rules.specs.Meanings.{Map, empty_map, map_of}
+use Rattle.m11_asm_rules.specs.Tables.{Table}
+
+-- that of a table, or none
+abbrev pub map_by : Option Table → Map
+map_by (Some table) = map_of table
+map_by None = empty_map

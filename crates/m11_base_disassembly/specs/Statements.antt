@@ -1,0 +1,22 @@
+-- Lines of a source: instructions and data. (MACRO-11 Language Reference Manual, "Assembler statements", "Branch instruction
+-- addressing", ".WORD directive", ".BYTE directive".)
+use Rattle.std.specs.Prelude.{ℕ}
+use Rattle.m11_base.specs.Devices.{Bytes}
+use Rattle.m11_base.specs.declared.operand.Register.{Register}
+use Rattle.m11_base_disassembly.specs.Arguments.{Argument}
+
+-- what follows the name of an operation: nothing; one operand, or two; the address to which a branch leads; a register and the
+-- address to which a loop leads back; or a number
+pub data Operands : Type 0 where
+  Nothing : Operands
+  One : Argument → Operands
+  Two : Argument → Argument → Operands
+  Target : ℕ → Operands
+  Loop : Register → ℕ → Operands
+  Number : ℕ → Operands
+
+-- an operation by its name, of six characters with blanks after it, and what follows that; or a word or a byte of data
+pub data Statement : Type 0 where
+  Named : Bytes → Operands → Statement
+  DataWord : ℕ → Statement
+  DataByte : ℕ → Statement

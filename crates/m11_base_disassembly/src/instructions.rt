@@ -1,0 +1,271 @@
+//! The line of source of an instruction.
+
+ghost use Rattle.std.specs.Prelude.{◌≡◌, ◌≤◌, ◌<◌, ◌+◌, ◌++◌, ◌∷◌, length, slice_index};
+ghost use Rattle.arrayvec.specs.ArrayVec.{array_vec_len};
+ghost use Rattle.m11_base.specs.Instructions.{instruction_of};
+ghost use Rattle.m11_base_disassembly.specs.Instructions as spec;
+ghost use Rattle.m11_base_disassembly.specs.Statements.{DataByte, DataWord, Named};
+ghost use Rattle.m11_base_disassembly.specs.Numbers.{number_text};
+ghost use Rattle.m11_base_disassembly.specs.Texts.{argument_text, register_text, statement_text};
+
+use crate::arguments::{put_argument, put_prefixed, register_text, words_of};
+use crate::names::{put_bare_name, put_name, row_named};
+use crate::numbers::put_number;
+use crate::source::{Source, put};
+use m11_base::{Insn, Operand, Register, Row, decode};
+
+/// What words at a place are in a source.
+#[derive(Clone, Debug, Drop)]
+pub struct Disassembly {
+    /// The line of source, without a line feed.
+    pub source: Source,
+    /// How many of the words it stands for, 1 to 3.
+    pub words: usize,
+}
+
+// The word at an index of those after the code, or 0.
+fn word_at(more: &[u16], index: usize) -> u16
+    ensures { result ≡ slice_index more.now index }
+{
+    match more.get(index) {
+        Some(word) => *word,
+        None => 0,
+    }
+}
+
+// Where a branch leads.
+fn branch_target(place: u16, offset: i8) -> u16
+    ensures { result ≡ spec.branch_target place offset }
+{
+    place
+        .wrapping_add(2)
+        .wrapping_add(i16::from(offset).cast_unsigned().wrapping_mul(2))
+}
+
+// Where SOB leads back to.
+fn loop_target(place: u16, count: u8) -> u16
+    ensures { result ≡ spec.loop_target place count }
+{
+    place.wrapping_add(2).wrapping_sub(2 * u16::from(count))
+}
+
+// How many words after its code an instruction has.
+fn words_after(instruction: &Insn) -> usize
+    ensures words { result ≡ spec.words_after instruction.now }
+    ensures few { result ≤ 2 }
+{
+    match *instruction {
+        Insn::Double(_, _, source, destination) => words_of(source) + words_of(destination),
+        Insn::Extended(_, _, operand)
+        | Insn::Register(_, _, operand)
+        | Insn::Single(_, _, operand) => words_of(operand),
+        Insn::Sob(..)
+        | Insn::Rts(_)
+        | Insn::Number(..)
+        | Insn::Bare(_)
+        | Insn::Condition(..)
+        | Insn::Branch(..)
+        | Insn::Reserved(_) => 0,
+    }
+}
+
+// The operand of which the word, if it takes one, is the first after the code.
+fn put_first(line: &mut Source, place: u16, more: &[u16], operand: Operand)
+    requires { array_vec_len line.old ≤ 23 }
+    ensures text { line.new.items ≡ line.old.items ++ argument_text (spec.first_argument place more.now operand) }
+    ensures room { array_vec_len line.new ≤ array_vec_len line.old + 12 }
+{
+    put_argument(line, operand, place.wrapping_add(4), word_at(more, 0));
+}
+
+// The operand after another one.
+fn put_second(line: &mut Source, place: u16, more: &[u16], first: Operand, operand: Operand)
+    requires { array_vec_len line.old ≤ 23 }
+    ensures text { line.new.items ≡ line.old.items
+        ++ argument_text (spec.second_argument place more.now first operand) }
+    ensures room { array_vec_len line.new ≤ array_vec_len line.old + 12 }
+{
+    let before = words_of(first);
+    put_argument(
+        line,
+        operand,
+        place.wrapping_add(4 + 2 * before as u16),
+        word_at(more, before),
+    );
+}
+
+// A word of data.
+fn word_source(word: u16) -> Source
+    ensures { result.items ≡ statement_text (DataWord word) }
+{
+    let mut line = Source::new();
+    put_prefixed(&mut line, b".WORD  ", word);
+    line
+}
+
+/// The line of source of a byte of data.
+pub fn byte_source(byte: u8) -> Source
+    ensures { result.items ≡ statement_text (DataByte byte) }
+{
+    let mut line = Source::new();
+    put_prefixed(&mut line, b".BYTE  ", u16::from(byte));
+    line
+}
+
+// An operation on two operands.
+fn put_double(line: &mut Source, place: u16, more: &[u16], source: Operand, destination: Operand)
+    requires { array_vec_len line.old ≤ 10 }
+    ensures text { line.new.items ≡ line.old.items
+        ++ (argument_text (spec.first_argument place more.now source)
+        ++ 44 ∷ argument_text (spec.second_argument place more.now source destination)) }
+    ensures room { array_vec_len line.new ≤ array_vec_len line.old + 25 }
+{
+    put_first(line, place, more, source);
+    put(line, b",");
+    put_second(line, place, more, source, destination);
+}
+
+// An operation on an operand and a register.
+fn put_extended(line: &mut Source, place: u16, more: &[u16], register: Register, source: Operand)
+    requires { array_vec_len line.old ≤ 10 }
+    ensures text { line.new.items ≡ line.old.items
+        ++ (argument_text (spec.first_argument place more.now source) ++ 44 ∷ register_text register) }
+    ensures room { array_vec_len line.new ≤ array_vec_len line.old + 25 }
+{
+    put_first(line, place, more, source);
+    put(line, b",");
+    put(line, register_text(register));
+}
+
+// An operation on a register and an operand.
+fn put_with_register(
+    line: &mut Source,
+    place: u16,
+    more: &[u16],
+    register: Register,
+    destination: Operand,
+)
+    requires { array_vec_len line.old ≤ 10 }
+    ensures text { line.new.items ≡ line.old.items
+        ++ (register_text register ++ 44 ∷ argument_text (spec.first_argument place more.now destination)) }
+    ensures room { array_vec_len line.new ≤ array_vec_len line.old + 25 }
+{
+    put(line, register_text(register));
+    put(line, b",");
+    put_first(line, place, more, destination);
+}
+
+// A register and an address.
+fn put_loop(line: &mut Source, register: Register, address: u16)
+    requires { array_vec_len line.old ≤ 10 }
+    ensures text { line.new.items ≡ line.old.items ++ (register_text register ++ 44 ∷ number_text address) }
+    ensures room { array_vec_len line.new ≤ array_vec_len line.old + 25 }
+{
+    put(line, register_text(register));
+    put(line, b",");
+    put_number(line, address);
+}
+
+// How many words the target of a branch lies from the next instruction.
+fn offset_of(instruction: Insn) -> i8
+    ensures { result ≡ spec.offset_of instruction }
+{
+    match instruction {
+        Insn::Branch(_, offset) => offset,
+        _ => 0,
+    }
+}
+
+// The address to which a branch leads.
+fn target_of(place: u16, instruction: Insn) -> u16
+    ensures { result ≡ spec.branch_target place (spec.offset_of instruction) }
+{
+    branch_target(place, offset_of(instruction))
+}
+
+// An instruction with this name.
+fn put_named(line: &mut Source, name: &[u8; 6], place: u16, more: &[u16], instruction: Insn)
+    requires { array_vec_len line.old ≤ 3 }
+    ensures { line.new.items ≡ line.old.items
+        ++ statement_text (Named name.now (spec.operands_of place more.now instruction)) }
+{
+    match instruction {
+        Insn::Double(_, _, source, destination) => {
+            put_name(line, name);
+            put_double(line, place, more, source, destination);
+        }
+        Insn::Extended(_, register, source) => {
+            put_name(line, name);
+            put_extended(line, place, more, register, source);
+        }
+        Insn::Register(_, register, destination) => {
+            put_name(line, name);
+            put_with_register(line, place, more, register, destination);
+        }
+        Insn::Sob(register, count) => {
+            put_name(line, name);
+            put_loop(line, register, loop_target(place, count));
+        }
+        Insn::Single(_, _, operand) => {
+            put_name(line, name);
+            put_first(line, place, more, operand);
+        }
+        Insn::Rts(register) => {
+            put_name(line, name);
+            put(line, register_text(register));
+        }
+        Insn::Number(_, number) => {
+            put_name(line, name);
+            put_number(line, u16::from(number));
+        }
+        Insn::Branch(..) => {
+            put_name(line, name);
+            put_number(line, target_of(place, instruction));
+        }
+        Insn::Bare(_) | Insn::Condition(..) | Insn::Reserved(_) => put_bare_name(line, name),
+    }
+}
+
+// The line of an instruction with this name.
+fn named_source(name: &[u8; 6], place: u16, more: &[u16], instruction: Insn) -> Source
+    ensures { result.items ≡ statement_text (Named name.now (spec.operands_of place more.now instruction)) }
+{
+    let mut line = Source::new();
+    put_named(&mut line, name, place, more, instruction);
+    line
+}
+
+// The row of a word, where a name stands for it and all words of the instruction are there.
+fn whole_row(word: u16, more: &[u16]) -> Option<Row>
+    ensures { result ≡ spec.whole_row word more.now }
+{
+    if words_after(&decode(word)) <= more.len() {
+        row_named(word)
+    } else {
+        None
+    }
+}
+
+/// What a word at a place is in a source, with the words that follow it there, of which two are enough: the instruction that it is the
+/// code of; or a word of data, where no name of a source stands for it or some words of the instruction aren't there. An assembler
+/// makes just these words of the line, where it stands at that place of an absolute section.
+pub fn disassembled(place: u16, word: u16, more: &[u16]) -> Disassembly
+    ensures source { result.source.items ≡ statement_text (spec.statement_of place word more.now) }
+    ensures words { result.words ≡ spec.size_of word more.now }
+    ensures some { 0 < result.words }
+    ensures there { result.words ≤ 1 + length more.now }
+{
+    match whole_row(word, more) {
+        Some(row) => {
+            let instruction = decode(word);
+            Disassembly {
+                source: named_source(&row.name, place, more, instruction),
+                words: 1 + words_after(&instruction),
+            }
+        }
+        None => Disassembly {
+            source: word_source(word),
+            words: 1,
+        },
+    }
+}

@@ -1,0 +1,17 @@
+//! Laws of lines of source, above the definitions.
+
+ghost use Rattle.std.specs.Prelude.{◌≡◌, ◌<◌, ◌∷◌, ℕ, List, take};
+ghost use Rattle.m11_base.specs.Octal.{octal_value};
+ghost use Rattle.m11_base_disassembly.specs.Instructions.{size_of, statement_of};
+ghost use Rattle.m11_base_disassembly.specs.Meaning.{AreWords, IsMeant};
+ghost use Rattle.m11_base_disassembly.specs.Numbers.{number_text};
+
+/// The line of source of words at a place means to an assembler there just the words that it stands for: its name is that of an
+/// operation whose code, with the operands as they are written, is the first of them, and the operands put the others. The digits of
+/// its numbers spell them.
+#[tactic(auto, using(crate::proofs::Meant::line_meant, crate::proofs::Spelled::number_spelled))]
+pub fn a_line_means_its_words()
+    ensures line { (place word : ℕ) (more : List ℕ) → word < 65536 → AreWords more
+        → IsMeant place (statement_of place word more) (take (size_of word more) (word ∷ more)) }
+    ensures numbers { (number : ℕ) → number < 65536 → octal_value (number_text number) ≡ number }
+{}

@@ -1,0 +1,69 @@
+//! The names of operations, by their codes.
+
+ghost use Rattle.std.specs.Prelude.{◌≡◌, ◌≤◌, ◌+◌, ◌++◌, find, length};
+ghost use Rattle.arrayvec.specs.ArrayVec.{array_vec_len};
+ghost use Rattle.m11_base.specs.Instructions.{is_of, other_names, row_of};
+ghost use Rattle.m11_base_disassembly.specs.Instructions.{named_row, row_named};
+ghost use Rattle.m11_base_disassembly.specs.Texts as spec;
+
+use crate::source::{Source, put};
+use m11_base::{Row, other_names, rows};
+
+// The row that a word is of.
+fn row(word: u16) -> Option<Row>
+    ensures { result ≡ row_of word }
+{
+    let found = rows().iter().find(|row| word & row.mask == row.value);
+    found.copied()
+}
+
+// The row of the second list that a word is of.
+fn other_row(word: u16) -> Option<Row>
+    ensures { result ≡ find (is_of word) other_names }
+{
+    let found = other_names()
+        .iter()
+        .find(|row| word & row.mask == row.value);
+    found.copied()
+}
+
+/// The row whose name stands for a word.
+pub(crate) fn row_named(word: u16) -> Option<Row>
+    ensures { result ≡ row_named word }
+{
+    match row(word) {
+        Some(row) => {
+            if row.name[0] == b' ' {
+                other_row(word)
+            } else {
+                Some(row)
+            }
+        }
+        None => None,
+    }
+}
+
+/// Adds a name without the blanks after it.
+pub(crate) fn put_bare_name(line: &mut Source, name: &[u8])
+    requires { array_vec_len line.old + length name.now ≤ 40 }
+    ensures text { line.new.items ≡ line.old.items ++ spec.bare_name name.now }
+    ensures room { array_vec_len line.new ≤ array_vec_len line.old + length name.now }
+{
+    match name {
+        [character, others @ ..] if *character != b' ' => {
+            put(line, &[*character]);
+            put_bare_name(line, others);
+        }
+        _ => {}
+    }
+}
+
+/// Adds a name and a blank.
+pub(crate) fn put_name(line: &mut Source, name: &[u8; 6])
+    requires { array_vec_len line.old ≤ 33 }
+    ensures text { line.new.items ≡ line.old.items ++ spec.name_text name.now }
+    ensures room { array_vec_len line.new ≤ array_vec_len line.old + 7 }
+{
+    put(line, name);
+    put(line, b" ");
+}

@@ -1,0 +1,130 @@
+//! The files of the system.
+
+ghost use Rattle.std.specs.Prelude.{◌≡◌, IfErr};
+ghost use Rattle.m11_base_files.specs.Opens.{Counts, CountsRefusal};
+ghost use Rattle.m11_base_files.specs.declared.opens.OpenRefusal.TheVariants.{NoMemory};
+
+use crate::opens::{OpenRefusal, Opens};
+use crate::stand_ins::StandIns;
+use m11_base::{BufferedFeed, BufferedSink};
+use std::io::{BufReader, BufWriter, ErrorKind, Seek};
+use std::os::fd::AsRawFd;
+use std::rt::Files;
+use std::{fs, io};
+
+/// Opens files by the runtime. What is read comes through a buffer, and what is written goes through one: it is with the
+/// file when its sink was flushed. Of the texts of files nothing is known. No file that is opened is a standard
+/// stream, also where the caller closed some: others stand in for those for as long as this lives.
+#[derive(Drop)]
+pub struct SystemFiles<'a, R: Files> {
+    rt: &'a R,
+    stand_ins: StandIns<R::File>,
+    refusals: u64,
+}
+
+impl<'a, R: Files + AllocGlobal> SystemFiles<'a, R>
+where
+    R::File: AsRawFd,
+{
+    /// The files that `rt` reaches. It is to be made before any other file is opened.
+    pub fn new(rt: &'a R) -> SystemFiles<'a, R>
+        ensures { ⟦<SystemFiles<'a, R> as Opens>⟧.refusals result ≡ 0 }
+    {
+        SystemFiles {
+            rt,
+            stand_ins: StandIns::new(rt),
+            refusals: 0,
+        }
+    }
+}
+
+impl<'a, R: Files + AllocGlobal> Opens for SystemFiles<'a, R> {
+    ghost use Rattle.std.specs.Prelude.{None};
+
+    type Input = BufferedFeed<R::File>;
+
+    type Output = BufferedSink<R::File>;
+
+    ghost files = { λ _. None };
+
+    ghost refusals = { λ s. s.refusals };
+
+    fn open(&mut self, path: &str) -> Result<BufferedFeed<R::File>, OpenRefusal> {
+        let file = opened(self.rt, path, &mut self.refusals)?;
+        buffered(self.rt, file)
+    }
+
+    // A pipe, a socket and a terminal give their bytes once, and have no place that is known: only what has one is read again.
+    fn open_twice(
+        &mut self,
+        path: &str,
+    ) -> Result<(BufferedFeed<R::File>, BufferedFeed<R::File>), OpenRefusal> {
+        let mut first = opened(self.rt, path, &mut self.refusals)?;
+        if let Err(error) = first.stream_position() {
+            return Err(refusal(&error, &mut self.refusals));
+        }
+        let second = opened(self.rt, path, &mut self.refusals)?;
+        Ok((buffered(self.rt, first)?, buffered(self.rt, second)?))
+    }
+
+    fn create(&mut self, path: &str) -> Result<BufferedSink<R::File>, OpenRefusal> {
+        match fs::create(self.rt, path) {
+            Ok(file) => buffered_sink(self.rt, file),
+            Err(error) => Err(refusal(&error, &mut self.refusals)),
+        }
+    }
+
+    // What is still held back comes after a write that failed, and is given up.
+    fn keep(&mut self, _path: &str, output: BufferedSink<R::File>) {
+        drop(output.into_writer());
+    }
+}
+
+// The file of a path, to be read.
+fn opened<R: Files>(rt: &R, path: &str, refusals: &mut u64) -> Result<R::File, OpenRefusal>
+    ensures { CountsRefusal refusals.old refusals.new result }
+{
+    match fs::open(rt, path) {
+        Ok(file) => Ok(file),
+        Err(error) => Err(refusal(&error, refusals)),
+    }
+}
+
+// What a file gives, through a buffer. Nothing but memory is refused.
+fn buffered<R: Files + AllocGlobal>(
+    rt: &R,
+    file: R::File,
+) -> Result<BufferedFeed<R::File>, OpenRefusal>
+    ensures { IfErr result (λ refusal. refusal ≡ NoMemory) }
+{
+    match BufReader::new(rt.alloc(), file) {
+        Ok(reader) => Ok(BufferedFeed::new(reader)),
+        Err(_) => Err(OpenRefusal::NoMemory),
+    }
+}
+
+// What takes the bytes of a file, through a buffer. Nothing but memory is refused.
+fn buffered_sink<R: Files + AllocGlobal>(
+    rt: &R,
+    file: R::File,
+) -> Result<BufferedSink<R::File>, OpenRefusal>
+    ensures { IfErr result (λ refusal. refusal ≡ NoMemory) }
+{
+    match BufWriter::new(rt.alloc(), file) {
+        Ok(writer) => Ok(BufferedSink::new(writer)),
+        Err(_) => Err(OpenRefusal::NoMemory),
+    }
+}
+
+// Why a file did not open, which is counted: but memory may be what the system has too little of.
+fn refusal(error: &io::Error, refusals: &mut u64) -> OpenRefusal
+    ensures { Counts refusals.old refusals.new result }
+{
+    match error.kind() {
+        ErrorKind::OutOfMemory => OpenRefusal::NoMemory,
+        _ => {
+            *refusals = refusals.saturating_add(1);
+            OpenRefusal::NotOpened
+        }
+    }
+}

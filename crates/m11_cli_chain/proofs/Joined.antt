@@ -1,0 +1,168 @@
+-- The steps of a chain, one after the other.
+use Rattle.std.proofs.Common.{◌≡◌, ◌∙◌, ℕ, ◌*◌, ◌<◌, false, List, [], map, length, Option, Some, None, Result, Ok, Err, IfOk, IfErr, IsErrAnd, sym, ap, subst}
+use Rattle.std.proofs.lemmas.List.{get_or-replicate, length-replicate}
+use Rattle.std.specs.List.{AllByRecursion}
+use Rattle.std.specs.Option.{unwrap_or}
+use Rattle.m11_base.specs.Devices.{Bytes}
+use Rattle.m11_base.specs.Feed.{Ends, Text}
+use Rattle.m11_obj_blocks.specs.Limited.{most_bytes}
+use Rattle.m11_obj_blocks.specs.declared.tape_fault.TapeFault.TheVariants as tape
+use Rattle.m11_cpu.specs.Loading.{LoadsInto}
+use Rattle.m11_cpu_machine.specs.Machine.{byte_in, memory_size, new_machine}
+use Rattle.m11_cpu.specs.declared.fault.LoadFault.{LoadFault}
+use Rattle.m11_cpu.specs.declared.fault.LoadFault.TheVariants.{Tape, OutsideMemory}
+use Rattle.m11_cpu_machine.specs.declared.machine.Machine.{Machine}
+use Rattle.m11_cli_image.specs.Image.{image_of}
+use Rattle.m11_cli_image.specs.Links.{AreLinked}
+use Rattle.m11_cli_image.specs.Objects.{SourceFits, link_parts, object_of}
+use Rattle.m11_cli_image.specs.Sources.{Source}
+use Rattle.m11_link_layout.specs.Sections.{is_too_large}
+use Rattle.m11_link_layout.specs.declared.fault.LinkOutput.TheVariants as output
+use Rattle.m11_link.specs.Objects.{AreItems, Item, outcome}
+use Rattle.m11_link.specs.Outputs.{link}
+use Rattle.m11_link.specs.Written.{link_writes}
+use Rattle.m11_link_text.specs.Findings.{findings_of}
+use Rattle.m11_link_modules.specs.Parts.{Part}
+use Rattle.m11_link_modules.specs.Rules.{first_fault}
+use Rattle.m11_cpu_tape_laws.specs.Image.{Image}
+use Rattle.m11_cpu_tape_laws.specs.Loaded.{HoldsImage, LiesInside, LiesPast, LoadYields}
+use Rattle.m11_base_writes.specs.Writes.{gained}
+use Rattle.m11_cli_chain.specs.Chain.{Chains, HasImage, Linked, LinkTakes, StopsLoad, tape_of}
+use Rattle.m11_cli_chain.specs.Sources.{sources_of}
+use Rattle.m11_cli_chain.specs.Steps.{AreObjectsOf, AssembliesFail, IsTapeOfObjects, LinkFails, LoadFails, LoadsNew}
+use Rattle.m11_cli_chain.specs.declared.chain.Chained.{Chained}
+use Rattle.m11_cli_chain.specs.declared.fault.ChainFault.{ChainFault}
+use Rattle.m11_cli_chain.specs.declared.fault.ChainFault.TheVariants as chain
+use Rattle.m11_cli_chain.proofs.Unfailing.{none_rises}
+
+-- ---- what is known of links of sources
+
+abbrev pub PartsLaw : Type 0
+PartsLaw = (bottom : ℕ) (sources : List Source) (items : List Item) (parts : List Part) → AllByRecursion SourceFits sources
+    → AreItems (map object_of sources) items → outcome bottom items ≡ Ok parts → AreLinked bottom sources parts
+
+abbrev pub LoadLaw : Type 0
+LoadLaw = (bottom : ℕ) (sources : List Source) (items : List Item) (parts : List Part) (text : Text) (left : Option Text)
+    (faults faults' : ℕ) (before after : Machine) (result : Result ℕ LoadFault) → AllByRecursion SourceFits sources
+    → AreItems (map object_of sources) items → outcome bottom items ≡ Ok parts
+    → text.bytes ≡ gained link output.Tape (link_writes (findings_of bottom parts) parts)
+    → LoadsInto (Some text) left faults faults' before after result
+    → LoadYields (image_of bottom sources) text.bytes faults faults' before after result
+
+-- ---- a new machine
+
+new_size : (words : ℕ) → memory_size (new_machine words) ≡ 2 * words
+unfolding new_machine
+new_size words = length-replicate {A = ℕ} (2 * words) 0
+
+new_byte : (words address : ℕ) → address < 2 * words → byte_in address (new_machine words) ≡ 0
+unfolding new_machine
+new_byte words address lt = get_or-replicate {A = ℕ} (2 * words) address 0 0 lt
+
+has_image : (image : Image) (words : ℕ) (after : Machine) (start : ℕ) → HoldsImage image (new_machine words) after start
+    → HasImage image words after start
+has_image image words after start h = record {
+  bytes = λ address lt. h.bytes address (subst (λ (n : ℕ). address < n) (sym (new_size words)) lt)
+      ∙ ap (λ (b : ℕ). unwrap_or (image.byte address) b) (new_byte words address lt);
+  inside = subst (λ (n : ℕ). LiesInside n image) (new_size words) h.inside;
+  size = h.size ∙ new_size words;
+  others = h.others;
+  start_is = h.start_is;
+}
+
+-- ---- a load of the tape of objects of sources
+
+stops : (bottom words : ℕ) (sources : List Source) (bytes : Bytes) (after : Machine) (stopped : LoadFault) → bytes ≡ tape_of bottom sources
+    → LoadYields (image_of bottom sources) bytes 0 0 (new_machine words) after (Err stopped) → StopsLoad bottom words stopped sources
+stops bottom words sources bytes after OutsideMemory same h =
+    subst (λ (n : ℕ). LiesPast n (image_of bottom sources)) (new_size words) h
+stops bottom words sources bytes after (Tape tape.TooMuch) same h = subst (λ (t : Bytes). most_bytes < length t) same h
+stops bottom words sources bytes after (Tape tape.Device) same h = absurd (none_rises h)
+stops bottom words sources bytes after (Tape other) same h = absurd h
+
+module _ (parts_law : PartsLaw) (load_law : LoadLaw) (texts : List (List Bytes)) (bottom words : ℕ) (objects : List Bytes) (bytes : Bytes)
+    (o : AreObjectsOf texts objects) (t : IsTapeOfObjects bottom objects bytes) where
+  abbrev sources : List Source
+  sources = sources_of o.lines
+
+  own_items : AreItems (map object_of sources) t.items
+  own_items = subst (λ (xs : List Bytes). AreItems xs t.items) o.objects_are t.are
+
+  own_link : AreLinked bottom sources t.parts
+  own_link = parts_law bottom sources t.items t.parts o.fit own_items t.parts_are
+
+  own_parts : t.parts ≡ link_parts sources
+  own_parts = own_link.parts_are
+
+  takes : LinkTakes bottom sources
+  takes = record {
+    sound = subst (λ (ps : List Part). first_fault [] ps ≡ None) own_parts own_link.sound;
+    low = subst (λ (ps : List Part). is_too_large bottom ps ≡ false) own_parts own_link.low;
+  }
+
+  own_tape : bytes ≡ tape_of bottom sources
+  own_tape = t.tape_is ∙ ap (λ (ps : List Part). gained link output.Tape (link_writes (findings_of bottom ps) ps)) own_parts
+
+  loaded : (after : Machine) (result : Result ℕ LoadFault) → LoadsNew bytes words after result
+      → LoadYields (image_of bottom sources) bytes 0 0 (new_machine words) after result
+  loaded after result l =
+      load_law bottom sources t.items t.parts (record { bytes = bytes; ending = Ends }) l.0 0 0 (new_machine words) after result o.fit own_items
+      t.parts_are t.tape_is l.1
+
+  linked : (Holds : List Source → Type 0) → Holds sources → Linked texts bottom Holds
+  linked Holds holds = record { lines = o.lines; live = o.live; links = takes; holds = holds }
+
+  load_fails : (stopped : ChainFault) → LoadFails bytes words stopped → Chains texts bottom words (Err stopped)
+  load_fails (chain.Load stopped) (after, l) =
+      linked (StopsLoad bottom words stopped)
+      (stops bottom words sources bytes after stopped own_tape (loaded after (Err stopped) l))
+  load_fails chain.NoMemory h = tt
+  load_fails (chain.Assembly stopped) h = absurd h
+  load_fails (chain.Link stopped) h = absurd h
+
+  pub chained : (result : Result Chained ChainFault) → IfOk result (λ done. LoadsNew bytes words done.machine (Ok done.start))
+      → IfErr result (LoadFails bytes words) → Chains texts bottom words result
+  chained (Ok done) l h =
+      linked (λ (ss : List Source). HasImage (image_of bottom ss) words done.machine done.start)
+      (has_image (image_of bottom sources) words done.machine done.start (loaded done.machine (Ok done.start) l))
+  chained (Err stopped) l h = load_fails stopped h
+
+-- ---- chains that end before the load
+
+link_refused : (texts : List (List Bytes)) (bottom words : ℕ) (objects : List Bytes) (stopped : ChainFault) → AreObjectsOf texts objects
+    → LinkFails bottom objects stopped → Chains texts bottom words (Err stopped)
+link_refused texts bottom words objects (chain.Link stopped) o (of_objects, r) = (
+  of_objects,
+  record {
+    lines = o.lines;
+    live = o.live;
+    items = r.items;
+    are = subst (λ (xs : List Bytes). AreItems xs r.items) o.objects_are r.are;
+    refused = r.refused;
+  },
+)
+link_refused texts bottom words objects chain.NoMemory o h = tt
+link_refused texts bottom words objects (chain.Assembly stopped) o h = absurd h
+link_refused texts bottom words objects (chain.Load stopped) o h = absurd h
+
+assembly_refused : (texts : List (List Bytes)) (bottom words : ℕ) (stopped : ChainFault) → AssembliesFail texts stopped
+    → Chains texts bottom words (Err stopped)
+assembly_refused texts bottom words (chain.Assembly stopped) h = h
+assembly_refused texts bottom words chain.NoMemory h = tt
+assembly_refused texts bottom words (chain.Link stopped) h = absurd h
+assembly_refused texts bottom words (chain.Load stopped) h = absurd h
+
+-- ---- as a fault is handed on
+
+pub assembly_stops : (texts : List (List Bytes)) (bottom words : ℕ) (stopped : ChainFault) (result : Result Chained ChainFault)
+    → AssembliesFail texts stopped → IsErrAnd result (λ fault. fault ≡ stopped) → Chains texts bottom words result
+assembly_stops texts bottom words stopped (Ok done) h e = absurd e
+assembly_stops texts bottom words stopped (Err fault) h e =
+    subst (λ (f : ChainFault). Chains texts bottom words (Err f)) (sym e) (assembly_refused texts bottom words stopped h)
+
+pub link_stops : (texts : List (List Bytes)) (bottom words : ℕ) (objects : List Bytes) (stopped : ChainFault)
+    (result : Result Chained ChainFault) → AreObjectsOf texts objects → LinkFails bottom objects stopped
+    → IsErrAnd result (λ fault. fault ≡ stopped) → Chains texts bottom words result
+link_stops texts bottom words objects stopped (Ok done) o h e = absurd e
+link_stops texts bottom words objects stopped (Err fault) o h e =
+    subst (λ (f : ChainFault). Chains texts bottom words (Err f)) (sym e) (link_refused texts bottom words objects stopped o h)

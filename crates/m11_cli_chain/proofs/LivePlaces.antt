@@ -1,0 +1,57 @@
+-- The pieces of live lines lie at places that are words.
+use Rattle.std.proofs.Common.{ℕ, ◌+◌, ◌<◌, ◌%◌, List, [], ◌∷◌, ◌++◌, arith}
+use Rattle.std.specs.List.{AllByRecursion, flat_map}
+use Rattle.m11_asm.specs.Written.{pieces_in, pieces_of}
+use Rattle.m11_base.specs.Rad50.{Name}
+use Rattle.m11_cli_image.specs.Objects.{LiesAtWord}
+use Rattle.m11_obj_texts.specs.declared.pieces.Piece.{Piece}
+use Rattle.m11_obj_texts.specs.declared.pieces.PieceContent.{PieceContent}
+use Rattle.m11_asm_passes.specs.Lines.{Numbered, givens}
+use Rattle.m11_asm_rules.specs.Alignment.{gap}
+use Rattle.m11_asm_rules.specs.Contents.{content_size, further, pieces_from}
+use Rattle.m11_asm_rules.specs.Lines as lines
+use Rattle.m11_asm_rules.specs.Lines.{Action, after_line, action, line_put, pieces, put_place, stands}
+use Rattle.m11_asm_rules.specs.Meanings.{Map}
+use Rattle.m11_asm_rules.specs.Operators.{is_even}
+use Rattle.m11_asm_rules.specs.Placements.{placed_from}
+use Rattle.m11_asm_rules.specs.Places.{last_set, moves_in, sizes_since}
+use Rattle.m11_asm_rules.specs.Tables.{Table, first_table, place, section_name}
+use Rattle.m11_unfold_rules.specs.Unfolding.{Given}
+
+word : (n : ℕ) → n % 65536 < 65536
+word n = omega arith
+
+from_word : (section : Name) (start : ℕ) (contents : List PieceContent) → start < 65536
+    → AllByRecursion LiesAtWord (pieces_from section start contents)
+from_word section start [] low = tt
+from_word section start (content ∷ contents) low =
+    (low, from_word section (further start (content_size content)) contents (word (start + content_size content)))
+
+place_is_word : (table : Table) → place table < 65536
+place_is_word table = word (last_set (moves_in table.modes.section table.moves) + sizes_since (moves_in table.modes.section table.moves))
+
+put_at_word : (table : Table) (done : Action) → put_place table done < 65536
+put_at_word table lines.NoAction = place_is_word table
+put_at_word table (lines.Assign name is_global start) = place_is_word table
+put_at_word table (lines.SetCounter start) = place_is_word table
+put_at_word table (lines.Operate operator start) = word (place table + gap (is_even operator) (place table))
+
+line_at_words : (map : Map) (table : Table) (given : Given) → AllByRecursion LiesAtWord (pieces map table given)
+line_at_words map table given =
+    from_word (section_name (stands table given))
+    (put_place (stands table given) (action given.is_own given.live.line.text)) (line_put map (stands table given) given).contents
+    (put_at_word (stands table given) (action given.is_own given.live.line.text))
+
+both_at_words : (xs ys : List Piece) → AllByRecursion LiesAtWord xs → AllByRecursion LiesAtWord ys → AllByRecursion LiesAtWord (xs ++ ys)
+both_at_words [] ys first second = second
+both_at_words (x ∷ xs) ys first second = (first.0, both_at_words xs ys first.1 second)
+
+lines_at_words : (map : Map) (table : Table) (all : List Given) → AllByRecursion LiesAtWord (flat_map pieces_of (placed_from map table all))
+lines_at_words map table [] = tt
+lines_at_words map table (given ∷ all) =
+    both_at_words (pieces map table given) (flat_map pieces_of (placed_from map (after_line map table given) all))
+    (line_at_words map table given) (lines_at_words map (after_line map table given) all)
+
+pub pieces_at_words : (map : Map) (all : List Numbered) → AllByRecursion LiesAtWord (pieces_in map all)
+unfolding pieces_in
+pieces_at_words map all = lines_at_words map first_table (givens all)

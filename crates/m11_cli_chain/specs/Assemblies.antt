@@ -1,0 +1,25 @@
+-- What an assembly of known texts leaves in its object. (RT-11 Volume and File Formats Manual, "Object file format"; what may end it early is
+-- this project's own.)
+use Rattle.std.specs.Prelude.{◌⊎◌, List, Result, Ok, Err}
+use Rattle.std.specs.Io.KnownBytes.{Appends}
+use Rattle.m11_asm.specs.declared.done.AsmDone.{AsmDone}
+use Rattle.m11_asm_faults.specs.declared.fault.AsmFault.{AsmFault}
+use Rattle.m11_asm_faults.specs.declared.fault.AsmOutput.TheVariants.{Object}
+use Rattle.m11_asm_outputs.specs.Outputs.{Outputs}
+use Rattle.m11_base.specs.Devices.{Bytes}
+use Rattle.m11_cli_image.specs.Objects.{SourceFits, object_of}
+use Rattle.m11_asm_outcome_laws.specs.Beginnings.{MayStop}
+use Rattle.m11_asm_outcome_laws.specs.Live.{AreRefused}
+use Rattle.m11_asm_passes.specs.Lines.{Numbered}
+use Rattle.m11_cli_chain.specs.Sources.{AreLive, source_of}
+
+-- the object of the source that the live lines are was appended, and it fits
+pub record WritesObject (texts : List Bytes) (old new : Outputs) : Type 0 where
+  pub lines : List Numbered
+  pub live : AreLive texts lines
+  pub fits : SourceFits (source_of lines)
+  pub appends : Appends (old Object).text (new Object).text (object_of (source_of lines))
+
+abbrev pub AssemblyYields : List Bytes → Outputs → Outputs → Result AsmDone AsmFault → Type 0
+AssemblyYields texts old new (Ok done) = WritesObject texts old new
+AssemblyYields texts old new (Err stopped) = MayStop stopped ⊎ AreRefused texts stopped

@@ -1,0 +1,88 @@
+-- Sources assembled, linked and loaded, told by the sources alone. (MACRO-11 Language Reference Manual, "Relocation and linking"; what a machine
+-- holds is the image of the sources. That memory is 0 before a load, and what may end a chain early, are this project's own.)
+use Rattle.std.specs.Prelude.{◌≡◌, ◌<◌, ◌*◌, ℕ, false, List, [], map, length, ⊤, None, Result, Ok, Err}
+use Rattle.std.specs.Option.{unwrap_or}
+use Rattle.m11_base.specs.Devices.{Bytes}
+use Rattle.m11_obj_blocks.specs.Limited.{most_bytes}
+use Rattle.m11_obj_blocks.specs.declared.tape_fault.TapeFault.TheVariants.{TooMuch}
+use Rattle.m11_cpu_machine.specs.Machine.{byte_in, memory_size, new_machine}
+use Rattle.m11_cpu.specs.declared.fault.LoadFault.{LoadFault}
+use Rattle.m11_cpu.specs.declared.fault.LoadFault.TheVariants.{Tape, OutsideMemory}
+use Rattle.m11_cpu_machine.specs.declared.machine.Machine.{Machine}
+use Rattle.m11_cli_image.specs.Image.{image_of}
+use Rattle.m11_cli_image.specs.Objects.{link_parts, object_of}
+use Rattle.m11_cli_image.specs.Sources.{Source}
+use Rattle.m11_link_layout.specs.Sections.{is_too_large}
+use Rattle.m11_link_layout.specs.declared.fault.LinkFault.{LinkFault}
+use Rattle.m11_link_layout.specs.declared.fault.LinkOutput.TheVariants as output
+use Rattle.m11_link.specs.Objects.{AreItems, Item, outcome}
+use Rattle.m11_link.specs.Outputs.{link}
+use Rattle.m11_link.specs.Written.{link_writes}
+use Rattle.m11_link_text.specs.Findings.{findings_of}
+use Rattle.m11_link_modules.specs.Rules.{first_fault}
+use Rattle.m11_asm_passes.specs.Lines.{Numbered}
+use Rattle.m11_cpu_tape_laws.specs.Image.{Image}
+use Rattle.m11_cpu_tape_laws.specs.Loaded.{LiesInside, LiesPast}
+use Rattle.m11_cpu_tape_laws.specs.Tapes.{transfer_address}
+use Rattle.m11_base_writes.specs.Writes.{gained}
+use Rattle.m11_cli_chain.specs.Refusals.{IsOfObjects, IsOfTexts}
+use Rattle.m11_cli_chain.specs.Sources.{AllLive, IsFirstRefused, sources_of}
+use Rattle.m11_cli_chain.specs.declared.chain.Chained.{Chained}
+use Rattle.m11_cli_chain.specs.declared.fault.ChainFault.{ChainFault}
+use Rattle.m11_cli_chain.specs.declared.fault.ChainFault.TheVariants.{Assembly, Link, Load, NoMemory}
+
+-- ---- what is left
+
+-- a machine holds the image, and 0 where the image has no byte; no byte of the image lies past its memory of so many words; all else of it is as
+-- in a new machine; and its program starts where the image says, or at 1, where none starts
+pub record HasImage (image : Image) (words : ℕ) (machine : Machine) (start : ℕ) : Type 0 where
+  pub bytes : (address : ℕ) → address < 2 * words → byte_in address machine ≡ unwrap_or (image.byte address) 0
+  pub inside : LiesInside (2 * words) image
+  pub size : memory_size machine ≡ 2 * words
+  pub others : machine ≡ record (new_machine words) { memory = machine.memory }
+  pub start_is : start ≡ transfer_address image
+
+-- ---- what may be refused
+
+-- a link refuses nothing of what the sources give to it, and none of their relocatable sections ends past octal 160000
+pub record LinkTakes (bottom : ℕ) (sources : List Source) : Type 0 where
+  pub sound : first_fault [] (link_parts sources) ≡ None
+  pub low : is_too_large bottom (link_parts sources) ≡ false
+
+-- the tape that a link of them writes
+abbrev pub tape_of : ℕ → List Source → Bytes
+tape_of bottom sources =
+    gained link output.Tape (link_writes (findings_of bottom (link_parts sources)) (link_parts sources))
+
+-- ---- the chain
+
+-- the texts assemble, they link, and this holds of the sources that they are
+pub record Linked (texts : List (List Bytes)) (bottom : ℕ) (Holds : List Source → Type 0) : Type 0 where
+  pub lines : List (List Numbered)
+  pub live : AllLive texts lines
+  pub links : LinkTakes bottom (sources_of lines)
+  pub holds : Holds (sources_of lines)
+
+-- only a byte past the memory, or a tape of more than 4,194,304 bytes, stops a load
+abbrev pub StopsLoad : ℕ → ℕ → LoadFault → List Source → Type 0
+StopsLoad bottom words OutsideMemory sources = LiesPast (2 * words) (image_of bottom sources)
+StopsLoad bottom words (Tape TooMuch) sources = most_bytes < length (tape_of bottom sources)
+StopsLoad bottom words (Tape other) sources = ⊥
+
+-- the texts assemble, and this is the first refusal of a link of their objects
+pub record LinkRefuses (texts : List (List Bytes)) (bottom : ℕ) (stopped : LinkFault) : Type 0 where
+  pub lines : List (List Numbered)
+  pub live : AllLive texts lines
+  pub items : List Item
+  pub are : AreItems (map object_of (sources_of lines)) items
+  pub refused : outcome bottom items ≡ Err stopped
+
+-- what a chain of texts, each list of them one assembly, comes to: a machine that holds the image of the sources; a load that is stopped; the
+-- first refusal of a link or of an assembly; or memory was refused. No device fails
+abbrev pub Chains : List (List Bytes) → ℕ → ℕ → Result Chained ChainFault → Type 0
+Chains texts bottom words (Ok done) =
+    Linked texts bottom (λ sources. HasImage (image_of bottom sources) words done.machine done.start)
+Chains texts bottom words (Err (Load stopped)) = Linked texts bottom (StopsLoad bottom words stopped)
+Chains texts bottom words (Err (Link stopped)) = IsOfObjects stopped × LinkRefuses texts bottom stopped
+Chains texts bottom words (Err (Assembly stopped)) = IsOfTexts stopped × IsFirstRefused texts stopped
+Chains texts bottom words (Err NoMemory) = ⊤

@@ -1,0 +1,20 @@
+-- Faults of what a chain is given. (This project's own.)
+use Rattle.std.specs.Prelude.{⊤}
+use Rattle.m11_asm_faults.specs.declared.fault.AsmFault.{AsmFault}
+use Rattle.m11_asm_faults.specs.declared.fault.AsmFault.TheVariants as assembly
+use Rattle.m11_link_layout.specs.declared.fault.LinkFault.{LinkFault}
+use Rattle.m11_link_layout.specs.declared.fault.LinkFault.TheVariants as linking
+
+-- a fault of texts: no device failed, and no memory was refused
+abbrev pub IsOfTexts : AsmFault → Type 0
+IsOfTexts assembly.Read = ⊥
+IsOfTexts (assembly.Write output) = ⊥
+IsOfTexts assembly.NoMemory = ⊥
+IsOfTexts stopped = ⊤
+
+-- the same of objects
+abbrev pub IsOfObjects : LinkFault → Type 0
+IsOfObjects linking.Read = ⊥
+IsOfObjects (linking.Write output) = ⊥
+IsOfObjects linking.NoMemory = ⊥
+IsOfObjects stopped = ⊤

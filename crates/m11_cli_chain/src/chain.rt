@@ -1,0 +1,225 @@
+//! Sources are assembled, linked and loaded, one after the other. (MACRO-11 Language Reference Manual, "Relocation and linking"; RT-11 Volume
+//! and File Formats Manual, "Object file format" and "Absolute binary file format".)
+
+ghost use Rattle.std.specs.Prelude.{◌≡◌, ◌≢◌, ◌≤◌, List, map, Ok, IfOk, IfErr};
+ghost use Rattle.m11_asm_faults.specs.declared.fault.AsmFault.TheVariants as assembly;
+ghost use Rattle.m11_asm_outputs.specs.Outputs.{outputs_of};
+ghost use Rattle.m11_base.specs.Devices.{Bytes};
+ghost use Rattle.m11_cpu_machine.specs.Memory.{least_words, most_words};
+ghost use Rattle.m11_link_layout.specs.declared.fault.LinkFault.TheVariants as linking;
+ghost use Rattle.m11_link.specs.Objects.{AreItems, Item, outcome};
+ghost use Rattle.m11_link.specs.Outputs as link;
+ghost use Rattle.m11_link_laws.specs.Runs as links;
+ghost use Rattle.m11_asm_outcome_laws.specs.Beginnings.{AreKnown};
+ghost use Rattle.m11_cli_chain.specs.Assemblies.{AssemblyYields};
+ghost use Rattle.m11_cli_chain.specs.Chain.{Chains};
+ghost use Rattle.m11_cli_chain.specs.Steps.{AreObjectsOf, AssembliesFail, AssemblyFails, IsObjectOf, IsTapeOfObjects, LinkFails, LoadFails, LoadsNew, NeverFail, of_assembly, of_link, whole_text};
+ghost use Rattle.m11_cli_chain.specs.declared.fault.ChainFault.TheVariants.{NoMemory};
+
+use crate::fault::ChainFault;
+use crate::laws::known_sources_decide_the_assembly;
+use m11_asm::{AsmDone, asm_run};
+use m11_asm_faults::AsmFault;
+use m11_base::{Feed, MemoryFeed, MemorySink, Sink};
+use m11_cli_image::{links_write_the_texts_of_their_sources, loads_of_links_yield_the_image};
+use m11_cpu::Machine;
+use m11_link::{LinkDone, link_run, objects_yield_items};
+use m11_link_laws::known_objects_decide_the_run;
+use m11_link_layout::LinkFault;
+use std::alloc::Global;
+
+/// A machine into which a tape was loaded.
+#[derive(Drop)]
+pub struct Chained {
+    /// The machine, of which no step was made.
+    pub machine: Machine,
+    /// Where its program begins; an odd address starts nothing.
+    pub start: u16,
+}
+
+/// Assembles the texts of each list of `sources` together, links their objects from `bottom` on, and loads the tape into a new machine of
+/// `words` words of memory, 4,096 to 28,672. All of this is done over memory.
+///
+/// The machine then holds the image of the sources: at each address the byte that they put there, and 0 elsewhere. Its registers and its status
+/// are those of a new machine, and the start is the image's, or 1 without one. This is so whatever lines are flagged and whatever the linker
+/// reports.
+///
+/// Faults: `Assembly` with the first refusal of the first list that is refused; `Link` with the first refusal of the link; `Load` with
+/// `OutsideMemory` where the image has a byte past the memory, or with `TooMuch` where the tape has more than 4,194,304 bytes; `NoMemory`
+/// wherever memory is refused. No device is there to fail.
+pub fn run_chain(
+    alloc: Global,
+    sources: &[Vec<Vec<u8>>],
+    bottom: u16,
+    words: u16,
+) -> Result<Chained, ChainFault>
+    requires least { least_words ≤ words }
+    requires most { words ≤ most_words }
+    ensures { Chains (map (λ texts. map (λ text. text.items) texts.items) sources.now) bottom words result }
+{
+    links_write_the_texts_of_their_sources();
+    loads_of_links_yield_the_image();
+    let objects = assemble_all(alloc, sources)?;
+    let tape = link_all(alloc, objects.as_slice(), bottom)?;
+    load(alloc, tape.as_slice(), words)
+}
+
+// A feed of each text.
+fn feeds<'a>(alloc: Global, texts: &'a [Vec<u8>]) -> Result<Vec<MemoryFeed<'a>>, ChainFault>
+    ensures known { IfOk result (λ feeds. map ⟦<MemoryFeed<'a> as Feed>⟧.text feeds.items
+        ≡ map whole_text (map (λ text. text.items) texts.entry.now)) }
+    ensures fails { IfErr result (λ fault. fault ≡ NoMemory) }
+{
+    let mut feeds = Vec::new(alloc);
+    let mut rest = texts;
+    'texts: while let [text, others @ ..] = rest {
+        match feeds.push(MemoryFeed::new(text.as_slice())) {
+            Ok(()) => {}
+            Err(_) => return Err(ChainFault::NoMemory),
+        }
+        rest = others;
+    }
+    Ok(feeds)
+}
+
+// An assembly of known texts, over any devices.
+fn run_assembly<F: Feed, S: Sink, T: Sink, U: Sink>(
+    alloc: Global,
+    first: &mut [F],
+    second: &mut [F],
+    object: &mut S,
+    listing: &mut Option<T>,
+    messages: &mut U,
+) -> Result<AsmDone, AsmFault>
+    ensures reads { NeverFail F.faults → IfErr result (λ fault. fault ≢ assembly.Read) }
+    ensures yields { (texts : List Bytes) → AreKnown F.text first.old texts → AreKnown F.text second.old texts
+        → AssemblyYields texts (outputs_of S.Sink T.Sink U.Sink object.old listing.old messages.old)
+        (outputs_of S.Sink T.Sink U.Sink object.new listing.new messages.new) result }
+{
+    known_sources_decide_the_assembly::<F>();
+    asm_run(alloc, first, second, object, listing, messages)
+}
+
+// The fault of an assembly over memory, as that of a chain: an output over memory fails only where memory is refused.
+fn assembly_fault(fault: AsmFault) -> ChainFault
+    ensures { result ≡ of_assembly fault }
+{
+    match fault {
+        AsmFault::NoMemory | AsmFault::Write(_) => ChainFault::NoMemory,
+        other => ChainFault::Assembly(other),
+    }
+}
+
+// The object of some texts.
+fn assemble(alloc: Global, texts: &[Vec<u8>]) -> Result<Vec<u8>, ChainFault>
+    ensures object { IfOk result (λ object. IsObjectOf (map (λ text. text.items) texts.now) object.items) }
+    ensures fails { IfErr result (AssemblyFails (map (λ text. text.items) texts.now)) }
+{
+    let mut first = feeds(alloc, texts)?;
+    let mut second = feeds(alloc, texts)?;
+    let mut object = MemorySink::new(alloc);
+    let mut listing: Option<MemorySink> = None;
+    let mut messages = MemorySink::new(alloc);
+    match run_assembly(
+        alloc,
+        first.as_mut_slice(),
+        second.as_mut_slice(),
+        &mut object,
+        &mut listing,
+        &mut messages,
+    ) {
+        Ok(_) => Ok(object.into_bytes()),
+        Err(fault) => Err(assembly_fault(fault)),
+    }
+}
+
+// The objects of all lists of texts, in order.
+fn assemble_all(alloc: Global, sources: &[Vec<Vec<u8>>]) -> Result<Vec<Vec<u8>>, ChainFault>
+    ensures objects { IfOk result (λ objects. AreObjectsOf (map (λ texts. map (λ text. text.items) texts.items) sources.now)
+        (map (λ object. object.items) objects.items)) }
+    ensures fails { IfErr result (AssembliesFail (map (λ texts. map (λ text. text.items) texts.items) sources.now)) }
+{
+    let mut objects = Vec::new(alloc);
+    let mut rest = sources;
+    'sources: while let [texts, others @ ..] = rest {
+        let object = assemble(alloc, texts.as_slice())?;
+        match objects.push(object) {
+            Ok(()) => {}
+            Err(_) => return Err(ChainFault::NoMemory),
+        }
+        rest = others;
+    }
+    Ok(objects)
+}
+
+// A link of known objects, over any devices.
+fn run_link<F: Feed, S: Sink, T: Sink, U: Sink>(
+    alloc: Global,
+    first: &mut [F],
+    second: &mut [F],
+    bottom: u16,
+    tape: &mut S,
+    map: &mut Option<T>,
+    messages: &mut U,
+) -> Result<LinkDone, LinkFault>
+    ensures reads { NeverFail F.faults → IfErr result (λ fault. fault ≢ linking.Read) }
+    ensures decided { (objects : List Bytes) (items : List Item) → AreItems objects items → links.AreKnown F.text first.old objects
+        → links.AreKnown F.text second.old objects
+        → links.IsDecided bottom (outcome bottom items) (link.outputs_of S.Sink T.Sink U.Sink tape.old map.old messages.old)
+        (link.outputs_of S.Sink T.Sink U.Sink tape.new map.new messages.new) result }
+{
+    known_objects_decide_the_run::<F>();
+    link_run(alloc, first, second, bottom, tape, map, messages)
+}
+
+// The fault of a link over memory, as that of a chain.
+fn link_fault(fault: LinkFault) -> ChainFault
+    ensures { result ≡ of_link fault }
+{
+    match fault {
+        LinkFault::NoMemory | LinkFault::Write(_) => ChainFault::NoMemory,
+        other => ChainFault::Link(other),
+    }
+}
+
+// The tape of objects.
+fn link_all(alloc: Global, objects: &[Vec<u8>], bottom: u16) -> Result<Vec<u8>, ChainFault>
+    ensures tape { IfOk result (λ tape. IsTapeOfObjects bottom (map (λ object. object.items) objects.now) tape.items) }
+    ensures fails { IfErr result (LinkFails bottom (map (λ object. object.items) objects.now)) }
+{
+    objects_yield_items();
+    let mut first = feeds(alloc, objects)?;
+    let mut second = feeds(alloc, objects)?;
+    let mut tape = MemorySink::new(alloc);
+    let mut map: Option<MemorySink> = None;
+    let mut messages = MemorySink::new(alloc);
+    match run_link(
+        alloc,
+        first.as_mut_slice(),
+        second.as_mut_slice(),
+        bottom,
+        &mut tape,
+        &mut map,
+        &mut messages,
+    ) {
+        Ok(_) => Ok(tape.into_bytes()),
+        Err(fault) => Err(link_fault(fault)),
+    }
+}
+
+// A new machine into which a tape is loaded.
+fn load(alloc: Global, tape: &[u8], words: u16) -> Result<Chained, ChainFault>
+    requires least { least_words ≤ words }
+    requires most { words ≤ most_words }
+    ensures loads { IfOk result (λ done. LoadsNew tape.now words done.machine (Ok done.start)) }
+    ensures fails { IfErr result (LoadFails tape.now words) }
+{
+    let mut machine = match Machine::new(alloc, words) {
+        Ok(machine) => machine,
+        Err(_) => return Err(ChainFault::NoMemory),
+    };
+    match m11_cpu::load(&mut machine, &mut MemoryFeed::new(tape)) {
+        Ok(start) => Ok(Chained { machine, start }),
+        Err(fault) => Err(ChainFault::Load(fault)),
+    }
+}

@@ -1,0 +1,44 @@
+//! What assemblies of known sources write, as the sources of a link. Each law is the contract of a function that does nothing but to call the
+//! laws that its own follows from.
+
+ghost use Rattle.std.specs.Prelude.{◌≡◌, ◌∷◌, List, Result};
+ghost use Rattle.std.specs.List.{AllByRecursion};
+ghost use Rattle.m11_asm.specs.Passes.{pass_of};
+ghost use Rattle.m11_asm.specs.Run.{AsmRuns};
+ghost use Rattle.m11_asm.specs.declared.done.AsmDone.{AsmDone};
+ghost use Rattle.m11_asm_faults.specs.declared.fault.AsmFault.{AsmFault};
+ghost use Rattle.m11_asm_outputs.specs.Outputs.{Outputs};
+ghost use Rattle.m11_base.specs.Devices.{Bytes};
+ghost use Rattle.m11_base.specs.Names.{absolute_name};
+ghost use Rattle.m11_cli_image.specs.Objects.{LiesAtWord};
+ghost use Rattle.m11_asm_outcome_laws.specs.Beginnings.{AreKnown};
+ghost use Rattle.m11_asm_passes.specs.Lines.{Numbered};
+ghost use Rattle.m11_asm_rules.specs.Sections.{of_absolute, section};
+ghost use Rattle.m11_asm_rules.specs.declared.sections.Section.{Section};
+ghost use Rattle.m11_cli_chain.specs.Assemblies.{AssemblyYields};
+ghost use Rattle.m11_cli_chain.specs.Sources.{source_of};
+
+use m11_asm_outcome_laws::{
+    known_sources_write_their_live_lines, the_object_is_the_blocks_of_its_contents,
+};
+use m11_base::Feed;
+
+/// Whatever its lines are, the first section of a source is `. ABS.`, and each of its pieces lies at a place below 65,536.
+pub fn live_lines_begin_with_the_absolute_section()
+    ensures first { (lines : List Numbered) → (others : List Section)
+        × ((source_of lines).facts.table.sections ≡ section absolute_name of_absolute ∷ others) }
+    ensures places { (lines : List Numbered) → AllByRecursion LiesAtWord (source_of lines).pieces }
+{}
+
+/// Where both passes get the same known texts, an assembly that is Ok appended to its object exactly the object of the source that the live
+/// lines of the texts are, and that source fits: the fields of its records fit their places and its records their blocks. Any other assembly
+/// was stopped by a device or for want of memory, or its fault is the first refusal of the texts.
+pub fn known_sources_decide_the_assembly<F: Feed>()
+    ensures { (first again second later : List F) (texts : List Bytes) (old new : Outputs) (returned : Result AsmDone AsmFault)
+        → AreKnown F.text first texts → AreKnown F.text second texts
+        → AsmRuns (pass_of F.text F.faults first again) (pass_of F.text F.faults second later) old new returned
+        → AssemblyYields texts old new returned }
+{
+    known_sources_write_their_live_lines::<F>();
+    the_object_is_the_blocks_of_its_contents();
+}

@@ -1,0 +1,81 @@
+-- The globals that sources define, and the value of each in a linked program. (MACRO-11 Language Reference Manual, ".GLOBL directive" and
+-- "Relocation and linking". That the first source that defines a name counts, and that a name which none defines is 0, is this
+-- project's own.)
+use Rattle.std.specs.Prelude.{ℕ, ◌+◌, if◌then◌else◌, List, map, Option, Some, None, option_map}
+use Rattle.std.specs.List.{enumerate_from, filter_map, flat_map}
+use Rattle.std.specs.Map.{lookup}
+use Rattle.std.specs.Option.{unwrap_or}
+use Rattle.m11_base.specs.Rad50.{Name, is_same_name}
+use Rattle.m11_asm_directory.specs.Definitions.{lies_in}
+use Rattle.m11_asm_directory.specs.FirstPass.{DirectoryFacts}
+use Rattle.m11_asm_directory.specs.Names.{ordered}
+use Rattle.m11_link_layout.specs.declared.definition.Definition as layout
+use Rattle.m11_link_layout.specs.declared.definition.GlobalPlace.{GlobalPlace}
+use Rattle.m11_link_layout.specs.declared.definition.GlobalPlace.TheVariants.{Absolute, In}
+use Rattle.m11_link_text.specs.Relocation.{modulo}
+use Rattle.m11_asm_rules.specs.declared.definitions.Definition.{Definition}
+use Rattle.m11_asm_rules.specs.declared.definitions.Key.TheVariants.{Named}
+use Rattle.m11_asm_rules.specs.declared.definitions.Standing.{Standing}
+use Rattle.m11_asm_rules.specs.declared.definitions.Standing.TheVariants.{Known, Unknown}
+use Rattle.m11_asm_rules.specs.Definitions.{last_definition}
+use Rattle.m11_asm_rules.specs.declared.sections.Section.{Section}
+use Rattle.m11_asm_rules.specs.Tables.{Table}
+use Rattle.m11_scan_values.specs.declared.kinds.Kind.{Kind}
+use Rattle.m11_scan_values.specs.declared.kinds.Kind.TheVariants as kind
+use Rattle.m11_cli_image.specs.Sections.{contribution}
+use Rattle.m11_cli_image.specs.Sources.{Source}
+
+-- ---- of one source
+
+-- so many bytes after what the source contributes to a section, or a number
+abbrev pub place_of : ℕ → Kind → GlobalPlace
+place_of number (kind.Section section) = In section number
+place_of number other = Absolute number
+
+abbrev pub global_known : Name → Name → ℕ → Kind → Option (Name × GlobalPlace)
+global_known section name number kind =
+    if lies_in section kind then Some (name, place_of number kind) else None
+
+abbrev pub global_standing : Name → Name → Standing → Option (Name × GlobalPlace)
+global_standing section name (Known number kind) = global_known section name number kind
+global_standing section name Unknown = None
+
+abbrev pub global_by : Name → Name → Option Definition → Option (Name × GlobalPlace)
+global_by section name (Some definition) = global_standing section name definition.standing
+global_by section name None = None
+
+-- a global stands under a section if the value of its last definition is known and lies there
+abbrev pub global_under : Table → Name → Name → Option (Name × GlobalPlace)
+global_under table section name = global_by section name (last_definition (Named name) table.definitions)
+
+abbrev pub globals_under : Table → Section → List (Name × GlobalPlace)
+globals_under table section = filter_map (global_under table section.name) (ordered table.globals)
+
+-- section by section, and in each by names
+abbrev pub globals_of : DirectoryFacts → List (Name × GlobalPlace)
+globals_of facts = flat_map (globals_under facts.table) facts.table.sections
+
+-- ---- of all sources, each with the index of its source
+
+abbrev pub in_source : ℕ → Name × GlobalPlace → Name × layout.Definition
+in_source index global = (global.0, record { module_index = index; place = global.1 })
+
+abbrev pub globals_at : ℕ × Source → List (Name × layout.Definition)
+globals_at numbered = map (in_source numbered.0) (globals_of numbered.1.facts)
+
+abbrev pub all_globals : List Source → List (Name × layout.Definition)
+all_globals sources = flat_map globals_at (enumerate_from 0 sources)
+
+-- ---- values
+
+abbrev pub address_of : ℕ → List Source → ℕ → GlobalPlace → ℕ
+address_of bottom sources index (Absolute number) = number
+address_of bottom sources index (In section number) = modulo (contribution bottom sources index section + number)
+
+abbrev pub definition_value : ℕ → List Source → layout.Definition → ℕ
+definition_value bottom sources definition = address_of bottom sources definition.module_index definition.place
+
+-- the first definition of a name counts; a name without one is 0
+unfoldable pub global : ℕ → List Source → Name → ℕ
+global bottom sources name =
+    unwrap_or (option_map (definition_value bottom sources) (lookup (is_same_name name) (all_globals sources))) 0

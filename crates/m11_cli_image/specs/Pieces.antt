@@ -1,0 +1,61 @@
+-- What stands in a linked program for the pieces of a source, by addresses alone. (MACRO-11 Language Reference Manual, "Relocation and
+-- linking" and ".LIMIT directive". That a displaced value is counted from the place after a word is the rule of relative addressing; that a
+-- displaced byte is counted from its own place and 2 is this project's own.)
+use Rattle.std.specs.Prelude.{ℕ, ◌+◌, true, false, List, [], ◌∷◌, ◌++◌}
+use Rattle.m11_base.specs.Devices.{Bytes}
+use Rattle.m11_obj_blocks.specs.Frames.{word_bytes}
+use Rattle.m11_link_text.specs.Relocation.{following, less, modulo, value_bytes}
+use Rattle.m11_obj_texts.specs.declared.pieces.Piece.{Piece}
+use Rattle.m11_obj_texts.specs.declared.pieces.PieceContent.{PieceContent}
+use Rattle.m11_obj_texts.specs.declared.pieces.PieceContent.TheVariants.{Byte, Word, Limits}
+use Rattle.m11_obj_texts.specs.declared.pieces.RelocationKind.{RelocationKind}
+use Rattle.m11_obj_texts.specs.declared.pieces.RelocationKind.TheVariants as kind
+use Rattle.m11_obj_texts.specs.Pieces.{size_of}
+use Rattle.m11_cli_image.specs.Addresses.{Addresses}
+
+-- where something stands: the index of its source, where that source's contribution to its section begins, and its own address
+pub record Spot : Type 0 where
+  pub source : ℕ
+  pub base : ℕ
+  pub address : ℕ
+
+-- after 177777 the addresses begin again
+abbrev pub spot : ℕ → ℕ → ℕ → Spot
+spot source base address = record { source = source; base = base; address = modulo address }
+
+-- ---- one piece
+
+-- the number that a linked program has for a constant, by how it is relocated
+abbrev pub number_at : Addresses → Spot → RelocationKind → ℕ → ℕ
+number_at program here kind.Fixed constant = constant
+number_at program here kind.Internal constant = modulo (here.base + constant)
+number_at program here kind.InternalDisplaced constant = less constant (following here.address)
+number_at program here (kind.Global name) constant = modulo (program.global name + constant)
+number_at program here (kind.GlobalDisplaced name) constant = less (modulo (program.global name + constant)) (following here.address)
+number_at program here (kind.Section name) constant = modulo (program.base here.source name + constant)
+number_at program here (kind.SectionDisplaced name) constant =
+    less (modulo (program.base here.source name + constant)) (following here.address)
+
+-- its bytes: a byte is the low one of its number, and a pair of limits the bottom and the top
+abbrev pub bytes_at : Addresses → Spot → PieceContent → Bytes
+bytes_at program here (Byte stored) = value_bytes true (number_at program here stored.kind stored.constant)
+bytes_at program here (Word stored) = value_bytes false (number_at program here stored.kind stored.constant)
+bytes_at program here Limits = word_bytes program.bottom ++ word_bytes program.top
+
+-- they begin at its address
+abbrev pub laid : Addresses → Spot → PieceContent → ℕ × Bytes
+laid program here content = (here.address, bytes_at program here content)
+
+-- a piece of the source of an index, which lies its place after the contribution to its section
+abbrev pub placed : Addresses → ℕ → Piece → ℕ × Bytes
+placed program source piece =
+    let base = program.base source piece.section in
+    laid program (spot source base (base + piece.place)) piece.content
+
+-- ---- several pieces
+
+-- the bytes of pieces without a gap between them, the first of which stands at an address
+abbrev pub bytes_from : Addresses → ℕ → ℕ → ℕ → List Piece → Bytes
+bytes_from program source base address [] = []
+bytes_from program source base address (piece ∷ pieces) =
+    bytes_at program (spot source base address) piece.content ++ bytes_from program source base (address + size_of piece) pieces

@@ -1,0 +1,40 @@
+//! The tapes that links of the objects of sources write, and what a load of one leaves.
+
+ghost use Rattle.std.specs.Prelude.{◌≡◌, ℕ, List, map, Option, Some, Result, Ok};
+ghost use Rattle.std.specs.List.{AllByRecursion};
+ghost use Rattle.m11_base.specs.Feed.{Text};
+ghost use Rattle.m11_cpu.specs.Loading.{LoadsInto};
+ghost use Rattle.m11_cpu.specs.declared.fault.LoadFault.{LoadFault};
+ghost use Rattle.m11_cpu_machine.specs.declared.machine.Machine.{Machine};
+ghost use Rattle.m11_link_layout.specs.declared.fault.LinkOutput.TheVariants.{Tape};
+ghost use Rattle.m11_link.specs.Objects.{AreItems, Item, outcome};
+ghost use Rattle.m11_link.specs.Outputs.{link};
+ghost use Rattle.m11_link.specs.Written.{link_writes};
+ghost use Rattle.m11_link_text.specs.Findings.{findings_of};
+ghost use Rattle.m11_link_modules.specs.Parts.{Part};
+ghost use Rattle.m11_cpu_tape_laws.specs.Loaded.{LoadYields};
+ghost use Rattle.m11_cpu_tape_laws.specs.Tapes.{IsTapeOf};
+ghost use Rattle.m11_base_writes.specs.Writes.{gained};
+ghost use Rattle.m11_cli_image.specs.Image.{image_of};
+ghost use Rattle.m11_cli_image.specs.Objects.{SourceFits, object_of};
+ghost use Rattle.m11_cli_image.specs.Sources.{Source};
+
+/// Where a link of the objects of sources refuses nothing, the tape that it writes is one of the image of the sources, whatever it reports:
+/// at each address it has the byte that the image has there and no other, and it starts where the image starts.
+#[tactic(auto, using(crate::proofs::TapesHold::tape_given))]
+pub fn links_give_the_image()
+    ensures { (bottom : ℕ) (sources : List Source) (items : List Item) (parts : List Part) → AllByRecursion SourceFits sources
+        → AreItems (map object_of sources) items → outcome bottom items ≡ Ok parts
+        → IsTapeOf (image_of bottom sources) (gained link Tape (link_writes (findings_of bottom parts) parts)) }
+{}
+
+/// A machine into which this tape was loaded holds the image of the sources, and starts where it starts; and the load is refused only where
+/// the image has a byte past the memory, where the tape is too long, or where the device failed.
+pub fn loads_of_links_yield_the_image()
+    ensures { (bottom : ℕ) (sources : List Source) (items : List Item) (parts : List Part) (text : Text) (left : Option Text)
+        (faults faults' : ℕ) (before after : Machine) (result : Result ℕ LoadFault) → AllByRecursion SourceFits sources
+        → AreItems (map object_of sources) items → outcome bottom items ≡ Ok parts
+        → text.bytes ≡ gained link Tape (link_writes (findings_of bottom parts) parts)
+        → LoadsInto (Some text) left faults faults' before after result
+        → LoadYields (image_of bottom sources) text.bytes faults faults' before after result }
+{}

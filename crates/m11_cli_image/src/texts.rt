@@ -1,0 +1,20 @@
+//! What relocations make of texts. (RT-11 Volume and File Formats Manual, "Object file format", TXT and RLD blocks.)
+
+ghost use Rattle.std.specs.Prelude.{◌≡◌, List};
+ghost use Rattle.m11_link.specs.Written.{PlacedText, with_relocations};
+ghost use Rattle.m11_link_text.specs.Findings.{Findings};
+ghost use Rattle.m11_obj_texts.specs.declared.pieces.Piece.{Piece};
+ghost use Rattle.m11_obj_texts.specs.Pieces.{relocations_of, text_bytes};
+ghost use Rattle.m11_cli_image.specs.Addresses.{Addresses};
+ghost use Rattle.m11_cli_image.specs.Found.{AreFound};
+ghost use Rattle.m11_cli_image.specs.Pieces.{bytes_from};
+
+/// Where addresses are those that a linker found, the relocations of a text of pieces put in the place of each piece what the addresses
+/// make of it.
+#[tactic(auto, using(crate::proofs::TextPieces::pieces_stored))]
+pub fn texts_store_their_pieces()
+    ensures { (found : Findings) (program : Addresses) (text : PlacedText) (pieces : List Piece) → AreFound found program
+        → text.bytes ≡ text_bytes pieces
+        → (with_relocations found text (relocations_of pieces)).bytes
+        ≡ bytes_from program text.module_index text.base text.address pieces }
+{}

@@ -1,0 +1,11 @@
+use Rattle.std.proofs.Common.{◌≡◌, take}
+use Rattle.m11_base_files.specs.Opens.{AreFiles}
+use Rattle.m11_cli_tasks.specs.Opened.{texts}
+use Rattle.m11_cli_tasks.proofs.opened.open_inputs.Given as goal
+
+-- the inputs of the paths so far are open, and nothing else changed
+abbrev pub invariant-paths : goal.invariant-paths
+invariant-paths g l = AreFiles g.F.Input.Feed.text (g.F.Opens.files l.initial.files) (texts (take l.path-index l.paths)) l.first.items
+    × AreFiles g.F.Input.Feed.text (g.F.Opens.files l.initial.files) (texts (take l.path-index l.paths)) l.second.items
+    × (g.F.Opens.files l.files ≡ g.F.Opens.files l.initial.files)
+    × (g.F.Opens.refusals l.files ≡ g.F.Opens.refusals l.initial.files)

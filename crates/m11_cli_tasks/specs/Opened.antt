@@ -1,0 +1,84 @@
+-- The files of a task, opened: its inputs first, in order, and then its outputs. (This project's own.)
+use Rattle.std.specs.Prelude.{◌≡◌, ◌++◌, ◌⊎◌, List, [], ◌∷◌, ℕ, map, Option, Some, None, Result, Ok, Err, ⊤}
+use Rattle.std.specs.Borrow.{Bor}
+use Rattle.m11_base.specs.Devices.{Bytes, Rises}
+use Rattle.m11_base_files.specs.Opens.{Files, HasAll, IsFirstLacking, Lacks, creating}
+use Rattle.m11_cli_tasks.specs.declared.opened.OpenFault.{OpenFault}
+use Rattle.m11_cli_tasks.specs.declared.opened.OpenFault.TheVariants.{NotOpened, NoMemory}
+use Rattle.m11_base_files.specs.declared.opens.OpenRefusal.{OpenRefusal}
+use Rattle.m11_base_files.specs.declared.opens.OpenRefusal.TheVariants as refused
+use Rattle.m11_cli_tasks.specs.declared.tasks.AsmTask.{AsmTask}
+use Rattle.m11_cli_tasks.specs.declared.tasks.LinkTask.{LinkTask}
+use Rattle.m11_cli_tasks.specs.declared.tasks.SimTask.{SimTask}
+
+abbrev pub texts : List (Bor Bytes) → List Bytes
+texts paths = map (λ path. path.now) paths
+
+-- the path that there may be
+abbrev pub optional : Option (Bor Bytes) → List Bytes
+optional None = []
+optional (Some path) = path.now ∷ []
+
+-- the paths that a task reads, and those that it writes
+abbrev pub asm_inputs : AsmTask → List Bytes
+asm_inputs task = texts task.sources.items
+
+abbrev pub asm_outputs : AsmTask → List Bytes
+asm_outputs task = task.object.now ∷ optional task.listing
+
+abbrev pub link_inputs : LinkTask → List Bytes
+link_inputs task = texts task.objects.items
+
+abbrev pub link_outputs : LinkTask → List Bytes
+link_outputs task = task.tape.now ∷ optional task.map
+
+abbrev pub sim_inputs : SimTask → List Bytes
+sim_inputs task = task.tape.now ∷ []
+
+-- all of the inputs are there, and then the first outputs of the list were created: none, some or all of them
+abbrev pub CreatesSome : Option Files → Option Files → List Bytes → List Bytes → Type 0
+CreatesSome old new inputs outputs = HasAll old inputs × (before : List Bytes) × (more : List Bytes)
+    × (outputs ≡ before ++ more) × (new ≡ creating before old)
+
+-- the path at which opening stopped: the first input that is not there, and nothing was created; or an output, and all
+-- inputs are there, and the outputs before it were created
+abbrev pub StopsAt : Option Files → Option Files → List Bytes → List Bytes → Bytes → Type 0
+StopsAt old new inputs outputs path = (IsFirstLacking old inputs path × (new ≡ old))
+    ⊎ (HasAll old inputs × (before : List Bytes) × (more : List Bytes)
+    × (outputs ≡ before ++ path ∷ more) × (new ≡ creating before old))
+
+-- why opening stopped, and with which files: a file was refused; or memory was
+abbrev pub Stops : Option Files → Option Files → List Bytes → List Bytes → OpenFault → Type 0
+Stops old new inputs outputs (NotOpened path) = StopsAt old new inputs outputs path.now
+Stops old new inputs outputs NoMemory = (new ≡ old) ⊎ CreatesSome old new inputs outputs
+
+-- a count of refusals rises exactly where a file was refused
+abbrev pub Counts : ℕ → ℕ → OpenFault → Type 0
+Counts old new (NotOpened path) = Rises old new
+Counts old new NoMemory = new ≡ old
+
+abbrev pub CountsOpening : {A : Type 0} → ℕ → ℕ → Result A OpenFault → Type 0
+CountsOpening old new (Ok opened) = new ≡ old
+CountsOpening old new (Err fault) = Counts old new fault
+
+-- ---- parts of an opening
+
+-- one path that is read
+abbrev pub LacksOne : Option Files → Bytes → OpenFault → Type 0
+LacksOne files path (NotOpened reported) = (reported.now ≡ path) × Lacks files path
+LacksOne files path NoMemory = ⊤
+
+-- several
+abbrev pub LacksFirst : Option Files → List Bytes → OpenFault → Type 0
+LacksFirst files paths (NotOpened reported) = IsFirstLacking files paths reported.now
+LacksFirst files paths NoMemory = ⊤
+
+-- the one path that is written, if there is one
+abbrev pub Names : List Bytes → OpenFault → Type 0
+Names paths (NotOpened reported) = paths ≡ reported.now ∷ []
+Names paths NoMemory = ⊤
+
+-- what a refusal is, of a path
+abbrev pub fault_at : OpenRefusal → Bor Bytes → OpenFault
+fault_at refused.NotOpened path = NotOpened path
+fault_at refused.NoMemory path = NoMemory

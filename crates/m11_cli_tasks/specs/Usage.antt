@@ -1,0 +1,37 @@
+-- The faults of a command line, each with its number and its name. (This project's own.)
+use Rattle.std.specs.Prelude.{◌≡◌, ◌≢◌, ℕ, codes}
+use Rattle.clap.specs.Words.{kind_of}
+use Rattle.clap.specs.declared.error.Error.{Error}
+use Rattle.clap.specs.declared.error.kind.ErrorKind.TheVariants as kind
+use Rattle.m11_base.specs.Devices.{Bytes}
+use Rattle.m11_cli_tasks.specs.declared.usage.UsageFault.{UsageFault}
+use Rattle.m11_cli_tasks.specs.declared.usage.UsageFault.TheVariants.{Help, Words, BadOctal, OddAddress, BadAddress, NoMemory}
+
+-- the number of a fault
+abbrev pub usage_number : UsageFault → ℕ
+usage_number (Help error) = 1
+usage_number (Words error) = 2
+usage_number BadOctal = 3
+usage_number OddAddress = 4
+usage_number BadAddress = 5
+usage_number NoMemory = 90
+
+-- the name of a fault
+abbrev pub usage_name : UsageFault → Bytes
+usage_name (Help error) = codes "Help"
+usage_name (Words error) = codes "Words"
+usage_name BadOctal = codes "BadOctal"
+usage_name OddAddress = codes "OddAddress"
+usage_name BadAddress = codes "BadAddress"
+usage_name NoMemory = codes "NoMemory"
+
+-- the fault keeps the parser's error: help that was asked for, or another refusal of the words; of
+-- memory that ran out there is nothing to keep, and the faults of addresses are none of the parser
+abbrev pub UsageKeeps : Error → UsageFault → Type 0
+UsageKeeps e (Help error) = (error ≡ e) × (kind_of e ≡ kind.DisplayHelp)
+UsageKeeps e (Words error) =
+    (error ≡ e) × (kind_of e ≢ kind.DisplayHelp) × (kind_of e ≢ kind.OutOfMemory)
+UsageKeeps e BadOctal = ⊥
+UsageKeeps e OddAddress = ⊥
+UsageKeeps e BadAddress = ⊥
+UsageKeeps e NoMemory = kind_of e ≡ kind.OutOfMemory

@@ -1,0 +1,235 @@
+//! Tasks: what a command line asks for, read from the entries that the parser has found.
+
+ghost use Rattle.std.specs.Prelude.{◌≡◌, ◌≤◌, ◌⊎◌, [], Err, IfErr, IfOk, codes, map, option_map, unwrap_or};
+ghost use Rattle.clap.specs.Words.{all_of, first_of, found_of, one_of, rows_of, subcommand_name_of, subcommand_rows_of};
+ghost use Rattle.m11_cli_tasks.specs.declared.tasks.Task.TheVariants.{Link, Sim};
+ghost use Rattle.m11_cli_tasks.specs.declared.usage.UsageFault.TheVariants.{NoMemory};
+ghost use Rattle.m11_cli_tasks.specs.Tasks.{EntriesGive, IsAsmTask, IsCommandName, IsDoable, IsLinkTask, IsSimTask, Plans, address_of, bottom_of, number_or, start_of};
+
+use crate::commands::application_command;
+use crate::usage::UsageFault;
+use clap::ArgMatches;
+use m11_base::read_octal;
+use std::alloc::{AllocError, Global};
+use std::convert::AsStr;
+
+/// The paths of an assembly, as the words give them.
+#[derive(Debug, Drop)]
+pub struct AsmTask<'a> {
+    /// Where the object module goes.
+    pub object: &'a str,
+    /// Where the listing goes, if one is asked for.
+    pub listing: Option<&'a str>,
+    /// The sources, one text after the other.
+    pub sources: Vec<&'a str>,
+}
+
+/// What a link is to do. Its paths are those of the words.
+#[derive(Debug, Drop)]
+pub struct LinkTask<'a> {
+    /// Where the tape goes.
+    pub tape: &'a str,
+    /// Where the map goes, if one is asked for.
+    pub map: Option<&'a str>,
+    /// Where relocatable sections begin: an even address up to 0o157776.
+    pub bottom: u16,
+    /// The objects, in order.
+    pub objects: Vec<&'a str>,
+}
+
+/// What a run of a tape is to do. Its path is that of the words.
+#[derive(Debug, Drop)]
+pub struct SimTask<'a> {
+    /// The path of the tape.
+    pub tape: &'a str,
+    /// Where to start in place of the tape's own start: an even address up to 0o157776.
+    pub start: Option<u16>,
+    /// How many words of memory there are, from 4,096 to 28,672.
+    pub words: u16,
+    /// How many steps are allowed, up to 1,000,000,000.
+    pub limit: u32,
+}
+
+/// What a command line asks for: one command, with all of its numbers within their ranges.
+#[derive(Debug, Drop)]
+pub enum Task<'a> {
+    /// `asm`: to assemble.
+    Asm(AsmTask<'a>),
+    /// `link`: to link.
+    Link(LinkTask<'a>),
+    /// `sim`: to run a tape.
+    Sim(SimTask<'a>),
+}
+
+/// Where relocatable sections begin where the words do not say.
+const DEFAULT_BOTTOM: u16 = 0o1000;
+
+/// The most steps that may be allowed.
+const MOST_STEPS: u32 = 1_000_000_000;
+
+/// The steps that are allowed where the words do not say.
+const DEFAULT_STEPS: u32 = 1_000_000;
+
+/// The fewest words of memory.
+const LEAST_WORDS: u32 = 4_096;
+
+/// The most words of memory, and those that there are where the words do not say.
+const MOST_WORDS: u32 = 28_672;
+
+/// The greatest even address in front of the addresses of devices.
+const LAST_ADDRESS: u16 = 0o157776;
+
+/// Reads a command line, whose first word is the program's name.
+///
+/// `Help` where help is asked for and `Words` where the parser refuses the words; where it takes
+/// them, `BadOctal`, `OddAddress` and `BadAddress` for a bottom or a start, in this order; and
+/// `NoMemory`.
+pub fn plan<'a, S: AsStr>(alloc: Global, words: &'a [S]) -> Result<Task<'a>, UsageFault>
+    ensures planned { Plans (map S.text words.entry.now) result }
+    ensures doable { IfOk result IsDoable }
+{
+    let command = application_command(alloc)?;
+    let matches = command.try_get_matches_from(words)?;
+    let task = entered_task(alloc, &matches);
+    drop(matches);
+    task
+}
+
+// The task of the command that was entered, or the fault of an address, or want of memory.
+fn entered_task<'a>(alloc: Global, matches: &ArgMatches<'a>) -> Result<Task<'a>, UsageFault>
+    requires { IsCommandName (subcommand_name_of matches.now) }
+    ensures given { EntriesGive (subcommand_rows_of matches.now) result }
+    ensures doable { IfOk result IsDoable }
+{
+    if let Some(entries) = matches.subcommand_matches("asm") {
+        return Ok(Task::Asm(asm_task(alloc, entries)?));
+    }
+    if let Some(entries) = matches.subcommand_matches("link") {
+        return Ok(Task::Link(link_task(alloc, entries)?));
+    }
+    if let Some(entries) = matches.subcommand_matches("sim") {
+        return Ok(Task::Sim(sim_task(entries)?));
+    }
+    // The parser refuses words that enter no command.
+    unreachable!()
+}
+
+// The task that the entries of `asm` state.
+fn asm_task<'a>(alloc: Global, entries: &ArgMatches<'a>) -> Result<AsmTask<'a>, AllocError>
+    ensures { IfOk result (IsAsmTask (rows_of (found_of entries.now))) }
+{
+    Ok(AsmTask {
+        object: first_text(entries, "output"),
+        listing: text_given(entries, "listing"),
+        sources: all_texts(alloc, entries, "sources")?,
+    })
+}
+
+// The task that the entries of `link` state, or the fault of their bottom, or want of memory.
+fn link_task<'a>(alloc: Global, entries: &ArgMatches<'a>) -> Result<LinkTask<'a>, UsageFault>
+    ensures task { IfOk result (IsLinkTask (rows_of (found_of entries.now))) }
+    ensures doable { IfOk result (λ task. IsDoable (Link task)) }
+    ensures fault { IfErr result (λ fault. (fault ≡ NoMemory)
+        ⊎ (bottom_of (first_of (codes "bottom") (rows_of (found_of entries.now))) ≡ Err fault)) }
+{
+    Ok(LinkTask {
+        tape: first_text(entries, "output"),
+        map: text_given(entries, "map"),
+        bottom: bottom_given(entries)?,
+        objects: all_texts(alloc, entries, "objects")?,
+    })
+}
+
+// Where relocatable sections begin: where the entries say, else at the default.
+#[tactic(auto, using(crate::proofs::Entries::first_given))]
+fn bottom_given(entries: &ArgMatches<'_>) -> Result<u16, UsageFault>
+    ensures { result ≡ bottom_of (first_of (codes "bottom") (rows_of (found_of entries.now))) }
+{
+    match entries.get_str("bottom") {
+        Some(text) => address(text),
+        None => Ok(DEFAULT_BOTTOM),
+    }
+}
+
+/// The task that the entries of `sim` state, or the fault of their start.
+pub fn sim_task<'a>(entries: &ArgMatches<'a>) -> Result<SimTask<'a>, UsageFault>
+    ensures task { IfOk result (IsSimTask (rows_of (found_of entries.now))) }
+    ensures doable { IfOk result (λ task. IsDoable (Sim task)) }
+    ensures fault { IfErr result (λ fault.
+        start_of (first_of (codes "start") (rows_of (found_of entries.now))) ≡ Err fault) }
+{
+    Ok(SimTask {
+        tape: first_text(entries, "tape"),
+        start: start_given(entries)?,
+        words: number_given(entries, "words", LEAST_WORDS, MOST_WORDS, MOST_WORDS) as u16,
+        limit: number_given(entries, "steps", 0, MOST_STEPS, DEFAULT_STEPS),
+    })
+}
+
+// Where to start, if the entries say it.
+#[tactic(auto, using(crate::proofs::Entries::first_given))]
+fn start_given(entries: &ArgMatches<'_>) -> Result<Option<u16>, UsageFault>
+    ensures { result ≡ start_of (first_of (codes "start") (rows_of (found_of entries.now))) }
+{
+    match entries.get_str("start") {
+        Some(text) => Ok(Some(address(text)?)),
+        None => Ok(None),
+    }
+}
+
+/// The address that a text spells in octal. `BadOctal`, then `OddAddress`, then `BadAddress` past 157776.
+pub fn address(text: &str) -> Result<u16, UsageFault>
+    ensures { result ≡ address_of text.now }
+{
+    let word = read_octal(text.as_bytes())?;
+    if word % 2 == 1 {
+        return Err(UsageFault::OddAddress);
+    }
+    if word > LAST_ADDRESS {
+        return Err(UsageFault::BadAddress);
+    }
+    Ok(word)
+}
+
+/// The number that an option states, where it lies within bounds, else another one. The parser takes
+/// no number outside the bounds.
+pub fn number_given(entries: &ArgMatches<'_>, id: &str, least: u32, most: u32, other: u32) -> u32
+    ensures number { result ≡ number_or other least most
+        (one_of id.now (rows_of (found_of entries.now))) }
+    ensures within { least ≤ other → other ≤ most → (least ≤ result) × (result ≤ most) }
+{
+    match entries.get_one::<u32>(id) {
+        Some(number) if least <= number && number <= most => number,
+        _ => other,
+    }
+}
+
+// The first value of an argument, if there is one.
+#[tactic(auto, using(crate::proofs::Entries::first_given))]
+fn text_given<'a>(entries: &ArgMatches<'a>, id: &str) -> Option<&'a str>
+    ensures { option_map (λ text. text.now) result ≡ first_of id.now (rows_of (found_of entries.now)) }
+{
+    entries.get_str(id)
+}
+
+// The first value of an argument that is required; the empty text where there is none, which the parser doesn't let through.
+fn first_text<'a>(entries: &ArgMatches<'a>, id: &str) -> &'a str
+    ensures { result.now ≡ unwrap_or (first_of id.now (rows_of (found_of entries.now))) [] }
+{
+    entries.get_str(id).unwrap_or("")
+}
+
+/// The values of an argument, in order; none where it isn't there.
+pub fn all_texts<'a>(
+    alloc: Global,
+    entries: &ArgMatches<'a>,
+    id: &str,
+) -> Result<Vec<&'a str>, AllocError>
+    ensures { IfOk result (λ texts. map (λ text. text.now) texts.items
+        ≡ unwrap_or (all_of id.now (rows_of (found_of entries.now))) []) }
+{
+    match entries.get_strs(id) {
+        Some(texts) => texts.to_vec(alloc),
+        None => Ok(Vec::new(alloc)),
+    }
+}

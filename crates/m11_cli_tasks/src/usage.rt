@@ -1,0 +1,99 @@
+//! What can be wrong with a command line.
+
+ghost use Rattle.std.specs.Prelude.{◌≡◌};
+ghost use Rattle.m11_cli_tasks.specs.Usage.{UsageKeeps, usage_name, usage_number};
+ghost use Rattle.m11_cli_tasks.specs.declared.usage.UsageFault.TheVariants.{BadOctal, NoMemory};
+
+use clap::error::ErrorKind;
+use m11_base::OctalFault;
+use std::alloc::{AllocError, AllocFailed};
+use thiserror::Error;
+
+/// Why a command line gives no task.
+#[derive(Debug, Drop, Error)]
+pub enum UsageFault {
+    /// 1: help was asked for. The error's text is the help.
+    #[error("help was asked for")]
+    Help(clap::Error),
+    /// 2: the words are refused. The error's text says why.
+    #[error("the words are refused")]
+    Words(clap::Error),
+    /// 3: an address that is no octal word.
+    #[error("an address is no octal word")]
+    BadOctal,
+    /// 4: an odd address.
+    #[error("an address is odd")]
+    OddAddress,
+    /// 5: an address over 157776, which lies past every memory.
+    #[error("an address is over 157776")]
+    BadAddress,
+    /// 90: memory was refused.
+    #[error("no memory")]
+    NoMemory,
+}
+
+impl UsageFault {
+    /// The fault's number, which its printed line shows. `Help` and `Words` have the parser's text in place of a line.
+    pub fn number(&self) -> u8
+        ensures { result ≡ usage_number self.now }
+    {
+        match self {
+            UsageFault::Help(_) => 1,
+            UsageFault::Words(_) => 2,
+            UsageFault::BadOctal => 3,
+            UsageFault::OddAddress => 4,
+            UsageFault::BadAddress => 5,
+            UsageFault::NoMemory => 90,
+        }
+    }
+
+    /// The fault's name, which its printed line shows, if it has one.
+    pub fn name(&self) -> &'static str
+        ensures { result.now ≡ usage_name self.now }
+    {
+        match self {
+            UsageFault::Help(_) => "Help",
+            UsageFault::Words(_) => "Words",
+            UsageFault::BadOctal => "BadOctal",
+            UsageFault::OddAddress => "OddAddress",
+            UsageFault::BadAddress => "BadAddress",
+            UsageFault::NoMemory => "NoMemory",
+        }
+    }
+}
+
+impl From<clap::Error> for UsageFault {
+    ghost from_gives = { UsageKeeps };
+
+    fn from(error: clap::Error) -> UsageFault {
+        match error.kind() {
+            ErrorKind::DisplayHelp => UsageFault::Help(error),
+            ErrorKind::OutOfMemory => UsageFault::NoMemory,
+            _ => UsageFault::Words(error),
+        }
+    }
+}
+
+impl From<OctalFault> for UsageFault {
+    ghost from_gives = { λ _ e. e ≡ BadOctal };
+
+    fn from(_fault: OctalFault) -> UsageFault {
+        UsageFault::BadOctal
+    }
+}
+
+impl From<AllocError> for UsageFault {
+    ghost from_gives = { λ _ e. e ≡ NoMemory };
+
+    fn from(_error: AllocError) -> UsageFault {
+        UsageFault::NoMemory
+    }
+}
+
+impl<T: Drop> From<AllocFailed<T>> for UsageFault {
+    ghost from_gives = { λ _ e. e ≡ NoMemory };
+
+    fn from(_error: AllocFailed<T>) -> UsageFault {
+        UsageFault::NoMemory
+    }
+}

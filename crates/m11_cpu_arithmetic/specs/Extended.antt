@@ -1,0 +1,44 @@
+-- Multiplication and division. (PDP-11/40 Processor Handbook, "Extended instruction set".)
+use Rattle.std.specs.Prelude.{ℕ, ◌+◌, ◌*◌, true, false, if◌then◌else◌, ◌==◌, ℤ, pos, ◌*ℤ◌, int_lt, int_div, int_rem}
+use Rattle.std.specs.Int.{cast_signed, w32}
+use Rattle.std.specs.Ordering.{int_eq}
+use Rattle.m11_base.specs.declared.operand.Size.TheVariants.{Word}
+use Rattle.m11_cpu_arithmetic.specs.declared.results.Pair.{Pair}
+use Rattle.m11_cpu_arithmetic.specs.declared.results.Division.{Division}
+use Rattle.m11_cpu_arithmetic.specs.declared.results.Division.TheVariants.{Done, Refused}
+use Rattle.m11_cpu_arithmetic.specs.Sizes.{size_limit, pair_limit, signed, modulo, overflows}
+use Rattle.m11_cpu_arithmetic.specs.Results.{pair_of}
+
+-- the number of 32 bits that two words have together, the highest bit a sign
+abbrev pub joined : ℕ → ℕ → ℤ
+joined high low = cast_signed w32 (high * 0o200000 + low)
+
+-- MUL: C where no word holds the product
+unfoldable pub product_of : ℕ → ℕ → Pair
+product_of register source =
+    let product = signed Word register *ℤ signed Word source in
+    pair_of (modulo pair_limit product) false (overflows Word product)
+
+abbrev pub refused_by_zero : Division
+refused_by_zero = Refused (record { negative = false; zero = true; overflow = true; carry = true })
+
+-- the quotient fits no word
+abbrev pub refused_quotient : ℤ → Division
+refused_quotient quotient =
+    Refused (record { negative = int_lt quotient (pos 0); zero = false; overflow = true; carry = false })
+
+abbrev pub done : ℤ → ℤ → Division
+done quotient remainder =
+    Done (modulo (size_limit Word) quotient) (modulo (size_limit Word) remainder)
+    (record { negative = int_lt quotient (pos 0); zero = int_eq quotient (pos 0); overflow = false; carry = false })
+
+-- a number divided by another one that isn't 0: the quotient is rounded towards 0
+abbrev pub divided : ℤ → ℤ → Division
+divided dividend divisor =
+    let quotient = int_div dividend divisor in
+    if overflows Word quotient then refused_quotient quotient else done quotient (int_rem dividend divisor)
+
+-- DIV
+unfoldable pub division_of : ℕ → ℕ → ℕ → Division
+division_of high low divisor =
+    if divisor == 0 then refused_by_zero else divided (joined high low) (signed Word divisor)

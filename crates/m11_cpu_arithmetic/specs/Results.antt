@@ -1,0 +1,44 @@
+-- How results set the condition codes. (PDP-11/40 Processor Handbook, "Instruction set": condition codes.)
+use Rattle.std.specs.Prelude.{ℕ, ◌/◌, ◌%◌, ◌==◌, Bool, not, ℤ, pos, int_lt}
+use Rattle.std.specs.Bool.{beq}
+use Rattle.std.specs.Int.{cast_signed, w32}
+use Rattle.m11_base.specs.declared.operand.Size.{Size}
+use Rattle.m11_cpu_arithmetic.specs.declared.results.Computed.{Computed}
+use Rattle.m11_cpu_arithmetic.specs.declared.results.Pair.{Pair}
+use Rattle.m11_cpu_arithmetic.specs.Sizes.{size_limit, signed, modulo, overflows, is_outside}
+
+-- one of the two is set, and the other isn't
+abbrev pub differ : Bool → Bool → Bool
+differ first second = not (beq first second)
+
+-- a value sets N where it is negative, and Z where it is 0
+abbrev pub with_codes : Size → ℕ → Bool → Bool → Computed
+with_codes size value overflow carry = record {
+  value = value;
+  codes = record {
+    negative = int_lt (signed size value) (pos 0);
+    zero = value == 0;
+    overflow = overflow;
+    carry = carry;
+  };
+}
+
+-- a sum or difference whose exact number is the first one without signs, and the second with them: V where
+-- the size can't represent the second, C where the first is no value of the size
+abbrev pub exact_result : Size → ℤ → ℤ → Computed
+exact_result size unsigned_number signed_number =
+    with_codes size (modulo (size_limit size) unsigned_number) (overflows size signed_number)
+    (is_outside size unsigned_number)
+
+-- 32 bits in two words; N where their highest bit is set, and Z where they are all 0
+abbrev pub pair_of : ℕ → Bool → Bool → Pair
+pair_of number overflow carry = record {
+  high = number / 0o200000;
+  low = number % 0o200000;
+  codes = record {
+    negative = int_lt (cast_signed w32 number) (pos 0);
+    zero = number == 0;
+    overflow = overflow;
+    carry = carry;
+  };
+}

@@ -1,0 +1,100 @@
+-- The operations on one operand. (PDP-11/40 Processor Handbook, "Instruction set": single operand
+-- instructions.)
+use Rattle.std.specs.Prelude.{ℕ, ◌+◌, ◌-◌, ◌*◌, ◌/◌, ◌%◌, ◌==◌, nat_le, Bool, true, false, not, ◌&&◌, if◌then◌else◌, pos, neg_ℤ, ◌-ℤ◌, int_lt}
+use Rattle.std.specs.Int.{from_bool, int_div_euclid}
+use Rattle.m11_base.specs.declared.instruction.ConditionCodes.{ConditionCodes}
+use Rattle.m11_base.specs.declared.instruction.SingleOp.{SingleOp}
+use Rattle.m11_base.specs.declared.instruction.SingleOp.TheVariants.{Jmp, Swab, Clr, Com, Inc, Dec, Neg, Adc, Sbc, Tst, Ror, Rol, Asr, Asl, Sxt}
+use Rattle.m11_base.specs.declared.operand.Size.{Size}
+use Rattle.m11_base.specs.declared.operand.Size.TheVariants.{Word, Byte}
+use Rattle.m11_cpu_arithmetic.specs.declared.results.Computed.{Computed}
+use Rattle.m11_cpu_arithmetic.specs.Sizes.{size_limit, sign_bit, signed, modulo, overflows, complement}
+use Rattle.m11_cpu_arithmetic.specs.Results.{differ, with_codes}
+use Rattle.m11_cpu_arithmetic.specs.Doubles.{sum, difference}
+
+-- nothing is computed
+abbrev pub unchanged : ℕ → ConditionCodes → Computed
+unchanged value codes = record { value = value; codes = codes }
+
+-- the two bytes of a word, turned; N and Z are those of the byte that is the lower one then. A byte has no
+-- bytes to turn.
+abbrev pub swapped : Size → ℕ → ConditionCodes → Computed
+swapped Word value codes = record {
+  value = value % 0o400 * 0o400 + value / 0o400;
+  codes = (with_codes Byte (value / 0o400) false false).codes;
+}
+swapped Byte value codes = unchanged value codes
+
+-- a result that leaves C as it was
+abbrev pub keeping_carry : ConditionCodes → Computed → Computed
+keeping_carry codes computed = record {
+  value = computed.value;
+  codes = record {
+    negative = computed.codes.negative;
+    zero = computed.codes.zero;
+    overflow = computed.codes.overflow;
+    carry = codes.carry;
+  };
+}
+
+-- the value below 0 by as much as it was above: C unless the result is 0
+abbrev pub negated : Size → ℕ → Computed
+negated size value =
+    let opposite = modulo (size_limit size) (neg_ℤ (pos value)) in
+    with_codes size opposite (overflows size (neg_ℤ (signed size value))) (not (opposite == 0))
+
+-- the carry taken off: V where the value was the sign bit alone and C was set, C where it was 0 and C was set
+abbrev pub less_carry : Size → ℕ → Bool → Computed
+less_carry size value carry =
+    let left = modulo (size_limit size) (pos value -ℤ pos (from_bool carry)) in
+    with_codes size left (value == sign_bit size && carry) (value == 0 && carry)
+
+-- a value after a step of one place: C is the bit that left, and V says whether N and C differ
+abbrev pub stepped : Size → ℕ → Bool → Computed
+stepped size value bit = with_codes size value (differ (int_lt (signed size value) (pos 0)) bit) bit
+
+-- all bits are N; N and C stay as they were
+abbrev pub sign_filled : Size → ConditionCodes → Computed
+sign_filled size codes = record {
+  value = if codes.negative then size_limit size - 1 else 0;
+  codes = record {
+    negative = codes.negative;
+    zero = not codes.negative;
+    overflow = false;
+    carry = codes.carry;
+  };
+}
+
+-- ROR: a place to the right, the carry in front
+abbrev pub rotated_right : Size → ℕ → Bool → Computed
+rotated_right size value carry =
+    stepped size (value / 2 + from_bool carry * sign_bit size) (value % 2 == 1)
+
+-- ROL, and with no carry ASL: a place to the left, the carry after
+abbrev pub rotated_left : Size → ℕ → Bool → Computed
+rotated_left size value carry =
+    stepped size ((2 * value + from_bool carry) % size_limit size) (nat_le (sign_bit size) value)
+
+-- ASR: half of the number with a sign, rounded down
+abbrev pub halved : Size → ℕ → Computed
+halved size value =
+    stepped size (modulo (size_limit size) (int_div_euclid (signed size value) (pos 2))) (value % 2 == 1)
+
+-- what an operation computes of its operand, the codes being these before it. JMP computes nothing; the
+-- result of TST is stored nowhere.
+unfoldable pub single_result : SingleOp → Size → ℕ → ConditionCodes → Computed
+single_result Jmp size value codes = unchanged value codes
+single_result Swab size value codes = swapped size value codes
+single_result Clr size value codes = with_codes size 0 false false
+single_result Com size value codes = with_codes size (complement size value) false true
+single_result Inc size value codes = keeping_carry codes (sum size value 1)
+single_result Dec size value codes = keeping_carry codes (difference size value 1)
+single_result Neg size value codes = negated size value
+single_result Adc size value codes = sum size value (from_bool codes.carry)
+single_result Sbc size value codes = less_carry size value codes.carry
+single_result Tst size value codes = with_codes size value false false
+single_result Ror size value codes = rotated_right size value codes.carry
+single_result Rol size value codes = rotated_left size value codes.carry
+single_result Asr size value codes = halved size value
+single_result Asl size value codes = rotated_left size value false
+single_result Sxt size value codes = sign_filled size codes

@@ -1,0 +1,87 @@
+//! Results with the condition codes that they set.
+
+ghost use Rattle.std.specs.Prelude.{◌≡◌, ◌<◌, ◌/◌, ◌%◌};
+ghost use Rattle.m11_cpu_arithmetic.specs.Sizes.{size_limit};
+ghost use Rattle.m11_cpu_arithmetic.specs.Results.{with_codes, exact_result, pair_of};
+
+use crate::sizes::{is_outside, kept, overflows, signed};
+use m11_base::{ConditionCodes, Size};
+
+/// A result and the condition codes that it sets.
+#[derive(Clone, Copy, Debug, PartialEq, Eq)]
+pub struct Computed {
+    /// A word, or a byte below octal 400.
+    pub value: u16,
+    /// N, Z, V and C.
+    pub codes: ConditionCodes,
+}
+
+/// A result of 32 bits in two words, and the condition codes that it sets.
+#[derive(Clone, Copy, Debug, PartialEq, Eq)]
+pub struct Pair {
+    /// The upper 16 bits.
+    pub high: u16,
+    /// The lower 16 bits.
+    pub low: u16,
+    /// N, Z, V and C.
+    pub codes: ConditionCodes,
+}
+
+/// The results of a division.
+#[derive(Clone, Copy, Debug, PartialEq, Eq)]
+pub enum Division {
+    /// Both results, and the codes that they set.
+    Done {
+        quotient: u16,
+        remainder: u16,
+        codes: ConditionCodes,
+    },
+    /// By zero, or the quotient fits no word: the registers are kept, and the codes are these.
+    Refused(ConditionCodes),
+}
+
+// A value with N and Z as it has them.
+#[inline(always)]
+pub(crate) fn with_codes(size: Size, value: u16, overflow: bool, carry: bool) -> Computed
+    requires { value < size_limit size }
+    ensures { result ≡ with_codes size value overflow carry }
+{
+    Computed {
+        value,
+        codes: ConditionCodes {
+            negative: signed(size, value) < 0,
+            zero: value == 0,
+            overflow,
+            carry,
+        },
+    }
+}
+
+// A sum or a difference: the exact number without signs, and with them.
+#[inline(always)]
+pub(crate) fn exact_result(size: Size, unsigned_number: i32, signed_number: i32) -> Computed
+    ensures { result ≡ exact_result size unsigned_number signed_number }
+{
+    with_codes(
+        size,
+        kept(size, unsigned_number),
+        overflows(size, signed_number),
+        is_outside(size, unsigned_number),
+    )
+}
+
+// A number of 32 bits in two words, with N and Z as it has them.
+pub(crate) fn pair_of(number: u32, overflow: bool, carry: bool) -> Pair
+    ensures { result ≡ pair_of number overflow carry }
+{
+    Pair {
+        high: (number / 0o200000) as u16,
+        low: (number % 0o200000) as u16,
+        codes: ConditionCodes {
+            negative: number.cast_signed() < 0,
+            zero: number == 0,
+            overflow,
+            carry,
+        },
+    }
+}

@@ -1,0 +1,87 @@
+//! Shifts by several places. (PDP-11/40 Processor Handbook, "Extended instruction set".)
+
+ghost use Rattle.std.specs.Prelude.{◌≡◌, ◌<◌, ◌≤◌, ◌%◌, ◌*◌, ◌-◌, ◌^◌, pos, ◌*ℤ◌, FitsSigned};
+ghost use Rattle.std.specs.Int.{w32};
+ghost use Rattle.m11_cpu_arithmetic.specs.Shifts.{places, shifted, last_bit, digit, shift_result, shift_pair_result};
+
+use crate::extended::joined;
+use crate::results::{Computed, Pair, pair_of, with_codes};
+use m11_base::Size;
+
+/// What ASH computes of its register. Of `count` the six lowest bits count, as a number with a sign: that many
+/// places to the left, or to the right where it is negative. C is the last bit that left, and V is set
+/// where the sign changed on the way. (PDP-11/40 Processor Handbook, "Extended instruction set": ASH.)
+#[tactic(auto, unfolding(crate::specs::Shifts::shift_result))]
+pub fn shift(value: u16, count: u16) -> Computed
+    ensures { result ≡ shift_result value count }
+{
+    let number = i64::from(value.cast_signed());
+    let moved = shifted(number, count);
+    with_codes(
+        Size::Word,
+        (moved.cast_unsigned() % 0o200000) as u16,
+        moved < -0o100000 || 0o077777 < moved,
+        last_bit(16, number, count),
+    )
+}
+
+/// What ASHC computes of the 32 bits of two words; the rest is as with `shift`. (PDP-11/40 Processor
+/// Handbook, "Extended instruction set": ASHC.)
+#[tactic(auto, unfolding(crate::specs::Shifts::shift_pair_result))]
+pub fn shift_pair(high: u16, low: u16, count: u16) -> Pair
+    ensures { result ≡ shift_pair_result high low count }
+{
+    let number = i64::from(joined(high, low));
+    let moved = shifted(number, count);
+    pair_of(
+        (moved.cast_unsigned() % 0o40000000000) as u32,
+        moved < -0o20000000000 || 0o17777777777 < moved,
+        last_bit(32, number, count),
+    )
+}
+
+// A number of at most 32 bits, moved by a count of places.
+fn shifted(number: i64, count: u16) -> i64
+    requires { FitsSigned w32 number }
+    ensures { result ≡ shifted number (places count) }
+{
+    if count % 64 < 32 {
+        moved_left(number, count % 64)
+    } else {
+        number >> (64 - count % 64)
+    }
+}
+
+// A number of at most 32 bits, doubled n times.
+fn moved_left(number: i64, count: u16) -> i64
+    requires number { FitsSigned w32 number }
+    requires count { count < 32 }
+    ensures { result ≡ number *ℤ pos (2 ^ count) }
+{
+    number << count
+}
+
+// The last bit that left a number of `width` bits.
+fn last_bit(width: u16, number: i64, count: u16) -> bool
+    requires number { FitsSigned w32 number }
+    requires width { width ≤ 32 }
+    ensures { result ≡ last_bit width number (places count) }
+{
+    let count = count % 64;
+    if count == 0 {
+        return false;
+    }
+    if count < 32 {
+        digit(moved_left(number, count), width)
+    } else {
+        digit(number, 63 - count)
+    }
+}
+
+// The binary digit of a number that stands for 2 to the `place`.
+fn digit(number: i64, place: u16) -> bool
+    requires { place < 64 }
+    ensures { result ≡ digit number place }
+{
+    (number >> place).cast_unsigned() % 2 == 1
+}

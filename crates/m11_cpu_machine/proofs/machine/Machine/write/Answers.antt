@@ -1,0 +1,14 @@
+use Rattle.m11_cpu_machine.specs.SingleOperands.{write}
+use Rattle.m11_cpu_machine.proofs.Dialogues.{bind_reads, bind_reads_aborts, put_result_at, writes_beside}
+use Rattle.m11_cpu_machine.proofs.machine.Machine.write.Goals as goal
+
+pub returns : goal.returns
+unfolding write
+returns g c =
+    bind_reads _ _ _ _ _ _ _ _ _ _ c.in_ok-place.ensures
+    (put_result_at _ _ _ _ _ _ _ _ c.single-computed.ensures.computed (writes_beside _ _ _ _ _ c.put_result.ensures))
+
+pub returns-in_err-place : goal.returns-in_err-place
+unfolding write
+returns-in_err-place g c =
+    bind_reads_aborts _ _ _ _ _ _ _ _ _ c.in_err-place.ensures c.from_residual.ensures.1

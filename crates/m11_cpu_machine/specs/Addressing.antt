@@ -1,0 +1,86 @@
+-- Operands: the places that modes and registers mean, and what is read and put there. (PDP-11/40 Processor Handbook,
+-- "Addressing modes", "Use of the PC as a general register", "Use of the stack pointer as a general register".)
+use Rattle.std.specs.Prelude.{ℕ, ◌+◌, ◌-◌, ◌*◌, ◌/◌, ◌%◌, Ok}
+use Rattle.m11_base.specs.declared.operand.Mode.{Mode}
+use Rattle.m11_base.specs.declared.operand.Mode.TheVariants as mode
+use Rattle.m11_base.specs.declared.operand.Operand.{Operand}
+use Rattle.m11_base.specs.declared.operand.Register.{Register}
+use Rattle.m11_base.specs.declared.operand.Register.TheVariants.{Sp, Pc}
+use Rattle.m11_base.specs.declared.operand.Size.{Size}
+use Rattle.m11_base.specs.declared.operand.Size.TheVariants.{Word, Byte}
+use Rattle.m11_cpu_machine.specs.Access.{load_word, load_byte, store_word, store_byte}
+use Rattle.m11_cpu_machine.specs.Acts.{Act, ◌>>=◌}
+use Rattle.m11_cpu_machine.specs.Dialogue.{Comes}
+use Rattle.m11_cpu_arithmetic.specs.declared.results.Computed.{Computed}
+use Rattle.m11_cpu_machine.specs.Machine.{finished, register_of, with_register, advanced}
+use Rattle.m11_cpu_machine.specs.declared.machine.Machine.{Machine}
+use Rattle.m11_cpu_machine.specs.declared.addressing.OperandLocation.{OperandLocation}
+use Rattle.m11_cpu_machine.specs.declared.addressing.OperandLocation.TheVariants.{InRegister, InMemory}
+
+-- a register steps by 2, and for a byte by 1, but the stack pointer and the program counter always by 2
+abbrev pub step_of : Size → Register → ℕ
+step_of Word register = 2
+step_of Byte Sp = 2
+step_of Byte Pc = 2
+step_of Byte register = 1
+
+-- what a register holds before it steps forward, and after its step back
+abbrev pub forward : Register → ℕ → Machine → ℕ × Machine
+forward register bytes m = (register_of register m, advanced register bytes m)
+
+abbrev pub stepped_back : Register → ℕ → Machine → ℕ
+stepped_back register bytes m = (register_of register m + (0o200000 - bytes)) % 0o200000
+
+abbrev pub back : Register → ℕ → Machine → ℕ × Machine
+back register bytes m = (stepped_back register bytes m, with_register register (stepped_back register bytes m) m)
+
+-- the next word of the program: the program counter steps once it is read
+unfoldable pub next_word : Act ℕ
+next_word m = (load_word (register_of Pc m) >>= λ word n. Comes (Ok word, advanced Pc 2 n)) m
+
+unfoldable pub indexed : Register → Act ℕ
+indexed register = next_word >>= λ index m. Comes (Ok ((index + register_of register m) % 0o200000), m)
+
+unfoldable pub deferred : ℕ → Act OperandLocation
+deferred address = load_word address >>= λ word m. Comes (Ok (InMemory word), m)
+
+abbrev pub in_memory : ℕ × Machine → Act OperandLocation
+in_memory stepped m = Comes (Ok (InMemory stepped.0), stepped.1)
+
+abbrev pub place_by : Mode → Register → Size → Act OperandLocation
+place_by mode.Register register size m = Comes (Ok (InRegister register), m)
+place_by mode.RegisterDeferred register size m = Comes (Ok (InMemory (register_of register m)), m)
+place_by mode.Autoincrement register size m = in_memory (forward register (step_of size register) m) m
+place_by mode.AutoincrementDeferred register size m = deferred (forward register 2 m).0 (forward register 2 m).1
+place_by mode.Autodecrement register size m = in_memory (back register (step_of size register) m) m
+place_by mode.AutodecrementDeferred register size m = deferred (back register 2 m).0 (back register 2 m).1
+place_by mode.Index register size m = (indexed register >>= λ address n. Comes (Ok (InMemory address), n)) m
+place_by mode.IndexDeferred register size m = (indexed register >>= deferred) m
+
+unfoldable pub place_of : Operand → Size → Act OperandLocation
+place_of operand size = place_by operand.mode operand.register size
+
+unfoldable pub fetch : OperandLocation → Size → Act ℕ
+fetch (InRegister register) Word m = Comes (Ok (register_of register m), m)
+fetch (InRegister register) Byte m = Comes (Ok (register_of register m % 256), m)
+fetch (InMemory address) Word m = load_word address m
+fetch (InMemory address) Byte m = load_byte address m
+
+unfoldable pub fetch_operand : Operand → Size → Act ℕ
+fetch_operand operand size = place_of operand size >>= λ place. fetch place size
+
+abbrev pub without_low_byte : ℕ → ℕ
+without_low_byte word = word / 256 * 256
+
+-- a byte in a register is its low byte
+unfoldable pub store : OperandLocation → Size → ℕ → Act (Unit {0})
+store (InRegister register) Word value m = Comes (Ok tt, with_register register value m)
+store (InRegister register) Byte value m =
+    Comes (Ok tt, with_register register (without_low_byte (register_of register m) + value % 256) m)
+store (InMemory address) Word value m = store_word address value m
+store (InMemory address) Byte value m = store_byte address (value % 256) m
+
+-- the result of an operation goes to its place, and its condition codes after it
+unfoldable pub put_result : OperandLocation → Size → Computed → Act (Unit {0})
+put_result place size computed = store place size computed.value >>= λ _ m.
+    Comes (Ok tt, finished place computed.codes m)

@@ -1,0 +1,62 @@
+-- Instructions with a source and a destination: the source, a register too, is fetched wholly before the address of the
+-- destination is formed. (PDP-11/40 Processor Handbook, "Instruction set": double operand instructions. That order is
+-- this project's own, and so is that MOV doesn't read its destination.)
+use Rattle.std.specs.Prelude.{ℕ, ◌+◌, ◌%◌, nat_lt, if◌then◌else◌, Ok}
+use Rattle.m11_cpu_arithmetic.specs.Doubles.{double_result, exclusive_or_result}
+use Rattle.m11_base.specs.declared.instruction.DoubleOp.{DoubleOp}
+use Rattle.m11_base.specs.declared.instruction.DoubleOp.TheVariants.{Mov}
+use Rattle.m11_base.specs.declared.operand.Operand.{Operand}
+use Rattle.m11_base.specs.declared.operand.Register.{Register}
+use Rattle.m11_base.specs.declared.operand.Size.{Size}
+use Rattle.m11_base.specs.declared.operand.Size.TheVariants.{Word, Byte}
+use Rattle.m11_cpu_machine.specs.Acts.{Act, ◌>>=◌}
+use Rattle.m11_cpu_machine.specs.DestinationUse.{use_by_double}
+use Rattle.m11_cpu_machine.specs.declared.destination_use.DestinationUse.{DestinationUse}
+use Rattle.m11_cpu_machine.specs.declared.destination_use.DestinationUse.TheVariants.{Writes, Reads, Changes}
+use Rattle.m11_cpu_machine.specs.Dialogue.{Comes}
+use Rattle.m11_cpu_machine.specs.Machine.{finished, register_of, with_condition_codes, with_register}
+use Rattle.m11_cpu_machine.specs.Addressing.{fetch, fetch_operand, place_of, put_result, store}
+use Rattle.m11_cpu_machine.specs.declared.addressing.OperandLocation.{OperandLocation}
+use Rattle.m11_cpu_machine.specs.declared.addressing.OperandLocation.TheVariants.{InRegister, InMemory}
+
+-- a byte as a word of the same number with a sign
+abbrev pub sign_extended : ℕ → ℕ
+sign_extended byte = if nat_lt (byte % 0o400) 0o200 then byte % 0o400 else byte % 0o400 + 0o177400
+
+-- MOVB extends the sign of a byte in a register
+unfoldable pub store_moved : OperandLocation → Size → ℕ → Act (Unit {0})
+store_moved (InRegister register) Word value m = store (InRegister register) Word value m
+store_moved (InRegister register) Byte value m = Comes (Ok tt, with_register register (sign_extended value) m)
+store_moved (InMemory address) size value m = store (InMemory address) size value m
+
+unfoldable pub move_to : OperandLocation → Size → ℕ → Act (Unit {0})
+move_to place size source m = (store_moved place size source >>= λ _ n.
+    Comes (Ok tt, finished place (double_result Mov size source 0 m.status.codes).codes n)) m
+
+unfoldable pub compare : DoubleOp → OperandLocation → Size → ℕ → Act (Unit {0})
+compare operation place size source = fetch place size >>= λ value m.
+    Comes (Ok tt, with_condition_codes (double_result operation size source value m.status.codes).codes m)
+
+unfoldable pub change_double : DoubleOp → OperandLocation → Size → ℕ → Act (Unit {0})
+change_double operation place size source = fetch place size >>= λ value m.
+    put_result place size (double_result operation size source value m.status.codes) m
+
+abbrev pub double_by : DestinationUse → DoubleOp → Size → ℕ → OperandLocation → Act (Unit {0})
+double_by Writes operation size source place = move_to place size source
+double_by Reads operation size source place = compare operation place size source
+double_by Changes operation size source place = change_double operation place size source
+
+unfoldable pub double_at : DoubleOp → Size → ℕ → OperandLocation → Act (Unit {0})
+double_at operation = double_by (use_by_double operation) operation
+
+unfoldable pub double : DoubleOp → Size → Operand → Operand → Act (Unit {0})
+double operation size source destination = fetch_operand source size >>= λ value.
+    place_of destination size >>= double_at operation size value
+
+unfoldable pub change_exclusive : ℕ → OperandLocation → Act (Unit {0})
+change_exclusive source place = fetch place Word >>= λ value m.
+    put_result place Word (exclusive_or_result source value m.status.codes) m
+
+-- XOR: its register is read first
+unfoldable pub exclusive_or : Register → Operand → Act (Unit {0})
+exclusive_or register destination m = (place_of destination Word >>= change_exclusive (register_of register m)) m

@@ -1,0 +1,224 @@
+//! Operands: the places that modes and registers mean. (PDP-11/40 Processor Handbook, "Addressing modes".)
+
+ghost use Rattle.std.specs.Prelude.{◌≡◌, ◌+◌, ◌<◌, IfOk};
+ghost use Rattle.m11_cpu_arithmetic.specs.Sizes.{size_limit};
+ghost use Rattle.m11_cpu_machine.specs.Dialogue.{Does, input_alone, output_alone};
+ghost use Rattle.m11_cpu_machine.specs.Addressing.{back, deferred, forward, fetch, fetch_operand, indexed, next_word, place_of, put_result, step_of, store, without_low_byte};
+
+use crate::abort::Abort;
+use crate::machine::Machine;
+use m11_base::{Feed, Mode, Operand, Register, Sink, Size};
+use m11_cpu_arithmetic::Computed;
+
+/// Where an operand is.
+#[derive(Clone, Copy, PartialEq, Eq)]
+pub enum OperandLocation {
+    /// In a register.
+    InRegister(Register),
+    /// In memory, or in a register of a device, at this address.
+    InMemory(u16),
+}
+
+impl Machine {
+    /// Where an operand lies: its register in mode 0, else its effective address. Modes 2 to 5 step the register before
+    /// any access through it, and it stays stepped where that access traps or stops.
+    #[inline(always)]
+    pub(crate) fn place_of<F: Feed>(
+        &mut self,
+        operand: Operand,
+        size: Size,
+        feed: &mut F,
+    ) -> Result<OperandLocation, Abort>
+        ensures { Does (place_of operand size self.old) (input_alone (F.text feed.old) (F.faults feed.old))
+            (input_alone (F.text feed.new) (F.faults feed.new)) (result, self.new) }
+    {
+        let register = operand.register;
+        match operand.mode {
+            Mode::Register => Ok(OperandLocation::InRegister(register)),
+            Mode::RegisterDeferred => Ok(OperandLocation::InMemory(self.register(register))),
+            Mode::Autoincrement => Ok(OperandLocation::InMemory(self.forward(
+                register,
+                step_of(size, register),
+            ))),
+            Mode::AutoincrementDeferred => {
+                let address = self.forward(register, 2);
+                self.deferred(address, feed)
+            }
+            Mode::Autodecrement => Ok(OperandLocation::InMemory(self.back(
+                register,
+                step_of(size, register),
+            ))),
+            Mode::AutodecrementDeferred => {
+                let address = self.back(register, 2);
+                self.deferred(address, feed)
+            }
+            Mode::Index => Ok(OperandLocation::InMemory(self.indexed(register, feed)?)),
+            Mode::IndexDeferred => {
+                let address = self.indexed(register, feed)?;
+                self.deferred(address, feed)
+            }
+        }
+    }
+
+    // The last step of modes 3, 5 and 7: the effective address is the word at this address.
+    #[inline(never)]
+    fn deferred<F: Feed>(&mut self, address: u16, feed: &mut F) -> Result<OperandLocation, Abort>
+        ensures { Does (deferred address self.old) (input_alone (F.text feed.old) (F.faults feed.old))
+            (input_alone (F.text feed.new) (F.faults feed.new)) (result, self.new) }
+    {
+        Ok(OperandLocation::InMemory(self.load_word(address, feed)?))
+    }
+
+    // Modes 6 and 7: the next word of the program and the register add up to an address, modulo 200000. The word is read
+    // first, so PC as the register counts as stepped over it.
+    #[inline(always)]
+    fn indexed<F: Feed>(&mut self, register: Register, feed: &mut F) -> Result<u16, Abort>
+        ensures { Does (indexed register self.old) (input_alone (F.text feed.old) (F.faults feed.old))
+            (input_alone (F.text feed.new) (F.faults feed.new)) (result, self.new) }
+    {
+        let index = self.next_word(feed)?;
+        Ok(index.wrapping_add(self.register(register)))
+    }
+
+    /// The next word of the program. The program counter steps after it once it is read.
+    #[inline(always)]
+    pub(crate) fn next_word<F: Feed>(&mut self, feed: &mut F) -> Result<u16, Abort>
+        ensures { Does (next_word self.old) (input_alone (F.text feed.old) (F.faults feed.old))
+            (input_alone (F.text feed.new) (F.faults feed.new)) (result, self.new) }
+    {
+        let address = self.register(Register::Pc);
+        let word = self.load_word(address, feed)?;
+        self.advance(Register::Pc, 2);
+        Ok(word)
+    }
+
+    /// Steps a register forward by some bytes, modulo 200000, and returns what it held before.
+    #[inline(always)]
+    pub fn forward(&mut self, register: Register, bytes: u16) -> u16
+        ensures { (result, self.new) ≡ forward register bytes self.old }
+    {
+        let value = self.register(register);
+        self.advance(register, bytes);
+        value
+    }
+
+    /// Steps a register back by some bytes, modulo 200000, and returns what it holds then.
+    #[inline(always)]
+    pub fn back(&mut self, register: Register, bytes: u16) -> u16
+        ensures { (result, self.new) ≡ back register bytes self.old }
+    {
+        let value = self.register(register).wrapping_sub(bytes);
+        self.set_register(register, value);
+        value
+    }
+
+    /// What lies in a place: a word, or a byte below 256. A byte in a register is its low byte.
+    #[tactic(auto, using(crate::proofs::Dialogues::dialogues), unfolding(crate::specs::Addressing::fetch))]
+    #[inline(always)]
+    pub(crate) fn fetch<F: Feed>(
+        &mut self,
+        place: OperandLocation,
+        size: Size,
+        feed: &mut F,
+    ) -> Result<u16, Abort>
+        ensures does { Does (fetch place size self.old) (input_alone (F.text feed.old) (F.faults feed.old))
+            (input_alone (F.text feed.new) (F.faults feed.new)) (result, self.new) }
+        ensures fits { IfOk result (λ value. value < size_limit size) }
+    {
+        match (place, size) {
+            (OperandLocation::InRegister(register), Size::Word) => Ok(self.register(register)),
+            (OperandLocation::InRegister(register), Size::Byte) => Ok(
+                self.register(register) % 256,
+            ),
+            (OperandLocation::InMemory(address), Size::Word) => self.load_word(address, feed),
+            (OperandLocation::InMemory(address), Size::Byte) => self.load_byte(address, feed),
+        }
+    }
+
+    /// The value of an operand, fetched wholly, with the steps of its register: a source has to be fetched before the
+    /// place of its destination is formed.
+    #[inline(always)]
+    pub(crate) fn fetch_operand<F: Feed>(
+        &mut self,
+        operand: Operand,
+        size: Size,
+        feed: &mut F,
+    ) -> Result<u16, Abort>
+        ensures does { Does (fetch_operand operand size self.old) (input_alone (F.text feed.old) (F.faults feed.old))
+            (input_alone (F.text feed.new) (F.faults feed.new)) (result, self.new) }
+        ensures fits { IfOk result (λ value. value < size_limit size) }
+    {
+        let place = self.place_of(operand, size, feed)?;
+        self.fetch(place, size, feed)
+    }
+
+    /// Puts a word, or the low byte of one, into a place. A byte leaves the high byte of a register as it was.
+    #[tactic(auto, using(crate::proofs::Dialogues::dialogues), unfolding(crate::specs::Addressing::store))]
+    #[inline(always)]
+    pub(crate) fn store<S: Sink>(
+        &mut self,
+        place: OperandLocation,
+        size: Size,
+        value: u16,
+        sink: &mut S,
+    ) -> Result<(), Abort>
+        ensures { Does (store place size value self.old) (output_alone (S.text sink.old) (S.faults sink.old))
+            (output_alone (S.text sink.new) (S.faults sink.new)) (result, self.new) }
+    {
+        match (place, size) {
+            (OperandLocation::InRegister(register), Size::Word) => self.set_register(
+                register, value,
+            ),
+            (OperandLocation::InRegister(register), Size::Byte) => {
+                let high = without_low_byte(self.register(register));
+                self.set_register(register, high + value % 256);
+            }
+            (OperandLocation::InMemory(address), Size::Word) => return self.store_word(
+                address, value, sink,
+            ),
+            (OperandLocation::InMemory(address), Size::Byte) => {
+                return self.store_byte(address, (value % 256) as u8, sink);
+            }
+        }
+        Ok(())
+    }
+
+    /// Puts the result of an operation into a place, and then its condition codes, but where the place is the processor
+    /// status, which stays as it was written.
+    #[inline(always)]
+    pub(crate) fn put_result<S: Sink>(
+        &mut self,
+        place: OperandLocation,
+        size: Size,
+        computed: Computed,
+        sink: &mut S,
+    ) -> Result<(), Abort>
+        ensures { Does (put_result place size computed self.old)
+            (output_alone (S.text sink.old) (S.faults sink.old))
+            (output_alone (S.text sink.new) (S.faults sink.new)) (result, self.new) }
+    {
+        self.store(place, size, computed.value, sink)?;
+        self.finish(place, computed.codes);
+        Ok(())
+    }
+}
+
+// The high byte of a word where it stands, to be joined with another low byte.
+#[inline(always)]
+pub fn without_low_byte(word: u16) -> u16
+    ensures high { result ≡ without_low_byte word }
+    ensures room { result + 255 < 0o200000 }
+{
+    word / 256 * 256
+}
+
+// How many bytes modes 2 and 4 step a register: SP and PC always have to be even, so a byte steps them by 2 too.
+#[inline(always)]
+pub fn step_of(size: Size, register: Register) -> u16
+    ensures { result ≡ step_of size register }
+{
+    match (size, register) {
+        (Size::Word, _) | (Size::Byte, Register::Sp | Register::Pc) => 2,
+        (Size::Byte, _) => 1,
+    }
+}

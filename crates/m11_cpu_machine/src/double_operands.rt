@@ -1,0 +1,195 @@
+//! Instructions with a source and a destination. (PDP-11/40 Processor Handbook, "Instruction set": double operand
+//! instructions.)
+
+ghost use Rattle.std.specs.Prelude.{◌≡◌, ◌<◌};
+ghost use Rattle.m11_cpu_arithmetic.specs.Sizes.{size_limit};
+ghost use Rattle.m11_cpu_machine.specs.Dialogue.{Does, both, input_alone, output_alone};
+ghost use Rattle.m11_cpu_machine.specs.DoubleOperands.{change_double, change_exclusive, compare, double, double_at, exclusive_or, move_to, sign_extended, store_moved};
+
+use crate::abort::Abort;
+use crate::addressing::OperandLocation;
+use crate::destination_use::{DestinationUse, use_by_double};
+use crate::machine::Machine;
+use m11_base::{DoubleOp, Feed, Operand, Register, Sink, Size};
+
+impl Machine {
+    /// An operation on a source and a destination. The source is fetched first.
+    pub(crate) fn double<F: Feed, S: Sink>(
+        &mut self,
+        operation: DoubleOp,
+        size: Size,
+        source: Operand,
+        destination: Operand,
+        feed: &mut F,
+        sink: &mut S,
+    ) -> Result<(), Abort>
+        ensures { Does (double operation size source destination self.old) (both (F.text feed.old) (F.faults feed.old) (S.text sink.old) (S.faults sink.old))
+            (both (F.text feed.new) (F.faults feed.new) (S.text sink.new) (S.faults sink.new)) (result, self.new) }
+    {
+        let source = self.fetch_operand(source, size, feed)?;
+        let place = self.place_of(destination, size, feed)?;
+        self.double_at(operation, size, source, place, feed, sink)
+    }
+
+    // The operation on a source that was fetched, and the place of the destination.
+    #[tactic(auto, using(crate::proofs::Dialogues::with_both), unfolding(crate::specs::DoubleOperands::double_at))]
+    fn double_at<F: Feed, S: Sink>(
+        &mut self,
+        operation: DoubleOp,
+        size: Size,
+        source: u16,
+        place: OperandLocation,
+        feed: &mut F,
+        sink: &mut S,
+    ) -> Result<(), Abort>
+        requires { source < size_limit size }
+        ensures { Does (double_at operation size source place self.old) (both (F.text feed.old) (F.faults feed.old) (S.text sink.old) (S.faults sink.old))
+            (both (F.text feed.new) (F.faults feed.new) (S.text sink.new) (S.faults sink.new)) (result, self.new) }
+    {
+        match use_by_double(operation) {
+            DestinationUse::Writes => self.move_to(place, size, source, sink),
+            DestinationUse::Reads => self.compare(operation, place, size, source, feed),
+            DestinationUse::Changes => self.change_double(
+                operation, place, size, source, feed, sink,
+            ),
+        }
+    }
+
+    // MOV and MOVB: the destination is not read.
+    #[inline(always)]
+    fn move_to<S: Sink>(
+        &mut self,
+        place: OperandLocation,
+        size: Size,
+        source: u16,
+        sink: &mut S,
+    ) -> Result<(), Abort>
+        requires { source < size_limit size }
+        ensures { Does (move_to place size source self.old) (output_alone (S.text sink.old) (S.faults sink.old))
+            (output_alone (S.text sink.new) (S.faults sink.new)) (result, self.new) }
+    {
+        let computed = m11_cpu_arithmetic::double(
+            DoubleOp::Mov,
+            size,
+            source,
+            0,
+            self.status.codes,
+        );
+        self.store_moved(place, size, source, sink)?;
+        self.finish(place, computed.codes);
+        Ok(())
+    }
+
+    // Puts a word or byte into a place. MOVB extends the sign of a byte in a register.
+    #[tactic(auto, using(crate::proofs::Dialogues::dialogues), unfolding(crate::specs::DoubleOperands::store_moved))]
+    #[inline(always)]
+    fn store_moved<S: Sink>(
+        &mut self,
+        place: OperandLocation,
+        size: Size,
+        value: u16,
+        sink: &mut S,
+    ) -> Result<(), Abort>
+        ensures { Does (store_moved place size value self.old) (output_alone (S.text sink.old) (S.faults sink.old))
+            (output_alone (S.text sink.new) (S.faults sink.new)) (result, self.new) }
+    {
+        match (place, size) {
+            (OperandLocation::InRegister(register), Size::Byte) => {
+                self.set_register(register, sign_extended(value));
+                Ok(())
+            }
+            _ => self.store(place, size, value, sink),
+        }
+    }
+
+    // CMP and BIT: nothing is stored.
+    fn compare<F: Feed>(
+        &mut self,
+        operation: DoubleOp,
+        place: OperandLocation,
+        size: Size,
+        source: u16,
+        feed: &mut F,
+    ) -> Result<(), Abort>
+        requires { source < size_limit size }
+        ensures { Does (compare operation place size source self.old) (input_alone (F.text feed.old) (F.faults feed.old))
+            (input_alone (F.text feed.new) (F.faults feed.new)) (result, self.new) }
+    {
+        let destination = self.fetch(place, size, feed)?;
+        let computed = m11_cpu_arithmetic::double(
+            operation,
+            size,
+            source,
+            destination,
+            self.status.codes,
+        );
+        self.set_codes(computed.codes);
+        Ok(())
+    }
+
+    // The destination is read, and the result put in its place.
+    fn change_double<F: Feed, S: Sink>(
+        &mut self,
+        operation: DoubleOp,
+        place: OperandLocation,
+        size: Size,
+        source: u16,
+        feed: &mut F,
+        sink: &mut S,
+    ) -> Result<(), Abort>
+        requires { source < size_limit size }
+        ensures { Does (change_double operation place size source self.old) (both (F.text feed.old) (F.faults feed.old) (S.text sink.old) (S.faults sink.old))
+            (both (F.text feed.new) (F.faults feed.new) (S.text sink.new) (S.faults sink.new)) (result, self.new) }
+    {
+        let destination = self.fetch(place, size, feed)?;
+        let computed = m11_cpu_arithmetic::double(
+            operation,
+            size,
+            source,
+            destination,
+            self.status.codes,
+        );
+        self.put_result(place, size, computed, sink)
+    }
+
+    /// XOR: its register is read first.
+    pub(crate) fn exclusive_or<F: Feed, S: Sink>(
+        &mut self,
+        register: Register,
+        destination: Operand,
+        feed: &mut F,
+        sink: &mut S,
+    ) -> Result<(), Abort>
+        ensures { Does (exclusive_or register destination self.old) (both (F.text feed.old) (F.faults feed.old) (S.text sink.old) (S.faults sink.old))
+            (both (F.text feed.new) (F.faults feed.new) (S.text sink.new) (S.faults sink.new)) (result, self.new) }
+    {
+        let source = self.register(register);
+        let place = self.place_of(destination, Size::Word, feed)?;
+        self.change_exclusive(source, place, feed, sink)
+    }
+
+    // XOR of a word that was read, and the place of the destination.
+    fn change_exclusive<F: Feed, S: Sink>(
+        &mut self,
+        source: u16,
+        place: OperandLocation,
+        feed: &mut F,
+        sink: &mut S,
+    ) -> Result<(), Abort>
+        ensures { Does (change_exclusive source place self.old) (both (F.text feed.old) (F.faults feed.old) (S.text sink.old) (S.faults sink.old))
+            (both (F.text feed.new) (F.faults feed.new) (S.text sink.new) (S.faults sink.new)) (result, self.new) }
+    {
+        let value = self.fetch(place, Size::Word, feed)?;
+        let computed = m11_cpu_arithmetic::exclusive_or(source, value, self.status.codes);
+        self.put_result(place, Size::Word, computed, sink)
+    }
+}
+
+// A byte as a word of the same number with a sign.
+#[inline(always)]
+pub fn sign_extended(byte: u16) -> u16
+    ensures { result ≡ sign_extended byte }
+{
+    let low = byte % 0o400;
+    if low < 0o200 { low } else { low + 0o177400 }
+}

@@ -1,0 +1,58 @@
+//! The processor status word. (PDP-11/40 Processor Handbook, "Processor status word".)
+
+ghost use Rattle.std.specs.Prelude.{◌≡◌, ◌<◌};
+ghost use Rattle.m11_cpu_machine.specs.Status.{psw_of, status_of, status_written};
+
+use m11_base::ConditionCodes;
+
+/// The eight bits of the processor status word that this machine has.
+#[derive(Clone, Copy, Debug, PartialEq, Eq)]
+pub struct ProcessorStatus {
+    /// The priority, of which the lower three bits count. No device interrupts, so nothing is asked of it.
+    pub priority: u8,
+    /// Whether a trace trap follows each instruction.
+    pub trace: bool,
+    /// N, Z, V and C.
+    pub codes: ConditionCodes,
+}
+
+impl ProcessorStatus {
+    /// The status of a word, of which the lower eight bits count.
+    pub(crate) fn of_bits(bits: u16) -> ProcessorStatus
+        ensures { result ≡ status_of bits }
+    {
+        ProcessorStatus {
+            priority: (bits / 0o40 % 0o10) as u8,
+            trace: bits / 0o20 % 2 == 1,
+            codes: ConditionCodes {
+                negative: bits / 0o10 % 2 == 1,
+                zero: bits / 4 % 2 == 1,
+                overflow: bits / 2 % 2 == 1,
+                carry: bits % 2 == 1,
+            },
+        }
+    }
+
+    /// The status after a write of a word at its address, which leaves T as it was.
+    pub(crate) fn written(self, bits: u16) -> ProcessorStatus
+        ensures { result ≡ status_written bits self }
+    {
+        ProcessorStatus {
+            trace: self.trace,
+            ..ProcessorStatus::of_bits(bits)
+        }
+    }
+
+    /// The status as a word; the bits that this machine doesn't have are 0.
+    pub(crate) fn bits(self) -> u16
+        ensures bits { result ≡ psw_of self }
+        ensures byte { result < 256 }
+    {
+        u16::from(self.priority % 0o10) * 0o40
+            + u16::from(self.trace) * 0o20
+            + u16::from(self.codes.negative) * 0o10
+            + u16::from(self.codes.zero) * 4
+            + u16::from(self.codes.overflow) * 2
+            + u16::from(self.codes.carry)
+    }
+}

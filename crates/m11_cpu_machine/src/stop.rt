@@ -1,0 +1,91 @@
+//! Why a run ends, and what a step yields. (Numbers and names are this project's own: docs/PROCESSOR.md, "Stops".)
+
+ghost use Rattle.std.specs.Prelude.{◌≡◌};
+
+/// Why a run of a program ends.
+#[derive(Clone, Copy, Debug, PartialEq, Eq)]
+pub enum Stop {
+    /// 1: HALT.
+    Halt,
+    /// 2: as many steps as are allowed were made.
+    Limit,
+    /// 3: WAIT, which nothing can end, since no device interrupts.
+    Wait,
+    /// 4: a trap could not push onto the stack.
+    StackFault,
+    /// 5: the tape says no start: its transfer address is odd.
+    NoStart,
+    /// 6: the console's input failed.
+    InputFault,
+    /// 7: the console's output failed.
+    OutputFault,
+}
+
+/// A stop that stands: each further step returns it, and changes nothing.
+#[derive(Clone, Copy)]
+pub enum LastingStop {
+    /// A trap could not push onto the stack.
+    StackFault,
+    /// The console's input failed.
+    InputFault,
+    /// The console's output failed.
+    OutputFault,
+}
+
+/// What a step yields: the machine can go on, or it stops.
+#[derive(Clone, Copy, Debug, PartialEq, Eq)]
+pub enum Turn {
+    /// The next instruction can be begun, also after a trap.
+    Next,
+    /// The machine stops. After HALT and WAIT a further step goes on, after any other stop it returns the same one.
+    Stopped(Stop),
+}
+
+impl LastingStop {
+    ghost use Rattle.m11_cpu_machine.specs.Stop.{stop_of};
+
+    /// The same stop among all ways in which a run ends, for its number and its name.
+    pub fn stop(self) -> Stop
+        ensures { result ≡ stop_of self }
+    {
+        match self {
+            LastingStop::StackFault => Stop::StackFault,
+            LastingStop::InputFault => Stop::InputFault,
+            LastingStop::OutputFault => Stop::OutputFault,
+        }
+    }
+}
+
+impl Stop {
+    ghost use Rattle.m11_cpu_machine.specs.Stop.{stop_name, stop_number};
+
+    /// The stop's number, from 1 to 7.
+    pub fn number(self) -> u8
+        ensures { result ≡ stop_number self }
+    {
+        match self {
+            Stop::Halt => 1,
+            Stop::Limit => 2,
+            Stop::Wait => 3,
+            Stop::StackFault => 4,
+            Stop::NoStart => 5,
+            Stop::InputFault => 6,
+            Stop::OutputFault => 7,
+        }
+    }
+
+    /// The stop's name, as the messages of a run have it.
+    pub fn name(self) -> &'static str
+        ensures { result.now ≡ stop_name self }
+    {
+        match self {
+            Stop::Halt => "HALT",
+            Stop::Limit => "LIMIT",
+            Stop::Wait => "WAIT",
+            Stop::StackFault => "STACK FAULT",
+            Stop::NoStart => "NO START",
+            Stop::InputFault => "INPUT FAULT",
+            Stop::OutputFault => "OUTPUT FAULT",
+        }
+    }
+}

@@ -1,0 +1,72 @@
+-- Reading from a feed whose text is known: which bytes are left, and how reading may stop where something can be read of them.
+use Rattle.std.specs.Prelude.{⊤}
+use Rattle.std.proofs.Common.{◌≡◌, ◌∙◌, ℕ, ◌<◌, List, ◌++◌, length, Option, Some, Ok, Err, sym, ap, subst, arith}
+use Rattle.std.proofs.lemmas.List.{append-nil, length-append}
+use Rattle.m11_base.specs.Feed.{Text, GivesByte, GivesBytes, GivesEnd}
+use Rattle.m11_obj_blocks.specs.declared.tape_fault.TapeFault.{TapeFault}
+use Rattle.m11_obj_blocks.specs.declared.tape_fault.TapeFault.TheVariants as fault
+use Rattle.m11_obj_blocks.specs.Limited.{Place, Took, Read, Inside, Between, Refused, Stop, Stops}
+use Rattle.m11_obj_blocks.specs.Tapes.{why_of}
+
+-- these bytes were given, and the others are left
+pub record Left (new : Place) (text : Text) (given : List ℕ) : Type 0 where
+  pub rest : Text
+  pub split : text.bytes ≡ given ++ rest.bytes
+  pub text_is : new.text ≡ Some rest
+
+pub left_after : (old new : Place) (text : Text) (given : List ℕ) → old.text ≡ Some text → Took old new given
+    → Left new text given
+left_after old new text given known took =
+    let gave = subst (λ (t : Option Text). GivesBytes t new.text given) known took.gave in
+    record { rest = record { bytes = gave.0; ending = text.ending }; split = gave.1; text_is = gave.2 }
+
+-- how reading may stop where something can be read of the bytes that are left
+abbrev pub MayStop : ℕ → List ℕ → TapeFault → Type 0
+MayStop room bytes fault.Device = ⊤
+MayStop room bytes fault.TooMuch = room < length bytes
+MayStop room bytes other = ⊥
+
+module _ (old middle : Place) (text : Text) (known : old.text ≡ Some text) (given : List ℕ) (took : Took old middle given)
+    (new : Option Text) where
+  -- the end came after all bytes
+  all_given : GivesEnd middle.text new → text.bytes ≡ given
+  all_given ends =
+      let left = left_after old middle text given known took in
+      let end = subst (λ (t : Option Text). GivesEnd t new) left.text_is ends in
+      left.split ∙ ap (λ (rest : List ℕ). given ++ rest) end.0.0 ∙ append-nil given
+
+  -- a byte came that is past the limit
+  room_passed : (byte : ℕ) → GivesByte middle.text new byte → middle.room ≡ 0 → old.room < length text.bytes
+  room_passed byte gives full =
+      let left = left_after old middle text given known took in
+      let one = subst (λ (t : Option Text). GivesByte t new byte) left.text_is gives in
+      omega (arith, took.room, full, ap length left.split, length-append given left.rest.bytes, ap length one.1)
+
+module _ {A : Type 0} (read : List ℕ → Read TapeFault A) (old new : Place) (text : Text) (known : old.text ≡ Some text)
+    (x : A × List ℕ) (is_read : read text.bytes ≡ Ok x) where
+  no_stop : (bytes : List ℕ) (stop : Stop TapeFault) → text.bytes ≡ bytes → read bytes ≡ Err stop → ⊥
+  no_stop bytes stop same e = let bad = sym is_read ∙ ap read same ∙ e in cc
+
+  not_refused : (said : TapeFault) (given : List ℕ) → Took old new given
+      → ((rest : List ℕ) → read (given ++ rest) ≡ Err (Refused said rest)) → ⊥
+  not_refused said given took refused =
+      let left = left_after old new text given known took in
+      no_stop (given ++ left.rest.bytes) (Refused said left.rest.bytes) left.split (refused left.rest.bytes)
+
+  pub may_stop : (said : TapeFault) → Stops read old new (why_of said) → MayStop old.room text.bytes said
+  may_stop fault.Device s = tt
+  may_stop fault.Truncated s = absurd (no_stop s.0 Inside (all_given old s.1.0 text known s.0 s.1.1 new.text s.1.2.0) s.2)
+  may_stop fault.BadSum s = absurd (not_refused fault.BadSum s.0 s.1 s.2)
+  may_stop fault.BadStart s = absurd (not_refused fault.BadStart s.0 s.1 s.2)
+  may_stop fault.TooShort s = absurd (not_refused fault.TooShort s.0 s.1 s.2)
+  may_stop fault.Failed s = absurd s
+  may_stop fault.NoTransfer s = absurd (no_stop s.0 Between (all_given old s.1.0 text known s.0 s.1.1 new.text s.1.2.0) s.2)
+  may_stop fault.TooMuch s = room_passed old s.1.0 text known s.0 s.1.1 new.text s.1.2.0 s.1.2.1 s.1.2.3
+
+-- the same of what was left before some bytes were given
+pub stops_before : (old new : Place) (text : Text) (given : List ℕ) (took : Took old new given) (left : Left new text given)
+    (said : TapeFault) → MayStop new.room left.rest.bytes said → MayStop old.room text.bytes said
+stops_before old new text given took left fault.Device h = tt
+stops_before old new text given took left fault.TooMuch h =
+    omega (arith, h, took.room, ap length left.split, length-append given left.rest.bytes)
+stops_before old new text given took left other h = absurd h

@@ -1,8 +1,0 @@
-use Rattle.m11_expansions.proofs.Whole.{two_joined, unchanged}
-use Rattle.m11_expansions.proofs.laws.formals_alone_are_replaced.Goals as goal
-
-pub returns-clause-unchanged : goal.returns-clause-unchanged
-returns-clause-unchanged c = unchanged
-
-pub returns-clause-joins : goal.returns-clause-joins
-returns-clause-joins c = two_joined

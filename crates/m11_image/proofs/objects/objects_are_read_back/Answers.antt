@@ -1,5 +1,0 @@
-use Rattle.m11_image.proofs.ReadRecords.{is_read_back}
-use Rattle.m11_image.proofs.objects.objects_are_read_back.Goals as goal
-
-pub returns : goal.returns
-returns c = is_read_back

@@ -1,5 +1,0 @@
-use Rattle.m11_image.proofs.YieldedParts.{yields_parts}
-use Rattle.m11_image.proofs.objects.objects_yield_their_parts.Goals as goal
-
-pub returns : goal.returns
-returns c = yields_parts

@@ -1,5 +1,0 @@
-use Rattle.m11_image.proofs.ReadDirectories.{has_texts}
-use Rattle.m11_image.proofs.objects.texts_are_read_back.Goals as goal
-
-pub returns : goal.returns
-returns c = has_texts

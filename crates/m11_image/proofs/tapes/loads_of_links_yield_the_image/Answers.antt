@@ -1,5 +1,0 @@
-use Rattle.m11_image.proofs.TapesHold.{load_given}
-use Rattle.m11_image.proofs.tapes.loads_of_links_yield_the_image.Goals as goal
-
-pub returns : goal.returns
-returns c = load_given

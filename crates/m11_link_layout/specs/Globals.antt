@@ -1,0 +1,129 @@
+-- Globals: where each is defined, and how it is referred to. (RT-11 Volume and File Formats Manual, "Object file
+-- format", GSD and RLD blocks. Weak references are this project's own: bit 001 of an entry that defines nothing.)
+use Rattle.std.specs.Prelude.{ℕ, ◌+◌, ◌%◌, map, option_map, Bool, ◌&&◌, not, List, [], ◌∷◌, Option, Some, None, if◌then◌else◌}
+use Rattle.std.specs.List.{filter_map, list_any}
+use Rattle.std.specs.Map.{keys_of, lookup}
+use Rattle.m11_base.specs.Rad50.{Name, is_same_name}
+use Rattle.m11_obj.specs.declared.gsd.GsdEntry.{GsdEntry}
+use Rattle.m11_obj.specs.declared.gsd.GsdKind.{GsdKind}
+use Rattle.m11_obj.specs.declared.gsd.GsdKind.TheVariants.{GlobalSymbol}
+use Rattle.m11_link_modules.specs.Names.{is_among}
+use Rattle.m11_link_modules.specs.Parts.{Part, Entry, Relocated}
+use Rattle.m11_link_modules.specs.Places.{distinct, this_module, modules_in, sections_in, global_of}
+use Rattle.m11_link_modules.specs.Rules.{defines}
+use Rattle.m11_obj.specs.Gsd.{has_bits}
+use Rattle.m11_link_layout.specs.Modules.{name_at, reported_after}
+use Rattle.m11_link_layout.specs.Sections.{module_base}
+use Rattle.m11_link_layout.specs.declared.definition.Definition.{Definition}
+use Rattle.m11_link_layout.specs.declared.definition.GlobalPlace.{GlobalPlace}
+use Rattle.m11_link_layout.specs.declared.definition.GlobalPlace.TheVariants.{Absolute, In}
+use Rattle.m11_link_layout.specs.declared.planned.PlannedGlobal.{PlannedGlobal}
+
+-- ---- definitions
+
+abbrev pub last_of : {X : Type 0} → List X → Option X
+last_of [] = None
+last_of (x ∷ []) = Some x
+last_of (x ∷ y ∷ xs) = last_of (y ∷ xs)
+
+-- the section that a module entered last
+unfoldable pub last_section : List Part → Option Name
+last_section parts = last_of (keys_of (sections_in parts))
+
+-- a relocatable symbol stands in the section that its module entered last, octal 40 being its bit
+abbrev pub place_in : Option Name → ℕ → GlobalPlace
+place_in None value = Absolute value
+place_in (Some section) value = In section value
+
+abbrev pub place_of : Option Name → GsdEntry → GlobalPlace
+place_of section entry = if has_bits 0o40 entry.flags then place_in section entry.value else Absolute entry.value
+
+abbrev pub definition_by : GsdKind → GsdEntry → ℕ → Option Name → Option (Name × Definition)
+definition_by GlobalSymbol entry modules section =
+    if defines entry then Some (entry.name, record { module_index = modules; place = place_of section entry }) else None
+definition_by kind entry modules section = None
+
+-- the definition in a part, after the parts before it
+abbrev pub definition_in : List Part → Part → Option (Name × Definition)
+definition_in before (Entry entry) =
+    definition_by entry.kind entry (modules_in before) (last_section (this_module before))
+definition_in before part = None
+
+-- all definitions, in order
+unfoldable pub definitions_of : List Part → List (Name × Definition)
+definitions_of parts = reported_after definition_in [] parts
+
+-- ---- values
+
+-- the value of a definition's place: a relocatable one lies after its module's contribution
+abbrev pub place_value : ℕ → List Part → ℕ → GlobalPlace → ℕ
+place_value bottom parts index (Absolute value) = value
+place_value bottom parts index (In section value) = (module_base bottom parts index section + value) % 0o200000
+
+abbrev pub definition_value : ℕ → List Part → Definition → ℕ
+definition_value bottom parts definition = place_value bottom parts definition.module_index definition.place
+
+-- the first definition of a global
+abbrev pub first_definition : List Part → Name → Option Definition
+first_definition parts name = lookup (is_same_name name) (definitions_of parts)
+
+-- its value, where it is defined
+unfoldable pub global_value : ℕ → List Part → Name → Option ℕ
+global_value bottom parts name = option_map (definition_value bottom parts) (first_definition parts name)
+
+abbrev pub global_reported : ℕ → List Part → Name → Definition → PlannedGlobal
+global_reported bottom parts name definition = record {
+  name = name;
+  value = definition_value bottom parts definition;
+  module_name = name_at parts definition.module_index;
+}
+
+abbrev pub global_defined : ℕ → List Part → Name → Option PlannedGlobal
+global_defined bottom parts name = option_map (global_reported bottom parts name) (first_definition parts name)
+
+-- the globals that are defined, in order of first definition, each with its value and the name of the module that
+-- defines it first
+unfoldable pub globals_of : ℕ → List Part → List PlannedGlobal
+globals_of bottom parts = filter_map (global_defined bottom parts) (distinct (keys_of (definitions_of parts)))
+
+-- ---- references
+
+-- an entry that defines nothing refers; weakly where its bit 001 is set
+abbrev pub weak_by : GsdKind → GsdEntry → Option Name
+weak_by GlobalSymbol entry = if not (defines entry) && has_bits 1 entry.flags then Some entry.name else None
+weak_by kind entry = None
+
+abbrev pub weak_in : Part → Option Name
+weak_in (Entry entry) = weak_by entry.kind entry
+weak_in part = None
+
+-- the names that a module's entries refer to weakly
+unfoldable pub weak_names : List Part → List Name
+weak_names parts = filter_map weak_in parts
+
+-- a reference, and whether it is strong: an entry's by its bit, a relocation's where its module has no weak entry
+abbrev pub reference_by : GsdKind → GsdEntry → Option (Name × Bool)
+reference_by GlobalSymbol entry = if defines entry then None else Some (entry.name, not (has_bits 1 entry.flags))
+reference_by kind entry = None
+
+abbrev pub relocated_reference : List Name → Option Name → Option (Name × Bool)
+relocated_reference weak None = None
+relocated_reference weak (Some name) = Some (name, not (is_among weak name))
+
+abbrev pub reference_in : List Part → Part → Option (Name × Bool)
+reference_in before (Entry entry) = reference_by entry.kind entry
+reference_in before (Relocated relocation) =
+    relocated_reference (weak_names (this_module before)) (global_of relocation.target)
+reference_in before part = None
+
+-- all references, in order
+unfoldable pub references_of : List Part → List (Name × Bool)
+references_of parts = reported_after reference_in [] parts
+
+abbrev pub is_strong_to : Name → Name × Bool → Bool
+is_strong_to name reference = is_same_name name reference.0 && reference.1
+
+-- the names that are referred to, in order of first reference, each with whether some reference is strong
+unfoldable pub referred : List Part → List (Name × Bool)
+referred parts =
+    map (λ name. (name, list_any (is_strong_to name) (references_of parts))) (distinct (keys_of (references_of parts)))

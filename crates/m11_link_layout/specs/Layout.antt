@@ -1,0 +1,49 @@
+-- The first pass of a link, call by call: what stands after the parts so far. (This project's own.)
+use Rattle.std.specs.Prelude.{◌≡◌, ◌⊎◌, ℕ, List, [], ◌++◌, Option, Some, None, Result, Ok, Err}
+use Rattle.m11_base.specs.Devices.{Bytes}
+use Rattle.m11_obj.specs.Reading.{content_of}
+use Rattle.m11_link_modules.specs.declared.fault.ModuleFault.{ModuleFault}
+use Rattle.m11_link_modules.specs.Parts.{Part}
+use Rattle.m11_link_modules.specs.Places.{Known, known_of}
+use Rattle.m11_link_modules.specs.Rules.{StopsAtName, first_fault}
+use Rattle.m11_link_modules.specs.Parts.{record_parts}
+use Rattle.m11_link_layout.specs.Fault.{of_module}
+use Rattle.m11_link_layout.specs.Tables.{Gathered, gathered_after_all, nothing_gathered}
+use Rattle.m11_link_layout.specs.declared.fault.LinkFault.{LinkFault}
+use Rattle.m11_link_layout.specs.declared.fault.LinkFault.TheVariants.{Record, NoMemory}
+
+-- a layout between two calls
+pub record LayoutState : Type 0 where
+  pub known : Known
+  pub gathered : Gathered
+  pub bottom : ℕ
+  pub fault : Option LinkFault
+
+-- it stands after these parts, of which none has a fault
+pub record LayoutStands (bottom : ℕ) (parts : List Part) (reading : LayoutState) : Type 0 where
+  pub sound : first_fault [] parts ≡ None
+  pub known : reading.known ≡ known_of parts
+  pub gathered : reading.gathered ≡ gathered_after_all bottom nothing_gathered parts
+  pub bottom_is : reading.bottom ≡ bottom
+  pub fault : reading.fault ≡ None
+
+-- the first fault of parts after others, reported as that of the link; or memory was refused at a part that adds a name,
+-- up to which none has a fault, or for what all of them say, of which none has one
+abbrev pub FirstFault : List Part → List Part → LinkFault → Type 0
+FirstFault before parts NoMemory = StopsAtName (first_fault before) parts ⊎ (first_fault before parts ≡ None)
+FirstFault before parts reported =
+    (fault : ModuleFault) × (first_fault before parts ≡ Some fault) × (reported ≡ of_module fault)
+
+-- parts were taken, or their first fault was returned
+abbrev pub TakesParts : ℕ → List Part → LayoutState → List Part → Result (Unit {0}) LinkFault → Type 0
+TakesParts bottom before new parts (Ok done) = LayoutStands bottom (before ++ parts) new
+TakesParts bottom before new parts (Err fault) = FirstFault before parts fault
+
+-- a block is no record, or its parts were taken
+abbrev pub TakesBlock : ℕ → List Part → LayoutState → Bytes → Result (Unit {0}) LinkFault → Type 0
+TakesBlock bottom before new bytes (Err (Record fault)) = content_of bytes ≡ Err fault
+TakesBlock bottom before new bytes result = TakesParts bottom before new (record_parts bytes) result
+
+-- where a fault was returned, it is returned again and nothing changes
+abbrev pub FailsAgain : LayoutState → LayoutState → Result (Unit {0}) LinkFault → Type 0
+FailsAgain old new result = (fault : LinkFault) → old.fault ≡ Some fault → (result ≡ Err fault) × (new ≡ old)

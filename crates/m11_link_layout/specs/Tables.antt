@@ -1,0 +1,222 @@
+-- What a layout gathers of the parts of objects, and how it goes on from part to part. (This project's own. That it is
+-- what Sections.antt and Globals.antt say of all parts is proved.)
+use Rattle.std.specs.Prelude.{◌≡◌, ℕ, ◌+◌, ◌==◌, max, min, Bool, true, false, ◌&&◌, ◌||◌, not, List, [], ◌∷◌, ◌++◌, length, slice_get, ⊤, Option, Some, None, Result, Ok, Err, if◌then◌else◌}
+use Rattle.std.specs.Int.RustNames.{bit_and}
+use Rattle.std.specs.Map.{lookup}
+use Rattle.std.specs.Option.{is_some, option_or, unwrap_or}
+use Rattle.indexmap.specs.IndexMap.{insert_entry}
+use Rattle.indexmap.specs.IndexSet.{insert_key}
+use Rattle.m11_base.specs.Rad50.{Name, is_same_name}
+use Rattle.m11_base.specs.Names.{absolute_name, blank_name}
+use Rattle.m11_obj.specs.declared.gsd.GsdEntry.{GsdEntry}
+use Rattle.m11_obj.specs.declared.gsd.GsdKind.{GsdKind}
+use Rattle.m11_obj.specs.declared.gsd.GsdKind.TheVariants.{ModuleName, ControlSection, TransferAddress, GlobalSymbol, ProgramSection}
+use Rattle.m11_link_modules.specs.Names.{is_among}
+use Rattle.m11_link_modules.specs.Parts.{Part, Entry, Relocated, EndOfModule}
+use Rattle.m11_link_modules.specs.Places.{global_of}
+use Rattle.m11_link_modules.specs.Rules.{defines}
+use Rattle.m11_obj.specs.Gsd.{has_bits}
+use Rattle.m11_link_layout.specs.declared.definition.Definition.{Definition}
+use Rattle.m11_link_layout.specs.declared.definition.Total.{Total}
+use Rattle.m11_link_layout.specs.declared.definition.Transfer.{Transfer}
+use Rattle.m11_link_layout.specs.Sections.{is_relocatable, is_overlaid, rounded, control_attributes, attribute_bits, flags_of}
+use Rattle.m11_link_layout.specs.Transfers.{is_even}
+use Rattle.m11_link_layout.specs.Globals.{place_of}
+
+pub record Gathered : Type 0 where
+  -- sections, in order of first appearance
+  pub sections : List (Name × Total)
+  -- the offsets of contributions, by the module's index and the section
+  pub contributions : List ((ℕ × Name) × ℕ)
+  -- the names of the modules that ended, and that of this one, as far as it is given
+  pub names : List Name
+  pub name : Option Name
+  -- the section that this module entered last, and the names that it refers to weakly
+  pub section : Option Name
+  pub weak : List Name
+  -- globals in order of first definition, and in order of first reference with whether one is strong
+  pub definitions : List (Name × Definition)
+  pub references : List (Name × Bool)
+  -- the first transfer address that is even; and the one that is, should this module still enter `. ABS.` as
+  -- relocatable
+  pub transfer : Option Transfer
+  pub moved : Option Transfer
+
+-- ---- sections
+
+-- sizes are counted up to octal 200000, which is past all addresses
+abbrev pub size_cap : ℕ
+size_cap = 0o200000
+
+-- a contribution's size in a section of these attributes: rounded where the section is relocated
+abbrev pub contributed : ℕ → ℕ → ℕ
+contributed attributes size = if is_relocatable attributes then rounded size else size
+
+abbrev pub is_concatenated : ℕ → Bool
+is_concatenated attributes = is_relocatable attributes && not (is_overlaid attributes)
+
+-- the size after one more contribution
+abbrev pub joined : ℕ → ℕ → ℕ → ℕ
+joined attributes before size = min size_cap
+    (if is_concatenated attributes then min size_cap before + contributed attributes size
+    else max before (contributed attributes size))
+
+-- a section after one more entry, whose attributes count where it is the first
+abbrev pub total_after : Option Total → ℕ → ℕ → Total
+total_after None attributes size =
+    record { attributes = flags_of attributes; size = min size_cap (contributed attributes size) }
+total_after (Some total) attributes size =
+    record { attributes = total.attributes; size = joined total.attributes.0 total.size size }
+
+-- where the next contribution lies in a section
+abbrev pub next_offset : Option Total → ℕ
+next_offset None = 0
+next_offset (Some total) = if is_concatenated total.attributes.0 then total.size else 0
+
+abbrev pub is_contribution : ℕ × Name → ℕ × Name → Bool
+is_contribution one other = (one.0 == other.0) && is_same_name one.1 other.1
+
+-- the contribution of a module to a section stands at this index, and lies at this offset
+abbrev pub StandsAt : ℕ × Name → ℕ → ℕ → List ((ℕ × Name) × ℕ) → Type 0
+StandsAt key index offset contributions = (stored : ℕ × Name)
+    × (slice_get contributions index ≡ Some (stored, offset)) × (is_contribution key stored ≡ true)
+
+abbrev pub with_total : Name → Total → Gathered → Gathered
+with_total name total g = record g { sections = insert_entry is_same_name g.sections name total }
+
+abbrev pub with_contribution : Name → ℕ → Gathered → Gathered
+with_contribution name offset g = record g {
+  contributions = insert_entry is_contribution g.contributions (length g.names, name) offset;
+  section = Some name;
+}
+
+abbrev pub with_section_after : Option Total → GsdEntry → ℕ → Gathered → Gathered
+with_section_after found entry attributes g = with_contribution entry.name (next_offset found)
+    (with_total entry.name (total_after found attributes entry.value) g)
+
+abbrev pub with_section : GsdEntry → ℕ → Gathered → Gathered
+with_section entry attributes g = with_section_after (lookup (is_same_name entry.name) g.sections) entry attributes g
+
+-- ---- globals
+
+abbrev pub with_reference : Name → Bool → Gathered → Gathered
+with_reference name is_strong g = record g {
+  references = insert_entry is_same_name g.references name
+      (unwrap_or (lookup (is_same_name name) g.references) false || is_strong);
+}
+
+-- a pair counts where it is the first of its name
+abbrev pub with_first : {X : Type 0} → List (Name × X) → Option (Name × X) → List (Name × X)
+with_first found None = found
+with_first found (Some pair) =
+    if is_some (lookup (is_same_name pair.0) found) then found else insert_entry is_same_name found pair.0 pair.1
+
+abbrev pub with_definition : GsdEntry → Gathered → Gathered
+with_definition entry g = record g {
+  definitions = with_first g.definitions
+      (Some (entry.name, record { module_index = length g.names; place = place_of g.section entry }));
+}
+
+abbrev pub with_weak : Name → Gathered → Gathered
+with_weak name g = record (with_reference name false g) { weak = insert_key is_same_name g.weak name }
+
+abbrev pub with_symbol : GsdEntry → Gathered → Gathered
+with_symbol entry g =
+    if defines entry then with_definition entry g
+    else if has_bits 1 entry.flags then with_weak entry.name g else with_reference entry.name true g
+
+abbrev pub with_relocated : Option Name → Gathered → Gathered
+with_relocated None g = g
+with_relocated (Some name) g = with_reference name (not (is_among g.weak name)) g
+
+-- ---- the transfer address
+
+-- whether an address is even that lies n bytes after a module's contribution: the base of a relocated one is
+-- even where the bottom is
+abbrev pub is_even_after : Bool → ℕ → ℕ → Bool
+is_even_after is_relocated bottom value = if is_relocated then is_even (bottom + value) else is_even value
+
+-- whether a section is relocated that this module entered; one that it didn't is as assumed
+abbrev pub is_relocated : Option Total → Bool → Bool
+is_relocated None assumed = assumed
+is_relocated (Some total) assumed = is_relocatable total.attributes.0
+
+-- the section, where the module entered it
+abbrev pub entered_total : Gathered → Name → Option Total
+entered_total g name =
+    if is_some (lookup (is_contribution (length g.names, name)) g.contributions)
+    then lookup (is_same_name name) g.sections else None
+
+abbrev pub transfer_after : Option Transfer → Bool → Transfer → Option Transfer
+transfer_after (Some transfer) is_even other = Some transfer
+transfer_after None is_even other = if is_even then Some other else None
+
+abbrev pub with_transfer : ℕ → GsdEntry → Gathered → Gathered
+with_transfer bottom entry g = record g {
+  transfer = transfer_after g.transfer
+      (is_even_after (is_relocated (entered_total g entry.name) false) bottom entry.value)
+      (record { module_index = length g.names; section = entry.name; value = entry.value });
+  moved = transfer_after g.moved
+      (is_even_after (is_relocated (entered_total g entry.name) true) bottom entry.value)
+      (record { module_index = length g.names; section = entry.name; value = entry.value });
+}
+
+-- the transfer address by what this module entered
+abbrev pub settled : Gathered → Option Transfer
+settled g = if is_relocated (entered_total g absolute_name) false then g.moved else g.transfer
+
+abbrev pub with_settled : Gathered → Gathered
+with_settled g = record g { transfer = settled g; moved = settled g }
+
+-- ---- parts
+
+abbrev pub with_name : Name → Gathered → Gathered
+with_name name g = record g { name = option_or g.name (Some name) }
+
+abbrev pub with_entry : ℕ → GsdKind → GsdEntry → Gathered → Gathered
+with_entry bottom ModuleName entry g = with_name entry.name g
+with_entry bottom ControlSection entry g = with_section entry (control_attributes entry.name) g
+with_entry bottom ProgramSection entry g = with_section entry (bit_and entry.flags attribute_bits) g
+with_entry bottom TransferAddress entry g = with_transfer bottom entry g
+with_entry bottom GlobalSymbol entry g = with_symbol entry g
+with_entry bottom kind entry g = g
+
+abbrev pub with_end : Gathered → Gathered
+with_end g = record g {
+  names = g.names ++ unwrap_or g.name blank_name ∷ [];
+  name = None;
+  section = None;
+  weak = [];
+  transfer = settled g;
+  moved = settled g;
+}
+
+unfoldable pub gathered_after : ℕ → Gathered → Part → Gathered
+gathered_after bottom g (Entry entry) = with_entry bottom entry.kind entry g
+gathered_after bottom g (Relocated relocation) = with_relocated (global_of relocation.target) g
+gathered_after bottom g EndOfModule = with_end g
+gathered_after bottom g part = g
+
+abbrev pub gathered_after_all : ℕ → Gathered → List Part → Gathered
+gathered_after_all bottom g [] = g
+gathered_after_all bottom g (part ∷ parts) = gathered_after_all bottom (gathered_after bottom g part) parts
+
+-- before any part
+abbrev pub nothing_gathered : Gathered
+nothing_gathered = record {
+  sections = [];
+  contributions = [];
+  names = [];
+  name = None;
+  section = None;
+  weak = [];
+  definitions = [];
+  references = [];
+  transfer = None;
+  moved = None;
+}
+
+-- the tables are these, or memory was refused
+abbrev pub TablesKeep : {A E : Type 0} → Gathered → Gathered → Result A E → Type 0
+TablesKeep new kept (Ok done) = new ≡ kept
+TablesKeep new kept (Err refused) = ⊤

@@ -1,0 +1,50 @@
+//! The attributes that entries of sections have. (MACRO-11 Language Reference Manual, ".PSECT directive", ".ASECT and
+//! .CSECT directives"; RT-11 Volume and File Formats Manual, "Object file format", GSD block.)
+
+ghost use Rattle.std.specs.Prelude.{◌≡◌, Some, option_map};
+ghost use Rattle.std.specs.Int.RustNames.{bit_and};
+ghost use Rattle.m11_link_layout.specs.Sections.{attributes_by, control_attributes};
+
+use bitflags::Flags;
+use m11_base::{Name, absolute_section, blank_name};
+use m11_obj::{GsdEntry, GsdKind, SectionFlags};
+
+// The bits of a flags byte that are attributes.
+const ATTRIBUTES: u8 = 0o365;
+
+/// The attributes of a control section: those of its directive, whatever its flags byte.
+pub(crate) fn control_attributes(name: Name) -> SectionFlags
+    ensures { result.0 ≡ control_attributes name }
+{
+    if name == absolute_section() {
+        SectionFlags::GLOBAL.union(SectionFlags::OVERLAID)
+    } else if name == blank_name() {
+        SectionFlags::RELOCATABLE
+    } else {
+        SectionFlags::GLOBAL
+            .union(SectionFlags::RELOCATABLE)
+            .union(SectionFlags::OVERLAID)
+    }
+}
+
+/// The attributes in a flags byte.
+pub(crate) fn attributes_in(flags: u8) -> SectionFlags
+    ensures { result.0 ≡ bit_and flags 0o365 }
+{
+    SectionFlags::from_bits_retain(flags & ATTRIBUTES)
+}
+
+/// The attributes that an entry gives its section; `None` where it enters no section.
+pub fn section_attributes(entry: &GsdEntry) -> Option<SectionFlags>
+    ensures { option_map (λ flags. (entry.now.name, flags.0)) result ≡ attributes_by entry.now.kind entry.now }
+{
+    match entry.kind {
+        GsdKind::ControlSection => Some(control_attributes(entry.name)),
+        GsdKind::ProgramSection => Some(attributes_in(entry.flags)),
+        GsdKind::ModuleName => None,
+        GsdKind::InternalSymbol => None,
+        GsdKind::TransferAddress => None,
+        GsdKind::GlobalSymbol => None,
+        GsdKind::Identification => None,
+    }
+}

@@ -1,0 +1,162 @@
+//! What can go wrong in a link, each with its number and name.
+
+ghost use Rattle.std.specs.Prelude.{◌≡◌};
+ghost use Rattle.m11_link_layout.specs.Fault.{link_fault_name, link_fault_number, of_module};
+ghost use Rattle.m11_link_layout.specs.declared.fault.LinkFault.TheVariants.{NoMemory, Record};
+
+use m11_link_modules::ModuleFault;
+use m11_obj::{BlockFault, RecordFault};
+use std::alloc::{AllocError, AllocFailed};
+use thiserror::Error;
+
+/// An output of the linker.
+#[derive(Clone, Copy, Debug, PartialEq, Eq)]
+pub enum LinkOutput {
+    /// The absolute loader tape.
+    Tape,
+    /// The map.
+    Map,
+    /// The messages.
+    Messages,
+}
+
+/// Why a link ended early.
+#[derive(Clone, Copy, Debug, PartialEq, Eq, Error)]
+pub enum LinkFault {
+    /// 1: an object could not be read.
+    #[error("an object could not be read")]
+    Read,
+    /// 2: an output could not be written.
+    #[error("an output could not be written")]
+    Write(LinkOutput),
+    /// 3: bytes that are no block.
+    #[error("a block is malformed")]
+    Block(BlockFault),
+    /// 4: a block that is no record.
+    #[error("a record is malformed")]
+    Record(RecordFault),
+    /// 5: a record stands where none of its type may, a section is entered twice in a module, a relocatable global is
+    /// defined before any section is entered, or a file ends inside a module.
+    #[error("a record or an entry is out of order")]
+    BadOrder,
+    /// 6: a relocation has no text before it in its module.
+    #[error("a relocation has no text")]
+    NoText,
+    /// 7: a relocated place isn't wholly inside the text before it.
+    #[error("a relocation lies outside its text")]
+    BadDisplacement,
+    /// 8: a section other than `. ABS.` is named that the module didn't enter before.
+    #[error("a section is unknown in its module")]
+    UnknownSection,
+    /// 9: a relocatable section ends past octal 160000.
+    #[error("the program is too large")]
+    TooLarge,
+    /// 10: more than 8,192 names of globals.
+    #[error("too many globals")]
+    TooManyGlobals,
+    /// 11: more than 256 names of sections.
+    #[error("too many sections")]
+    TooManySections,
+    /// 12: more than 32 modules.
+    #[error("too many modules")]
+    TooManyModules,
+    /// 13: an object of more than 4,194,304 bytes.
+    #[error("an object is too long")]
+    TooMuch,
+    /// 14: a text doesn't end inside its section, as large as that is in its module.
+    #[error("a text lies outside its section")]
+    TextOutside,
+    /// 90: memory was refused.
+    #[error("no memory")]
+    NoMemory,
+}
+
+impl LinkFault {
+    /// The fault's number: from 1 to 14, or 90.
+    pub fn number(self) -> u8
+        ensures { result ≡ link_fault_number self }
+    {
+        match self {
+            LinkFault::Read => 1,
+            LinkFault::Write(_) => 2,
+            LinkFault::Block(_) => 3,
+            LinkFault::Record(_) => 4,
+            LinkFault::BadOrder => 5,
+            LinkFault::NoText => 6,
+            LinkFault::BadDisplacement => 7,
+            LinkFault::UnknownSection => 8,
+            LinkFault::TooLarge => 9,
+            LinkFault::TooManyGlobals => 10,
+            LinkFault::TooManySections => 11,
+            LinkFault::TooManyModules => 12,
+            LinkFault::TooMuch => 13,
+            LinkFault::TextOutside => 14,
+            LinkFault::NoMemory => 90,
+        }
+    }
+
+    /// The fault's name, as it is printed.
+    pub fn name(self) -> &'static str
+        ensures { result.now ≡ link_fault_name self }
+    {
+        match self {
+            LinkFault::Read => "Read",
+            LinkFault::Write(_) => "Write",
+            LinkFault::Block(_) => "Block",
+            LinkFault::Record(_) => "Record",
+            LinkFault::BadOrder => "BadOrder",
+            LinkFault::NoText => "NoText",
+            LinkFault::BadDisplacement => "BadDisplacement",
+            LinkFault::UnknownSection => "UnknownSection",
+            LinkFault::TooLarge => "TooLarge",
+            LinkFault::TooManyGlobals => "TooManyGlobals",
+            LinkFault::TooManySections => "TooManySections",
+            LinkFault::TooManyModules => "TooManyModules",
+            LinkFault::TooMuch => "TooMuch",
+            LinkFault::TextOutside => "TextOutside",
+            LinkFault::NoMemory => "NoMemory",
+        }
+    }
+}
+
+impl From<ModuleFault> for LinkFault {
+    ghost from_gives = { λ fault e. e ≡ of_module fault };
+
+    fn from(fault: ModuleFault) -> LinkFault {
+        match fault {
+            ModuleFault::BadOrder => LinkFault::BadOrder,
+            ModuleFault::NoText => LinkFault::NoText,
+            ModuleFault::BadDisplacement => LinkFault::BadDisplacement,
+            ModuleFault::UnknownSection => LinkFault::UnknownSection,
+            ModuleFault::TextOutside => LinkFault::TextOutside,
+            ModuleFault::TooManyGlobals => LinkFault::TooManyGlobals,
+            ModuleFault::TooManySections => LinkFault::TooManySections,
+            ModuleFault::TooManyModules => LinkFault::TooManyModules,
+            ModuleFault::NoMemory => LinkFault::NoMemory,
+        }
+    }
+}
+
+impl From<RecordFault> for LinkFault {
+    ghost from_gives = { λ fault e. e ≡ Record fault };
+
+    fn from(fault: RecordFault) -> LinkFault {
+        LinkFault::Record(fault)
+    }
+}
+
+impl From<AllocError> for LinkFault {
+    ghost from_gives = { λ _ e. e ≡ NoMemory };
+
+    fn from(_error: AllocError) -> LinkFault {
+        LinkFault::NoMemory
+    }
+}
+
+impl<T: Drop> From<AllocFailed<T>> for LinkFault {
+    ghost from_gives = { λ _ e. e ≡ NoMemory };
+
+    fn from(_error: AllocFailed<T>) -> LinkFault {
+        LinkFault::NoMemory
+    }
+}

@@ -1,0 +1,278 @@
+//! The first pass of a link: what it gathers, record by record.
+
+ghost use Rattle.std.specs.Prelude.{◌≡◌, ◌∷◌, [], ℕ, List, Some, None, Ok, Err, IfErr, IfOk, map};
+ghost use Rattle.std.specs.Result.{result_err};
+ghost use Rattle.m11_obj.specs.Contents.{unread_content, unread_directory};
+ghost use Rattle.m11_obj.specs.Reading.{AreEntries, AreRelocations, IsRecord, checked, content_of, relocations_left, relocations_of};
+ghost use Rattle.m11_link_modules.specs.Grammar.{directory_parts};
+ghost use Rattle.m11_link_modules.specs.Parts.{Part, EndOfDirectory, EndOfFile, EndOfModule, Relocated, Relocations, Text};
+ghost use Rattle.m11_link_modules.specs.Places.{global_of};
+ghost use Rattle.m11_link_modules.specs.Steps.{RulesTake, TakesOne};
+ghost use Rattle.m11_link_layout.specs.Tables.{gathered_after_all, with_relocated};
+ghost use Rattle.m11_link_layout.specs.Plan.{LayoutEnds};
+ghost use Rattle.m11_link_layout.specs.declared.fault.LinkFault.{LinkFault};
+ghost use Rattle.m11_link_layout.specs.Layout.{FailsAgain, LayoutStands, TakesBlock, TakesParts};
+
+use crate::fault::LinkFault;
+use crate::plan::{Plan, plan_of};
+use crate::tables::Tables;
+use m11_base::Latch;
+use m11_link_modules::{ModuleFault, Rules, refuse};
+use m11_obj::{
+    Block, Contents, GsdEntry, RecordFault, Relocation, UnreadEntries, UnreadRelocations,
+    read_contents,
+};
+use std::alloc::Global;
+use std::marker::Model;
+
+/// What the blocks of all objects have reported so far. It keeps modules, sections and globals, never text.
+#[derive(Drop)]
+pub struct Layout {
+    alloc: Global,
+    rules: Rules,
+    tables: Tables,
+    bottom: u16,
+    fault: Latch<LinkFault>,
+}
+
+impl Model for Layout {
+    ghost use Rattle.m11_link_layout.specs.Layout.{LayoutState};
+
+    ghost Value = { LayoutState };
+
+    ghost view = { λ l. record { known = l.rules; gathered = l.tables; bottom = l.bottom; fault = l.fault } };
+}
+
+impl Layout {
+    /// No block came so far; relocatable sections will lie from the bottom on, which may be any address.
+    pub fn new(alloc: Global, bottom: u16) -> Layout
+        ensures { LayoutStands bottom [] result }
+    {
+        Layout {
+            alloc,
+            rules: Rules::new(alloc),
+            tables: Tables::new(alloc),
+            bottom,
+            fault: Latch::new(),
+        }
+    }
+
+    /// Takes one block.
+    ///
+    /// Faults: `Record` where the block is no record, and then the first fault of its order and its entries;
+    /// `NoMemory` where memory is refused, for a part up to which there is no fault. After a fault each call returns it
+    /// again.
+    pub fn block(&mut self, block: &Block) -> Result<(), LinkFault>
+        ensures takes { (bottom : ℕ) (before : List Part) → LayoutStands bottom before self.old
+            → TakesBlock bottom before self.new block.now.items result }
+        ensures is_record { IfOk result (λ _. IsRecord block.now.items) }
+        ensures again { FailsAgain self.old self.new result }
+        ensures kept { self.new.fault ≡ result_err result }
+    {
+        self.fault.check()?;
+        let taken = self.take_block(block);
+        self.fault.keep(taken)
+    }
+
+    /// Takes the end of an object: `BadOrder` inside a module, and no other fault of its own. After a fault it is
+    /// returned again.
+    pub fn end_file(&mut self) -> Result<(), LinkFault>
+        ensures takes { (bottom : ℕ) (before : List Part) → LayoutStands bottom before self.old
+            → TakesParts bottom before self.new (EndOfFile ∷ []) result }
+        ensures inside { self.old.fault ≡ None → IfErr result (λ fault. fault ≡ LinkFault.BadOrder) }
+        ensures again { FailsAgain self.old self.new result }
+        ensures kept { self.new.fault ≡ result_err result }
+    {
+        self.fault.check()?;
+        let taken = self.take_end();
+        self.fault.keep(taken)
+    }
+
+    /// The end of the first pass: what it has found, as a plan for the second.
+    ///
+    /// Faults: the one that came before; `BadOrder` inside a module; then `TooLarge` where a relocatable section ends
+    /// past 160000; `NoMemory` where memory is refused for a section, once neither it nor one before it is too large.
+    pub fn end(self) -> Result<Plan, LinkFault>
+        ensures ends { (bottom : ℕ) (before : List Part) → LayoutStands bottom before self → LayoutEnds bottom before result }
+        ensures again { (fault : LinkFault) → self.fault ≡ Some fault → result ≡ Err fault }
+    {
+        let mut layout = self;
+        match layout.finish() {
+            Ok(()) => {
+                // proof: where it goes in place, this function alone takes minutes to prove
+                drop(layout.rules);
+                plan_of(layout.alloc, layout.bottom, layout.tables)
+            }
+            Err(fault) => {
+                drop(layout);
+                Err(fault)
+            }
+        }
+    }
+
+    // Takes the end of the last object, or returns the fault that came before.
+    fn finish(&mut self) -> Result<(), LinkFault>
+        ensures takes { (bottom : ℕ) (before : List Part) → LayoutStands bottom before self.old
+            → TakesParts bottom before self.new (EndOfFile ∷ []) result }
+        ensures inside { self.old.fault ≡ None → IfErr result (λ fault. fault ≡ LinkFault.BadOrder) }
+        ensures again { (fault : LinkFault) → self.old.fault ≡ Some fault → result ≡ Err fault }
+    {
+        self.fault.check()?;
+        self.take_end()
+    }
+
+    // Takes the end of an object where no fault came before.
+    fn take_end(&mut self) -> Result<(), LinkFault>
+        ensures takes { (bottom : ℕ) (before : List Part) → LayoutStands bottom before self.old
+            → TakesParts bottom before self.new (EndOfFile ∷ []) result }
+        ensures inside { IfErr result (λ fault. fault ≡ LinkFault.BadOrder) }
+        ensures kept { self.new.fault ≡ self.old.fault }
+    {
+        self.rules.end_of_file()?;
+        Ok(())
+    }
+
+    // Takes one block where no fault came before.
+    fn take_block(&mut self, block: &Block) -> Result<(), LinkFault>
+        ensures takes { (bottom : ℕ) (before : List Part) → LayoutStands bottom before self.old
+            → TakesBlock bottom before self.new block.now.items result }
+        ensures is_record { IfOk result (λ _. IsRecord block.now.items) }
+        ensures kept { self.new.fault ≡ self.old.fault }
+    {
+        match read_contents(block)? {
+            Contents::Directory(unread) => self.take_directory(&unread),
+            Contents::EndOfDirectory => self.take_end_of_directory(),
+            Contents::Text(address, bytes) => self.take_text(address, bytes),
+            Contents::Relocations(mut unread) => self.take_relocations(&mut unread),
+            Contents::InternalSymbols => Ok(()),
+            Contents::EndOfModule => self.take_end_of_module(),
+        }
+    }
+
+    // Takes the entries of a directory record, which stand in a block of these bytes. All of them are read before one is
+    // judged, since a fault of the record itself comes first.
+    fn take_directory(&mut self, unread: &UnreadEntries<'_>) -> Result<(), LinkFault>
+        ensures takes { (bottom : ℕ) (before : List Part) (bytes : List ℕ) → LayoutStands bottom before self.old
+            → content_of bytes ≡ unread_directory unread.now → TakesBlock bottom before self.new bytes result }
+        ensures are { IfOk result (λ _. AreEntries unread.now) }
+        ensures kept { self.new.fault ≡ self.old.fault }
+    {
+        let entries = unread.read()?;
+        self.take_entries(entries.as_slice())
+    }
+
+    // Takes a directory record of these entries: they are judged, and then noted.
+    fn take_entries(&mut self, entries: &[GsdEntry]) -> Result<(), LinkFault>
+        ensures takes { (bottom : ℕ) (before : List Part) → LayoutStands bottom before self.old
+            → TakesParts bottom before self.new (directory_parts entries.now) result }
+        ensures kept { self.new.fault ≡ self.old.fault }
+    {
+        self.rules.directory(entries)?;
+        self.tables.note_entries(self.bottom, entries)?;
+        Ok(())
+    }
+
+    // Takes the end of a directory, of which nothing is noted.
+    fn take_end_of_directory(&mut self) -> Result<(), LinkFault>
+        ensures takes { (bottom : ℕ) (before : List Part) → LayoutStands bottom before self.old
+            → TakesParts bottom before self.new (EndOfDirectory ∷ []) result }
+        ensures kept { self.new.fault ≡ self.old.fault }
+    {
+        self.rules.end_of_directory()?;
+        Ok(())
+    }
+
+    // Takes a text, of which nothing is noted.
+    fn take_text(&mut self, address: u16, bytes: &[u8]) -> Result<(), LinkFault>
+        ensures takes { (bottom : ℕ) (before : List Part) → LayoutStands bottom before self.old
+            → TakesParts bottom before self.new (Text address bytes.now ∷ []) result }
+        ensures kept { self.new.fault ≡ self.old.fault }
+    {
+        self.rules.text(address, bytes)?;
+        Ok(())
+    }
+
+    // Takes the end of a module: it is judged, and then noted.
+    fn take_end_of_module(&mut self) -> Result<(), LinkFault>
+        ensures takes { (bottom : ℕ) (before : List Part) → LayoutStands bottom before self.old
+            → TakesParts bottom before self.new (EndOfModule ∷ []) result }
+        ensures kept { self.new.fault ≡ self.old.fault }
+    {
+        self.rules.end_of_module()?;
+        self.tables.note_end()?;
+        Ok(())
+    }
+
+    // Takes the relocations of a record, which stand in a block of these bytes.
+    fn take_relocations(&mut self, unread: &mut UnreadRelocations<'_>) -> Result<(), LinkFault>
+        ensures takes { (bottom : ℕ) (before : List Part) (bytes : List ℕ) → LayoutStands bottom before self.old
+            → content_of bytes ≡ unread_content unread.old → TakesBlock bottom before self.new bytes result }
+        ensures are { IfOk result (λ _. AreRelocations unread.old) }
+        ensures kept { self.new.fault ≡ self.old.fault }
+    {
+        self.note_relocations(unread)??;
+        Ok(())
+    }
+
+    // Reads, judges and notes the relocations of a record, by what is known before it. What is wrong with one of them is
+    // returned where all of them are relocations.
+    #[tactic(auto, using(m11_link_modules::proofs::Taking::taken_then, m11_link_modules::proofs::Taking::refused_first), unfolding(crate::specs::Tables::gathered_after))]
+    fn note_relocations(
+        &mut self,
+        unread: &mut UnreadRelocations<'_>,
+    ) -> Result<Result<(), ModuleFault>, RecordFault>
+        ensures read { checked result ≡ checked (relocations_of unread.old) }
+        ensures judged { IfOk result (λ judged. RulesTake self.old.known self.new.known
+            (Relocations ∷ map (λ relocation. Relocated relocation) (relocations_left unread.old)) judged) }
+        ensures noted { IfOk result (λ judged. IfOk judged (λ _. self.new.gathered
+            ≡ gathered_after_all self.old.bottom self.old.gathered
+            (Relocations ∷ map (λ relocation. Relocated relocation) (relocations_left unread.old)))) }
+        ensures bottom { self.new.bottom ≡ self.old.bottom }
+        ensures kept { self.new.fault ≡ self.old.fault }
+    {
+        match self.rules.begin_relocations() {
+            Ok(()) => self.note_each_relocation(unread),
+            Err(fault) => refuse(unread, fault),
+        }
+    }
+
+    // Reads, judges and notes the relocations of a record in one walk.
+    fn note_each_relocation(
+        &mut self,
+        unread: &mut UnreadRelocations<'_>,
+    ) -> Result<Result<(), ModuleFault>, RecordFault>
+        ensures read { checked result ≡ checked (relocations_of unread.old) }
+        ensures judged { IfOk result (λ judged. RulesTake self.old.known self.new.known
+            (map (λ relocation. Relocated relocation) (relocations_left unread.old)) judged) }
+        ensures noted { IfOk result (λ judged. IfOk judged (λ _. self.new.gathered
+            ≡ gathered_after_all self.old.bottom self.old.gathered
+            (map (λ relocation. Relocated relocation) (relocations_left unread.old)))) }
+        ensures bottom { self.new.bottom ≡ self.old.bottom }
+        ensures kept { self.new.fault ≡ self.old.fault }
+    {
+        'relocations: loop {
+            match unread.read_next() {
+                Ok(Some(relocation)) => match self.note_relocation(relocation) {
+                    Ok(()) => {}
+                    Err(fault) => return refuse(unread, fault),
+                },
+                Ok(None) => return Ok(Ok(())),
+                Err(fault) => return Err(fault),
+            }
+        }
+    }
+
+    // Judges and notes a relocation.
+    #[tactic(auto, unfolding(m11_link_modules::specs::Steps::TakesOne))]
+    fn note_relocation(&mut self, relocation: Relocation) -> Result<(), ModuleFault>
+        ensures judged { TakesOne self.old.known self.new.known (Relocated relocation) result }
+        ensures noted { IfOk result (λ _. self.new.gathered ≡ with_relocated (global_of relocation.target) self.old.gathered) }
+        ensures bottom { self.new.bottom ≡ self.old.bottom }
+        ensures kept { self.new.fault ≡ self.old.fault }
+    {
+        let target = relocation.target;
+        self.rules.relocation(relocation)?;
+        self.tables.note_target(target)?;
+        Ok(())
+    }
+}

@@ -1,0 +1,280 @@
+//! What the first pass of a link has found: the plan for the second.
+
+ghost use Rattle.std.specs.Prelude.{◌≡◌, ◌+◌, ◌%◌, ◌<◌, IfErr, IfOk, Some, length, min, slice_get};
+ghost use Rattle.std.specs.Option.{option_map};
+ghost use Rattle.m11_link_layout.specs.Plan.{Plans, contribution_bases, definition_values, planned_attributes, planned_base, planned_globals, planned_module, planned_section_base, planned_sections, planned_transfer, planned_value, value_at};
+ghost use Rattle.m11_link_layout.specs.Sections.{most_size};
+
+use crate::bases::place_all;
+use crate::definition::GlobalPlace;
+use crate::fault::LinkFault;
+use crate::planned::{PlannedGlobal, PlannedSection};
+use crate::tables::Tables;
+use indexmap::IndexMap;
+use m11_base::Name;
+use m11_obj::SectionFlags;
+use std::alloc::Global;
+use std::marker::Model;
+
+/// Where sections and the modules' contributions to them lie, the values of globals, and where the program starts.
+#[derive(Drop)]
+pub struct Plan {
+    pub(crate) tables: Tables,
+    pub(crate) bases: IndexMap<Name, u16>,
+    // The bases of contributions and the values of globals, at the indices that those have in the tables. They are found
+    // once, since each relocation asks for one of them.
+    contribution_bases: Vec<u16>,
+    values: Vec<u16>,
+    pub(crate) bottom: u16,
+    pub(crate) top: u16,
+}
+
+impl Model for Plan {
+    ghost use Rattle.m11_link_layout.specs.Plan.{Planned, Lists};
+
+    ghost Value = { Planned };
+
+    ghost view = { λ p. record { gathered = p.tables; bases = p.bases.entries; bottom = p.bottom; top = p.top } };
+
+    ghost invariant = { λ p. Lists
+        (record { gathered = p.tables; bases = p.bases.entries; bottom = p.bottom; top = p.top })
+        p.contribution_bases.items p.values.items };
+}
+
+// The greatest size that a word holds; no section of a plan has a greater one.
+const MOST_SIZE: u32 = 0o177777;
+
+// The size of a section, as it is given.
+fn reported_size(size: u32) -> u16
+    ensures { result ≡ min most_size size }
+{
+    size.min(MOST_SIZE) as u16
+}
+
+// The address that lies n bytes after a base.
+fn moved(base: u16, offset: u32) -> u16
+    ensures { result ≡ (base + offset) % 0o200000 }
+{
+    ((u32::from(base) + offset % 0o200000) % 0o200000) as u16
+}
+
+/// The plan of what was gathered: `TooLarge` where a relocatable section ends past 160000. `NoMemory` where there is no
+/// memory for a section or, where there are sections, for what is listed of their contributions and of globals.
+pub(crate) fn plan_of(alloc: Global, bottom: u16, tables: Tables) -> Result<Plan, LinkFault>
+    ensures { Plans bottom tables result }
+{
+    let mut bases = IndexMap::new(alloc);
+    match place_all(&mut bases, bottom, &tables) {
+        Ok(top) => {
+            let mut plan = Plan {
+                tables,
+                bases,
+                contribution_bases: Vec::new(alloc),
+                values: Vec::new(alloc),
+                bottom,
+                top,
+            };
+            match plan.list(alloc) {
+                Ok(()) => Ok(plan),
+                Err(fault) => {
+                    drop(plan);
+                    Err(fault)
+                }
+            }
+        }
+        Err(fault) => {
+            // proof: values of several maps that go in place take minutes to prove
+            drop(bases);
+            drop(tables);
+            Err(fault)
+        }
+    }
+}
+
+impl Plan {
+    /// The base of a module's contribution to a section, by the module's index; 0 where the module doesn't enter it.
+    pub fn base(&self, module_index: usize, section: Name) -> u16
+        ensures { result ≡ planned_base self.now module_index section }
+    {
+        match self.tables.contribution(module_index, section) {
+            Some((index, offset)) => match self.contribution_bases.get(index) {
+                Some(base) => *base,
+                None => moved(self.section_base(section), offset),
+            },
+            None => 0,
+        }
+    }
+
+    // The base of a section; 0 where there is none of that name.
+    fn section_base(&self, section: Name) -> u16
+        ensures { result ≡ planned_section_base self.now section }
+    {
+        self.bases.get(&section).copied().unwrap_or(0)
+    }
+
+    /// The value of a global, where it is defined.
+    pub fn value(&self, name: Name) -> Option<u16>
+        ensures { result ≡ planned_value self.now name }
+    {
+        let index = self.tables.definition_index(name)?;
+        match self.values.get(index) {
+            Some(value) => Some(*value),
+            None => Some(self.defined_value(index)),
+        }
+    }
+
+    // The value of the global that is defined at an index below their number.
+    fn defined_value(&self, index: usize) -> u16
+        requires { index < length self.now.gathered.definitions }
+        ensures { slice_get (definition_values self.now) index ≡ Some result }
+    {
+        let (_, definition) = self.tables.definition_at(index);
+        self.value_at(definition.module_index, definition.place)
+    }
+
+    // Lists the bases of contributions and the values of globals. Where there are no sections there are no contributions,
+    // and globals are absolute: nothing is listed, and no memory is asked for.
+    fn list(&mut self, alloc: Global) -> Result<(), LinkFault>
+        ensures same { self.new ≡ self.old }
+        ensures no_memory { IfErr result (λ fault. fault ≡ LinkFault.NoMemory) }
+        ensures some { IfErr result (λ _. 0 < length self.old.gathered.sections) }
+    {
+        if self.tables.section_count() == 0 {
+            return Ok(());
+        }
+        self.contribution_bases = self.listed_bases(alloc)?;
+        self.values = self.listed_values(alloc)?;
+        Ok(())
+    }
+
+    // The bases of all contributions, in order.
+    fn listed_bases(&self, alloc: Global) -> Result<Vec<u16>, LinkFault>
+        ensures bases { IfOk result (λ bases. bases.items ≡ contribution_bases self.now) }
+        ensures no_memory { IfErr result (λ fault. fault ≡ LinkFault.NoMemory) }
+    {
+        let count = self.tables.contribution_count();
+        let mut listed = Vec::with_capacity(alloc, count)?;
+        'contributions: for index in 0..count {
+            let (section, offset) = self.tables.contribution_at(index);
+            listed.push(moved(self.section_base(section), offset))?;
+        }
+        Ok(listed)
+    }
+
+    // The values of all globals that are defined, in order.
+    fn listed_values(&self, alloc: Global) -> Result<Vec<u16>, LinkFault>
+        ensures values { IfOk result (λ values. values.items ≡ definition_values self.now) }
+        ensures no_memory { IfErr result (λ fault. fault ≡ LinkFault.NoMemory) }
+    {
+        let count = self.tables.definition_count();
+        let mut listed = Vec::with_capacity(alloc, count)?;
+        'globals: for index in 0..count {
+            listed.push(self.defined_value(index))?;
+        }
+        Ok(listed)
+    }
+
+    // The value of a global that a module defines at this place.
+    fn value_at(&self, module_index: usize, place: GlobalPlace) -> u16
+        ensures { result ≡ value_at self.now module_index place }
+    {
+        match place {
+            GlobalPlace::Absolute(value) => value,
+            GlobalPlace::In(section, value) => self.base(module_index, section).wrapping_add(value),
+        }
+    }
+
+    /// The transfer address: the first even one of all modules, or 1, which starts nothing.
+    pub fn transfer(&self) -> u16
+        ensures { result ≡ planned_transfer self.now }
+    {
+        match self.tables.transfer() {
+            Some(transfer) => self
+                .base(transfer.module_index, transfer.section)
+                .wrapping_add(transfer.value),
+            None => 1,
+        }
+    }
+
+    /// The first address of relocatable sections, and the first one after them.
+    pub fn limits(&self) -> (u16, u16)
+        ensures { result ≡ (self.now.bottom, self.now.top) }
+    {
+        (self.bottom, self.top)
+    }
+
+    /// The number of sections.
+    #[tactic(auto, using(crate::proofs::PlannedLists::sections_counted))]
+    pub fn section_count(&self) -> usize
+        ensures { result ≡ length (planned_sections self.now) }
+    {
+        self.tables.section_count()
+    }
+
+    /// The section at an index below their number, in order of first appearance.
+    #[tactic(auto, using(crate::proofs::PlannedLists::sections_counted, crate::proofs::PlannedLists::section_found))]
+    pub fn section_at(&self, index: usize) -> PlannedSection
+        requires { index < length (planned_sections self.now) }
+        ensures { slice_get (planned_sections self.now) index ≡ Some result }
+    {
+        let (name, total) = self.tables.section_at(index);
+        PlannedSection {
+            name,
+            base: self.section_base(name),
+            size: reported_size(total.size),
+            attributes: total.attributes,
+        }
+    }
+
+    /// The attributes of a section's first entry, where a module enters it.
+    pub fn attributes(&self, section: Name) -> Option<SectionFlags>
+        ensures { option_map (λ attributes. attributes.0) result ≡ planned_attributes self.now section }
+    {
+        let total = self.tables.total(section)?;
+        Some(total.attributes)
+    }
+
+    /// The number of globals that are defined.
+    #[tactic(auto, using(crate::proofs::PlannedLists::globals_counted))]
+    pub fn global_count(&self) -> usize
+        ensures { result ≡ length (planned_globals self.now) }
+    {
+        self.tables.definition_count()
+    }
+
+    /// The global at an index below their number, in order of first definition.
+    #[tactic(auto, using(crate::proofs::PlannedLists::globals_counted, crate::proofs::PlannedLists::global_found))]
+    pub fn global_at(&self, index: usize) -> PlannedGlobal
+        requires { index < length (planned_globals self.now) }
+        ensures { slice_get (planned_globals self.now) index ≡ Some result }
+    {
+        let (name, definition) = self.tables.definition_at(index);
+        PlannedGlobal {
+            name,
+            value: self.value_at(definition.module_index, definition.place),
+            module_name: self.module_name(definition.module_index),
+        }
+    }
+
+    /// The number of globals that are referred to.
+    pub fn reference_count(&self) -> usize
+        ensures { result ≡ length self.now.gathered.references }
+    {
+        self.tables.reference_count()
+    }
+
+    /// The global at an index below their number, in order of first reference, and whether some reference is strong.
+    pub fn reference_at(&self, index: usize) -> (Name, bool)
+        requires { index < length self.now.gathered.references }
+        ensures { slice_get self.now.gathered.references index ≡ Some result }
+    {
+        self.tables.reference_at(index)
+    }
+
+    /// The name of the module of an index; blank past the last.
+    pub fn module_name(&self, module_index: usize) -> Name
+        ensures { result ≡ planned_module self.now module_index }
+    {
+        self.tables.module_name(module_index)
+    }
+}

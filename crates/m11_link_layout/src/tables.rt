@@ -1,0 +1,507 @@
+//! The tables that a layout gathers while records come.
+
+ghost use Rattle.std.specs.Prelude.{◌≡◌, ◌≤◌, ◌<◌, IfErr, IfSome, Some, get_or, is_some, option_map, length, map, slice_get, true};
+ghost use Rattle.m11_link_modules.specs.Parts.{Entry};
+ghost use Rattle.std.specs.Map.{lookup};
+ghost use Rattle.m11_base.specs.Names.{blank_name};
+ghost use Rattle.m11_base.specs.Rad50.{is_same_name};
+ghost use Rattle.m11_link_modules.specs.Places.{global_of};
+ghost use Rattle.m11_link_layout.specs.Tables.{StandsAt, TablesKeep, is_contribution, contributed, gathered_after_all, nothing_gathered, entered_total, is_concatenated, is_even_after, is_relocated, joined, next_offset, settled, total_after, with_definition, with_end, with_entry, with_name, with_reference, with_relocated, with_contribution, with_section, with_settled, with_symbol, with_total, with_transfer, with_weak};
+ghost use Rattle.m11_link_layout.specs.Globals.{place_of};
+ghost use Rattle.m11_link_layout.specs.Sections.{control_attributes};
+
+use crate::attributes::{attributes_in, control_attributes};
+use crate::definition::{Definition, GlobalPlace, Total, Transfer};
+use bitflags::Flags;
+use indexmap::{IndexMap, IndexSet};
+use m11_base::{Name, absolute_section, blank_name};
+use m11_obj::{GsdEntry, GsdKind, SectionFlags, SymbolFlags, Target};
+use std::alloc::{AllocError, Global};
+use std::marker::Model;
+
+/// The tables, in order of first appearance. No text is kept.
+#[derive(Drop)]
+pub(crate) struct Tables {
+    sections: IndexMap<Name, Total>,
+    contributions: IndexMap<(usize, Name), u32>,
+    names: Vec<Name>,
+    name: Option<Name>,
+    section: Option<Name>,
+    weak: IndexSet<Name>,
+    definitions: IndexMap<Name, Definition>,
+    references: IndexMap<Name, bool>,
+    transfer: Option<Transfer>,
+    // The same, should this module still enter `. ABS.` as relocatable, which its entries so far don't say.
+    moved: Option<Transfer>,
+}
+
+impl Model for Tables {
+    ghost use Rattle.m11_link_layout.specs.Tables.{Gathered};
+
+    ghost Value = { Gathered };
+
+    ghost view = { λ t. record {
+      sections = t.sections.entries;
+      contributions = t.contributions.entries;
+      names = t.names.items;
+      name = t.name;
+      section = t.section;
+      weak = t.weak.keys;
+      definitions = t.definitions.entries;
+      references = t.references.entries;
+      transfer = t.transfer;
+      moved = t.moved;
+    } };
+}
+
+// A contribution's size in a section of these attributes.
+fn contributed(attributes: SectionFlags, size: u16) -> u32
+    ensures size { result ≡ contributed attributes.0 size }
+    ensures most { result ≤ 65536 }
+{
+    let size = u32::from(size);
+    if attributes.contains(SectionFlags::RELOCATABLE) {
+        size + size % 2
+    } else {
+        size
+    }
+}
+
+// Whether contributions lie one after another.
+fn is_concatenated(attributes: SectionFlags) -> bool
+    ensures { result ≡ is_concatenated attributes.0 }
+{
+    attributes.contains(SectionFlags::RELOCATABLE) && !attributes.contains(SectionFlags::OVERLAID)
+}
+
+// The size of a section after one more contribution.
+fn joined(attributes: SectionFlags, before: u32, size: u16) -> u32
+    ensures { result ≡ joined attributes.0 before size }
+{
+    let size = contributed(attributes, size);
+    let joined = if is_concatenated(attributes) {
+        before.min(SIZE_CAP) + size
+    } else {
+        before.max(size)
+    };
+    joined.min(SIZE_CAP)
+}
+
+// Sizes are counted up to here, past all addresses: a relocatable section of this size is too large from any bottom.
+const SIZE_CAP: u32 = 0o200000;
+
+// A section after one more entry.
+fn total_after(found: Option<Total>, attributes: SectionFlags, size: u16) -> Total
+    ensures { result ≡ total_after found attributes.0 size }
+{
+    match found {
+        None => Total {
+            attributes,
+            size: contributed(attributes, size).min(SIZE_CAP),
+        },
+        Some(total) => Total {
+            attributes: total.attributes,
+            size: joined(total.attributes, total.size, size),
+        },
+    }
+}
+
+// Where the next contribution lies in a section.
+fn next_offset(found: Option<Total>) -> u32
+    ensures { result ≡ next_offset found }
+{
+    match found {
+        None => 0,
+        Some(total) => {
+            if is_concatenated(total.attributes) {
+                total.size
+            } else {
+                0
+            }
+        }
+    }
+}
+
+// Whether an address is even that lies n bytes after a contribution.
+fn is_even_after(is_relocated: bool, bottom: u16, value: u16) -> bool
+    ensures { result ≡ is_even_after is_relocated bottom value }
+{
+    if is_relocated {
+        (u32::from(bottom) + u32::from(value)) % 2 == 0
+    } else {
+        value % 2 == 0
+    }
+}
+
+// Whether a section is relocated that a module entered; one that it didn't is as assumed.
+fn is_relocated(total: Option<Total>, assumed: bool) -> bool
+    ensures { result ≡ is_relocated total assumed }
+{
+    match total {
+        None => assumed,
+        Some(total) => total.attributes.contains(SectionFlags::RELOCATABLE),
+    }
+}
+
+// Where an entry defines its symbol, the section that its module entered last being this one.
+fn place_of(section: Option<Name>, entry: &GsdEntry) -> GlobalPlace
+    ensures { result ≡ place_of section entry.now }
+{
+    let flags = SymbolFlags::from_bits_retain(entry.flags);
+    match section {
+        Some(section) if flags.contains(SymbolFlags::RELOCATABLE) => {
+            GlobalPlace::In(section, entry.value)
+        }
+        _ => GlobalPlace::Absolute(entry.value),
+    }
+}
+
+impl Tables {
+    /// No record came so far.
+    pub(crate) fn new(alloc: Global) -> Tables
+        ensures { result ≡ nothing_gathered }
+    {
+        Tables {
+            sections: IndexMap::new(alloc),
+            contributions: IndexMap::new(alloc),
+            names: Vec::new(alloc),
+            name: None,
+            section: None,
+            weak: IndexSet::new(alloc),
+            definitions: IndexMap::new(alloc),
+            references: IndexMap::new(alloc),
+            transfer: None,
+            moved: None,
+        }
+    }
+
+    /// The number of sections.
+    pub(crate) fn section_count(&self) -> usize
+        ensures { result ≡ length self.now.sections }
+    {
+        self.sections.len()
+    }
+
+    /// The section at an index below their number, in order of first appearance.
+    pub(crate) fn section_at(&self, index: usize) -> (Name, Total)
+        requires { index < length self.now.sections }
+        ensures { slice_get self.now.sections index ≡ Some result }
+    {
+        match self.sections.get_index(index) {
+            Some((name, total)) => (*name, *total),
+            None => unreachable!(),
+        }
+    }
+
+    /// A section.
+    pub(crate) fn total(&self, name: Name) -> Option<Total>
+        ensures { result ≡ lookup (is_same_name name) self.now.sections }
+    {
+        self.sections.get(&name).copied()
+    }
+
+    /// The index of the contribution of a module to a section, and where it lies in the section, if there is one.
+    pub(crate) fn contribution(&self, module_index: usize, section: Name) -> Option<(usize, u32)>
+        ensures offset { option_map (λ found. found.1) result
+            ≡ lookup (is_contribution (module_index, section)) self.now.contributions }
+        ensures at { IfSome result (λ found. StandsAt (module_index, section) found.0 found.1 self.now.contributions) }
+    {
+        match self.contributions.get_full(&(module_index, section)) {
+            Some((index, _, offset)) => Some((index, *offset)),
+            None => None,
+        }
+    }
+
+    /// The number of contributions.
+    pub(crate) fn contribution_count(&self) -> usize
+        ensures { result ≡ length self.now.contributions }
+    {
+        self.contributions.len()
+    }
+
+    /// The section of the contribution at an index below their number, and where it lies in the section.
+    pub(crate) fn contribution_at(&self, index: usize) -> (Name, u32)
+        requires { index < length self.now.contributions }
+        ensures { option_map (λ entry. (entry.0.1, entry.1)) (slice_get self.now.contributions index) ≡ Some result }
+    {
+        match self.contributions.get_index(index) {
+            Some((key, offset)) => (key.1, *offset),
+            None => unreachable!(),
+        }
+    }
+
+    /// The index of the first definition of a global.
+    pub(crate) fn definition_index(&self, name: Name) -> Option<usize>
+        ensures found { is_some result ≡ is_some (lookup (is_same_name name) self.now.definitions) }
+        ensures at { IfSome result (λ index. slice_get (map (λ entry. entry.1) self.now.definitions) index
+            ≡ lookup (is_same_name name) self.now.definitions) }
+        ensures within { IfSome result (λ index. index < length self.now.definitions) }
+    {
+        self.definitions.get_index_of(&name)
+    }
+
+    /// The number of globals that are defined.
+    pub(crate) fn definition_count(&self) -> usize
+        ensures { result ≡ length self.now.definitions }
+    {
+        self.definitions.len()
+    }
+
+    /// The definition at an index below their number, in order of first definition.
+    pub(crate) fn definition_at(&self, index: usize) -> (Name, Definition)
+        requires { index < length self.now.definitions }
+        ensures { slice_get self.now.definitions index ≡ Some result }
+    {
+        match self.definitions.get_index(index) {
+            Some((name, definition)) => (*name, *definition),
+            None => unreachable!(),
+        }
+    }
+
+    /// The number of globals that are referred to.
+    pub(crate) fn reference_count(&self) -> usize
+        ensures { result ≡ length self.now.references }
+    {
+        self.references.len()
+    }
+
+    /// The reference at an index below their number, in order of first reference, and whether one to it is strong.
+    pub(crate) fn reference_at(&self, index: usize) -> (Name, bool)
+        requires { index < length self.now.references }
+        ensures { slice_get self.now.references index ≡ Some result }
+    {
+        match self.references.get_index(index) {
+            Some((name, is_strong)) => (*name, *is_strong),
+            None => unreachable!(),
+        }
+    }
+
+    /// The name of a module that ended, by its index; blank past the last.
+    pub(crate) fn module_name(&self, module_index: usize) -> Name
+        ensures { result ≡ get_or self.now.names module_index blank_name }
+    {
+        match self.names.get(module_index) {
+            Some(name) => *name,
+            None => blank_name(),
+        }
+    }
+
+    /// The first even transfer address.
+    pub(crate) fn transfer(&self) -> Option<Transfer>
+        ensures { result ≡ settled self.now }
+    {
+        if is_relocated(self.entered_total(absolute_section()), false) {
+            self.moved
+        } else {
+            self.transfer
+        }
+    }
+
+    /// Notes the entries of a directory record, which the rules have taken.
+    pub(crate) fn note_entries(
+        &mut self,
+        bottom: u16,
+        entries: &[GsdEntry],
+    ) -> Result<(), AllocError>
+        ensures { TablesKeep self.new (gathered_after_all bottom self.old (map (λ entry. Entry entry) entries.now)) result }
+    {
+        'entries: for entry in entries {
+            match self.note_entry(bottom, entry) {
+                Ok(()) => {}
+                Err(refused) => return Err(refused),
+            }
+        }
+        Ok(())
+    }
+
+    // A section after one more contribution.
+    fn note_total(&mut self, name: Name, total: Total) -> Result<(), AllocError>
+        ensures { TablesKeep self.new (with_total name total self.old) result }
+    {
+        self.sections.insert(name, total)?;
+        Ok(())
+    }
+
+    // The contribution of this module to a section.
+    fn note_contribution(&mut self, name: Name, offset: u32) -> Result<(), AllocError>
+        ensures { TablesKeep self.new (with_contribution name offset self.old) result }
+    {
+        self.contributions.insert((self.names.len(), name), offset)?;
+        self.section = Some(name);
+        Ok(())
+    }
+
+    // A section's entry.
+    fn note_section(&mut self, entry: &GsdEntry, attributes: SectionFlags) -> Result<(), AllocError>
+        ensures { TablesKeep self.new (with_section entry.now attributes.0 self.old) result }
+    {
+        let found = self.total(entry.name);
+        self.note_total(entry.name, total_after(found, attributes, entry.value))?;
+        self.note_contribution(entry.name, next_offset(found))
+    }
+
+    // A reference to a global. One that is strong stays so.
+    fn note_reference(&mut self, name: Name, is_strong: bool) -> Result<(), AllocError>
+        ensures { TablesKeep self.new (with_reference name is_strong self.old) result }
+    {
+        let was_strong = self.references.get(&name).copied().unwrap_or(false);
+        if was_strong {
+            return Ok(());
+        }
+        self.references.insert(name, is_strong)?;
+        Ok(())
+    }
+
+    // A definition of a global, of which the first counts.
+    fn note_definition(&mut self, entry: &GsdEntry) -> Result<(), AllocError>
+        ensures { TablesKeep self.new (with_definition entry.now self.old) result }
+    {
+        match self.definitions.get(&entry.name) {
+            Some(_) => Ok(()),
+            None => {
+                let definition = Definition {
+                    module_index: self.names.len(),
+                    place: place_of(self.section, entry),
+                };
+                self.definitions.insert(entry.name, definition)?;
+                Ok(())
+            }
+        }
+    }
+
+    // A weak reference to a global by an entry.
+    fn note_weak(&mut self, name: Name) -> Result<(), AllocError>
+        ensures { TablesKeep self.new (with_weak name self.old) result }
+    {
+        self.note_reference(name, false)?;
+        self.weak.insert(name)?;
+        Ok(())
+    }
+
+    // A global symbol's entry.
+    fn note_symbol(&mut self, entry: &GsdEntry) -> Result<(), AllocError>
+        ensures { TablesKeep self.new (with_symbol entry.now self.old) result }
+    {
+        let flags = SymbolFlags::from_bits_retain(entry.flags);
+        if flags.contains(SymbolFlags::DEFINED) {
+            self.note_definition(entry)
+        } else if flags.contains(SymbolFlags::WEAK) {
+            self.note_weak(entry.name)
+        } else {
+            self.note_reference(entry.name, true)
+        }
+    }
+
+    // The section of this name, where this module entered it.
+    fn entered_total(&self, name: Name) -> Option<Total>
+        ensures { result ≡ entered_total self.now name }
+    {
+        match self.contributions.get(&(self.names.len(), name)) {
+            Some(_) => self.total(name),
+            None => None,
+        }
+    }
+
+    // A transfer address, of which the first even one counts.
+    fn note_transfer(&mut self, bottom: u16, entry: &GsdEntry)
+        ensures { self.new ≡ with_transfer bottom entry.now self.old }
+    {
+        let total = self.entered_total(entry.name);
+        let module_index = self.names.len();
+        let section = entry.name;
+        let value = entry.value;
+        if self.transfer.is_none() && is_even_after(is_relocated(total, false), bottom, value) {
+            self.transfer = Some(Transfer {
+                module_index,
+                section,
+                value,
+            });
+        }
+        if self.moved.is_none() && is_even_after(is_relocated(total, true), bottom, value) {
+            self.moved = Some(Transfer {
+                module_index,
+                section,
+                value,
+            });
+        }
+    }
+
+    // The transfer address by what this module entered.
+    fn settle(&mut self)
+        ensures { self.new ≡ with_settled self.old }
+    {
+        if is_relocated(self.entered_total(absolute_section()), false) {
+            self.transfer = self.moved;
+        } else {
+            self.moved = self.transfer;
+        }
+    }
+
+    // The module's name, of which the first counts.
+    fn note_name(&mut self, name: Name)
+        ensures { self.new ≡ with_name name self.old }
+    {
+        if self.name.is_none() {
+            self.name = Some(name);
+        }
+    }
+
+    // An entry of a directory.
+    fn note_entry(&mut self, bottom: u16, entry: &GsdEntry) -> Result<(), AllocError>
+        ensures { TablesKeep self.new (with_entry bottom entry.now.kind entry.now self.old) result }
+    {
+        match entry.kind {
+            GsdKind::ModuleName => {
+                self.note_name(entry.name);
+                Ok(())
+            }
+            GsdKind::ControlSection => self.note_section(entry, control_attributes(entry.name)),
+            GsdKind::ProgramSection => self.note_section(entry, attributes_in(entry.flags)),
+            GsdKind::TransferAddress => {
+                self.note_transfer(bottom, entry);
+                Ok(())
+            }
+            GsdKind::GlobalSymbol => self.note_symbol(entry),
+            GsdKind::InternalSymbol => Ok(()),
+            GsdKind::Identification => Ok(()),
+        }
+    }
+
+    /// The target of a relocation, which may refer to a global.
+    pub(crate) fn note_target(&mut self, target: Target) -> Result<(), AllocError>
+        ensures noted { TablesKeep self.new (with_relocated (global_of target) self.old) result }
+        ensures adds { IfErr result (λ _. is_some (global_of target) ≡ true) }
+    {
+        match target {
+            Target::Global(name) => self.note_relocated(name),
+            Target::GlobalDisplaced(name) => self.note_relocated(name),
+            Target::GlobalAdditive(name, _) => self.note_relocated(name),
+            Target::GlobalAdditiveDisplaced(name, _) => self.note_relocated(name),
+            _ => Ok(()),
+        }
+    }
+
+    // A relocation's reference to a global: weak where an entry of this module is.
+    fn note_relocated(&mut self, name: Name) -> Result<(), AllocError>
+        ensures { TablesKeep self.new (with_relocated (Some name) self.old) result }
+    {
+        let is_weak = self.weak.contains(&name);
+        self.note_reference(name, !is_weak)
+    }
+
+    /// The end of a module.
+    pub(crate) fn note_end(&mut self) -> Result<(), AllocError>
+        ensures { TablesKeep self.new (with_end self.old) result }
+    {
+        let name = match self.name {
+            Some(name) => name,
+            None => blank_name(),
+        };
+        self.settle();
+        self.names.push(name)?;
+        self.name = None;
+        self.section = None;
+        self.weak.clear();
+        Ok(())
+    }
+}

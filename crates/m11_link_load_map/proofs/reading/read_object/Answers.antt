@@ -1,0 +1,66 @@
+use Rattle.std.proofs.Common.{refl, rules}
+use Rattle.m11_obj_blocks.specs.Limited.{place}
+use Rattle.m11_link.proofs.FirstRead.{laid_refused, laid_stops}
+use Rattle.m11_link.proofs.ObjectsRead.{block_falls, reads_on}
+use Rattle.m11_link_load_map.proofs.ReadOn.{seen_ends, seen_first, seen_more, stands_here}
+use Rattle.m11_link_load_map.proofs.reading.read_object.Goals as goal
+
+pub items-init : goal.items-init
+items-init g c = rw c.new-reader.ensures (record {
+  reads = search rules;
+  seen = λ bottom before s. seen_first (g.F.Feed.text c.args.feed.now) (g.F.Feed.faults c.args.feed.now) bottom before
+      c.args.layout.now c.args.noted.now.items s;
+})
+
+pub items-smaller : goal.items-smaller
+items-smaller g c =
+    let reads = rw (c.items.invariant.reads, c.in-Ok-true.field-0-test) at c.in-Ok-true.ensures.reads in
+    block_falls (place (g.F.Feed.text c.items.feed) (g.F.Feed.faults c.items.feed) c.items.reader.room)
+    (place (g.F.Feed.text c.next_into.new.feed) (g.F.Feed.faults c.next_into.new.feed) c.next_into.new.self.room)
+    c.next_into.new.block.items reads
+
+pub items-preserved : goal.items-preserved
+items-preserved g c = record {
+  reads = reads_on c.next_into.new.self.has_failed c.in-Ok-true.field-0 c.in-Ok-true.ensures.fails;
+  seen = λ bottom before s.
+      let l = c.items.invariant.seen bottom before s in
+      let reads = rw (c.items.invariant.reads, c.in-Ok-true.field-0-test) at c.in-Ok-true.ensures.reads in
+      let here = stands_here (g.F.Feed.text c.args.feed.now) (g.F.Feed.text c.items.feed) (g.F.Feed.faults c.args.feed.now)
+      (g.F.Feed.faults c.items.feed) c.items.reader.room bottom before c.items.layout c.items.noted.items l in
+      seen_more (g.F.Feed.text c.args.feed.now) (g.F.Feed.text c.items.feed) (g.F.Feed.faults c.args.feed.now)
+      (g.F.Feed.faults c.items.feed) c.items.reader.room bottom before c.items.layout c.items.noted.items l
+      (g.F.Feed.text c.next_into.new.feed) (g.F.Feed.faults c.next_into.new.feed) c.next_into.new.self.room
+      c.take_block.new.layout c.take_block.new.noted.items
+      c.next_into.new.block.items reads (c.in-Ok.ensures.notes bottom l.laid.parts here) c.in-Ok.ensures.is_record;
+}
+
+pub returns-in-Err-take_block : goal.returns-in-Err-take_block
+returns-in-Err-take_block g c = λ bottom before s.
+    let l = c.items.invariant.seen bottom before s in
+    let reads = rw (c.items.invariant.reads, c.in-Ok-true.field-0-test) at c.in-Ok-true.ensures.reads in
+    let here = stands_here (g.F.Feed.text c.args.feed.now) (g.F.Feed.text c.items.feed) (g.F.Feed.faults c.args.feed.now)
+    (g.F.Feed.faults c.items.feed) c.items.reader.room bottom before c.items.layout c.items.noted.items l in
+    laid_refused (g.F.Feed.text c.args.feed.now) (g.F.Feed.text c.items.feed) (g.F.Feed.faults c.args.feed.now)
+    (g.F.Feed.faults c.items.feed) c.items.reader.room bottom before c.items.layout l.laid
+    (g.F.Feed.text c.next_into.new.feed) (g.F.Feed.faults c.next_into.new.feed) c.next_into.new.self.room
+    c.take_block.new.layout
+    c.next_into.new.block.items reads c.in-Err-take_block.fault (c.in-Err-take_block.ensures.notes bottom l.laid.parts here)
+
+pub returns-in-Ok-false : goal.returns-in-Ok-false
+returns-in-Ok-false g c = λ bottom before s.
+    let l = c.items.invariant.seen bottom before s in
+    let reads = rw (c.items.invariant.reads, c.in-Ok-false.field-0-test) at c.in-Ok-false.ensures.reads in
+    seen_ends (g.F.Feed.text c.args.feed.now) (g.F.Feed.text c.items.feed) (g.F.Feed.faults c.args.feed.now)
+    (g.F.Feed.faults c.items.feed) c.items.reader.room bottom before c.items.layout c.items.noted.items l
+    (g.F.Feed.text c.next_into.new.feed) (g.F.Feed.faults c.next_into.new.feed) c.next_into.new.self.room
+    c.end_file.new.self c.items.noted.items
+    reads c.end_file.result (c.end_file.ensures.takes bottom l.laid.parts l.laid.stands) refl
+
+pub returns-in-Err : goal.returns-in-Err
+returns-in-Err g c = λ bottom before s.
+    let l = c.items.invariant.seen bottom before s in
+    let reads = rw c.items.invariant.reads at c.in-Err.ensures.reads in
+    laid_stops (g.F.Feed.text c.args.feed.now) (g.F.Feed.text c.items.feed) (g.F.Feed.faults c.args.feed.now)
+    (g.F.Feed.faults c.items.feed) c.items.reader.room bottom before c.items.layout l.laid
+    (g.F.Feed.text c.next_into.new.feed) (g.F.Feed.faults c.next_into.new.feed) c.next_into.new.self.room c.items.layout
+    c.in-Err.fault reads c.block_fault.result c.block_fault.ensures

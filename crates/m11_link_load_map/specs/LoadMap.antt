@@ -1,0 +1,85 @@
+-- The load map of objects: a line for the part that each module has in each section, where a link puts it, and a line
+-- for each global at its address. (Where parts lie and which values globals have is what a link says. The lines and
+-- their order are this project's own.)
+use Rattle.std.specs.Prelude.{◌≡◌, ℕ, Bool, nat_eq, List, [], ◌∷◌, ◌++◌, codes, Option, Some, None, if◌then◌else◌}
+use Rattle.std.specs.List.{filter, filter_map, flat_map}
+use Rattle.std.specs.List.Sorted.{IsNonDecreasingBy, IsPermutation}
+use Rattle.std.specs.Option.{option_map}
+use Rattle.m11_base.specs.Devices.{Bytes}
+use Rattle.m11_base.specs.Octal.{octal_text}
+use Rattle.m11_base.specs.Rad50.{Name, name_text}
+use Rattle.m11_obj_print.specs.Lines.{line_of}
+use Rattle.m11_link_modules.specs.Parts.{Part}
+use Rattle.m11_link_modules.specs.Places.{section_in}
+use Rattle.m11_link_layout.specs.Globals.{globals_of}
+use Rattle.m11_link_layout.specs.Modules.{indexed, name_at}
+use Rattle.m11_link_layout.specs.Sections.{module_base, top}
+use Rattle.m11_link_layout.specs.declared.planned.PlannedGlobal.{PlannedGlobal}
+use Rattle.m11_link_text.specs.Lines as line
+
+-- ---- contributions
+
+-- a section entry: the index of its module, the section, and its size in that module
+pub record Contribution : Type 0 where
+  pub module_index : ℕ
+  pub section : Name
+  pub size : ℕ
+
+abbrev pub contribution : ℕ → Name × ℕ → Contribution
+contribution index entered = record { module_index = index; section = entered.0; size = entered.1 }
+
+abbrev pub contribution_at : ℕ × Part → Option Contribution
+contribution_at indexed = option_map (contribution indexed.0) (section_in indexed.1)
+
+-- all that modules have in sections, in the order of their entries
+unfoldable pub contributions_of : List Part → List Contribution
+contributions_of parts = filter_map contribution_at (indexed 0 parts)
+
+-- what the module of an index has in a section, and how much
+abbrev pub contribution_in : ℕ → Contribution → Option (Name × ℕ)
+contribution_in index c = if nat_eq c.module_index index then Some (c.section, c.size) else None
+
+-- ---- the order of globals
+
+abbrev pub lies_at : ℕ → PlannedGlobal → Bool
+lies_at address global = nat_eq global.value address
+
+-- the same globals by their values; those of one value stay in their order
+pub record IsByValue (globals order : List PlannedGlobal) : Type 0 where
+  pub same : IsPermutation globals order
+  pub rise : IsNonDecreasingBy (λ (global : PlannedGlobal). global.value) order
+  pub ties : (address : ℕ) → filter (lies_at address) order ≡ filter (lies_at address) globals
+
+-- ---- lines
+
+-- what a module has in a section: its address and size, the section and the module
+abbrev pub section_line : ℕ → ℕ → Name → Name → Bytes
+section_line base size section module_name =
+    line_of (((((((codes "  " ++ octal_text base) ++ 32 ∷ []) ++ octal_text size) ++ 32 ∷ []) ++ name_text section)
+    ++ 32 ∷ []) ++ name_text module_name)
+
+-- a global: its value, its name, and the module that defines it first
+abbrev pub global_line : ℕ → Name → Name → Bytes
+global_line value name module_name =
+    line_of (((((codes "  " ++ octal_text value) ++ 32 ∷ []) ++ name_text name) ++ 32 ∷ []) ++ name_text module_name)
+
+-- ---- the text
+
+-- the line of a contribution, where contributions lie by base, and modules have names
+abbrev pub contribution_line : (ℕ → Name → ℕ) → (ℕ → Name) → Contribution → Bytes
+contribution_line base module_name c =
+    section_line (base c.module_index c.section) c.size c.section (module_name c.module_index)
+
+abbrev pub line_of_global : PlannedGlobal → Bytes
+line_of_global global = global_line global.value global.name global.module_name
+
+-- the addresses between which relocatable sections lie, then contributions, then globals
+unfoldable pub map_text : (ℕ → Name → ℕ) → (ℕ → Name) → ℕ → ℕ → List Contribution → List PlannedGlobal → Bytes
+map_text base module_name bottom top contributions globals =
+    (((line.limit_line bottom top ++ codes "SECTIONS\n") ++ flat_map (contribution_line base module_name) contributions)
+    ++ codes "GLOBALS\n") ++ flat_map line_of_global globals
+
+-- the load map of the parts of objects, whose relocatable sections lie from this bottom on
+abbrev pub IsLoadMap : ℕ → List Part → Bytes → Type 0
+IsLoadMap bottom parts text = (order : List PlannedGlobal) × IsByValue (globals_of bottom parts) order
+    × (text ≡ map_text (module_base bottom parts) (name_at parts) bottom (top bottom parts) (contributions_of parts) order)

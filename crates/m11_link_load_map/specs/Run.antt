@@ -1,0 +1,51 @@
+-- What a run makes of objects: their load map, or the fault of a link's first pass. (This project's own.)
+use Rattle.std.specs.Prelude.{◌≡◌, ℕ, List, Result, Ok, Err}
+use Rattle.std.specs.Io.KnownBytes.{Appends}
+use Rattle.m11_base.specs.Devices.{Bytes, Rises}
+use Rattle.m11_base.specs.Feed.{NoneFailed}
+use Rattle.m11_base.specs.Sink.{AppendsBeginning}
+use Rattle.m11_link_modules.specs.Parts.{Part}
+use Rattle.m11_link_layout.specs.Plan.{Planned}
+use Rattle.m11_link_layout.specs.declared.fault.LinkFault.{LinkFault}
+use Rattle.m11_link_layout.specs.declared.planned.PlannedGlobal.{PlannedGlobal}
+use Rattle.m11_link_layout.specs.Plan.{planned_base, planned_globals, planned_module}
+use Rattle.m11_link.specs.FirstPass.{Pass, ReadsFirst}
+use Rattle.m11_link.specs.Objects.{Item, GiveItems, outcome}
+use Rattle.m11_link_load_map.specs.LoadMap.{Contribution, IsByValue, IsLoadMap, contribution_line, map_text}
+use Rattle.m11_link_load_map.specs.Noted.{contributions_from}
+use Rattle.m11_link_load_map.specs.declared.fault.LoadMapFault.{LoadMapFault}
+use Rattle.m11_link_load_map.specs.declared.fault.LoadMapFault.TheVariants.{Objects, Write}
+use Rattle.m11_link_load_map.specs.declared.noted.Noted.{Noted}
+use Rattle.m11_base_writes.specs.Outputs.{Output}
+
+-- the objects that the feeds gave have parts that a link takes, and this is their map
+abbrev pub Maps : {F : Type 0} → Pass F → ℕ → Bytes → Type 0
+Maps pass bottom text = NoneFailed pass.faults pass.old pass.new
+    × (items : List Item) × GiveItems pass.text pass.old items
+    × (parts : List Part) × (outcome bottom items ≡ Ok parts) × IsLoadMap bottom parts text
+
+-- the map of objects; or the fault with which the first pass of a link of them ends
+abbrev pub MakesMap : {F : Type 0} → Pass F → ℕ → Result Bytes LinkFault → Type 0
+MakesMap pass bottom (Ok text) = Maps pass bottom text
+MakesMap pass bottom (Err stopped) = ReadsFirst pass bottom (Err stopped)
+
+-- the output gained the map of the objects; or they are refused as a link refuses them, and it is as it was; or it failed after a
+-- beginning of the map
+abbrev pub LoadMapRuns : {F : Type 0} → Pass F → ℕ → Output → Output → Result (Unit {0}) LoadMapFault → Type 0
+LoadMapRuns pass bottom out out' (Ok done) =
+    (text : Bytes) × Maps pass bottom text × Appends out.text out'.text text × (out'.faults ≡ out.faults)
+LoadMapRuns pass bottom out out' (Err (Objects stopped)) = ReadsFirst pass bottom (Err stopped) × (out' ≡ out)
+LoadMapRuns pass bottom out out' (Err Write) =
+    (text : Bytes) × Maps pass bottom text × AppendsBeginning out.text out'.text text × Rises out.faults out'.faults
+
+-- ---- by a plan
+
+-- the line of a contribution where a plan puts it
+abbrev pub planned_line : Planned → Contribution → Bytes
+planned_line plan = contribution_line (λ index name. planned_base plan index name) (λ index. planned_module plan index)
+
+-- the map by a plan, and by what is noted of the parts
+abbrev pub IsMapBy : Planned → List Noted → Bytes → Type 0
+IsMapBy plan noted text = (order : List PlannedGlobal) × IsByValue (planned_globals plan) order
+    × (text ≡ map_text (λ index name. planned_base plan index name) (λ index. planned_module plan index) plan.bottom plan.top
+    (contributions_from 0 noted) order)

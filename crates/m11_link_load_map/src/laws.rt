@@ -1,0 +1,21 @@
+//! Laws of load maps, above the definitions.
+
+ghost use Rattle.std.specs.Prelude.{◌≡◌, ℕ, List};
+ghost use Rattle.std.specs.List.{filter_map};
+ghost use Rattle.m11_link_layout.specs.Modules.{module_at};
+ghost use Rattle.m11_link_load_map.specs.LoadMap.{IsLoadMap, contribution_in, contributions_of};
+ghost use Rattle.m11_link_modules.specs.Parts.{Part};
+ghost use Rattle.m11_link_modules.specs.Places.{sections_in};
+
+/// Of each module the map shows each section that it enters once, in the order of the entries, with its size in the module.
+#[tactic(auto, using(crate::proofs::Shown::each_shown))]
+pub fn each_section_entry_is_shown_once()
+    ensures { (parts : List Part) (index : ℕ)
+        → filter_map (contribution_in index) (contributions_of parts) ≡ sections_in (module_at parts index) }
+{}
+
+/// Objects have one load map: the order of their globals is determined.
+pub fn objects_have_one_map()
+    ensures { (bottom : ℕ) (parts : List Part) (text other : List ℕ)
+        → IsLoadMap bottom parts text → IsLoadMap bottom parts other → text ≡ other }
+{}

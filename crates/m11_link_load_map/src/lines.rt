@@ -1,0 +1,39 @@
+//! The lines of a load map.
+
+ghost use Rattle.std.specs.Prelude.{◌≡◌};
+ghost use Rattle.m11_link_load_map.specs.LoadMap as spec;
+
+use m11_base::{Name, octal6};
+use m11_obj_print::{Line, ended, put};
+
+/// What a module has in a section: its address and its size, the section and the module.
+#[tactic(auto, using(m11_obj_print::proofs::Trimming::line_at))]
+pub(crate) fn section_line(base: u16, size: u16, section: Name, module_name: Name) -> Line
+    ensures { result.items ≡ spec.section_line base size section module_name }
+{
+    let mut line = Line::new();
+    put(&mut line, b"  ");
+    put(&mut line, &octal6(base));
+    put(&mut line, b" ");
+    put(&mut line, &octal6(size));
+    put(&mut line, b" ");
+    put(&mut line, &section.characters());
+    put(&mut line, b" ");
+    put(&mut line, &module_name.characters());
+    ended(line)
+}
+
+/// A global: its value, its name, and the module that defines it first.
+#[tactic(auto, using(m11_obj_print::proofs::Trimming::line_at))]
+pub(crate) fn global_line(value: u16, name: Name, module_name: Name) -> Line
+    ensures { result.items ≡ spec.global_line value name module_name }
+{
+    let mut line = Line::new();
+    put(&mut line, b"  ");
+    put(&mut line, &octal6(value));
+    put(&mut line, b" ");
+    put(&mut line, &name.characters());
+    put(&mut line, b" ");
+    put(&mut line, &module_name.characters());
+    ended(line)
+}

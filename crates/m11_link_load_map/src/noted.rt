@@ -1,0 +1,78 @@
+//! What the map needs of the records of objects, noted in their order.
+
+ghost use Rattle.std.specs.Prelude.{◌≡◌, ◌∷◌, [], ◌++◌, List, OnOk, map, ℕ};
+ghost use Rattle.m11_obj.specs.Contents.{unread_directory};
+ghost use Rattle.m11_obj.specs.Reading.{content_of};
+ghost use Rattle.m11_link_modules.specs.Parts.{Entry, record_parts};
+ghost use Rattle.m11_link_load_map.specs.Noted.{noted_of};
+
+use m11_base::Name;
+use m11_obj::{Block, Contents, GsdEntry, GsdKind, UnreadEntries, read_contents};
+use std::alloc::AllocError;
+
+/// What is noted of a record.
+#[derive(Clone, Copy)]
+pub(crate) enum Noted {
+    /// A section that a module enters, and its size in that module.
+    Section(Name, u16),
+    /// The end of a module.
+    ModuleEnd,
+}
+
+/// Notes what the map needs of a block; of one that is no record that is nothing. Error: memory was refused.
+#[tactic(auto, using(crate::proofs::NotedParts::of_text, crate::proofs::NotedParts::of_relocations, crate::proofs::NotedParts::of_none, crate::proofs::NotedParts::of_directory_end, crate::proofs::NotedParts::of_symbols, crate::proofs::NotedParts::of_module_end))]
+pub(crate) fn note(noted: &mut Vec<Noted>, block: &Block) -> Result<(), AllocError>
+    ensures { OnOk result (noted.new.items ≡ noted.old.items ++ noted_of (record_parts block.now.items)) }
+{
+    match read_contents(block) {
+        Ok(Contents::Directory(unread)) => note_directory(noted, &unread),
+        Ok(Contents::EndOfDirectory) => Ok(()),
+        Ok(Contents::Text(_, _)) => Ok(()),
+        Ok(Contents::Relocations(_)) => Ok(()),
+        Ok(Contents::InternalSymbols) => Ok(()),
+        Ok(Contents::EndOfModule) => {
+            noted.push(Noted::ModuleEnd)?;
+            Ok(())
+        }
+        Err(_) => Ok(()),
+    }
+}
+
+// Notes what the map needs of a directory record, which stands in a block of these bytes.
+#[tactic(auto, using(crate::proofs::NotedParts::of_directory, crate::proofs::NotedParts::of_bad_directory))]
+fn note_directory(noted: &mut Vec<Noted>, unread: &UnreadEntries<'_>) -> Result<(), AllocError>
+    ensures { (bytes : List ℕ) → content_of bytes ≡ unread_directory unread.now
+        → OnOk result (noted.new.items ≡ noted.old.items ++ noted_of (record_parts bytes)) }
+{
+    match unread.read() {
+        Ok(entries) => note_entries(noted, entries.as_slice()),
+        Err(_) => Ok(()),
+    }
+}
+
+// Notes the sections that the entries of a directory enter.
+fn note_entries(noted: &mut Vec<Noted>, entries: &[GsdEntry]) -> Result<(), AllocError>
+    ensures { OnOk result (noted.new.items ≡ noted.old.items ++ noted_of (map (λ entry. Entry entry) entries.now)) }
+{
+    'entries: for entry in entries {
+        match note_entry(noted, entry) {
+            Ok(()) => {}
+            Err(refused) => return Err(refused),
+        }
+    }
+    Ok(())
+}
+
+// Notes the section that an entry enters, if it enters one.
+#[tactic(auto, unfolding(crate::specs::Noted::noted_of))]
+fn note_entry(noted: &mut Vec<Noted>, entry: &GsdEntry) -> Result<(), AllocError>
+    ensures { OnOk result (noted.new.items ≡ noted.old.items ++ noted_of (Entry entry.now ∷ [])) }
+{
+    match entry.kind {
+        GsdKind::ControlSection | GsdKind::ProgramSection => {
+            noted.push(Noted::Section(entry.name, entry.value))?;
+            Ok(())
+        }
+        _ => Ok(()),
+    }
+}

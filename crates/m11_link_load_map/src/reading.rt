@@ -1,0 +1,103 @@
+//! The reading of objects: a link's first pass over them, and what the map needs besides.
+
+ghost use Rattle.std.specs.Prelude.{◌≡◌, ℕ, List, [], IfOk};
+ghost use Rattle.m11_link_layout.specs.Layout.{LayoutStands};
+ghost use Rattle.m11_link.specs.FirstPass.{of_block, pass_of};
+ghost use Rattle.m11_link_load_map.specs.Reading.{NotedBetween, NotesAll, NotesBlock, NotesObject, NotesObjects, Stands};
+ghost use Rattle.m11_link_modules.specs.Parts.{Part};
+ghost use Rattle.m11_obj.specs.Reading.{IsRecord};
+
+use crate::noted::{Noted, note};
+use m11_base::Feed;
+use m11_link_layout::{Layout, LinkFault, Plan};
+use m11_obj::{Block, BlockFault, BlockReader};
+use std::alloc::Global;
+
+// The fault of a block as that of the link: a device and a limit have faults of their own there.
+fn block_fault(fault: BlockFault) -> LinkFault
+    ensures { result ≡ of_block fault }
+{
+    match fault {
+        BlockFault::Device => LinkFault::Read,
+        BlockFault::TooMuch => LinkFault::TooMuch,
+        other => LinkFault::Block(other),
+    }
+}
+
+// Takes one block, and notes what the map needs of it.
+fn take_block(layout: &mut Layout, noted: &mut Vec<Noted>, block: &Block) -> Result<(), LinkFault>
+    ensures notes { (bottom : ℕ) (before : List Part) → Stands bottom before layout.old noted.old.items
+        → NotesBlock bottom before layout.new noted.new.items block.now.items result }
+    ensures is_record { IfOk result (λ _. IsRecord block.now.items) }
+{
+    match layout.block(block) {
+        Ok(()) => match note(noted, block) {
+            Ok(()) => Ok(()),
+            Err(_) => Err(LinkFault::NoMemory),
+        },
+        Err(fault) => Err(fault),
+    }
+}
+
+// Reads one object, block by block, up to its first fault.
+fn read_object<F: Feed>(
+    feed: &mut F,
+    layout: &mut Layout,
+    noted: &mut Vec<Noted>,
+) -> Result<(), LinkFault>
+    ensures { (bottom : ℕ) (before : List Part) → Stands bottom before layout.old noted.old.items
+        → NotesObject (F.text feed.old) (F.faults feed.old) (F.faults feed.new) bottom before layout.new noted.new.items result }
+{
+    let mut reader = BlockReader::new();
+    let mut block = Block::new();
+    'items: loop {
+        match reader.next_into(feed, &mut block) {
+            Ok(true) => match take_block(layout, noted, &block) {
+                Ok(()) => {}
+                Err(fault) => return Err(fault),
+            },
+            Ok(false) => return layout.end_file(),
+            Err(fault) => return Err(block_fault(fault)),
+        }
+    }
+}
+
+// Reads the objects one after another, up to the first fault.
+fn read_objects<F: Feed>(
+    feeds: &mut [F],
+    layout: &mut Layout,
+    noted: &mut Vec<Noted>,
+) -> Result<(), LinkFault>
+    ensures { (bottom : ℕ) (before : List Part) → NotedBetween bottom before layout.old noted.old.items
+        → NotesObjects (pass_of F.text F.faults feeds.old feeds.new) bottom before layout.new noted.new.items result }
+{
+    'feeds: for feed in feeds.iter_mut() {
+        match read_object(feed, layout, noted) {
+            Ok(()) => {}
+            Err(fault) => return Err(fault),
+        }
+    }
+    Ok(())
+}
+
+/// Reads all objects, and returns the plan of a link of them; what the map needs besides is added to what is noted, which is
+/// nothing before. Faults: those of a link's first pass.
+pub(crate) fn read_all<F: Feed>(
+    alloc: Global,
+    feeds: &mut [F],
+    bottom: u16,
+    noted: &mut Vec<Noted>,
+) -> Result<Plan, LinkFault>
+    requires { noted.old.items ≡ [] }
+    ensures { NotesAll (pass_of F.text F.faults feeds.old feeds.new) bottom noted.new.items result }
+{
+    let mut layout = Layout::new(alloc, bottom);
+    match read_objects(feeds, &mut layout, noted) {
+        Ok(()) => layout.end(),
+        Err(fault) => {
+            // proof: a value of several maps that goes in place takes minutes to prove
+            drop(layout);
+            Err(fault)
+        }
+    }
+}

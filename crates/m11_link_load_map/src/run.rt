@@ -1,0 +1,57 @@
+//! The run: objects in, their load map out.
+
+ghost use Rattle.m11_link.specs.FirstPass.{pass_of};
+ghost use Rattle.m11_link_load_map.specs.Run.{LoadMapRuns, MakesMap};
+ghost use Rattle.m11_base_writes.specs.Outputs.{output_of};
+ghost use Rattle.std.specs.Prelude.{Ok, Err, MatchResult};
+
+use crate::fault::LoadMapFault;
+use crate::reading::read_all;
+use crate::text::map_text;
+use m11_base::{Feed, Sink};
+use m11_base_writes::put_or_fail;
+use m11_link_layout::LinkFault;
+use std::alloc::Global;
+
+/// Reads objects once, and writes their load map: the part that each module has in each section, where a link puts it whose
+/// relocatable sections lie from `bottom` on, and each global by its value.
+///
+/// Faults: `Objects`, with the fault of the first pass of such a link, or `NoMemory` where memory is refused for the map;
+/// nothing is written then. `Write` after a beginning of the map.
+pub fn load_map_run<F: Feed, S: Sink>(
+    alloc: Global,
+    objects: &mut [F],
+    bottom: u16,
+    sink: &mut S,
+) -> Result<(), LoadMapFault>
+    ensures { LoadMapRuns (pass_of F.text F.faults objects.old objects.new) bottom
+        (output_of S.Sink sink.old) (output_of S.Sink sink.new) result }
+{
+    match map_of(alloc, objects, bottom) {
+        Ok(text) => put_or_fail(sink, text.as_slice(), LoadMapFault::Write),
+        Err(fault) => Err(LoadMapFault::Objects(fault)),
+    }
+}
+
+// The load map of objects.
+fn map_of<F: Feed>(alloc: Global, objects: &mut [F], bottom: u16) -> Result<Vec<u8>, LinkFault>
+    ensures { MatchResult result
+        (λ text. MakesMap (pass_of F.text F.faults objects.old objects.new) bottom (Ok text.items))
+        (λ fault. MakesMap (pass_of F.text F.faults objects.old objects.new) bottom (Err fault)) }
+{
+    let mut noted = Vec::new(alloc);
+    match read_all(alloc, objects, bottom, &mut noted) {
+        Ok(plan) => match map_text(alloc, &plan, noted.as_slice()) {
+            Ok(text) => {
+                // proof: a value of several maps that goes in place takes minutes to prove
+                drop(plan);
+                Ok(text)
+            }
+            Err(_) => {
+                drop(plan);
+                Err(LinkFault::NoMemory)
+            }
+        },
+        Err(fault) => Err(fault),
+    }
+}

@@ -1,0 +1,99 @@
+//! The text of a load map.
+
+ghost use Rattle.std.specs.Prelude.{◌≡◌, ◌++◌, ◌<◌, ◌+◌, ◌∷◌, [], IfOk, OnOk};
+ghost use Rattle.std.specs.List.{flat_map};
+ghost use Rattle.m11_link_layout.specs.Plan.{Planned, planned_base, planned_globals, planned_module};
+ghost use Rattle.m11_link_load_map.specs.LoadMap.{IsByValue, contribution_line, line_of_global};
+ghost use Rattle.m11_link_load_map.specs.Noted.{contributions_from, index_after};
+ghost use Rattle.m11_link_load_map.specs.Run.{IsMapBy, planned_line};
+
+use crate::lines::{global_line, section_line};
+use crate::noted::Noted;
+use m11_link_layout::{Plan, PlannedGlobal};
+use m11_link_text::limit_line;
+use std::alloc::{AllocError, Global};
+
+// Adds the line of a section that a module enters, or nothing for the end of a module; returns the index of the module that
+// stands after it.
+fn put_noted(
+    text: &mut Vec<u8>,
+    plan: &Plan,
+    module_index: usize,
+    noted: Noted,
+) -> Result<usize, AllocError>
+    requires { module_index < usize.MAX }
+    ensures text { OnOk result (text.new.items
+        ≡ text.old.items ++ flat_map (planned_line plan.now) (contributions_from module_index (noted ∷ []))) }
+    ensures index { IfOk result (λ index. index ≡ index_after module_index noted) }
+{
+    match noted {
+        Noted::Section(section, size) => {
+            let base = plan.base(module_index, section);
+            let module_name = plan.module_name(module_index);
+            text.extend_from_slice(&section_line(base, size, section, module_name))?;
+            Ok(module_index)
+        }
+        Noted::ModuleEnd => Ok(module_index + 1),
+    }
+}
+
+// Adds the lines of all sections that modules enter, in order.
+fn put_contributions(text: &mut Vec<u8>, plan: &Plan, noted: &[Noted]) -> Result<(), AllocError>
+    ensures { OnOk result (text.new.items
+        ≡ text.old.items ++ flat_map (planned_line plan.now) (contributions_from 0 noted.now)) }
+{
+    let mut module_index = 0;
+    'noted: for item in noted {
+        match put_noted(text, plan, module_index, *item) {
+            Ok(index) => module_index = index,
+            Err(refused) => return Err(refused),
+        }
+    }
+    Ok(())
+}
+
+// The globals of a plan, in the order of their first definitions.
+fn globals_of(alloc: Global, plan: &Plan) -> Result<Vec<PlannedGlobal>, AllocError>
+    ensures { IfOk result (λ globals. globals.items ≡ planned_globals plan.now) }
+{
+    let mut globals = Vec::new(alloc);
+    'globals: for index in 0..plan.global_count() {
+        globals.push(plan.global_at(index))?;
+    }
+    Ok(globals)
+}
+
+// The globals of a plan by their values, those of one value in the order of their first definitions.
+fn globals_by_value(alloc: Global, plan: &Plan) -> Result<Vec<PlannedGlobal>, AllocError>
+    ensures { IfOk result (λ order. IsByValue (planned_globals plan.now) order.items) }
+{
+    let mut globals = globals_of(alloc, plan)?;
+    globals.sort_by_key(|global| global.value)?;
+    Ok(globals)
+}
+
+// Adds the lines of globals.
+fn put_globals(text: &mut Vec<u8>, globals: &[PlannedGlobal]) -> Result<(), AllocError>
+    ensures { OnOk result (text.new.items ≡ text.old.items ++ flat_map line_of_global globals.now) }
+{
+    'globals: for global in globals {
+        let line = global_line(global.value, global.name, global.module_name);
+        text.extend_from_slice(&line)?;
+    }
+    Ok(())
+}
+
+/// The load map by a plan, and by what is noted of the parts that it plans. Error: memory was refused.
+pub(crate) fn map_text(alloc: Global, plan: &Plan, noted: &[Noted]) -> Result<Vec<u8>, AllocError>
+    ensures { IfOk result (λ text. IsMapBy plan.now noted.now text.items) }
+{
+    let globals = globals_by_value(alloc, plan)?;
+    let (bottom, top) = plan.limits();
+    let mut text = Vec::new(alloc);
+    text.extend_from_slice(&limit_line(bottom, top))?;
+    text.extend_from_slice(b"SECTIONS\n")?;
+    put_contributions(&mut text, plan, noted)?;
+    text.extend_from_slice(b"GLOBALS\n")?;
+    put_globals(&mut text, globals.as_slice())?;
+    Ok(text)
+}

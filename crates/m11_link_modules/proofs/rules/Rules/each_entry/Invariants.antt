@@ -1,0 +1,10 @@
+use Rattle.std.proofs.Common.{drop, map}
+use Rattle.m11_obj.specs.Reading.{record_entries}
+use Rattle.m11_link_modules.specs.Parts.{Entry}
+use Rattle.m11_link_modules.proofs.Taking.{GoesOn}
+use Rattle.m11_link_modules.proofs.rules.Rules.each_entry.Given as goal
+
+abbrev pub invariant-entries : goal.invariant-entries
+invariant-entries l = GoesOn l.initial.self l.self
+    (map (λ entry. Entry entry) (drop l.index (record_entries l.record)))
+    (map (λ entry. Entry entry) (record_entries l.record))

@@ -1,0 +1,192 @@
+-- Which records, in which order, are modules, and which are refused: each part is judged by what stands before it.
+-- (RT-11 Volume and File Formats Manual, "Object file format". The faults, their order and the limits are this
+-- project's own.)
+use Rattle.std.specs.Prelude.{◌≡◌, ℕ, ◌+◌, ◌<◌, ◌≤◌, ◌&&◌, not, nat_lt, nat_le, nat_eq, Bool, true, false, List, [], ◌∷◌, ◌++◌, length, Option, Some, None, Result, Ok, Err, if◌then◌else◌}
+use Rattle.std.specs.Option.{is_none, is_some, option_or, unwrap_or}
+use Rattle.std.specs.Map.{lookup}
+use Rattle.m11_base.specs.Rad50.{Name, is_same_name}
+use Rattle.m11_obj.specs.Gsd.{has_bits}
+use Rattle.m11_obj.specs.declared.gsd.GsdEntry.{GsdEntry}
+use Rattle.m11_obj.specs.declared.gsd.GsdKind.{GsdKind}
+use Rattle.m11_obj.specs.declared.gsd.GsdKind.TheVariants.{ControlSection, TransferAddress, GlobalSymbol, ProgramSection}
+use Rattle.m11_obj.specs.declared.relocations.Relocation.{Relocation}
+use Rattle.m11_obj.specs.declared.relocations.Target.{Target}
+use Rattle.m11_obj.specs.declared.relocations.Target.TheVariants as target
+use Rattle.m11_link_modules.specs.declared.fault.ModuleFault.{ModuleFault}
+use Rattle.m11_link_modules.specs.declared.fault.ModuleFault.TheVariants.{BadOrder, NoText, BadDisplacement, UnknownSection, TextOutside, TooManyGlobals, TooManySections, TooManyModules}
+use Rattle.m11_link_modules.specs.Names.{is_among}
+use Rattle.m11_link_modules.specs.Parts.{Part, Directory, Entry, EndOfDirectory, Text, Relocations, Relocated, EndOfModule, EndOfFile}
+use Rattle.m11_link_modules.specs.Places.{Known, adds_name, known_of, size_known}
+use Rattle.m11_link_modules.specs.declared.stage.Stage.{Stage}
+use Rattle.m11_link_modules.specs.declared.stage.Stage.TheVariants.{Between, InBody}
+
+-- ---- the order of records
+
+-- a part that stands where it may; entries and relocations stand in their record
+abbrev pub may_stand : Part → Stage → Bool
+may_stand Directory InBody = false
+may_stand Directory stage = true
+may_stand EndOfDirectory InBody = false
+may_stand EndOfDirectory stage = true
+may_stand (Text address bytes) InBody = true
+may_stand (Text address bytes) stage = false
+may_stand Relocations InBody = true
+may_stand Relocations stage = false
+may_stand EndOfModule InBody = true
+may_stand EndOfModule stage = false
+may_stand EndOfFile Between = true
+may_stand EndOfFile stage = false
+may_stand (Entry entry) stage = true
+may_stand (Relocated relocation) stage = true
+
+-- ---- the limits
+
+abbrev pub most_modules : ℕ
+most_modules = 32
+
+abbrev pub most_sections : ℕ
+most_sections = 256
+
+abbrev pub most_globals : ℕ
+most_globals = 8192
+
+-- a name for which there is no room
+abbrev pub is_past : ℕ → List Name → Name → Bool
+is_past most names name = not (is_among names name) && nat_le most (length names)
+
+-- ---- the faults of a part
+
+-- the first of the faults that there are
+abbrev pub first_there : List (Bool × ModuleFault) → Option ModuleFault
+first_there [] = None
+first_there (fault ∷ faults) = if fault.0 then Some fault.1 else first_there faults
+
+-- the first record of a module is its first directory record, or the end of a directory without entries
+abbrev pub begin_fault : Stage → ℕ → Option ModuleFault
+begin_fault Between modules = first_there ((nat_le most_modules modules, TooManyModules) ∷ [])
+begin_fault stage modules = None
+
+-- octal 10 is a definition, octal 40 a relocatable one
+abbrev pub defines : GsdEntry → Bool
+defines entry = has_bits 0o10 entry.flags
+
+abbrev pub defines_relocatable : GsdEntry → Bool
+defines_relocatable entry = defines entry && has_bits 0o40 entry.flags
+
+-- a section is entered once in a module
+abbrev pub entering_fault : List (Name × ℕ) → List Name → Name → Option ModuleFault
+entering_fault entered sections name = first_there
+    ((is_some (lookup (is_same_name name) entered), BadOrder) ∷ (is_past most_sections sections name, TooManySections) ∷ [])
+
+-- a section that is named has to be known
+abbrev pub section_fault : List (Name × ℕ) → Name → Option ModuleFault
+section_fault entered name = first_there ((is_none (size_known entered name), UnknownSection) ∷ [])
+
+-- for a global's name there has to be room
+abbrev pub global_fault : List Name → Name → Option ModuleFault
+global_fault globals name = first_there ((is_past most_globals globals name, TooManyGlobals) ∷ [])
+
+-- a relocatable symbol is defined after an entry of a section
+abbrev pub symbol_fault : GsdEntry → List (Name × ℕ) → List Name → Option ModuleFault
+symbol_fault entry entered globals = option_or
+    (first_there ((defines_relocatable entry && nat_eq (length entered) 0, BadOrder) ∷ []))
+    (global_fault globals entry.name)
+
+-- an entry, the module's sections, and all sections and globals, being these so far
+abbrev pub entry_fault : GsdKind → GsdEntry → List (Name × ℕ) → List Name → List Name → Option ModuleFault
+entry_fault ControlSection entry entered sections globals = entering_fault entered sections entry.name
+entry_fault ProgramSection entry entered sections globals = entering_fault entered sections entry.name
+entry_fault TransferAddress entry entered sections globals = section_fault entered entry.name
+entry_fault GlobalSymbol entry entered sections globals = symbol_fault entry entered globals
+entry_fault kind entry entered sections globals = None
+
+-- a text of n bytes from an address on, in a section of this size
+abbrev pub text_fault : ℕ → ℕ → ℕ → Option ModuleFault
+text_fault size address count = first_there ((nat_lt size (address + count), TextOutside) ∷ [])
+
+-- how many bytes a relocation stores
+abbrev pub width_of : Bool → Target → ℕ
+width_of is_byte target.ProgramLimits = 4
+width_of true other = 1
+width_of false other = 2
+
+-- the first data byte has the displacement 4
+abbrev pub lies_within : Relocation → ℕ → Bool
+lies_within relocation count = nat_le 4 relocation.displacement
+    && nat_le (relocation.displacement + width_of relocation.is_byte relocation.target) (4 + count)
+
+-- the faults of a place: there has to be a text, of n bytes, and the place has to lie within
+abbrev pub place_fault : Relocation → Option ℕ → Option ModuleFault
+place_fault relocation None = Some NoText
+place_fault relocation (Some count) = first_there ((not (lies_within relocation count), BadDisplacement) ∷ [])
+
+-- the faults of what is stored
+abbrev pub target_fault : Target → List (Name × ℕ) → List Name → Option ModuleFault
+target_fault (target.Section name) entered globals = section_fault entered name
+target_fault (target.SectionDisplaced name) entered globals = section_fault entered name
+target_fault (target.SectionAdditive name constant) entered globals = section_fault entered name
+target_fault (target.SectionAdditiveDisplaced name constant) entered globals = section_fault entered name
+target_fault (target.Global name) entered globals = global_fault globals name
+target_fault (target.GlobalDisplaced name) entered globals = global_fault globals name
+target_fault (target.GlobalAdditive name constant) entered globals = global_fault globals name
+target_fault (target.GlobalAdditiveDisplaced name constant) entered globals = global_fault globals name
+target_fault other entered globals = None
+
+-- commands 7 and 10 store nothing: the first has to select a known section, and nothing is asked of the other
+abbrev pub relocation_by : Target → Relocation → List (Name × ℕ) → Option ℕ → List Name → Option ModuleFault
+relocation_by (target.LocationCounterDefinition name constant) relocation entered text globals = section_fault entered name
+relocation_by (target.LocationCounterModification constant) relocation entered text globals = None
+relocation_by other relocation entered text globals =
+    option_or (place_fault relocation text) (target_fault other entered globals)
+
+abbrev pub relocation_fault : Relocation → List (Name × ℕ) → Option ℕ → List Name → Option ModuleFault
+relocation_fault relocation entered text globals = relocation_by relocation.target relocation entered text globals
+
+-- what is wrong with a part that stands in the right order
+abbrev pub fault_in_order : Known → Part → Option ModuleFault
+fault_in_order known Directory = begin_fault known.stage known.modules
+fault_in_order known EndOfDirectory = begin_fault known.stage known.modules
+fault_in_order known (Entry entry) = entry_fault entry.kind entry known.entered known.sections known.globals
+fault_in_order known (Text address bytes) =
+    text_fault (unwrap_or (size_known known.entered known.section) 0) address (length bytes)
+fault_in_order known (Relocated relocation) =
+    relocation_fault relocation known.entered known.text known.globals
+fault_in_order known part = None
+
+-- what is wrong with a part, by what is known before it
+unfoldable pub fault_known : Known → Part → Option ModuleFault
+fault_known known part = if may_stand part known.stage then fault_in_order known part else Some BadOrder
+
+-- what is wrong with a part after the parts before it, if anything is
+abbrev pub fault_of : List Part → Part → Option ModuleFault
+fault_of before part = fault_known (known_of before) part
+
+-- the first fault of parts, in their order, after the parts before them
+unfoldable pub first_fault : List Part → List Part → Option ModuleFault
+first_fault before [] = None
+first_fault before (part ∷ parts) = option_or (fault_of before part) (first_fault (before ++ part ∷ []) parts)
+
+-- memory was refused at one of these parts: at one that adds a name, up to which none has a fault. So a limit is asked
+-- before anything grows
+pub record StopsAtName (fault_in : List Part → Option ModuleFault) (parts : List Part) : Type 0 where
+  pub taken : List Part
+  pub part : Part
+  pub left : List Part
+  pub split : parts ≡ taken ++ part ∷ left
+  pub sound : fault_in (taken ++ part ∷ []) ≡ None
+  pub adds : adds_name part ≡ true
+
+-- the result of a check
+abbrev pub returned : Option ModuleFault → Result (Unit {0}) ModuleFault
+returned None = Ok tt
+returned (Some fault) = Err fault
+
+-- the fault of a record that may begin a module
+abbrev pub opening_fault : Stage → ℕ → Option ModuleFault
+opening_fault InBody modules = Some BadOrder
+opening_fault stage modules = begin_fault stage modules
+
+-- the modules that ended are no more than a link takes, and fewer inside a module
+abbrev pub InLimits : Stage → ℕ → Type 0
+InLimits Between modules = modules ≤ most_modules
+InLimits stage modules = modules < most_modules

@@ -1,0 +1,221 @@
+//! What is wrong with one part of an object, by what is known before it.
+
+ghost use Rattle.std.specs.Prelude.{◌≡◌, length};
+ghost use Rattle.m11_link_modules.specs.Places.{size_known};
+ghost use Rattle.m11_link_modules.specs.Rules.{returned, entering_fault, entry_fault, is_past, lies_within, opening_fault, place_fault, relocation_fault, section_fault, symbol_fault, global_fault, target_fault, text_fault, defines_relocatable, width_of};
+
+use crate::fault::ModuleFault;
+use crate::stage::Stage;
+use bitflags::Flags;
+use indexmap::{IndexMap, IndexSet};
+use m11_base::{Name, absolute_section};
+use m11_obj::{GsdEntry, GsdKind, Relocation, SymbolFlags, Target};
+
+/// The most modules of a link.
+pub(crate) const MOST_MODULES: usize = 32;
+
+// The most names of sections, over all modules.
+const MOST_SECTIONS: usize = 256;
+
+// The most names of globals, over all modules.
+const MOST_GLOBALS: usize = 8192;
+
+/// A record that may begin a module: it is after no directory, and there is room for its module.
+pub(crate) fn check_begin(stage: Stage, modules: usize) -> Result<(), ModuleFault>
+    ensures { result ≡ returned (opening_fault stage modules) }
+{
+    match stage {
+        Stage::InBody => Err(ModuleFault::BadOrder),
+        Stage::InDirectory => Ok(()),
+        Stage::Between => {
+            if modules >= MOST_MODULES {
+                return Err(ModuleFault::TooManyModules);
+            }
+            Ok(())
+        }
+    }
+}
+
+/// A text, which has to end inside its section.
+pub(crate) fn check_text(size: u16, address: u16, bytes: &[u8]) -> Result<(), ModuleFault>
+    ensures { result ≡ returned (text_fault size address (length bytes.now)) }
+{
+    if usize::from(address) + bytes.len() > usize::from(size) {
+        return Err(ModuleFault::TextOutside);
+    }
+    Ok(())
+}
+
+/// The size of a section in its module, where the module knows it.
+pub(crate) fn size_of(entered: &IndexMap<Name, u16>, name: Name) -> Option<u16>
+    ensures { result ≡ size_known entered.now.entries name }
+{
+    match entered.get(&name) {
+        Some(size) => Some(*size),
+        None => {
+            if name == absolute_section() {
+                Some(0)
+            } else {
+                None
+            }
+        }
+    }
+}
+
+// Whether there is no room for a name. It is looked for only where there are as many as may be.
+fn is_past(most: usize, names: &IndexSet<Name>, name: Name) -> bool
+    ensures { result ≡ is_past most names.now.keys name }
+{
+    names.len() >= most && !names.contains(&name)
+}
+
+/// An entry of a directory.
+pub(crate) fn check_entry(
+    entry: &GsdEntry,
+    entered: &IndexMap<Name, u16>,
+    sections: &IndexSet<Name>,
+    globals: &IndexSet<Name>,
+) -> Result<(), ModuleFault>
+    ensures { result ≡ returned (entry_fault entry.now.kind entry.now entered.now.entries sections.now.keys globals.now.keys) }
+{
+    match entry.kind {
+        GsdKind::ControlSection => check_entering(entered, sections, entry.name),
+        GsdKind::ProgramSection => check_entering(entered, sections, entry.name),
+        GsdKind::TransferAddress => check_section(entered, entry.name),
+        GsdKind::GlobalSymbol => check_symbol(entry, entered, globals),
+        GsdKind::ModuleName | GsdKind::InternalSymbol | GsdKind::Identification => Ok(()),
+    }
+}
+
+// A section that is entered: once in a module, and its name has to have room.
+fn check_entering(
+    entered: &IndexMap<Name, u16>,
+    sections: &IndexSet<Name>,
+    name: Name,
+) -> Result<(), ModuleFault>
+    ensures { result ≡ returned (entering_fault entered.now.entries sections.now.keys name) }
+{
+    match entered.get(&name) {
+        Some(_) => Err(ModuleFault::BadOrder),
+        None => {
+            if is_past(MOST_SECTIONS, sections, name) {
+                return Err(ModuleFault::TooManySections);
+            }
+            Ok(())
+        }
+    }
+}
+
+// A global symbol: a relocatable one is defined after a section's entry.
+fn check_symbol(
+    entry: &GsdEntry,
+    entered: &IndexMap<Name, u16>,
+    globals: &IndexSet<Name>,
+) -> Result<(), ModuleFault>
+    ensures { result ≡ returned (symbol_fault entry.now entered.now.entries globals.now.keys) }
+{
+    if defines_relocatable(entry) && entered.is_empty() {
+        return Err(ModuleFault::BadOrder);
+    }
+    check_global(globals, entry.name)
+}
+
+// Whether an entry of a global symbol defines it, at a place of a section.
+fn defines_relocatable(entry: &GsdEntry) -> bool
+    ensures { result ≡ defines_relocatable entry.now }
+{
+    let flags = SymbolFlags::from_bits_retain(entry.flags);
+    flags.contains(SymbolFlags::DEFINED) && flags.contains(SymbolFlags::RELOCATABLE)
+}
+
+// The section of that name has to be known.
+fn check_section(entered: &IndexMap<Name, u16>, name: Name) -> Result<(), ModuleFault>
+    ensures { result ≡ returned (section_fault entered.now.entries name) }
+{
+    match size_of(entered, name) {
+        Some(_) => Ok(()),
+        None => Err(ModuleFault::UnknownSection),
+    }
+}
+
+// For a global's name there has to be room.
+fn check_global(globals: &IndexSet<Name>, name: Name) -> Result<(), ModuleFault>
+    ensures { result ≡ returned (global_fault globals.now.keys name) }
+{
+    if is_past(MOST_GLOBALS, globals, name) {
+        return Err(ModuleFault::TooManyGlobals);
+    }
+    Ok(())
+}
+
+// How many bytes a relocation stores.
+fn width_of(relocation: &Relocation) -> usize
+    ensures { result ≡ width_of relocation.now.is_byte relocation.now.target }
+{
+    match relocation.target {
+        Target::ProgramLimits => 4,
+        _ => { if relocation.is_byte { 1 } else { 2 } }
+    }
+}
+
+/// Whether all bytes that a relocation stores lie within a text of n bytes. The first has the displacement 4.
+pub fn lies_within(relocation: &Relocation, count: usize) -> bool
+    ensures { result ≡ lies_within relocation.now count }
+{
+    let place = usize::from(relocation.displacement);
+    place >= 4 && place + width_of(relocation) - 4 <= count
+}
+
+// The place of a relocation has to lie within the text before it.
+fn check_place(relocation: &Relocation, text: Option<usize>) -> Result<(), ModuleFault>
+    ensures { result ≡ returned (place_fault relocation.now text) }
+{
+    let Some(count) = text else {
+        return Err(ModuleFault::NoText);
+    };
+    if lies_within(relocation, count) {
+        Ok(())
+    } else {
+        Err(ModuleFault::BadDisplacement)
+    }
+}
+
+// What is stored has to be known, or there has to be room for its name.
+fn check_target(
+    target: Target,
+    entered: &IndexMap<Name, u16>,
+    globals: &IndexSet<Name>,
+) -> Result<(), ModuleFault>
+    ensures { result ≡ returned (target_fault target entered.now.entries globals.now.keys) }
+{
+    match target {
+        Target::Section(name)
+        | Target::SectionDisplaced(name)
+        | Target::SectionAdditive(name, _)
+        | Target::SectionAdditiveDisplaced(name, _) => check_section(entered, name),
+        Target::Global(name)
+        | Target::GlobalDisplaced(name)
+        | Target::GlobalAdditive(name, _)
+        | Target::GlobalAdditiveDisplaced(name, _) => check_global(globals, name),
+        _ => Ok(()),
+    }
+}
+
+/// A relocation.
+pub(crate) fn check_relocation(
+    relocation: &Relocation,
+    entered: &IndexMap<Name, u16>,
+    text: Option<usize>,
+    globals: &IndexSet<Name>,
+) -> Result<(), ModuleFault>
+    ensures { result ≡ returned (relocation_fault relocation.now entered.now.entries text globals.now.keys) }
+{
+    match relocation.target {
+        Target::LocationCounterDefinition(name, _) => check_section(entered, name),
+        Target::LocationCounterModification(_) => Ok(()),
+        target => {
+            check_place(relocation, text)?;
+            check_target(target, entered, globals)
+        }
+    }
+}

@@ -1,0 +1,22 @@
+//! Laws of the order of records.
+
+ghost use Rattle.std.specs.Prelude.{◌≡◌, List, [], ◌∷◌, ◌++◌};
+ghost use Rattle.m11_link_modules.specs.Grammar.{FileEnds, Item, Module, files_parts, items_parts};
+ghost use Rattle.m11_link_modules.specs.Laws.{AreFiles, AreInOrder};
+ghost use Rattle.m11_link_modules.specs.Places.{stage_after};
+ghost use Rattle.m11_link_modules.specs.declared.stage.Stage.TheVariants.{Between};
+
+/// In files, each of which is a list of modules, each part stands where it may, and after them no module is open.
+#[tactic(auto, using(crate::proofs::GrammarOrder::files_in_order, crate::proofs::GrammarOrder::files_closed))]
+pub fn files_are_in_order()
+    ensures order { (files : List (List Module)) → AreInOrder (files_parts files) }
+    ensures following { (files : List (List Module)) → stage_after (files_parts files) ≡ Between }
+{}
+
+/// Records and ends of files, the last of which stands after all records, are files, each of which is a list of
+/// modules, where each of their parts stands where it may.
+#[tactic(auto, using(crate::proofs::GrammarOrder::ordered_files))]
+pub fn ordered_records_are_files()
+    ensures { (items : List Item) → AreInOrder (items_parts (items ++ FileEnds ∷ []))
+        → AreFiles (items_parts (items ++ FileEnds ∷ [])) }
+{}

@@ -1,0 +1,345 @@
+//! The rules by which records are modules, kept while the records come.
+
+ghost use Rattle.std.specs.Prelude.{◌≡◌, ◌∷◌, [], List, Result, Ok, Err, IfErr, is_some, map, true};
+ghost use Rattle.m11_obj.specs.Reading.{record_entries, record_relocations};
+ghost use Rattle.m11_link_modules.specs.Laws.{TakesAfter};
+ghost use Rattle.m11_link_modules.specs.Parts.{Part, Directory, Entry, EndOfDirectory, Text, Relocations, Relocated, EndOfModule, EndOfFile, record_parts};
+ghost use Rattle.m11_link_modules.specs.Places.{adds_name, global_of, known_of};
+ghost use Rattle.m11_link_modules.specs.Steps.{Notes, RulesTake, TakesOne, with_section, with_global, with_entry, with_target};
+
+use crate::checks::{check_begin, check_entry, check_relocation, check_text, size_of};
+use crate::fault::ModuleFault;
+use crate::stage::Stage;
+use indexmap::{IndexMap, IndexSet};
+use m11_base::{Name, absolute_section};
+use m11_obj::{GsdEntry, GsdKind, Record, RecordKind, Relocation, Target};
+use std::alloc::Global;
+use std::marker::Model;
+
+/// What is known of the records so far: enough to judge the next one. No text is kept.
+#[derive(Drop)]
+pub struct Rules {
+    stage: Stage,
+    modules: usize,
+    sections: IndexSet<Name>,
+    globals: IndexSet<Name>,
+    entered: IndexMap<Name, u16>,
+    section: Name,
+    text: Option<usize>,
+}
+
+impl Model for Rules {
+    ghost use Rattle.m11_link_modules.specs.Places.{Known};
+    ghost use Rattle.m11_link_modules.specs.Rules.{InLimits};
+
+    ghost Value = { Known };
+
+    ghost view = { λ r. record {
+      stage = r.stage;
+      modules = r.modules;
+      sections = r.sections.keys;
+      globals = r.globals.keys;
+      entered = r.entered.entries;
+      section = r.section;
+      text = r.text;
+    } };
+
+    ghost invariant = { λ r. InLimits r.stage r.modules };
+}
+
+impl Rules {
+    /// No record came so far.
+    #[tactic(auto, unfolding(crate::specs::Places::known_of, crate::specs::Places::stage_after, crate::specs::Places::modules_in, crate::specs::Places::section_names, crate::specs::Places::global_names, crate::specs::Places::distinct, crate::specs::Places::sections_in, crate::specs::Places::this_module, crate::specs::Places::current_section, crate::specs::Places::text_length))]
+    pub fn new(alloc: Global) -> Rules
+        ensures { result ≡ known_of [] }
+    {
+        Rules {
+            stage: Stage::Between,
+            modules: 0,
+            sections: IndexSet::new(alloc),
+            globals: IndexSet::new(alloc),
+            entered: IndexMap::new(alloc),
+            section: absolute_section(),
+            text: None,
+        }
+    }
+
+    /// How many modules have ended: the index of the module that comes or goes on.
+    pub fn modules(&self) -> usize
+        ensures { result ≡ self.now.modules }
+    {
+        self.modules
+    }
+
+    /// The section that the texts of this module go to.
+    pub fn section(&self) -> Name
+        ensures { result ≡ self.now.section }
+    {
+        self.section
+    }
+
+    /// Takes one record.
+    ///
+    /// Faults, the first in the order of the record's parts; in one part in this order: `BadOrder`,
+    /// `NoText`, `BadDisplacement`, `UnknownSection`, `TextOutside`, then a limit. `NoMemory` where memory is refused for
+    /// a name, once neither its part nor one before it has a fault. After a fault the rules are of no more use.
+    #[tactic(auto, using(crate::proofs::KnownAfter::taken_after))]
+    pub fn record(&mut self, record: &Record<'_>) -> Result<(), ModuleFault>
+        ensures { (before : List Part) → self.old ≡ known_of before
+            → TakesAfter before self.new (record_parts «record».now) result }
+    {
+        self.take_record(record)
+    }
+
+    /// Takes the end of a file: `BadOrder` inside a module, and no other fault.
+    #[tactic(auto, using(crate::proofs::KnownAfter::taken_after, crate::proofs::Taking::taken_one))]
+    pub fn end_of_file(&mut self) -> Result<(), ModuleFault>
+        ensures takes { (before : List Part) → self.old ≡ known_of before
+            → TakesAfter before self.new (EndOfFile ∷ []) result }
+        ensures inside { IfErr result (λ fault. fault ≡ ModuleFault.BadOrder) }
+    {
+        self.take_end_of_file()
+    }
+
+    // Takes one record, by what is known before it.
+    #[tactic(auto, using(crate::proofs::Taking::taken_one, crate::proofs::Taking::none_taken))]
+    fn take_record(&mut self, record: &Record<'_>) -> Result<(), ModuleFault>
+        ensures { RulesTake self.old self.new (record_parts «record».now) result }
+    {
+        match record.kind() {
+            RecordKind::Gsd => self.directory_record(record),
+            RecordKind::EndOfGsd => self.end_of_directory(),
+            RecordKind::Text => self.text(record.text_address(), record.text_bytes()),
+            RecordKind::Relocations => self.relocations(record),
+            RecordKind::InternalSymbols => Ok(()),
+            RecordKind::EndOfModule => self.end_of_module(),
+        }
+    }
+
+    // Takes the end of a file.
+    #[tactic(auto, unfolding(crate::specs::Steps::TakesOne, crate::specs::Steps::known_after, crate::specs::Rules::fault_known))]
+    fn take_end_of_file(&mut self) -> Result<(), ModuleFault>
+        ensures takes { TakesOne self.old self.new EndOfFile result }
+        ensures inside { IfErr result (λ fault. fault ≡ ModuleFault.BadOrder) }
+    {
+        match self.stage {
+            Stage::Between => Ok(()),
+            _ => Err(ModuleFault::BadOrder),
+        }
+    }
+
+    // A directory record begins.
+    #[tactic(auto, unfolding(crate::specs::Steps::TakesOne, crate::specs::Steps::known_after, crate::specs::Rules::fault_known))]
+    fn begin_directory(&mut self) -> Result<(), ModuleFault>
+        ensures { TakesOne self.old self.new Directory result }
+    {
+        check_begin(self.stage, self.modules)?;
+        self.stage = Stage::InDirectory;
+        Ok(())
+    }
+
+    /// Takes the end of a directory: this call is one of `record` for such a record.
+    ///
+    /// Faults: `BadOrder` in the body of a module, then `TooManyModules` where it begins one.
+    #[tactic(auto, unfolding(crate::specs::Steps::TakesOne, crate::specs::Steps::known_after, crate::specs::Rules::fault_known))]
+    pub fn end_of_directory(&mut self) -> Result<(), ModuleFault>
+        ensures { TakesOne self.old self.new EndOfDirectory result }
+    {
+        check_begin(self.stage, self.modules)?;
+        self.stage = Stage::InBody;
+        Ok(())
+    }
+
+    /// Takes a text: this call is one of `record` for a text record, for a caller that has read what stands in it.
+    ///
+    /// Faults: `BadOrder` outside the body of a module, then `TextOutside`.
+    #[tactic(auto, unfolding(crate::specs::Steps::TakesOne, crate::specs::Steps::known_after, crate::specs::Rules::fault_known))]
+    pub fn text(&mut self, address: u16, bytes: &[u8]) -> Result<(), ModuleFault>
+        ensures { TakesOne self.old self.new (Text address bytes.now) result }
+    {
+        if self.stage != Stage::InBody {
+            return Err(ModuleFault::BadOrder);
+        }
+        let size = size_of(&self.entered, self.section).unwrap_or(0);
+        check_text(size, address, bytes)?;
+        self.text = Some(bytes.len());
+        Ok(())
+    }
+
+    /// Takes the end of a module: this call is one of `record` for such a record. `BadOrder` outside the body of a module.
+    #[tactic(auto, unfolding(crate::specs::Steps::TakesOne, crate::specs::Steps::known_after, crate::specs::Rules::fault_known))]
+    pub fn end_of_module(&mut self) -> Result<(), ModuleFault>
+        ensures { TakesOne self.old self.new EndOfModule result }
+    {
+        if self.stage != Stage::InBody {
+            return Err(ModuleFault::BadOrder);
+        }
+        self.stage = Stage::Between;
+        self.modules += 1;
+        self.entered.clear();
+        self.section = absolute_section();
+        self.text = None;
+        Ok(())
+    }
+
+    /// Takes a directory record: this call is one of `record` for a record of these entries, for a caller that has read
+    /// them.
+    ///
+    /// Faults: `BadOrder` in the body of a module, then `TooManyModules` where it begins one; then those of the entries,
+    /// the first in their order; in one entry `BadOrder`, `UnknownSection`, then a limit. `NoMemory` as `record`.
+    #[tactic(auto, using(crate::proofs::Taking::taken_then, crate::proofs::Taking::refused_first))]
+    pub fn directory(&mut self, entries: &[GsdEntry]) -> Result<(), ModuleFault>
+        ensures { RulesTake self.old self.new (Directory ∷ map (λ entry. Entry entry) entries.now) result }
+    {
+        match self.begin_directory() {
+            Ok(()) => self.entries(entries),
+            Err(fault) => Err(fault),
+        }
+    }
+
+    // The entries of a directory record, which were read.
+    fn entries(&mut self, entries: &[GsdEntry]) -> Result<(), ModuleFault>
+        ensures { RulesTake self.old self.new (map (λ entry. Entry entry) entries.now) result }
+    {
+        'entries: for entry in entries {
+            match self.entry(entry) {
+                Ok(()) => {}
+                Err(fault) => return Err(fault),
+            }
+        }
+        Ok(())
+    }
+
+    // A directory record and its entries.
+    #[tactic(auto, using(crate::proofs::Taking::taken_then, crate::proofs::Taking::refused_first))]
+    fn directory_record(&mut self, record: &Record<'_>) -> Result<(), ModuleFault>
+        ensures { RulesTake self.old self.new
+            (Directory ∷ map (λ entry. Entry entry) (record_entries «record».now)) result }
+    {
+        match self.begin_directory() {
+            Ok(()) => self.each_entry(record),
+            Err(fault) => Err(fault),
+        }
+    }
+
+    // The entries of a directory record, each of which is read when it comes.
+    fn each_entry(&mut self, record: &Record<'_>) -> Result<(), ModuleFault>
+        ensures { RulesTake self.old self.new (map (λ entry. Entry entry) (record_entries «record».now)) result }
+    {
+        'entries: for index in 0..record.entry_count() {
+            match self.entry(&record.entry(index)) {
+                Ok(()) => {}
+                Err(fault) => return Err(fault),
+            }
+        }
+        Ok(())
+    }
+
+    // An entry.
+    #[tactic(auto, unfolding(crate::specs::Steps::TakesOne, crate::specs::Steps::known_after, crate::specs::Rules::fault_known))]
+    fn entry(&mut self, entry: &GsdEntry) -> Result<(), ModuleFault>
+        ensures { TakesOne self.old self.new (Entry entry.now) result }
+    {
+        check_entry(entry, &self.entered, &self.sections, &self.globals)?;
+        self.note_entry(entry)
+    }
+
+    // Keeps what an entry says.
+    fn note_entry(&mut self, entry: &GsdEntry) -> Result<(), ModuleFault>
+        ensures noted { Notes self.new (with_entry entry.now.kind entry.now self.old) result }
+        ensures adds { IfErr result (λ _. adds_name (Entry entry.now) ≡ true) }
+    {
+        match entry.kind {
+            GsdKind::ControlSection => self.note_section(entry),
+            GsdKind::ProgramSection => self.note_section(entry),
+            GsdKind::GlobalSymbol => self.note_global(entry.name),
+            _ => Ok(()),
+        }
+    }
+
+    // Keeps a section and its size in this module.
+    fn note_section(&mut self, entry: &GsdEntry) -> Result<(), ModuleFault>
+        ensures { Notes self.new (with_section entry.now self.old) result }
+    {
+        self.sections.insert(entry.name)?;
+        self.entered.insert(entry.name, entry.value)?;
+        Ok(())
+    }
+
+    // Keeps the name of a global.
+    fn note_global(&mut self, name: Name) -> Result<(), ModuleFault>
+        ensures { Notes self.new (with_global name self.old) result }
+    {
+        self.globals.insert(name)?;
+        Ok(())
+    }
+
+    /// Takes one relocation of a record whose beginning was taken: `begin_relocations`, and then this call for each of its
+    /// relocations, are one call of `record`. They are for a caller that uses a relocation in the walk that judges it.
+    ///
+    /// Faults: `NoText`, `BadDisplacement`, `UnknownSection`, `TooManyGlobals`, and `NoMemory` where memory is refused
+    /// for a global's name that passes no limit.
+    #[tactic(auto, unfolding(crate::specs::Steps::TakesOne, crate::specs::Steps::known_after, crate::specs::Rules::fault_known))]
+    pub fn relocation(&mut self, relocation: Relocation) -> Result<(), ModuleFault>
+        ensures { TakesOne self.old self.new (Relocated relocation) result }
+    {
+        match check_relocation(&relocation, &self.entered, self.text, &self.globals) {
+            Ok(()) => self.note_target(relocation.target),
+            Err(fault) => Err(fault),
+        }
+    }
+
+    // Keeps what a relocation names: a section that texts go to from now on, or a global.
+    fn note_target(&mut self, target: Target) -> Result<(), ModuleFault>
+        ensures noted { Notes self.new (with_target target self.old) result }
+        ensures adds { IfErr result (λ _. is_some (global_of target) ≡ true) }
+    {
+        match target {
+            Target::LocationCounterDefinition(name, _) => {
+                self.section = name;
+                Ok(())
+            }
+            Target::Global(name) => self.note_global(name),
+            Target::GlobalDisplaced(name) => self.note_global(name),
+            Target::GlobalAdditive(name, _) => self.note_global(name),
+            Target::GlobalAdditiveDisplaced(name, _) => self.note_global(name),
+            _ => Ok(()),
+        }
+    }
+
+    // A relocation record and its relocations.
+    #[tactic(auto, using(crate::proofs::Taking::taken_then, crate::proofs::Taking::refused_first))]
+    fn relocations(&mut self, record: &Record<'_>) -> Result<(), ModuleFault>
+        ensures { RulesTake self.old self.new
+            (Relocations ∷ map (λ relocation. Relocated relocation) (record_relocations «record».now)) result }
+    {
+        match self.begin_relocations() {
+            Ok(()) => self.each_relocation(record),
+            Err(fault) => Err(fault),
+        }
+    }
+
+    /// Takes the beginning of a relocation record: `BadOrder` outside the body of a module.
+    #[tactic(auto, unfolding(crate::specs::Steps::TakesOne, crate::specs::Steps::known_after, crate::specs::Rules::fault_known))]
+    pub fn begin_relocations(&mut self) -> Result<(), ModuleFault>
+        ensures { TakesOne self.old self.new Relocations result }
+    {
+        match self.stage {
+            Stage::InBody => Ok(()),
+            _ => Err(ModuleFault::BadOrder),
+        }
+    }
+
+    // The relocations of a record.
+    fn each_relocation(&mut self, record: &Record<'_>) -> Result<(), ModuleFault>
+        ensures { RulesTake self.old self.new (map (λ relocation. Relocated relocation) (record_relocations «record».now)) result }
+    {
+        'relocations: for relocation in record.each_relocation() {
+            match self.relocation(relocation) {
+                Ok(()) => {}
+                Err(fault) => return Err(fault),
+            }
+        }
+        Ok(())
+    }
+}

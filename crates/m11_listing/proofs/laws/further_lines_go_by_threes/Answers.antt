@@ -1,5 +1,0 @@
-use Rattle.m11_listing.proofs.PrintedLines.{by_threes}
-use Rattle.m11_listing.proofs.laws.further_lines_go_by_threes.Goals as goal
-
-pub returns : goal.returns
-returns c = by_threes

@@ -1,0 +1,10 @@
+use Rattle.std.proofs.Common.{refl}
+use Rattle.std.proofs.lemmas.Result.{err_from_is_err_and}
+use Rattle.m11_obj_blocks.specs.Tapes.{second}
+use Rattle.m11_obj_blocks.proofs.TapeParts.{first_missing}
+use Rattle.m11_obj_blocks.proofs.tapes.read_second.Goals as goal
+
+pub returns-in_err-byte : goal.returns-in_err-byte
+returns-in_err-byte g c =
+    let p = err_from_is_err_and c.from_residual.result c.from_residual.ensures.1 in
+    rw (p.1, p.2) (first_missing second _ _ _ c.in_err-byte.ensures refl)

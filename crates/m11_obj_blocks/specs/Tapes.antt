@@ -1,0 +1,214 @@
+-- Tapes: the blocks of absolute binary, and reading them one after another, each fault the first one in
+-- the order of the bytes. (RT-11 Volume and File Formats Manual, "Absolute binary file format".) That
+-- any byte but 001 is skipped before a block, the limits and which faults there are, are this
+-- project's own.
+use Rattle.std.specs.Prelude.{◌≡◌, ◌≢◌, ◌==◌, ℕ, ◌+◌, ◌-◌, ◌%◌, ◌<◌, ◌≤◌, List, [], ◌∷◌, ◌++◌, length, sum, codes, ⊤, Result, Ok, Err, nat_lt, if◌then◌else◌}
+use Rattle.m11_base.specs.Devices.{Bytes}
+use Rattle.m11_obj_blocks.specs.declared.limited.Lack.{Lack}
+use Rattle.m11_obj_blocks.specs.declared.limited.Lack.TheVariants as lack
+use Rattle.m11_obj_blocks.specs.declared.tape_fault.TapeFault.{TapeFault}
+use Rattle.m11_obj_blocks.specs.declared.tape_fault.TapeFault.TheVariants as fault
+use Rattle.m11_obj_blocks.specs.declared.tape_part.TapePart.{TapePart}
+use Rattle.m11_obj_blocks.specs.declared.tape_part.TapePart.TheVariants.{Data, Start}
+use Rattle.m11_obj_blocks.specs.declared.tape_part.TapeStage.{TapeStage}
+use Rattle.m11_obj_blocks.specs.declared.tape_part.TapeStage.TheVariants.{BeforeBlock, InBlock, AtEnd, AfterFault}
+use Rattle.m11_obj_blocks.specs.Frames.{word_bytes, front, with_sum, second_byte, word, closed}
+use Rattle.m11_obj_blocks.specs.Limited.{Place, Between, Inside, Refused, Read, ◌>>=◌, Why, Fails, EndsBetween, EndsInside, Passes, Refuses, Never, Reads, Stops}
+
+-- ---- the format
+
+-- what stands before the data: the count counts these six bytes too
+abbrev pub tape_header : ℕ → ℕ → Bytes
+tape_header address count = front (count + 6) ++ word_bytes address
+
+-- a block: its header, its data, and the byte that makes the sum of all its bytes a multiple of 256
+unfoldable pub tape_block : ℕ → Bytes → Bytes
+tape_block address content = with_sum (tape_header address (length content) ++ content)
+
+-- the most data of a block
+abbrev pub data_limit : ℕ
+data_limit = 65529
+
+-- bytes that hold blocks of data, in order, each with its address, and after them the transfer block,
+-- which has no data. Before each block any bytes but 001 may stand, and after the last all bytes
+pub data IsTape : List (ℕ × Bytes) → ℕ → Bytes → Type 0 where
+  Transfer : (address : ℕ) (rest : Bytes) → address < 65536 → IsTape [] address (tape_block address [] ++ rest)
+  Skipped : {blocks : List (ℕ × Bytes)} {address : ℕ} {bytes : Bytes} (byte : ℕ) → byte ≢ 1
+      → IsTape blocks address bytes → IsTape blocks address (byte ∷ bytes)
+  Block : {blocks : List (ℕ × Bytes)} {start : ℕ} {bytes : Bytes} (address : ℕ) (content : Bytes) → address < 65536
+      → 0 < length content → length content ≤ data_limit → IsTape blocks start bytes
+      → IsTape ((address, content) ∷ blocks) start (tape_block address content ++ bytes)
+
+-- ---- what one call reads
+
+-- the 001 that begins a block, after any other bytes
+abbrev pub start : Bytes → Read TapeFault (Unit {0})
+start [] = Err Between
+start (byte ∷ rest) = if byte == 1 then Ok (tt, rest) else start rest
+
+-- the 000 after it
+abbrev pub second : Bytes → Read TapeFault (Unit {0})
+second bytes = second_byte fault.BadStart bytes
+
+-- the count of the data
+unfoldable pub count : Bytes → Read TapeFault ℕ
+count bytes = do
+  length ← word bytes
+  if nat_lt length.0 6 then Err (Refused fault.TooShort length.1) else Ok (length.0 - 6, length.1)
+
+-- the sum byte after bytes of this sum
+abbrev pub summed : ℕ → Bytes → Read TapeFault (Unit {0})
+summed total bytes = closed fault.BadSum tt total bytes
+
+-- the sum of a block's bytes as a byte
+abbrev pub total_of : ℕ → Bytes → ℕ
+total_of address content = sum (tape_header address (length content) ++ content) % 256
+
+-- the transfer block ends with its header
+unfoldable pub transfer : ℕ → Bytes → Read TapeFault TapePart
+transfer address bytes = do
+  last ← summed (total_of address []) bytes
+  Ok (Start address, last.1)
+
+-- the part that a header describes
+abbrev pub part_of : ℕ → ℕ → Bytes → Read TapeFault TapePart
+part_of count address bytes = if count == 0 then transfer address bytes else Ok (Data address count, bytes)
+
+-- the first part: the header of a block of data, or the whole transfer block
+unfoldable pub first_part : Bytes → Read TapeFault TapePart
+first_part bytes = do
+  start ← start bytes
+  second ← second start.1
+  count ← count second.1
+  address ← word count.1
+  part_of count.0 address.0 address.1
+
+-- the part after the data of a block
+unfoldable pub next_part : ℕ → Bytes → Read TapeFault TapePart
+next_part total bytes = do
+  last ← summed total bytes
+  first_part last.1
+
+abbrev pub data_byte : Bytes → Read TapeFault ℕ
+data_byte [] = Err Inside
+data_byte (byte ∷ rest) = Ok (byte, rest)
+
+-- a part whose count is one of a block of data
+abbrev pub PartFits : TapePart → Type 0
+PartFits (Data address count) = (0 < count) × (count ≤ data_limit)
+PartFits (Start address) = ⊤
+
+-- the parts and bytes of a tape come one after another: the header of each block, its bytes, and after
+-- them the next part; at last the transfer block
+abbrev pub AreRead : (Bytes → Read TapeFault TapePart) → List (ℕ × Bytes) → ℕ → Bytes → Type 0
+AreRead read [] address bytes = (rest : Bytes) × (read bytes ≡ Ok (Start address, rest))
+AreRead read (block ∷ blocks) address bytes =
+    (rest : Bytes) × (read bytes ≡ Ok (Data block.0 (length block.1), block.1 ++ rest))
+    × AreRead (next_part (total_of block.0 block.1)) blocks address rest
+
+-- a block of data in front of some bytes is read again: its header, its bytes, and after them the part
+-- that is read of those bytes alone
+abbrev pub IsReadAgain : ℕ → Bytes → Bytes → Bytes → Type 0
+IsReadAgain address content block rest = (following : Bytes)
+    × (first_part (block ++ rest) ≡ Ok (Data address (length content), content ++ following))
+    × (next_part (total_of address content) following ≡ first_part rest)
+
+-- ---- where a reader stands
+
+-- how many more bytes it may read, and where in the tape it is
+pub record TapeReading : Type 0 where
+  pub room : ℕ
+  pub stage : TapeStage
+
+-- a block is open of which these bytes were read
+abbrev pub opened : ℕ → ℕ → Bytes → TapeStage
+opened address count taken = InBlock (count - length taken) (sum (tape_header address count ++ taken) % 256)
+
+-- after a part, and after a byte of the open block
+abbrev pub stage_after : Result TapePart TapeFault → TapeStage
+stage_after (Ok (Data address count)) = InBlock count (sum (tape_header address count) % 256)
+stage_after (Ok (Start address)) = AtEnd address
+stage_after (Err e) = AfterFault
+
+abbrev pub stage_within : ℕ → ℕ → Result ℕ TapeFault → TapeStage
+stage_within left total (Ok byte) = InBlock (left - 1) ((total + byte) % 256)
+stage_within left total (Err e) = AfterFault
+
+-- how many bytes of the open block are left
+abbrev pub left_of : TapeStage → ℕ
+left_of (InBlock left total) = left
+left_of _ = 0
+
+-- how many bytes of data follow a part
+abbrev pub count_of : TapePart → ℕ
+count_of (Data address count) = count
+count_of (Start address) = 0
+
+-- nothing more is read
+abbrev pub HasStopped : TapeStage → Type 0
+HasStopped BeforeBlock = ⊥
+HasStopped (InBlock left total) = ⊥
+HasStopped (AtEnd address) = ⊤
+HasStopped AfterFault = ⊤
+
+-- what a fault says of the bytes
+abbrev pub why_of : TapeFault → Why TapeFault
+why_of fault.Device = Fails
+why_of fault.Truncated = EndsInside
+why_of fault.BadSum = Refuses fault.BadSum
+why_of fault.BadStart = Refuses fault.BadStart
+why_of fault.TooShort = Refuses fault.TooShort
+why_of fault.Failed = Never
+why_of fault.NoTransfer = EndsBetween
+why_of fault.TooMuch = Passes
+
+-- the fault of a byte that is missing inside a block
+abbrev pub missing : Lack → TapeFault
+missing lack.Device = fault.Device
+missing lack.End = fault.Truncated
+missing lack.TooMuch = fault.TooMuch
+
+-- something was read, or why it was not
+abbrev pub ReadsPart : {X A : Type 0} → (X → A) → (Bytes → Read TapeFault A) → Place → Place → Result X TapeFault
+    → Type 0
+ReadsPart view read old new (Ok x) = Reads read old new (view x)
+ReadsPart view read old new (Err e) = Stops read old new (why_of e)
+
+-- what the next part is, and where the reader stands then
+abbrev pub ReadsNext : TapeStage → Place → Place → TapeStage → Result TapePart TapeFault → Type 0
+ReadsNext BeforeBlock old new after result =
+    ReadsPart (λ part. part) first_part old new result × (after ≡ stage_after result)
+ReadsNext (InBlock left total) old new after result =
+    ReadsPart (λ part. part) (next_part total) old new result × (after ≡ stage_after result)
+ReadsNext (AtEnd address) old new after result = result ≡ Ok (Start address)
+ReadsNext AfterFault old new after result = result ≡ Err fault.Failed
+
+-- what the next byte of the open block is, and where the reader stands then
+abbrev pub ReadsByte : TapeStage → Place → Place → TapeStage → Result ℕ TapeFault → Type 0
+ReadsByte BeforeBlock old new after result = ⊤
+ReadsByte (InBlock left total) old new after result =
+    ReadsPart (λ byte. byte) data_byte old new result × (after ≡ stage_within left total result)
+ReadsByte (AtEnd address) old new after result = ⊤
+ReadsByte AfterFault old new after result = result ≡ Err fault.Failed
+
+-- ---- how a fault is reported
+
+abbrev pub tape_fault_number : TapeFault → ℕ
+tape_fault_number fault.Device = 1
+tape_fault_number fault.Truncated = 2
+tape_fault_number fault.BadSum = 3
+tape_fault_number fault.BadStart = 5
+tape_fault_number fault.TooShort = 6
+tape_fault_number fault.Failed = 7
+tape_fault_number fault.NoTransfer = 8
+tape_fault_number fault.TooMuch = 9
+
+abbrev pub tape_fault_name : TapeFault → Bytes
+tape_fault_name fault.Device = codes "Device"
+tape_fault_name fault.Truncated = codes "Truncated"
+tape_fault_name fault.BadSum = codes "BadSum"
+tape_fault_name fault.BadStart = codes "BadStart"
+tape_fault_name fault.TooShort = codes "TooShort"
+tape_fault_name fault.Failed = codes "Failed"
+tape_fault_name fault.NoTransfer = codes "NoTransfer"
+tape_fault_name fault.TooMuch = codes "TooMuch"

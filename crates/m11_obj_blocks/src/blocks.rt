@@ -1,0 +1,268 @@
+//! Reads the blocks of an object. (RT-11 Volume and File Formats Manual, "Object file format".)
+
+ghost use Rattle.std.specs.Prelude.{◌≡◌, ◌-◌, ◌<◌, ◌≤◌, ◌↔◌, ℕ, List, length, take, true, false, Ok, Err, IfOk, IfSome, IsErr, IsTrue, MatchOption};
+ghost use Rattle.std.specs.Bool.{OnTrue, OnFalse};
+ghost use Rattle.std.specs.List.{AllByRecursion};
+ghost use Rattle.m11_obj_blocks.specs.Frames.{content_limit, header, AreBlocks};
+ghost use Rattle.m11_obj_blocks.specs.Limited.{place, most_bytes, Inside, Took};
+ghost use Rattle.m11_obj_blocks.specs.Blocks.{first_block, IsCut, AreRead, ReadsPart, ReadsStart, ReadsFront, ReadsBlock, ReadsInto, second, count, content_of, summed};
+
+use crate::block_fault::BlockFault;
+use crate::frames::{Block, block_sum};
+use crate::limited::{Lack, MOST_BYTES, next_byte, next_word, take_ready};
+use byteorder::{ByteOrder, LittleEndian};
+use m11_base::Feed;
+use std::marker::Model;
+
+// Goes after zeros and the 001 that begins a block. It returns whether there is one.
+fn read_start<F: Feed>(feed: &mut F, room: &mut u32) -> Result<bool, BlockFault>
+    ensures { ReadsStart (place (F.text feed.old) (F.faults feed.old) room.old)
+        (place (F.text feed.new) (F.faults feed.new) room.new) result }
+{
+    'zeros: loop {
+        match next_byte(feed, room) {
+            Ok(0) => {}
+            Ok(1) => return Ok(true),
+            Ok(_) => return Err(BlockFault::BadStart),
+            Err(Lack::End) => return Ok(false),
+            Err(Lack::Device) => return Err(BlockFault::Device),
+            Err(Lack::TooMuch) => return Err(BlockFault::TooMuch),
+        }
+    }
+}
+
+fn read_second<F: Feed>(feed: &mut F, room: &mut u32) -> Result<(), BlockFault>
+    ensures { ReadsPart (λ _. tt) second (place (F.text feed.old) (F.faults feed.old) room.old)
+        (place (F.text feed.new) (F.faults feed.new) room.new) result }
+{
+    let byte = next_byte(feed, room)?;
+    if byte != 0 {
+        return Err(BlockFault::BadStart);
+    }
+    Ok(())
+}
+
+// The length as a count of the content's bytes.
+fn read_count<F: Feed>(feed: &mut F, room: &mut u32) -> Result<u16, BlockFault>
+    ensures part { ReadsPart (λ n. n) count (place (F.text feed.old) (F.faults feed.old) room.old)
+        (place (F.text feed.new) (F.faults feed.new) room.new) result }
+    ensures fits { IfOk result (λ n. n ≤ content_limit) }
+{
+    let length = next_word(feed, room)?;
+    if length < 4 {
+        return Err(BlockFault::TooShort);
+    }
+    if length > 516 {
+        return Err(BlockFault::TooLong);
+    }
+    Ok(length - 4)
+}
+
+// N bytes, in place of what stood in the content.
+fn read_content<F: Feed>(
+    feed: &mut F,
+    room: &mut u32,
+    count: u16,
+    content: &mut Block,
+) -> Result<(), BlockFault>
+    requires { count ≤ content_limit }
+    ensures { ReadsPart (λ _. content.new.items) (content_of count)
+        (place (F.text feed.old) (F.faults feed.old) room.old)
+        (place (F.text feed.new) (F.faults feed.new) room.new) result }
+{
+    content.clear();
+    let count = usize::from(count);
+    'parts: while content.len() < count {
+        let missing = count - content.len();
+        if take_ready(feed, room, content, missing) == 0 {
+            let byte = next_byte(feed, room)?;
+            content.push(byte);
+        }
+    }
+    Ok(())
+}
+
+// Goes after the sum byte of a content.
+fn read_sum<F: Feed>(feed: &mut F, room: &mut u32, content: &Block) -> Result<(), BlockFault>
+    ensures { ReadsPart (λ _. content.now.items) (summed content.now.items)
+        (place (F.text feed.old) (F.faults feed.old) room.old)
+        (place (F.text feed.new) (F.faults feed.new) room.new) result }
+{
+    let byte = next_byte(feed, room)?;
+    if byte != block_sum(content) {
+        return Err(BlockFault::BadSum);
+    }
+    Ok(())
+}
+
+// The count of the content of a block, where these bytes begin with all that stands before it.
+fn front_count(bytes: &[u8]) -> Option<u16>
+    ensures { IfSome result (λ n. (n ≤ content_limit) × (4 ≤ length bytes.now) × (take 4 bytes.now ≡ header n)) }
+{
+    match bytes {
+        [1, 0, low, high, ..] => {
+            let length = LittleEndian::read_u16(&[*low, *high]);
+            if length < 4 || length > 516 {
+                return None;
+            }
+            Some(length - 4)
+        }
+        _ => None,
+    }
+}
+
+// Goes after what stands before the content of a block, where all of that is ready and within the limit. Else it takes
+// nothing.
+fn take_front<F: Feed>(feed: &mut F, room: &mut u32) -> Option<u16>
+    ensures { let old = place (F.text feed.old) (F.faults feed.old) room.old in
+        let new = place (F.text feed.new) (F.faults feed.new) room.new in
+        MatchOption result (new ≡ old) (λ n. (n ≤ content_limit) × Took old new (header n)) }
+{
+    if *room < 4 {
+        return None;
+    }
+    match front_count(feed.ready()) {
+        Some(count) => {
+            feed.pass(4);
+            *room -= 4;
+            Some(count)
+        }
+        None => None,
+    }
+}
+
+// Goes after what stands before the content of a block, byte by byte. It returns the count of the content, where there
+// is a block.
+fn read_front_bytes<F: Feed>(feed: &mut F, room: &mut u32) -> Result<Option<u16>, BlockFault>
+    ensures front { ReadsFront (place (F.text feed.old) (F.faults feed.old) room.old)
+        (place (F.text feed.new) (F.faults feed.new) room.new) result }
+    ensures fits { IfOk result (λ front. IfSome front (λ n. n ≤ content_limit)) }
+{
+    if !read_start(feed, room)? {
+        return Ok(None);
+    }
+    read_second(feed, room)?;
+    let count = read_count(feed, room)?;
+    Ok(Some(count))
+}
+
+// The same: at once, where all of it is ready.
+fn read_front<F: Feed>(feed: &mut F, room: &mut u32) -> Result<Option<u16>, BlockFault>
+    ensures front { ReadsFront (place (F.text feed.old) (F.faults feed.old) room.old)
+        (place (F.text feed.new) (F.faults feed.new) room.new) result }
+    ensures fits { IfOk result (λ front. IfSome front (λ n. n ≤ content_limit)) }
+{
+    match take_front(feed, room) {
+        Some(count) => Ok(Some(count)),
+        None => read_front_bytes(feed, room),
+    }
+}
+
+// The content of a block, in place of what stood there. It returns whether there is a block.
+fn read_block<F: Feed>(
+    feed: &mut F,
+    room: &mut u32,
+    content: &mut Block,
+) -> Result<bool, BlockFault>
+    ensures { ReadsInto content.new.items (place (F.text feed.old) (F.faults feed.old) room.old)
+        (place (F.text feed.new) (F.faults feed.new) room.new) result }
+{
+    match read_front(feed, room)? {
+        Some(count) => {
+            read_content(feed, room, count, content)?;
+            read_sum(feed, room, content)?;
+            Ok(true)
+        }
+        None => Ok(false),
+    }
+}
+
+/// What a reader reads one after another is exactly the blocks that the bytes hold, and it finds their end
+/// inside a block exactly where they end with a beginning of one.
+#[tactic(auto, using(crate::proofs::BlockFrames::blocks_read, crate::proofs::BlockFrames::blocks_framed, crate::proofs::BlockCuts::cut_read, crate::proofs::BlockCuts::read_cut))]
+pub fn blocks_are_read()
+    ensures read { (contents : List (List ℕ)) (bytes : List ℕ)
+        → AreBlocks contents bytes → AreRead contents bytes }
+    ensures framed { (contents : List (List ℕ)) (bytes : List ℕ)
+        → AllByRecursion (λ byte. byte < 256) bytes
+        → AreRead contents bytes → AreBlocks contents bytes }
+    // bytes end inside a block exactly where they are a beginning of one
+    ensures cut { (bytes : List ℕ) → IsCut bytes → first_block bytes ≡ Err Inside }
+    ensures inside { (bytes : List ℕ) → AllByRecursion (λ byte. byte < 256) bytes
+        → first_block bytes ≡ Err Inside → IsCut bytes }
+{}
+
+/// Reads the blocks of one object, in order, from a feed. It takes no memory.
+#[derive(Drop)]
+pub struct BlockReader {
+    room: u32,
+    has_failed: bool,
+}
+
+impl Model for BlockReader {
+    ghost use Rattle.m11_obj_blocks.specs.Blocks.{BlockReading};
+
+    ghost Value = { BlockReading };
+
+    ghost view = { λ s. record { room = s.room; has_failed = s.has_failed } };
+}
+
+impl BlockReader {
+    /// A reader at the start of an object.
+    pub fn new() -> BlockReader
+        ensures { result ≡ record { room = most_bytes; has_failed = false } }
+    {
+        BlockReader {
+            room: MOST_BYTES,
+            has_failed: false,
+        }
+    }
+
+    /// How many bytes of its feed the reader has read: 0 to 4,194,304. A byte past the limit is not counted.
+    pub fn bytes_read(&self) -> u32
+        ensures { result ≡ most_bytes - self.now.room }
+    {
+        MOST_BYTES.saturating_sub(self.room)
+    }
+
+    /// The content of the next block, or `None` where the bytes end before one. Zeros before a block
+    /// are skipped. After the end the feed is asked again at the next call. A fault is the first one
+    /// in the order of the bytes; after it each call returns `Failed` and reads nothing.
+    pub fn next<F: Feed>(&mut self, feed: &mut F) -> Result<Option<Block>, BlockFault>
+        ensures reads { OnFalse self.old.has_failed (ReadsBlock (λ b. b.items)
+            (place (F.text feed.old) (F.faults feed.old) self.old.room)
+            (place (F.text feed.new) (F.faults feed.new) self.new.room) result) }
+        ensures failed { OnTrue self.old.has_failed
+            ((result ≡ Err BlockFault.Failed) × (self.new ≡ self.old) × (feed.new ≡ feed.old)) }
+        ensures fails { IsTrue self.new.has_failed ↔ IsErr result }
+    {
+        let mut block = Block::new();
+        match self.next_into(feed, &mut block) {
+            Ok(true) => Ok(Some(block)),
+            Ok(false) => Ok(None),
+            Err(fault) => Err(fault),
+        }
+    }
+
+    /// Reads the next block as `next` does, its content into `block`, and returns whether there is one. Where
+    /// there is none, or at a fault, `block` may hold anything.
+    pub fn next_into<F: Feed>(
+        &mut self,
+        feed: &mut F,
+        block: &mut Block,
+    ) -> Result<bool, BlockFault>
+        ensures reads { OnFalse self.old.has_failed (ReadsInto block.new.items
+            (place (F.text feed.old) (F.faults feed.old) self.old.room)
+            (place (F.text feed.new) (F.faults feed.new) self.new.room) result) }
+        ensures failed { OnTrue self.old.has_failed
+            ((result ≡ Err BlockFault.Failed) × (self.new ≡ self.old) × (feed.new ≡ feed.old)) }
+        ensures fails { IsTrue self.new.has_failed ↔ IsErr result }
+    {
+        if self.has_failed {
+            return Err(BlockFault::Failed);
+        }
+        let returned = read_block(feed, &mut self.room, block);
+        self.has_failed = returned.is_err();
+        returned
+    }
+}

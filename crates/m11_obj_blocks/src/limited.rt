@@ -1,0 +1,78 @@
+//! The bytes of an object or a tape, up to their limit.
+
+ghost use Rattle.std.specs.Prelude.{◌+◌, ◌<◌, ◌≤◌, ℕ, List, [], ◌∷◌, length, MatchResult};
+ghost use Rattle.arrayvec.specs.ArrayVec.{array_vec_len};
+ghost use Rattle.byteorder.specs.Endian.{little_bytes};
+ghost use Rattle.m11_obj_blocks.specs.Frames.{content_limit};
+ghost use Rattle.m11_obj_blocks.specs.Limited.{place, Took, TookInto, Lacks, TookThenLacks};
+
+use crate::frames::Block;
+use byteorder::{ByteOrder, LittleEndian};
+use m11_base::Feed;
+
+/// The most bytes of one object or one tape.
+pub(crate) const MOST_BYTES: u32 = 4_194_304;
+
+/// Why no byte came.
+#[derive(Clone, Copy)]
+pub(crate) enum Lack {
+    /// The feed failed.
+    Device,
+    /// The feed is at its end.
+    End,
+    /// A byte came that is past the limit.
+    TooMuch,
+}
+
+/// The next byte of a feed, of which `room` more bytes are within the limit.
+pub(crate) fn next_byte<F: Feed>(feed: &mut F, room: &mut u32) -> Result<u8, Lack>
+    ensures { let old = place (F.text feed.old) (F.faults feed.old) room.old in
+        let new = place (F.text feed.new) (F.faults feed.new) room.new in
+        MatchResult result (λ byte. Took old new (byte ∷ [])) (Lacks old new) }
+{
+    match feed.next() {
+        Err(_) => Err(Lack::Device),
+        Ok(None) => Err(Lack::End),
+        Ok(Some(byte)) => {
+            if *room == 0 {
+                return Err(Lack::TooMuch);
+            }
+            *room -= 1;
+            Ok(byte)
+        }
+    }
+}
+
+/// The next word, its low byte first.
+pub(crate) fn next_word<F: Feed>(feed: &mut F, room: &mut u32) -> Result<u16, Lack>
+    ensures { let old = place (F.text feed.old) (F.faults feed.old) room.old in
+        let new = place (F.text feed.new) (F.faults feed.new) room.new in
+        MatchResult result (λ word. Took old new (little_bytes 2 word))
+        (λ lack. (given : List ℕ) × (length given < 2) × TookThenLacks old new given lack) }
+{
+    let low = next_byte(feed, room)?;
+    let high = next_byte(feed, room)?;
+    Ok(LittleEndian::read_u16(&[low, high]))
+}
+
+/// Takes ready bytes of a feed to the end of a content, at most `most` of them, and all within the limit; returns how
+/// many. Where none is ready or none is within the limit it takes none.
+pub(crate) fn take_ready<F: Feed>(
+    feed: &mut F,
+    room: &mut u32,
+    content: &mut Block,
+    most: usize,
+) -> usize
+    requires { array_vec_len content.old + most ≤ content_limit }
+    ensures took { TookInto (place (F.text feed.old) (F.faults feed.old) room.old)
+        (place (F.text feed.new) (F.faults feed.new) room.new) content.old.items content.new.items result }
+    ensures within { result ≤ most }
+{
+    let shown = feed.ready();
+    let front = &shown[..shown.len().min(most).min(*room as usize)];
+    let count = front.len();
+    content.try_extend_from_slice(front).unwrap();
+    feed.pass(count);
+    *room -= count as u32;
+    count
+}

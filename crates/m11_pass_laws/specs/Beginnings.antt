@@ -1,7 +1,0 @@
--- Lines of one pass that begin with those of another. (This project's own.)
-use Rattle.std.specs.Prelude.{◌≡◌, List, ◌++◌}
-use Rattle.m11_passes.specs.Lines.{Numbered}
-
--- these lines begin with those
-abbrev pub BeginWith : List Numbered → List Numbered → Type 0
-BeginWith lines first = (further : List Numbered) × (lines ≡ first ++ further)

@@ -1,5 +1,0 @@
-use Rattle.m11_placement.proofs.FirmNames.{value_alike}
-use Rattle.m11_placement.proofs.laws.firm_values_are_those_of_every_map.Goals as goal
-
-pub returns : goal.returns
-returns c = value_alike

@@ -1,5 +1,0 @@
-use Rattle.m11_placement.proofs.LabelPlaces.{labels_keep}
-use Rattle.m11_placement.proofs.laws.labels_keep_the_counter.Goals as goal
-
-pub returns : goal.returns
-returns c = labels_keep

@@ -1,5 +1,0 @@
-use Rattle.m11_placement.proofs.PieceSizes.{shapes_alike}
-use Rattle.m11_placement.proofs.laws.pieces_lie_alike_under_every_map.Goals as goal
-
-pub returns : goal.returns
-returns c = shapes_alike

@@ -1,5 +1,0 @@
-use Rattle.m11_placement.proofs.PiecesInOrder.{in_order}
-use Rattle.m11_placement.proofs.laws.pieces_lie_in_the_order_of_lines.Goals as goal
-
-pub returns : goal.returns
-returns c = in_order

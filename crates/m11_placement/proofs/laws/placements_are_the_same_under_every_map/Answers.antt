@@ -1,5 +1,0 @@
-use Rattle.m11_placement.proofs.FirmLines.{tables_alike}
-use Rattle.m11_placement.proofs.laws.placements_are_the_same_under_every_map.Goals as goal
-
-pub returns : goal.returns
-returns c = tables_alike

@@ -1,5 +1,0 @@
-use Rattle.m11_placement.proofs.SameLines.{lines_are_same}
-use Rattle.m11_placement.proofs.laws.sources_have_the_same_lines_under_every_map.Goals as goal
-
-pub returns : goal.returns
-returns c = lines_are_same

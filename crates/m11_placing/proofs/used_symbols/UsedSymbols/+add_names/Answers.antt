@@ -1,8 +1,0 @@
-use Rattle.std.proofs.Common.{sym}
-use Rattle.m11_placing.proofs.Gathering.{failed_name}
-use Rattle.m11_placing.proofs.used_symbols.UsedSymbols.+add_names.Goals as goal
-
-pub returns-in_err-define-in-len1-up : goal.returns-in_err-define-in-len1-up
-returns-in_err-define-in-len1-up t c =
-    failed_name c.args.names.now c.name-item.result _ c.args.self.now c.define.new.self c.in_err-define-in-len1-up.field-0.0
-    c.from_residual.result c.in-len1-up.len_at_least (sym c.name-item.is) c.in_err-define-in-len1-up.ensures.adds c.from_residual.ensures.1

@@ -1,8 +1,0 @@
-use Rattle.m11_readings.proofs.Reached.{begins, goes_on}
-use Rattle.m11_readings.proofs.laws.calls_read_lines_in_order.Goals as goal
-
-pub returns-clause-begins : goal.returns-clause-begins
-returns-clause-begins c = begins
-
-pub returns-clause-goes_on : goal.returns-clause-goes_on
-returns-clause-goes_on c = goes_on

@@ -1,5 +1,0 @@
-use Rattle.m11_readings.proofs.Passing.{joined_alike}
-use Rattle.m11_readings.proofs.laws.sources_after_a_line_feed_are_one_text.Goals as goal
-
-pub returns : goal.returns
-returns c = joined_alike

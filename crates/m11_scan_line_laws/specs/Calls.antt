@@ -1,0 +1,44 @@
+-- The reading of sources call by call: where the calls so far lead to, and what the sources are of which they read.
+-- (This project's own.)
+use Rattle.std.specs.Prelude.{◌≡◌, ℕ, ◌+◌, List, [], ◌++◌, map, Option, Some}
+use Rattle.m11_base.specs.Devices.{Bytes}
+use Rattle.m11_base.specs.Feed.{Text, GiveAll, NoneFailed, OneFailed}
+use Rattle.m11_scan_lines.specs.Line.{SourceLine}
+use Rattle.m11_scan_lines.specs.Lines.{RawLine, input_of, cut, bytes_in, lines_in, most_bytes, most_lines}
+use Rattle.m11_scan_lines.specs.Reader.{Place, place_at, Gave}
+use Rattle.m11_scan_line_laws.specs.Extents.{EndWithLine}
+use Rattle.m11_scan_line_laws.specs.Readings.{Reading, lines_of, reading_of, reading_of_input}
+
+-- calls that were Ok returned these lines: the sources gave pieces, all of them whole and within the limits, and the
+-- lines are those among them, with nothing after the last one
+pub record HasRead (first now : Place) (lines : List SourceLine) : Type 0 where
+  pub given : List (Option ℕ)
+  pub pieces : List RawLine
+  pub gave : Gave first.texts now.texts given
+  pub is_cut : cut given ≡ record { lines = pieces; unclosed = [] }
+  pub are : lines ≡ lines_of pieces
+  pub ends : EndWithLine pieces
+  pub bytes_left : first.bytes_left ≡ bytes_in pieces + now.bytes_left
+  pub lines_left : first.lines_left ≡ lines_in pieces + now.lines_left
+  pub faults : now.faults ≡ first.faults
+
+-- the place of a new reader
+abbrev pub start : {F : Type 0} → (F → Option Text) → (F → ℕ) → List F → Place
+start text faults feeds = place_at text faults feeds 0 most_bytes most_lines
+
+-- no feed failed, and sources that they give have this reading
+abbrev pub HaveReading : {F : Type 0} → (F → Option Text) → (F → ℕ) → List F → List F → Reading → Type 0
+HaveReading text faults old new reading = NoneFailed faults old new
+    × (sources : List Bytes) × GiveAll text old sources × (reading_of sources ≡ reading)
+
+-- no feed failed, and the reading of sources that they give begins with these lines
+abbrev pub BeginReading : {F : Type 0} → (F → Option Text) → (F → ℕ) → List F → List F → List SourceLine → Type 0
+BeginReading text faults old new lines = NoneFailed faults old new
+    × (sources : List Bytes) × GiveAll text old sources
+    × (more : List SourceLine) × ((reading_of sources).lines ≡ lines ++ more)
+
+-- a feed failed, and what had come till then has this reading
+abbrev pub FailReading : {F : Type 0} → (F → Option Text) → (F → ℕ) → List F → List F → Reading → Type 0
+FailReading text faults old new reading = (sources : List Bytes) × (beginning : Bytes)
+    × OneFailed text faults old new sources beginning
+    × (reading_of_input (input_of sources ++ map (λ byte. Some byte) beginning) ≡ reading)

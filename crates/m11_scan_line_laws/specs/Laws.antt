@@ -1,0 +1,17 @@
+-- Sources by the lines that stand in them.
+use Rattle.std.specs.Prelude.{◌≢◌, List, [], ◌∷◌, ◌++◌}
+use Rattle.m11_base.specs.Devices.{Bytes}
+use Rattle.m11_scan_lines.specs.Laws.{ArePlainTexts, IsPlainText, written}
+
+-- a source has these lines, none of them with NULs, line feeds, form feeds or CRs: a line feed follows each, or each but the
+-- last, which isn't empty then
+pub data HasLines : Bytes → List Bytes → Type 0 where
+  AllEnded : (lines : List Bytes) → ArePlainTexts lines → HasLines (written lines) lines
+  LastOpen : (lines : List Bytes) (last : Bytes) → ArePlainTexts lines → IsPlainText last → last ≢ []
+      → HasLines (written lines ++ last) (lines ++ last ∷ [])
+
+-- sources have these lines together
+pub data HaveLines : List Bytes → List Bytes → Type 0 where
+  NoSource : HaveLines [] []
+  OneMore : (source : Bytes) (sources lines more : List Bytes) → HasLines source lines → HaveLines sources more
+      → HaveLines (source ∷ sources) (lines ++ more)

@@ -1,0 +1,83 @@
+//! Laws of readings. Each is the contract of a function that does nothing.
+
+ghost use Rattle.std.specs.Prelude.{◌≡◌, ◌≤◌, ◌∷◌, ◌++◌, ℕ, List, [], length, map, sum_by, Option, Some, None, Ok, Err};
+ghost use Rattle.m11_base.specs.Devices.{Bytes};
+ghost use Rattle.m11_base.specs.Feed.{Text};
+ghost use Rattle.m11_scan_lines.specs.declared.fault.LineFault.TheVariants.{Read, TooMuchSource, TooManyLines};
+ghost use Rattle.m11_scan_lines.specs.Line.{SourceLine, line_of};
+ghost use Rattle.m11_scan_lines.specs.Lines.{most_bytes, most_lines};
+ghost use Rattle.m11_scan_lines.specs.Reader.{Place, place_at, ReadsNext};
+ghost use Rattle.m11_scan_line_laws.specs.Calls.{BeginReading, FailReading, HasRead, HaveReading, start};
+ghost use Rattle.m11_scan_line_laws.specs.Extents.{GaveAll, GaveLines, GavePast, GaveTill};
+ghost use Rattle.m11_scan_line_laws.specs.Laws.{HaveLines};
+ghost use Rattle.m11_scan_line_laws.specs.Readings.{reading_of};
+
+/// Before the first call no line was read, and each call that returns one adds it to those before.
+pub fn calls_read_lines_in_order()
+    ensures begins { (place : Place) → HasRead place place [] }
+    ensures goes_on { (first middle now : Place) (lines : List SourceLine) (line : SourceLine)
+        → HasRead first middle lines → ReadsNext middle now (Ok (Some line)) → HasRead first now (lines ++ line ∷ []) }
+{}
+
+/// Where two sources follow one another and the first ends in a line feed, they are read as one text.
+pub fn sources_after_a_line_feed_are_one_text()
+    ensures { (one other : Bytes) (sources : List Bytes)
+        → reading_of ((one ++ 0o12 ∷ []) ∷ other ∷ sources) ≡ reading_of (((one ++ 0o12 ∷ []) ++ other) ∷ sources) }
+{}
+
+/// Lines without NULs, line feeds, form feeds and CRs are read as they stand, in order, from one source or from several, within
+/// the limits: a line feed follows each, or the end of its source follows the last one.
+pub fn plain_lines_are_read_as_they_stand()
+    ensures { (sources lines : List Bytes) → HaveLines sources lines → sum_by length sources ≤ most_bytes
+        → length lines ≤ most_lines → reading_of sources ≡ record { lines = map line_of lines; fault = None } }
+{}
+
+/// What a new reader returns call by call is the reading of the sources that its feeds give. Where no more is read, the
+/// lines so far are its first lines, whatever comes after them. After the end of the last source they are all its lines.
+/// At a limit they are the lines before it, and the reading stops there with the fault that was returned. Where a feed
+/// failed, they are the lines of what had come till then, and no limit had been passed.
+pub fn lines_read_are_those_of_the_sources<F>()
+    ensures so_far { (text : F → Option Text) (faults : F → ℕ) (old new : List F) (source bytes_left lines_left : ℕ)
+        (lines : List SourceLine)
+        → HasRead (start text faults old) (place_at text faults new source bytes_left lines_left) lines
+        → BeginReading text faults old new lines }
+    ensures all { (text : F → Option Text) (faults : F → ℕ) (old new : List F) (source bytes_left lines_left : ℕ)
+        (lines : List SourceLine) (middle : Place) → HasRead (start text faults old) middle lines
+        → ReadsNext middle (place_at text faults new source bytes_left lines_left) (Ok None)
+        → HaveReading text faults old new (record { lines = lines; fault = None }) }
+    ensures too_much { (text : F → Option Text) (faults : F → ℕ) (old new : List F) (source bytes_left lines_left : ℕ)
+        (lines : List SourceLine) (middle : Place) → HasRead (start text faults old) middle lines
+        → ReadsNext middle (place_at text faults new source bytes_left lines_left) (Err TooMuchSource)
+        → HaveReading text faults old new (record { lines = lines; fault = Some TooMuchSource }) }
+    ensures too_many { (text : F → Option Text) (faults : F → ℕ) (old new : List F) (source bytes_left lines_left : ℕ)
+        (lines : List SourceLine) (middle : Place) → HasRead (start text faults old) middle lines
+        → ReadsNext middle (place_at text faults new source bytes_left lines_left) (Err TooManyLines)
+        → HaveReading text faults old new (record { lines = lines; fault = Some TooManyLines }) }
+    ensures failed { (text : F → Option Text) (faults : F → ℕ) (old new : List F) (source bytes_left lines_left : ℕ)
+        (lines : List SourceLine) (middle : Place) → HasRead (start text faults old) middle lines
+        → ReadsNext middle (place_at text faults new source bytes_left lines_left) (Err Read)
+        → FailReading text faults old new (record { lines = lines; fault = None }) }
+{}
+
+/// Where the calls of a new reader returned some lines, the feeds have given just these, and no byte after them. At the end of the last
+/// source they have given all. Where one failed, or a limit was passed, they gave no more than what came till then.
+pub fn feeds_give_as_far_as_they_are_read<F>()
+    ensures lines { (text : F → Option Text) (faults : F → ℕ) (old new : List F) (source bytes_left lines_left : ℕ)
+        (lines : List SourceLine)
+        → HasRead (start text faults old) (place_at text faults new source bytes_left lines_left) lines
+        → GaveLines text old new lines }
+    ensures all { (text : F → Option Text) (faults : F → ℕ) (old new : List F) (source bytes_left lines_left : ℕ)
+        (lines : List SourceLine) (middle : Place) → HasRead (start text faults old) middle lines
+        → ReadsNext middle (place_at text faults new source bytes_left lines_left) (Ok None) → GaveAll text old new lines }
+    ensures failed { (text : F → Option Text) (faults : F → ℕ) (old new : List F) (source bytes_left lines_left : ℕ)
+        (lines : List SourceLine) (middle : Place) → HasRead (start text faults old) middle lines
+        → ReadsNext middle (place_at text faults new source bytes_left lines_left) (Err Read) → GaveTill text old new lines }
+    ensures too_much { (text : F → Option Text) (faults : F → ℕ) (old new : List F) (source bytes_left lines_left : ℕ)
+        (lines : List SourceLine) (middle : Place) → HasRead (start text faults old) middle lines
+        → ReadsNext middle (place_at text faults new source bytes_left lines_left) (Err TooMuchSource)
+        → GavePast text old new lines TooMuchSource }
+    ensures too_many { (text : F → Option Text) (faults : F → ℕ) (old new : List F) (source bytes_left lines_left : ℕ)
+        (lines : List SourceLine) (middle : Place) → HasRead (start text faults old) middle lines
+        → ReadsNext middle (place_at text faults new source bytes_left lines_left) (Err TooManyLines)
+        → GavePast text old new lines TooManyLines }
+{}

@@ -1,0 +1,10 @@
+-- Reading one label after the other.
+use Rattle.std.proofs.Common.{◌≡◌, List, [], ◌∷◌, ◌++◌, sym, ap, ◌∙◌}
+use Rattle.std.proofs.lemmas.List.{append_assoc}
+use Rattle.m11_scan_statements.specs.declared.labels.Label.{Label}
+
+-- a label joins those before it
+pub label_joins : (labels left rest whole more : List Label) (label : Label) → labels ++ left ≡ whole → left ≡ label ∷ rest
+    → more ≡ labels ++ label ∷ [] → more ++ rest ≡ whole
+label_joins labels left rest whole more label before next pushed =
+    ap (λ ls. ls ++ rest) pushed ∙ append_assoc labels (label ∷ []) rest ∙ sym (ap (λ ls. labels ++ ls) next) ∙ before

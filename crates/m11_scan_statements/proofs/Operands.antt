@@ -1,0 +1,181 @@
+-- Before an operand, or at the end of its line, nothing is assigned to a name.
+use Rattle.std.proofs.Common.{◌≡◌, ℕ, suc, ◌+◌, ◌-◌, Bool, true, false, List, [], ◌∷◌, ◌++◌, None, refl, subst, ap, ◌∙◌, sym, arith}
+use Rattle.std.specs.Prelude.{◌==◌, ◌||◌, cond, if◌then◌else◌, drop}
+use Rattle.std.specs.List.{prefix_len}
+use Rattle.std.proofs.lemmas.Bool.{eqb-true, false≢true, true≢false}
+use Rattle.m11_base.specs.Devices.{Bytes}
+use Rattle.m11_base.specs.Mnemonics.{is_name_character}
+use Rattle.m11_scan.specs.Characters.{is_blank, is_digit}
+use Rattle.m11_scan.specs.Cutting.{Lexeme, lexemes_at, lexemes_from, pieces_after, pieces_of, text_between, tokens_from}
+use Rattle.m11_scan.specs.Pieces.{first_piece, number_ending, number_piece, token}
+use Rattle.m11_scan.specs.Skipped.{skipped_between}
+use Rattle.m11_scan.specs.declared.pieces.Piece.{Piece}
+use Rattle.m11_scan.specs.declared.sort.Form.{Form}
+use Rattle.m11_scan.specs.declared.sort.Form.TheVariants.{Cut, Blank, Comment, Skipped}
+use Rattle.m11_scan.specs.declared.sort.Sort.{Sort}
+use Rattle.m11_scan.specs.declared.sort.Sort.TheVariants.{Name, Number, DecimalNumber, LocalSymbol, Equals, TwoEquals}
+use Rattle.m11_scan_statements.specs.Bodies.{assigned, assignment_to, begins_operand, begins_or_ends, counter_set, is_operand_start, name_set, set_by}
+use Rattle.m11_scan_statements.specs.Labels.{is_counter}
+
+abbrev sets : Sort → Bool
+sets Equals = true
+sets TwoEquals = true
+sets _ = false
+
+-- a token of another sort assigns nothing
+module _ (target : Lexeme) (end : ℕ) where
+  counter_unset : (sort : Sort) → sets sort ≡ false → counter_set sort end ≡ None
+  counter_unset Equals other = absurd (true≢false other)
+  counter_unset _ other = refl
+
+  name_unset : (sort : Sort) → sets sort ≡ false → name_set target.start target.end sort end ≡ None
+  name_unset Equals other = absurd (true≢false other)
+  name_unset TwoEquals other = absurd (true≢false other)
+  name_unset _ other = refl
+
+  either_unset : (sort : Sort) → sets sort ≡ false → (is_dot : Bool)
+      → (if is_dot then counter_set sort end else name_set target.start target.end sort end) ≡ None
+  either_unset sort other true = counter_unset sort other
+  either_unset sort other false = name_unset sort other
+
+module _ (line : Bytes) (target : Lexeme) where
+  by_sort : (equals : Lexeme) → sets equals.sort ≡ false → (sort : Sort) → set_by sort target equals ≡ None
+  by_sort equals other Name = either_unset target equals.end equals.sort other (is_counter target.text)
+  by_sort equals other _ = refl
+
+  apart_or : (equals : Lexeme) → sets equals.sort ≡ false → (is_apart : Bool)
+      → (if is_apart then None else assigned target equals) ≡ None
+  apart_or equals other true = refl
+  apart_or equals other false = by_sort equals other target.sort
+
+  unset_before : (equals : Lexeme) (tokens : List Lexeme) → sets equals.sort ≡ false
+      → assignment_to line target (equals ∷ tokens) ≡ None
+  unset_before equals tokens other = apart_or equals other (skipped_between line target.end equals.start)
+
+-- a piece is a token that assigns nothing
+abbrev IsOther : Form → Type 0
+IsOther (Cut sort) = sets sort ≡ false
+IsOther Blank = ⊥
+IsOther Comment = ⊥
+IsOther Skipped = ⊥
+
+number_other : (digits : ℕ) (is_decimal is_local : Bool)
+    → IsOther (if is_decimal then token DecimalNumber (digits + 1) else (if is_local then token LocalSymbol (digits + 1) else token Number digits)).form
+number_other digits true is_local = refl
+number_other digits false true = refl
+number_other digits false false = refl
+
+ending_other : (digits : ℕ) (text : List ℕ) → IsOther (number_ending digits text).form
+ending_other digits [] = refl
+ending_other digits (byte ∷ rest) = number_other digits (byte == 0o56) (byte == 0o44)
+
+classes_other : (is_number is_name : Bool) (number name other : Piece) → is_name ≡ true → IsOther number.form → IsOther name.form
+    → IsOther (if is_number then number else (if is_name then name else other)).form
+classes_other true is_name number name other named one two = one
+classes_other false true number name other named one two = two
+classes_other false false number name other named one two = absurd (false≢true named)
+
+name_other : (byte : ℕ) (rest : List ℕ) → is_name_character byte ≡ true → IsOther (first_piece (byte ∷ rest)).form
+unfolding first_piece
+name_other byte rest named =
+    classes_other (is_digit byte) (is_name_character byte) (number_piece (byte ∷ rest)) _ _ named
+    (ending_other (prefix_len is_digit (byte ∷ rest)) (drop (prefix_len is_digit (byte ∷ rest)) (byte ∷ rest))) refl
+
+mark_other : (byte mark : ℕ) (rest : List ℕ) → (byte == mark) ≡ true → IsOther (first_piece (mark ∷ rest)).form
+    → IsOther (first_piece (byte ∷ rest)).form
+mark_other byte mark rest is other =
+    let P : ℕ → Type 0 = λ b. IsOther (first_piece (b ∷ rest)).form in subst P (sym (eqb-true byte mark is)) other
+
+sign_other : (rest : List ℕ) → IsOther (first_piece (0o43 ∷ rest)).form
+unfolding first_piece
+sign_other rest = refl
+
+at_other : (rest : List ℕ) → IsOther (first_piece (0o100 ∷ rest)).form
+unfolding first_piece
+at_other rest = refl
+
+open_other : (rest : List ℕ) → IsOther (first_piece (0o50 ∷ rest)).form
+unfolding first_piece
+open_other rest = refl
+
+minus_other : (rest : List ℕ) → IsOther (first_piece (0o55 ∷ rest)).form
+unfolding first_piece
+minus_other rest = refl
+
+start_other : (byte : ℕ) (rest : List ℕ) (is_name is_sign is_at is_open is_minus : Bool)
+    → is_name ≡ is_name_character byte → is_sign ≡ (byte == 0o43) → is_at ≡ (byte == 0o100) → is_open ≡ (byte == 0o50)
+    → is_minus ≡ (byte == 0o55) → (is_name || (is_sign || (is_at || (is_open || is_minus)))) ≡ true
+    → IsOther (first_piece (byte ∷ rest)).form
+start_other byte rest true is_sign is_at is_open is_minus a b c d e start = name_other byte rest (sym a)
+start_other byte rest false true is_at is_open is_minus a b c d e start = mark_other byte 0o43 rest (sym b) (sign_other rest)
+start_other byte rest false false true is_open is_minus a b c d e start = mark_other byte 0o100 rest (sym c) (at_other rest)
+start_other byte rest false false false true is_minus a b c d e start = mark_other byte 0o50 rest (sym d) (open_other rest)
+start_other byte rest false false false false true a b c d e start = mark_other byte 0o55 rest (sym e) (minus_other rest)
+start_other byte rest false false false false false a b c d e start = absurd (false≢true start)
+
+blank_is : (byte : ℕ) (rest : List ℕ) (is_space is_tab : Bool) → is_space ≡ (byte == 0o40) → is_tab ≡ (byte == 0o11)
+    → (is_space || is_tab) ≡ true → first_piece (byte ∷ rest) ≡ record { form = Blank; length = 1 }
+unfolding first_piece
+blank_is byte rest true is_tab a b blank =
+    let P : ℕ → Type 0 = λ c. first_piece (c ∷ rest) ≡ record { form = Blank; length = 1 } in
+    subst P (sym (eqb-true byte 0o40 (sym a))) refl
+blank_is byte rest false true a b blank =
+    let P : ℕ → Type 0 = λ c. first_piece (c ∷ rest) ≡ record { form = Blank; length = 1 } in
+    subst P (sym (eqb-true byte 0o11 (sym b))) refl
+blank_is byte rest false false a b blank = absurd (false≢true blank)
+
+blank_begins : (byte : ℕ) (text : List ℕ) → is_blank byte ≡ true → begins_operand text ≡ begins_operand (byte ∷ text)
+blank_begins byte text blank =
+    let n : ℕ = prefix_len is_blank text in
+    let P : Bool → Type 0 = λ b. begins_operand text ≡ begins_or_ends (drop (cond b (1 + n) 0) (byte ∷ text)) in
+    let one : suc n ≡ 1 + n = omega arith in
+    subst P (sym blank) (ap (λ m. begins_or_ends (drop m (byte ∷ text))) one)
+
+other_begins : (byte : ℕ) (text : List ℕ) → is_blank byte ≡ false → is_operand_start byte ≡ begins_operand (byte ∷ text)
+other_begins byte text other =
+    let n : ℕ = prefix_len is_blank text in
+    let P : Bool → Type 0 = λ b. is_operand_start byte ≡ begins_or_ends (drop (cond b (1 + n) 0) (byte ∷ text)) in
+    subst P (sym other) refl
+
+module _ (line : Bytes) (target : Lexeme) where
+  form_unset : (place end : ℕ) (form : Form) (tokens : List Lexeme) → IsOther form
+      → assignment_to line target (lexemes_at line place end form ++ tokens) ≡ None
+  form_unset place end (Cut sort) tokens other =
+      unset_before line target (record { sort = sort; start = place; end = end; text = text_between line place end }) tokens other
+  form_unset place end Blank tokens other = absurd other
+  form_unset place end Comment tokens other = absurd other
+  form_unset place end Skipped tokens other = absurd other
+
+  abbrev Unset : ℕ → List ℕ → Type 0
+  Unset place text = assignment_to line target (lexemes_from line place (pieces_of text)) ≡ None
+
+  first_unset : (place : ℕ) (byte : ℕ) (text : List ℕ) → is_operand_start byte ≡ true → Unset place (byte ∷ text)
+  first_unset place byte text start =
+      form_unset place (place + (first_piece (byte ∷ text)).length) (first_piece (byte ∷ text)).form
+      (lexemes_from line (place + (first_piece (byte ∷ text)).length)
+      (pieces_after ((first_piece (byte ∷ text)).length - 1) text))
+      (start_other byte text (is_name_character byte) (byte == 0o43) (byte == 0o100) (byte == 0o50) (byte == 0o55) refl refl refl refl
+      refl start)
+
+  blank_unset : (place : ℕ) (byte : ℕ) (text : List ℕ) → is_blank byte ≡ true → Unset (place + 1) text → Unset place (byte ∷ text)
+  blank_unset place byte text blank later =
+      let P : Piece → Type 0 = λ p. assignment_to line target (lexemes_at line place (place + p.length) p.form
+      ++ lexemes_from line (place + p.length) (pieces_after (p.length - 1) text)) ≡ None in
+      subst P (sym (blank_is byte text (byte == 0o40) (byte == 0o11) refl refl blank)) later
+
+  byte_unset : (place : ℕ) (byte : ℕ) (text : List ℕ) (blank : Bool) → blank ≡ is_blank byte
+      → begins_operand (byte ∷ text) ≡ true → ((later : ℕ) → begins_operand text ≡ true → Unset later text)
+      → Unset place (byte ∷ text)
+  byte_unset place byte text true is begins unset =
+      blank_unset place byte text (sym is) (unset (place + 1) (blank_begins byte text (sym is) ∙ begins))
+  byte_unset place byte text false is begins unset =
+      first_unset place byte text (other_begins byte text (sym is) ∙ begins)
+
+  text_unset : (text : List ℕ) (place : ℕ) → begins_operand text ≡ true → Unset place text
+  text_unset [] place begins = refl
+  text_unset (byte ∷ text) place begins =
+      byte_unset place byte text (is_blank byte) refl begins (λ later found. text_unset text later found)
+
+  pub operand_unset : (place : ℕ) → begins_operand (drop place line) ≡ true
+      → assignment_to line target (tokens_from line place) ≡ None
+  operand_unset place begins = text_unset (drop place line) place begins

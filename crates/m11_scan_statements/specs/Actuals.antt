@@ -1,0 +1,67 @@
+-- The arguments of a call of a macro, of `.IRP` and of conditions. (MACRO-11 Language Reference Manual, "Arguments in macro definitions
+-- and macro calls". That an actual without its `>` goes to the end of the line, and that `\` takes what is an expression, is this
+-- project's own.)
+use Rattle.std.specs.Prelude.{ℕ, ◌+◌, Bool, true, false, ◌&&◌, ◌==◌, if◌then◌else◌, [], ◌∷◌, drop, Option, Some, None}
+use Rattle.std.specs.List.{prefix_len}
+use Rattle.m11_base.specs.Devices.{Bytes}
+use Rattle.m11_scan.specs.declared.texts.Enclosed.{Enclosed}
+use Rattle.m11_scan.specs.Characters.{is_blank}
+use Rattle.m11_scan.specs.Ends.{expression_end}
+use Rattle.m11_scan.specs.Texts.{bracketed, is_bare, separator_length}
+use Rattle.m11_scan_statements.specs.declared.actuals.Actual.{Actual}
+use Rattle.m11_scan_statements.specs.declared.actuals.ActualKind.{ActualKind}
+use Rattle.m11_scan_statements.specs.declared.actuals.ActualKind.TheVariants.{Bare, Bracketed, Digits}
+use Rattle.m11_scan_statements.specs.declared.actuals.Separator.{Separator}
+
+abbrev pub begins_with_comma : Bytes → Bool
+begins_with_comma [] = false
+begins_with_comma (byte ∷ text) = byte == 0o54
+
+-- the place after the blanks that stand from a place on
+abbrev pub after_blanks : Bytes → ℕ → ℕ
+after_blanks line place = place + prefix_len is_blank (drop place line)
+
+-- blanks, one comma with the blanks after it, or both
+abbrev pub separator_at : Bytes → ℕ → Separator
+separator_at line place = record {
+  has_comma = begins_with_comma (drop (prefix_len is_blank (drop place line)) (drop place line));
+  end = place + separator_length (drop place line);
+}
+
+-- an actual that needs no closing mark
+abbrev pub whole_actual : ActualKind → ℕ → ℕ → Actual
+whole_actual kind start end =
+    record { kind = kind; inside = record { start = start; end = end }; is_closed = true; end = end }
+
+-- the inside of brackets, from the place after the `<` on
+abbrev pub in_brackets : ℕ → Enclosed → Actual
+in_brackets start enclosed = record {
+  kind = Bracketed;
+  inside = record { start = start; end = start + enclosed.length };
+  is_closed = enclosed.is_closed;
+  end = if enclosed.is_closed then start + enclosed.length + 1 else start + enclosed.length;
+}
+
+abbrev pub bracketed_actual : Bytes → ℕ → Actual
+bracketed_actual line start = in_brackets start (bracketed (drop start line))
+
+-- an expression, from the place after the `\` on
+abbrev pub digits_actual : Bytes → ℕ → Actual
+digits_actual line start = whole_actual Digits start (expression_end line start)
+
+-- characters up to a comma, a blank, a tab or a `;`
+abbrev pub bare_actual : Bytes → ℕ → Actual
+bare_actual line start = whole_actual Bare start (start + prefix_len is_bare (drop start line))
+
+-- an actual by its first character: `<`, `\` where digits are given, or any other but `;`
+abbrev pub actual_in : Bytes → ℕ → Bool → Bytes → Option Actual
+actual_in line start gives_digits [] = None
+actual_in line start gives_digits (byte ∷ text) =
+    if byte == 0o73 then None
+    else (if byte == 0o74 then Some (bracketed_actual line (start + 1))
+    else (if byte == 0o134 && gives_digits then Some (digits_actual line (start + 1)) else Some (bare_actual line start)))
+
+-- the actual that stands next from a place on, after blanks
+abbrev pub next_actual : Bytes → ℕ → Bool → Option Actual
+next_actual line place gives_digits =
+    actual_in line (after_blanks line place) gives_digits (drop (after_blanks line place) line)

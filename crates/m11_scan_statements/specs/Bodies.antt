@@ -1,0 +1,84 @@
+-- What stands after the labels of a line. (MACRO-11 Language Reference Manual, "Operator field", "Direct assignment statements" and
+-- ".WORD directive". That `.==` is no form, and that a line which begins with anything but a name counts as words, is this project's
+-- own. Whether the name of an operator is one is asked where it stands.)
+use Rattle.std.specs.Prelude.{ℕ, Bool, true, false, ◌||◌, ◌==◌, if◌then◌else◌, List, [], ◌∷◌, drop, Option, Some, None}
+use Rattle.std.specs.List.{prefix_len}
+use Rattle.m11_base.specs.Devices.{Bytes}
+use Rattle.m11_base.specs.Mnemonics.{is_name_character}
+use Rattle.m11_scan.specs.declared.sort.Sort.{Sort}
+use Rattle.m11_scan.specs.declared.sort.Sort.TheVariants as sorts
+use Rattle.m11_scan.specs.Characters.{is_blank}
+use Rattle.m11_scan.specs.Cutting.{Lexeme}
+use Rattle.m11_scan.specs.Skipped.{skipped_between}
+use Rattle.m11_scan_statements.specs.Labels.{is_counter}
+use Rattle.m11_scan_statements.specs.Listed.{is_name, span_of}
+use Rattle.m11_scan_statements.specs.declared.bodies.Body.{Body}
+use Rattle.m11_scan_statements.specs.declared.bodies.Body.TheVariants.{Nothing, Assign, SetCounter, Operate, Words}
+
+-- `=` after the counter
+abbrev pub counter_set : Sort → ℕ → Option Body
+counter_set sorts.Equals end = Some (SetCounter end)
+counter_set _ end = None
+
+abbrev pub assigns : ℕ → ℕ → Bool → ℕ → Option Body
+assigns start end is_global value =
+    Some (Assign (record { name = record { start = start; end = end }; is_global = is_global; value = value }))
+
+-- `=` or `==` after a name
+abbrev pub name_set : ℕ → ℕ → Sort → ℕ → Option Body
+name_set start end sorts.Equals value = assigns start end false value
+name_set start end sorts.TwoEquals value = assigns start end true value
+name_set start end _ value = None
+
+abbrev pub set_by : Sort → Lexeme → Lexeme → Option Body
+set_by sorts.Name target equals =
+    if is_counter target.text then counter_set equals.sort equals.end
+    else name_set target.start target.end equals.sort equals.end
+set_by _ target equals = None
+
+-- the assignment to a token by the one after it, if they are one
+abbrev pub assigned : Lexeme → Lexeme → Option Body
+assigned target equals = set_by target.sort target equals
+
+-- only blanks may stand between the two
+abbrev pub assignment_to : Bytes → Lexeme → List Lexeme → Option Body
+assignment_to line target [] = None
+assignment_to line target (equals ∷ tokens) =
+    if skipped_between line target.end equals.start then None else assigned target equals
+
+-- a character begins a name, a number, or an operand of another form
+abbrev pub is_operand_start : ℕ → Bool
+is_operand_start byte = is_name_character byte || (byte == 0o43 || (byte == 0o100 || (byte == 0o50 || byte == 0o55)))
+
+abbrev pub begins_or_ends : Bytes → Bool
+begins_or_ends [] = true
+begins_or_ends (byte ∷ text) = is_operand_start byte
+
+-- after its blanks a text begins so, or ends
+abbrev pub begins_operand : Bytes → Bool
+begins_operand text = begins_or_ends (drop (prefix_len is_blank text) text)
+
+-- a name is an operator, and anything else is words
+abbrev pub operation : Lexeme → Body
+operation token = if is_name token then Operate (span_of token) else Words token.start
+
+abbrev pub body_or : Option Body → Body → Body
+body_or (Some body) other = body
+body_or None other = other
+
+-- an assignment, or else an operator or words
+abbrev pub begun_body : Bytes → Lexeme → List Lexeme → Body
+begun_body line first tokens = body_or (assignment_to line first tokens) (operation first)
+
+-- what some tokens of a line say
+abbrev pub body_in : Bytes → List Lexeme → Body
+body_in line [] = Nothing
+body_in line (first ∷ tokens) = begun_body line first tokens
+
+-- the place after the operator of a line of a size, or the line's end where none stands
+abbrev pub end_of : Body → ℕ → ℕ
+end_of Nothing size = size
+end_of (Assign assignment) size = size
+end_of (SetCounter value) size = size
+end_of (Operate name) size = name.end
+end_of (Words start) size = size

@@ -1,0 +1,36 @@
+-- The formals of a macro. (MACRO-11 Language Reference Manual, "Arguments in macro definitions and macro calls" and "Automatic creation
+-- of local symbols". That a `?` counts only directly before a name, and any other is skipped, is this project's own.)
+use Rattle.std.specs.Prelude.{ℕ, ◌-◌, ◌<◌, ◌≤◌, nat_lt, Bool, ◌&&◌, ◌==◌, if◌then◌else◌, List, [], ◌∷◌, slice_index}
+use Rattle.m11_base.specs.Devices.{Bytes}
+use Rattle.m11_scan.specs.Cutting.{Lexeme, tokens_from}
+use Rattle.m11_scan_statements.specs.Listed.{is_name}
+use Rattle.m11_scan_statements.specs.declared.formals.NextFormal.{NextFormal}
+use Rattle.m11_scan_statements.specs.declared.formals.NextFormal.TheVariants.{Ends, Bad, Named}
+
+abbrev pub named : ℕ → ℕ → Bool → NextFormal
+named start end is_created = Named (record { name = record { start = start; end = end }; is_created = is_created })
+
+-- a `?` stands directly before a place
+abbrev pub follows_question : Bytes → ℕ → Bool
+follows_question line place = nat_lt 0 place && slice_index line (place - 1) == 0o77
+
+-- a name, for which symbols are created where a `?` stands directly before it; or what is none
+abbrev pub formal_in : Bytes → List Lexeme → NextFormal
+formal_in line [] = Ends
+formal_in line (token ∷ tokens) =
+    if is_name token then named token.start token.end (follows_question line token.start) else Bad
+
+-- what stands next from a place on
+abbrev pub next_formal : Bytes → ℕ → NextFormal
+next_formal line place = formal_in line (tokens_from line place)
+
+-- a formal ends after a place, and no later than another
+abbrev pub EndsAfter : ℕ → NextFormal → Type 0
+EndsAfter place Ends = Unit {0}
+EndsAfter place Bad = Unit {0}
+EndsAfter place (Named formal) = place < formal.name.end
+
+abbrev pub EndsBefore : ℕ → NextFormal → Type 0
+EndsBefore place Ends = Unit {0}
+EndsBefore place Bad = Unit {0}
+EndsBefore place (Named formal) = formal.name.end ≤ place

@@ -1,0 +1,78 @@
+-- The labels of a line. (MACRO-11 Language Reference Manual, "Label field" and "Local symbols". That the colon stands directly after
+-- the name, that `.` is no label, and what becomes of a number outside 1 to 65535 is this project's own.)
+use Rattle.std.specs.Prelude.{ℕ, Bool, false, ◌&&◌, ◌==◌, nat_le, if◌then◌else◌, List, [], ◌∷◌, take, Option, Some, None}
+use Rattle.std.specs.List.{prefix_len}
+use Rattle.m11_base.specs.Devices.{Bytes}
+use Rattle.m11_scan.specs.declared.radix.Radix.TheVariants.{Decimal}
+use Rattle.m11_scan.specs.declared.sort.Sort.{Sort}
+use Rattle.m11_scan.specs.declared.sort.Sort.TheVariants.{Name, LocalSymbol, Colon, TwoColons}
+use Rattle.m11_scan.specs.Characters.{is_digit}
+use Rattle.m11_scan.specs.Cutting.{Lexeme, tokens_of}
+use Rattle.m11_scan.specs.Numbers.{number_of}
+use Rattle.m11_scan_statements.specs.declared.labels.Label.{Label}
+use Rattle.m11_scan_statements.specs.declared.labels.LabelKind.{LabelKind}
+use Rattle.m11_scan_statements.specs.declared.labels.LabelKind.TheVariants.{Ordinary, Global, Local, Outside}
+
+-- the counter, which is no name that a label can have
+abbrev pub is_counter : Bytes → Bool
+is_counter [] = false
+is_counter (byte ∷ []) = byte == 0o56
+is_counter (byte ∷ (more ∷ text)) = false
+
+-- a local symbol by its number, which is 1 to 65535
+abbrev pub local_of : ℕ → LabelKind
+local_of number = if nat_le 1 number && nat_le number 65535 then Local number else Outside
+
+-- a local symbol is digits and a `$`
+abbrev pub numbered : Bytes → LabelKind
+numbered text = local_of (number_of Decimal (take (prefix_len is_digit text) text))
+
+-- what a name with a colon after it is
+abbrev pub name_kind : Sort → Option LabelKind
+name_kind Colon = Some Ordinary
+name_kind TwoColons = Some Global
+name_kind _ = None
+
+-- what a local symbol with a colon after it is: a local symbol isn't global
+abbrev pub local_kind : Sort → Bytes → Option LabelKind
+local_kind Colon text = Some (numbered text)
+local_kind TwoColons text = Some (numbered text)
+local_kind _ text = None
+
+-- what a token with the one after it is
+abbrev pub kind_of : Sort → Sort → Bytes → Option LabelKind
+kind_of Name after text = if is_counter text then None else name_kind after
+kind_of LocalSymbol after text = local_kind after text
+kind_of _ after text = None
+
+abbrev pub labelled : Lexeme → ℕ → Option LabelKind → Option Label
+labelled name end None = None
+labelled name end (Some kind) = Some (record { kind = kind; name = record { start = name.start; end = name.end }; end = end })
+
+-- the label of a token with the one after it, if they are one: the colon stands directly after the name
+abbrev pub label_of : Lexeme → Lexeme → Option Label
+label_of name colon =
+    if name.end == colon.start then labelled name colon.end (kind_of name.sort colon.sort name.text) else None
+
+abbrev pub before_labels : Option Label → List Label → List Label
+before_labels None labels = []
+before_labels (Some label) labels = label ∷ labels
+
+-- the labels that tokens begin with
+abbrev pub labels_in : List Lexeme → List Label
+labels_in [] = []
+labels_in (name ∷ []) = []
+labels_in (name ∷ (colon ∷ tokens)) = before_labels (label_of name colon) (labels_in tokens)
+
+-- the labels of a line
+abbrev pub labels_at : Bytes → List Label
+labels_at line = labels_in (tokens_of line)
+
+-- the place after the last of some labels that begin at a place
+abbrev pub end_of : ℕ → List Label → ℕ
+end_of place [] = place
+end_of place (label ∷ labels) = end_of label.end labels
+
+-- the place after a line's labels
+abbrev pub labels_end : Bytes → ℕ
+labels_end line = end_of 0 (labels_at line)

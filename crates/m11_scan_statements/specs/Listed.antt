@@ -1,0 +1,47 @@
+-- Names in a list. (MACRO-11 Language Reference Manual, ".GLOBL directive". That what is no name is passed over up to the next comma,
+-- and that a list ends where no comma stands after a name, is this project's own.)
+use Rattle.std.specs.Prelude.{ℕ, Bool, true, false, not, if◌then◌else◌, List, [], ◌∷◌, Option, Some, None}
+use Rattle.m11_base.specs.Devices.{Bytes}
+use Rattle.m11_scan.specs.declared.sort.Sort.{Sort}
+use Rattle.m11_scan.specs.declared.sort.Sort.TheVariants.{Name, Comma}
+use Rattle.m11_scan.specs.Cutting.{Lexeme}
+use Rattle.m11_scan_statements.specs.Labels.{is_counter}
+use Rattle.m11_scan_statements.specs.declared.listed.ListedName.{ListedName}
+use Rattle.m11_scan_statements.specs.declared.spans.Span.{Span}
+
+abbrev pub is_comma : Sort → Bool
+is_comma Comma = true
+is_comma _ = false
+
+abbrev pub names : Sort → Bytes → Bool
+names Name text = not (is_counter text)
+names _ text = false
+
+-- a name that a line can define
+abbrev pub is_name : Lexeme → Bool
+is_name token = names token.sort token.text
+
+abbrev pub element : Option Span → Bool → ℕ → ListedName
+element name goes_on end = record { name = name; goes_on = goes_on; end = end }
+
+abbrev pub span_of : Lexeme → Span
+span_of token = record { start = token.start; end = token.end }
+
+-- after a name the list goes on with a comma, or ends
+abbrev pub after_name : Lexeme → List Lexeme → ListedName
+after_name name [] = element (Some (span_of name)) false name.end
+after_name name (token ∷ tokens) =
+    if is_comma token.sort then element (Some (span_of name)) true token.end
+    else element (Some (span_of name)) false name.end
+
+-- what is no name goes up to the next comma
+abbrev pub passed_over : ℕ → List Lexeme → ListedName
+passed_over place [] = element None false place
+passed_over place (token ∷ tokens) =
+    if is_comma token.sort then element None true token.end else passed_over token.end tokens
+
+-- the element that begins at a place, before some tokens
+abbrev pub listed_name : ℕ → List Lexeme → ListedName
+listed_name place [] = passed_over place []
+listed_name place (token ∷ tokens) =
+    if is_name token then after_name token tokens else passed_over place (token ∷ tokens)

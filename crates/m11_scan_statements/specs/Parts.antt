@@ -1,0 +1,83 @@
+-- The parts of the text of `.ASCII`, `.ASCIZ` and `.RAD50`. (MACRO-11 Language Reference Manual, ".ASCII directive". That a `;` delimits
+-- the first part alone, that what doesn't print is passed over before a part, and what becomes of a missing end, is this project's
+-- own.)
+use Rattle.std.specs.Prelude.{◌≡◌, ℕ, ◌+◌, Bool, true, false, not, ◌&&◌, ◌||◌, ◌==◌, nat_le, nat_lt, if◌then◌else◌, List, [], ◌∷◌, drop, Option, Some, None}
+use Rattle.std.specs.List.{prefix_len}
+use Rattle.m11_base.specs.Devices.{Bytes}
+use Rattle.m11_scan.specs.declared.sort.Sort.{Sort}
+use Rattle.m11_scan.specs.declared.sort.Sort.TheVariants.{Greater}
+use Rattle.m11_scan.specs.declared.texts.Enclosed.{Enclosed}
+use Rattle.m11_scan.specs.Cutting.{Lexeme, tokens_from}
+use Rattle.m11_scan.specs.Ends.{expression_end}
+use Rattle.m11_scan.specs.ErrorFlags.{flag_A, flag_Q}
+use Rattle.m11_scan.specs.Texts.{delimited}
+use Rattle.m11_scan_statements.specs.declared.parts.Part.{Part}
+use Rattle.m11_scan_statements.specs.declared.parts.PartKind.{PartKind}
+use Rattle.m11_scan_statements.specs.declared.parts.PartKind.TheVariants.{Text, Expression}
+
+-- a blank, or a character that doesn't print
+abbrev pub is_unprinted : ℕ → Bool
+is_unprinted byte = nat_le byte 0o40 || nat_lt 0o176 byte
+
+abbrev pub is_closing : Sort → Bool
+is_closing Greater = true
+is_closing _ = false
+
+-- characters up to a delimiter
+abbrev pub delimited_part : ℕ → Enclosed → Part
+delimited_part start enclosed = record {
+  kind = Text;
+  inside = record { start = start; end = start + enclosed.length };
+  is_closed = enclosed.is_closed;
+  end = if enclosed.is_closed then start + enclosed.length + 1 else start + enclosed.length;
+}
+
+abbrev pub text_part : Bytes → ℕ → ℕ → Part
+text_part line start delimiter = delimited_part start (delimited delimiter (drop start line))
+
+abbrev pub expression : ℕ → ℕ → Bool → ℕ → Part
+expression start inside_end is_closed end =
+    record { kind = Expression; inside = record { start = start; end = inside_end }; is_closed = is_closed; end = end }
+
+-- an expression, before some tokens: it is closed where a `>` stands next
+abbrev pub closed_by : ℕ → ℕ → List Lexeme → Part
+closed_by start end [] = expression start end false end
+closed_by start end (token ∷ tokens) =
+    if is_closing token.sort then expression start end true token.end else expression start end false end
+
+abbrev pub expression_part : Bytes → ℕ → Part
+expression_part line start = closed_by start (expression_end line start) (tokens_from line (expression_end line start))
+
+-- a part by its first character: an expression after `<`, or else a text after its delimiter
+abbrev pub part_in : Bytes → ℕ → Bool → Bytes → Option Part
+part_in line start is_first [] = None
+part_in line start is_first (byte ∷ text) =
+    if byte == 0o73 && not is_first then None
+    else (if byte == 0o74 then Some (expression_part line (start + 1)) else Some (text_part line (start + 1) byte))
+
+-- the place of the next character that prints
+abbrev pub next_printed : Bytes → ℕ → ℕ
+next_printed line place = place + prefix_len is_unprinted (drop place line)
+
+-- the part that stands next from a place on
+abbrev pub next_part : Bytes → ℕ → Bool → Option Part
+next_part line place is_first = part_in line (next_printed line place) is_first (drop (next_printed line place) line)
+
+-- parts that stand one after the other from a place on, the first of which is the text's first or not, and the place after them
+pub data AreParts (line : Bytes) : Bool → ℕ → List Part → ℕ → Type 0 where
+  -- where no part stands, they end
+  End : (is_first : Bool) (place : ℕ) → next_part line place is_first ≡ None → AreParts line is_first place [] place
+  -- a part without its end is the last
+  Break : (is_first : Bool) (place : ℕ) (part : Part) → next_part line place is_first ≡ Some part → part.is_closed ≡ false
+      → AreParts line is_first place (part ∷ []) part.end
+  -- after any other the next one stands
+  Then : (is_first : Bool) (place : ℕ) (part : Part) (parts : List Part) (end : ℕ) → next_part line place is_first ≡ Some part
+      → part.is_closed ≡ true → AreParts line false part.end parts end → AreParts line is_first place (part ∷ parts) end
+
+abbrev pub flag_of : PartKind → ℕ
+flag_of Text = flag_A
+flag_of Expression = flag_Q
+
+-- A for a missing delimiter, Q for a missing `>`
+abbrev pub part_flags : Part → ℕ
+part_flags part = if not part.is_closed then flag_of part.kind else 0

@@ -1,0 +1,137 @@
+//! The arguments of a call of a macro, of `.IRP` and of conditions. (MACRO-11 Language Reference Manual, "Arguments in macro
+//! definitions and macro calls".)
+
+ghost use Rattle.std.specs.Prelude.{◌≡◌, ◌+◌, ◌<◌, ◌≤◌, length, IfSome};
+ghost use Rattle.m11_scan_statements.specs.Actuals as spec;
+
+use crate::spans::{Span, text_from};
+use m11_scan::{
+    Enclosed, Line, bare_length, blanks_length, bracketed, expression_end, separator_length,
+};
+
+/// How an actual is written.
+#[derive(Clone, Copy, PartialEq, Eq, Debug)]
+pub enum ActualKind {
+    /// By its characters alone. It may be empty.
+    Bare,
+    /// In `<` and `>`.
+    Bracketed,
+    /// `\` and an expression, whose value's digits are the actual.
+    Digits,
+}
+
+/// An actual of a line.
+#[derive(Clone, Copy, PartialEq, Eq, Debug)]
+pub struct Actual {
+    /// How it is written.
+    pub kind: ActualKind,
+    /// Its characters, or its expression.
+    pub inside: Span,
+    /// Whether its end was found. Without its `>` it goes to the end of the line, and has A.
+    pub is_closed: bool,
+    /// The place after it.
+    pub end: u8,
+}
+
+/// What separates two arguments: blanks, one comma, or both. It may be nothing.
+#[derive(Clone, Copy, PartialEq, Eq, Debug)]
+pub struct Separator {
+    /// Whether it has the comma.
+    pub has_comma: bool,
+    /// The place after it.
+    pub end: u8,
+}
+
+/// What separates the arguments before and after a place of a line.
+pub fn separator_at(line: &Line, place: usize) -> Separator
+    requires { place ≤ length line.now.text }
+    ensures separator { result ≡ spec.separator_at line.now.text place }
+    ensures least { place ≤ result.end }
+    ensures most { result.end ≤ length line.now.text }
+{
+    let text = text_from(line, place);
+    let blanks = blanks_length(text);
+    Separator {
+        has_comma: begins_with_comma(&text[blanks..]),
+        end: (place + separator_length(text)) as u8,
+    }
+}
+
+fn begins_with_comma(text: &[u8]) -> bool
+    ensures { result ≡ spec.begins_with_comma text.now }
+{
+    matches!(text, [b',', ..])
+}
+
+/// The actual that stands next in a line from a place on, after blanks, if the line has one more there. `\` is a character
+/// like others where no digits are given.
+pub fn next_actual(line: &Line, place: usize, gives_digits: bool) -> Option<Actual>
+    requires { place ≤ length line.now.text }
+    ensures actual { result ≡ spec.next_actual line.now.text place gives_digits }
+    ensures least { IfSome result (λ actual. place ≤ actual.end) }
+    ensures begins { IfSome result (λ actual. actual.inside.start ≤ actual.end) }
+    ensures most { IfSome result (λ actual. actual.end ≤ length line.now.text) }
+{
+    let start = place + blanks_length(text_from(line, place));
+    match text_from(line, start) {
+        [] | [b';', ..] => None,
+        [b'<', ..] => Some(bracketed_actual(line, start + 1)),
+        [b'\\', ..] if gives_digits => Some(digits_actual(line, start + 1)),
+        _ => Some(bare_actual(line, start)),
+    }
+}
+
+fn bracketed_actual(line: &Line, start: usize) -> Actual
+    requires { start ≤ length line.now.text }
+    ensures actual { result ≡ spec.bracketed_actual line.now.text start }
+    ensures least { start ≤ result.end }
+    ensures begins { result.inside.start ≤ result.end }
+    ensures most { result.end ≤ length line.now.text }
+{
+    let Enclosed { length, is_closed } = bracketed(text_from(line, start));
+    let end = start + length;
+    let after = if is_closed { end + 1 } else { end };
+    Actual {
+        kind: ActualKind::Bracketed,
+        inside: Span {
+            start: start as u8,
+            end: end as u8,
+        },
+        is_closed,
+        end: after as u8,
+    }
+}
+
+fn digits_actual(line: &Line, start: usize) -> Actual
+    requires { start ≤ length line.now.text }
+    ensures actual { result ≡ spec.digits_actual line.now.text start }
+    ensures least { start ≤ result.end }
+    ensures begins { result.inside.start ≤ result.end }
+    ensures most { result.end ≤ length line.now.text }
+{
+    let end = expression_end(line, start);
+    whole_actual(ActualKind::Digits, start as u8, end as u8)
+}
+
+fn bare_actual(line: &Line, start: usize) -> Actual
+    requires { start ≤ length line.now.text }
+    ensures actual { result ≡ spec.bare_actual line.now.text start }
+    ensures least { start ≤ result.end }
+    ensures begins { result.inside.start ≤ result.end }
+    ensures most { result.end ≤ length line.now.text }
+{
+    let end = start + bare_length(text_from(line, start));
+    whole_actual(ActualKind::Bare, start as u8, end as u8)
+}
+
+// An actual that needs no closing mark.
+fn whole_actual(kind: ActualKind, start: u8, end: u8) -> Actual
+    ensures { result ≡ spec.whole_actual kind start end }
+{
+    Actual {
+        kind,
+        inside: Span { start, end },
+        is_closed: true,
+        end,
+    }
+}

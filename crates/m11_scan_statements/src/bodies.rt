@@ -1,0 +1,158 @@
+//! What stands after the labels of a line. (MACRO-11 Language Reference Manual, "Operator field", "Direct assignment statements" and
+//! ".WORD directive".)
+
+ghost use Rattle.std.specs.Prelude.{◌≡◌, ◌≤◌, [], ◌∷◌, drop, length, IfSome, MatchOption};
+ghost use Rattle.m11_scan.specs.Cutting.{tokens_from};
+ghost use Rattle.m11_scan.specs.Views.{lexeme};
+ghost use Rattle.m11_scan_statements.specs.Bodies as spec;
+
+use crate::labels::is_counter;
+use crate::listed::is_name;
+use crate::spans::Span;
+use m11_scan::{Line, Sort, Token, blanks_length, is_name_character, next_token, skipped_between};
+
+/// An assignment to a name.
+#[derive(Clone, Copy, PartialEq, Eq, Debug)]
+pub struct Assignment {
+    /// The name.
+    pub name: Span,
+    /// Whether it is made global, by `==`.
+    pub is_global: bool,
+    /// The place after the `=` or `==`, where the value begins.
+    pub value: u8,
+}
+
+/// What stands after the labels of a line.
+#[derive(Clone, Copy, PartialEq, Eq, Debug)]
+pub enum Body {
+    /// Nothing, or a comment.
+    Nothing,
+    /// `name=e` or `name==e`.
+    Assign(Assignment),
+    /// `.=e`: the place after the `=`.
+    SetCounter(u8),
+    /// A name, in the place of an operator's: whether it is one is asked where it stands. What stands after it is the operator's to
+    /// cut.
+    Operate(Span),
+    /// Anything else, which counts as the elements of a `.WORD`: the place where they begin.
+    Words(u8),
+}
+
+// What stands in a line from a place on, by the token that stands next there.
+pub(crate) fn body_at(line: &Line, place: usize, next: Option<Token>) -> Body
+    requires within { place ≤ length line.now.text }
+    requires next { MatchOption next (tokens_from line.now.text place ≡ [])
+        (λ token. tokens_from line.now.text place ≡ lexeme line.now.text token ∷ tokens_from line.now.text token.end) }
+    requires next_within { IfSome next (λ token. token.end ≤ length line.now.text) }
+    ensures body { result ≡ spec.body_in line.now.text (tokens_from line.now.text place) }
+    ensures within { spec.end_of result (length line.now.text) ≤ length line.now.text }
+{
+    match next {
+        Some(first) => begun_body(line, first),
+        None => Body::Nothing,
+    }
+}
+
+// What begins with a token.
+fn begun_body(line: &Line, first: Token) -> Body
+    requires { first.end ≤ length line.now.text }
+    ensures body { result ≡ spec.begun_body line.now.text (lexeme line.now.text first)
+        (tokens_from line.now.text first.end) }
+    ensures within { spec.end_of result (length line.now.text) ≤ length line.now.text }
+{
+    match assignment_to(line, first) {
+        Some(body) => body,
+        None => operation(line, first),
+    }
+}
+
+// The assignment to a token, if an `=` stands after it, and only blanks between them.
+fn assignment_to(line: &Line, target: Token) -> Option<Body>
+    requires { target.end ≤ length line.now.text }
+    ensures { result
+        ≡ spec.assignment_to line.now.text (lexeme line.now.text target) (tokens_from line.now.text target.end) }
+{
+    let end = usize::from(target.end);
+    // most lines have an operand there, of which no token need be cut
+    if begins_operand(line, end) {
+        return None;
+    }
+    let equals = next_token(line, end)?;
+    // most tokens are no `=`, so this is asked for first
+    let body = assigned(line, target, equals)?;
+    if skipped_between(line, end, usize::from(equals.start)) {
+        None
+    } else {
+        Some(body)
+    }
+}
+
+// Whether the first character from a place on that is no blank begins an operand, or there is none.
+fn begins_operand(line: &Line, place: usize) -> bool
+    requires { place ≤ length line.now.text }
+    ensures { result ≡ spec.begins_operand (drop place line.now.text) }
+{
+    let text = &line.text()[place..];
+    match &text[blanks_length(text)..] {
+        [first, ..] => is_operand_start(*first),
+        [] => true,
+    }
+}
+
+// Whether a character begins a name, a number, or an operand of another form.
+fn is_operand_start(byte: u8) -> bool
+    ensures { result ≡ spec.is_operand_start byte }
+{
+    is_name_character(byte) || matches!(byte, b'#' | b'@' | b'(' | b'-')
+}
+
+fn assigned(line: &Line, target: Token, equals: Token) -> Option<Body>
+    ensures { result ≡ spec.assigned (lexeme line.now.text target) (lexeme line.now.text equals) }
+{
+    match target.sort {
+        Sort::Name if is_counter(target.text(line)) => counter_set(equals),
+        Sort::Name => name_set(target, equals),
+        _ => None,
+    }
+}
+
+fn counter_set(equals: Token) -> Option<Body>
+    ensures { result ≡ spec.counter_set equals.sort equals.end }
+{
+    match equals.sort {
+        Sort::Equals => Some(Body::SetCounter(equals.end)),
+        _ => None,
+    }
+}
+
+fn name_set(name: Token, equals: Token) -> Option<Body>
+    ensures { result ≡ spec.name_set name.start name.end equals.sort equals.end }
+{
+    let is_global = match equals.sort {
+        Sort::Equals => false,
+        Sort::TwoEquals => true,
+        _ => return None,
+    };
+    Some(Body::Assign(Assignment {
+        name: Span {
+            start: name.start,
+            end: name.end,
+        },
+        is_global,
+        value: equals.end,
+    }))
+}
+
+// What begins with a token that isn't assigned to: an operator where it is a name, but for the counter.
+fn operation(line: &Line, first: Token) -> Body
+    ensures { result ≡ spec.operation (lexeme line.now.text first) }
+{
+    if is_name(line, first) {
+        Body::Operate(Span {
+            start: first.start,
+            end: first.end,
+        })
+    } else {
+        Body::Words(first.start)
+    }
+}

@@ -1,0 +1,221 @@
+//! The labels of a line. (MACRO-11 Language Reference Manual, "Label field" and "Local symbols".)
+
+ghost use Rattle.std.specs.Prelude.{◌≡◌, ◌+◌, ◌<◌, ◌≤◌, [], ◌∷◌, length, IfSome, MatchOption};
+ghost use Rattle.m11_scan.specs.Cutting.{tokens_from};
+ghost use Rattle.m11_scan_lines.specs.Line.{line_limit};
+ghost use Rattle.m11_scan.specs.Views.{lexeme};
+ghost use Rattle.m11_scan_statements.specs.Labels as spec;
+ghost use Rattle.m11_scan_statements.specs.Statements.{has_outside, is_outside};
+
+use crate::spans::Span;
+use arrayvec::ArrayVec;
+use bitflags::Flags;
+use m11_scan::{
+    ErrorFlags, Line, Radix, Sort, Token, digits_length, next_token, read_number, token_at,
+};
+
+/// What a label is.
+#[derive(Clone, Copy, PartialEq, Eq, Debug, Default)]
+pub enum LabelKind {
+    /// A name with `:`.
+    #[default]
+    Ordinary,
+    /// A name with `::`, which makes it global.
+    Global,
+    /// A local symbol, by its number. After it `::` is as `:`.
+    Local(u16),
+    /// A local symbol whose number isn't 1 to 65535. It defines nothing.
+    Outside,
+}
+
+/// A label of a line.
+#[derive(Clone, Copy, PartialEq, Eq, Debug, Default)]
+pub struct Label {
+    /// Whether it defines a name or a local symbol, or neither.
+    pub kind: LabelKind,
+    /// Its name or local symbol.
+    pub name: Span,
+    /// The place after its colon.
+    pub end: u8,
+}
+
+/// The most labels of a line, each of which has two characters or more.
+pub const LABEL_LIMIT: usize = 66;
+
+/// The labels that a line begins with, in order.
+pub fn labels_of(line: &Line) -> ArrayVec<Label, LABEL_LIMIT>
+    ensures { result.items ≡ spec.labels_at line.now.text }
+{
+    let mut list = ArrayVec::new();
+    let mut end = 0;
+    'labels: while let Some(label) = label_at(line, end) {
+        list.push(label);
+        end = usize::from(label.end);
+    }
+    list
+}
+
+// What a statement keeps of the labels of its line.
+#[derive(Clone, Copy)]
+pub(crate) struct LabelField {
+    // The place after the last label.
+    pub end: usize,
+    // The label, where there is one alone.
+    pub single: Option<Label>,
+    // Whether one is a local symbol whose number isn't 1 to 65535.
+    pub has_outside: bool,
+    // The token after the last label, if one stands there.
+    pub next: Option<Token>,
+}
+
+// The label field of a line. Without a label it ends where the line begins.
+pub(crate) fn label_field(line: &Line) -> LabelField
+    ensures end { result.end ≡ spec.labels_end line.now.text }
+    ensures outside { result.has_outside ≡ has_outside (spec.labels_at line.now.text) }
+    ensures unlabelled { result.end ≡ 0 → spec.labels_at line.now.text ≡ [] }
+    ensures single { IfSome result.single (λ label. spec.labels_at line.now.text ≡ label ∷ []) }
+    ensures within { result.end ≤ length line.now.text }
+    ensures limited { length line.now.text ≤ line_limit }
+    ensures next { MatchOption result.next (tokens_from line.now.text result.end ≡ [])
+        (λ token. tokens_from line.now.text result.end ≡ lexeme line.now.text token ∷ tokens_from line.now.text token.end) }
+    ensures next_within { IfSome result.next (λ token. token.end ≤ length line.now.text) }
+{
+    let mut end = 0;
+    let mut single = None;
+    let mut has_outside = false;
+    let mut next = next_token(line, 0);
+    'labels: while let Some(name) = next {
+        match label_by(line, name) {
+            Some(label) => {
+                single = if end == 0 { Some(label) } else { None };
+                has_outside = has_outside || is_outside(label.kind);
+                end = usize::from(label.end);
+                next = next_token(line, end);
+            }
+            None => {
+                return LabelField {
+                    end,
+                    single,
+                    has_outside,
+                    next,
+                };
+            }
+        }
+    }
+    LabelField {
+        end,
+        single,
+        has_outside,
+        next,
+    }
+}
+
+fn is_outside(kind: LabelKind) -> bool
+    ensures { result ≡ is_outside kind }
+{
+    matches!(kind, LabelKind::Outside)
+}
+
+// The label that stands next in a line from a place on, if one does.
+fn label_at(line: &Line, place: usize) -> Option<Label>
+    requires { place ≤ length line.now.text }
+    ensures label { MatchOption result (spec.labels_in (tokens_from line.now.text place) ≡ [])
+        (λ label. spec.labels_in (tokens_from line.now.text place)
+        ≡ label ∷ spec.labels_in (tokens_from line.now.text label.end)) }
+    ensures after { IfSome result (λ label. place + 2 ≤ label.end) }
+    ensures within { IfSome result (λ label. label.end ≤ length line.now.text) }
+    ensures limited { IfSome result (λ label. label.end ≤ line_limit) }
+{
+    let name = next_token(line, place)?;
+    label_by(line, name)
+}
+
+// The label that begins with a token of a line, if one does.
+// speed: inline, since each line comes here, most have none, and a call would hand the answer on by memory.
+#[inline(always)]
+fn label_by(line: &Line, name: Token) -> Option<Label>
+    requires { name.end ≤ length line.now.text }
+    ensures label { MatchOption result
+        (spec.labels_in (lexeme line.now.text name ∷ tokens_from line.now.text name.end) ≡ [])
+        (λ label. spec.labels_in (lexeme line.now.text name ∷ tokens_from line.now.text name.end)
+        ≡ label ∷ spec.labels_in (tokens_from line.now.text label.end)) }
+    ensures after { IfSome result (λ label. name.end < label.end) }
+    ensures within { IfSome result (λ label. label.end ≤ length line.now.text) }
+    ensures limited { IfSome result (λ label. label.end ≤ line_limit) }
+{
+    // a colon stands directly after it
+    let colon = token_at(line, usize::from(name.end))?;
+    label_of(line, name, colon)
+}
+
+// The label of a token with the one after it, if they are one.
+// speed: inline, since a call would hand the label on by memory.
+#[inline(always)]
+fn label_of(line: &Line, name: Token, colon: Token) -> Option<Label>
+    ensures label { result ≡ spec.label_of (lexeme line.now.text name) (lexeme line.now.text colon) }
+    ensures end { IfSome result (λ label. label.end ≡ colon.end) }
+{
+    if name.end != colon.start {
+        return None;
+    }
+    let kind = kind_of(name.sort, colon.sort, name.text(line))?;
+    Some(Label {
+        kind,
+        name: Span {
+            start: name.start,
+            end: name.end,
+        },
+        end: colon.end,
+    })
+}
+
+fn kind_of(sort: Sort, colon: Sort, text: &[u8]) -> Option<LabelKind>
+    ensures { result ≡ spec.kind_of sort colon text.now }
+{
+    match sort {
+        Sort::Name if is_counter(text) => None,
+        Sort::Name => name_kind(colon),
+        Sort::LocalSymbol => local_kind(colon, text),
+        _ => None,
+    }
+}
+
+// Whether a name is the counter `.`, which no line defines.
+pub(crate) fn is_counter(text: &[u8]) -> bool
+    ensures { result ≡ spec.is_counter text.now }
+{
+    matches!(text, [b'.'])
+}
+
+fn name_kind(colon: Sort) -> Option<LabelKind>
+    ensures { result ≡ spec.name_kind colon }
+{
+    match colon {
+        Sort::Colon => Some(LabelKind::Ordinary),
+        Sort::TwoColons => Some(LabelKind::Global),
+        _ => None,
+    }
+}
+
+fn local_kind(colon: Sort, text: &[u8]) -> Option<LabelKind>
+    ensures { result ≡ spec.local_kind colon text.now }
+{
+    match colon {
+        Sort::Colon | Sort::TwoColons => Some(numbered(text)),
+        _ => None,
+    }
+}
+
+// The local symbol of a text: digits and a `$`.
+fn numbered(text: &[u8]) -> LabelKind
+    ensures { result ≡ spec.numbered text.now }
+{
+    let digits = &text[..digits_length(text)];
+    let number = read_number(digits, Radix::Decimal);
+    let is_large = number.flags.contains(ErrorFlags::T);
+    if is_large || number.value == 0 {
+        LabelKind::Outside
+    } else {
+        LabelKind::Local(number.value)
+    }
+}

@@ -1,0 +1,25 @@
+//! Laws of statements. Each is the contract of a function that does nothing.
+
+ghost use Rattle.std.specs.Prelude.{◌≡◌, Bool, length, map};
+ghost use Rattle.m11_base.specs.Devices.{Bytes};
+ghost use Rattle.m11_base.specs.Mnemonics.{folded};
+ghost use Rattle.m11_scan_statements.specs.Labels.{labels_at, labels_end};
+ghost use Rattle.m11_scan_statements.specs.Order.{BodyStands, LabelsStand};
+ghost use Rattle.m11_scan_statements.specs.Statements.{body_of, label_flags};
+
+/// The labels of a line, and what stands after them, lie in the line in order and apart.
+#[tactic(auto, using(crate::proofs::InOrder::orders))]
+pub fn labels_and_body_stand_in_order()
+    ensures labels { (line : Bytes) → LabelsStand (length line) 0 (labels_at line) }
+    ensures body { (line : Bytes) → BodyStands (labels_end line) (length line) (body_of line) }
+{}
+
+/// Upper or lower case makes no difference to labels, to what stands after them, to their places and to their flags.
+#[tactic(auto, using(crate::proofs::Folded::cases))]
+pub fn case_makes_no_difference()
+    ensures labels { (a b : Bytes) → map folded a ≡ map folded b → labels_at a ≡ labels_at b }
+    ensures body { (a b : Bytes) → map folded a ≡ map folded b → body_of a ≡ body_of b }
+    ensures label_flags { (a b : Bytes) (is_over_long : Bool) → map folded a ≡ map folded b
+        → label_flags (record { text = a; is_over_long = is_over_long })
+        ≡ label_flags (record { text = b; is_over_long = is_over_long }) }
+{}

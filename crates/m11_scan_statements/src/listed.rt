@@ -1,0 +1,91 @@
+//! Names in a list, such as that of `.GLOBL`. (MACRO-11 Language Reference Manual, ".GLOBL directive".)
+
+ghost use Rattle.std.specs.Prelude.{◌≡◌, ◌<◌, ◌≤◌, length, true};
+ghost use Rattle.m11_scan.specs.Cutting.{tokens_from};
+ghost use Rattle.m11_scan.specs.Views.{lexeme};
+ghost use Rattle.m11_scan_statements.specs.Listed as spec;
+
+use crate::labels::is_counter;
+use crate::spans::Span;
+use m11_scan::{Line, Sort, Token, next_token};
+
+/// An element of a list of names.
+#[derive(Clone, Copy, PartialEq, Eq, Debug)]
+pub struct ListedName {
+    /// The name. Without one the element is empty or no name, was passed over, and has A.
+    pub name: Option<Span>,
+    /// Whether a comma stands after it, and with it a further element.
+    pub goes_on: bool,
+    /// The place after it, and after its comma.
+    pub end: u8,
+}
+
+/// The element of a list of names that begins at a place of a line. What stands after its end, where the list doesn't go on, is
+/// left over.
+pub fn listed_name(line: &Line, place: usize) -> ListedName
+    requires { place ≤ length line.now.text }
+    ensures element { result ≡ spec.listed_name place (tokens_from line.now.text place) }
+    ensures grows { result.goes_on ≡ true → place < result.end }
+    ensures within { result.end ≤ length line.now.text }
+{
+    match next_token(line, place) {
+        Some(token) if is_name(line, token) => after_name(line, token),
+        _ => passed_over(line, place),
+    }
+}
+
+// Whether a token is a name that a line can define.
+pub(crate) fn is_name(line: &Line, token: Token) -> bool
+    ensures { result ≡ spec.is_name (lexeme line.now.text token) }
+{
+    match token.sort {
+        Sort::Name => !is_counter(token.text(line)),
+        _ => false,
+    }
+}
+
+fn after_name(line: &Line, name: Token) -> ListedName
+    requires ordered { name.start < name.end }
+    requires within { name.end ≤ length line.now.text }
+    ensures element { result ≡ spec.after_name (lexeme line.now.text name) (tokens_from line.now.text name.end) }
+    ensures grows { name.start < result.end }
+    ensures within { result.end ≤ length line.now.text }
+{
+    let span = Span {
+        start: name.start,
+        end: name.end,
+    };
+    match next_token(line, usize::from(name.end)) {
+        Some(token) if is_comma(token.sort) => element(Some(span), true, token.end),
+        _ => element(Some(span), false, name.end),
+    }
+}
+
+fn element(name: Option<Span>, goes_on: bool, end: u8) -> ListedName
+    ensures { result ≡ spec.element name goes_on end }
+{
+    ListedName { name, goes_on, end }
+}
+
+fn is_comma(sort: Sort) -> bool
+    ensures { result ≡ spec.is_comma sort }
+{
+    matches!(sort, Sort::Comma)
+}
+
+// What is no name goes up to the next comma.
+fn passed_over(line: &Line, place: usize) -> ListedName
+    requires { place ≤ length line.now.text }
+    ensures element { result ≡ spec.passed_over place (tokens_from line.now.text place) }
+    ensures grows { result.goes_on ≡ true → place < result.end }
+    ensures within { result.end ≤ length line.now.text }
+{
+    let mut end = place;
+    'tokens: while let Some(token) = next_token(line, end) {
+        if is_comma(token.sort) {
+            return element(None, true, token.end);
+        }
+        end = usize::from(token.end);
+    }
+    element(None, false, end as u8)
+}

@@ -1,0 +1,145 @@
+//! The parts of the text of `.ASCII`, `.ASCIZ` and `.RAD50`. (MACRO-11 Language Reference Manual, ".ASCII directive".)
+
+ghost use Rattle.std.specs.Prelude.{◌≡◌, ◌+◌, ◌<◌, ◌≤◌, length, true, IfSome};
+ghost use Rattle.std.specs.List.{prefix_len};
+ghost use Rattle.m11_scan_lines.specs.Line.{line_limit};
+ghost use Rattle.m11_scan.specs.Views.{bits_of};
+ghost use Rattle.m11_scan_statements.specs.Parts as spec;
+
+use crate::spans::{Span, text_from};
+use m11_scan::{Enclosed, ErrorFlags, Line, Sort, delimited, expression_end, next_token};
+
+/// How a part is written.
+#[derive(Clone, Copy, PartialEq, Eq, Debug, Default)]
+pub enum PartKind {
+    /// Characters between two delimiters.
+    #[default]
+    Text,
+    /// An expression in `<` and `>`.
+    Expression,
+}
+
+/// A part of a text.
+#[derive(Clone, Copy, PartialEq, Eq, Debug, Default)]
+pub struct Part {
+    /// How it is written.
+    pub kind: PartKind,
+    /// The characters, or the expression.
+    pub inside: Span,
+    /// Whether its end was found. A text without its end goes to the end of the line.
+    pub is_closed: bool,
+    /// The place after it.
+    pub end: u8,
+}
+
+impl Part {
+    /// A where the second delimiter of a text is missing, Q where the `>` of an expression is.
+    pub fn flags(&self) -> ErrorFlags
+        ensures { bits_of result ≡ spec.part_flags self.now }
+    {
+        let flags = match self.kind {
+            PartKind::Text => ErrorFlags::A,
+            PartKind::Expression => ErrorFlags::Q,
+        };
+        flags.when(!self.is_closed)
+    }
+}
+
+/// The part that stands next in a line from a place on, if one does. Blanks before it, and characters that don't print, are passed
+/// over. `;` is a delimiter in the first part alone; after that it begins the comment.
+pub fn next_part(line: &Line, place: usize, is_first: bool) -> Option<Part>
+    requires { place ≤ length line.now.text }
+    ensures part { result ≡ spec.next_part line.now.text place is_first }
+    ensures after { IfSome result (λ part. place < part.end) }
+    ensures closed { IfSome result (λ part. part.is_closed ≡ true → place + 2 ≤ part.end) }
+    ensures most { IfSome result (λ part. part.end ≤ length line.now.text) }
+    ensures limited { length line.now.text ≤ line_limit }
+{
+    let start = place + unprinted_length(text_from(line, place));
+    match text_from(line, start) {
+        [] => None,
+        [b';', ..] if !is_first => None,
+        [b'<', ..] => Some(expression_part(line, start + 1)),
+        [delimiter, ..] => Some(text_part(line, start + 1, *delimiter)),
+    }
+}
+
+// How many blanks, and characters that don't print, a text begins with.
+fn unprinted_length(text: &[u8]) -> usize
+    ensures length { result ≡ prefix_len spec.is_unprinted text.now }
+    ensures within { result ≤ length text.now }
+{
+    let mut count = 0;
+    let mut rest = text;
+    'characters: while let [byte, tail @ ..] = rest {
+        if !is_unprinted(*byte) {
+            return count;
+        }
+        count += 1;
+        rest = tail;
+    }
+    count
+}
+
+fn is_unprinted(byte: u8) -> bool
+    ensures { result ≡ spec.is_unprinted byte }
+{
+    byte <= b' ' || byte > b'~'
+}
+
+fn text_part(line: &Line, start: usize, delimiter: u8) -> Part
+    requires { start ≤ length line.now.text }
+    ensures part { result ≡ spec.text_part line.now.text start delimiter }
+    ensures least { start ≤ result.end }
+    ensures closed { result.is_closed ≡ true → start + 1 ≤ result.end }
+    ensures most { result.end ≤ length line.now.text }
+{
+    let Enclosed { length, is_closed } = delimited(text_from(line, start), delimiter);
+    let end = start + length;
+    let after = if is_closed { end + 1 } else { end };
+    Part {
+        kind: PartKind::Text,
+        inside: Span {
+            start: start as u8,
+            end: end as u8,
+        },
+        is_closed,
+        end: after as u8,
+    }
+}
+
+fn expression_part(line: &Line, start: usize) -> Part
+    requires { start ≤ length line.now.text }
+    ensures part { result ≡ spec.expression_part line.now.text start }
+    ensures least { start ≤ result.end }
+    ensures closed { result.is_closed ≡ true → start + 1 ≤ result.end }
+    ensures most { result.end ≤ length line.now.text }
+{
+    let end = expression_end(line, start);
+    match next_token(line, end) {
+        Some(token) if is_closing(token.sort) => {
+            expression(start as u8, end as u8, true, token.end)
+        }
+        _ => expression(start as u8, end as u8, false, end as u8),
+    }
+}
+
+fn is_closing(sort: Sort) -> bool
+    ensures { result ≡ spec.is_closing sort }
+{
+    matches!(sort, Sort::Greater)
+}
+
+fn expression(start: u8, inside_end: u8, is_closed: bool, end: u8) -> Part
+    ensures { result ≡ spec.expression start inside_end is_closed end }
+{
+    Part {
+        kind: PartKind::Expression,
+        inside: Span {
+            start,
+            end: inside_end,
+        },
+        is_closed,
+        end,
+    }
+}

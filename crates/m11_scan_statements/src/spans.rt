@@ -1,0 +1,35 @@
+//! Places in a line.
+
+ghost use Rattle.std.specs.Prelude.{◌≡◌, ◌+◌, ◌≤◌, drop, length};
+ghost use Rattle.m11_scan_lines.specs.Line.{line_limit};
+ghost use Rattle.m11_scan.specs.Cutting.{text_between};
+
+use m11_scan::{Line, text_between};
+
+/// Some characters of a line that stand together.
+#[derive(Clone, Copy, PartialEq, Eq, Debug, Default)]
+pub struct Span {
+    /// The place of the first one.
+    pub start: u8,
+    /// The place after the last one.
+    pub end: u8,
+}
+
+impl Span {
+    /// The characters, in the line that they stand in.
+    pub fn text<'a>(&self, line: &'a Line) -> &'a [u8]
+        ensures { result.now ≡ text_between line.now.text self.now.start self.now.end }
+    {
+        text_between(line, self.start, self.end)
+    }
+}
+
+// The characters of a line from a place on.
+pub(crate) fn text_from(line: &Line, place: usize) -> &[u8]
+    requires { place ≤ length line.now.text }
+    ensures text { result.now ≡ drop place line.now.text }
+    ensures size { place + length result.now ≡ length line.now.text }
+    ensures limited { length line.now.text ≤ line_limit }
+{
+    &line.text()[place..]
+}

@@ -1,0 +1,33 @@
+//! A file a subject; alike calls stand in tables.
+
+mod arguments;
+mod cuts;
+mod expressions;
+mod fields;
+mod lines;
+mod random_lines;
+mod readers;
+mod statements;
+mod terms;
+mod texts;
+mod values;
+
+use m11_scan::{Line, Token, next_token};
+use m11_scan_statements::{Part, next_part};
+use std::fmt::{Debug, Display};
+use std::process::Abort;
+
+// What a row of a table yielded is what it should.
+pub(crate) fn same<T: PartialEq + Debug>(rt: &impl Abort, row: &impl Display, got: &T, wanted: &T) {
+    assert_eq!(rt; got, wanted, "{row}");
+}
+
+// The token that stands next in a line from a place on, if one does.
+pub(crate) fn token_after(line: &Line, place: usize) -> Option<Token> {
+    next_token(line, place.min(line.text().len()))
+}
+
+// The part of a text that stands next in a line from a place on, if one does.
+pub(crate) fn part_after(line: &Line, place: u8, is_first: bool) -> Option<Part> {
+    next_part(line, usize::from(place).min(line.text().len()), is_first)
+}

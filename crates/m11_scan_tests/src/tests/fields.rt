@@ -1,0 +1,63 @@
+//! Where the parts of a line stand: its labels, its operator and the fields of an instruction. (MACRO-11 Language Reference
+//! Manual, "Source program format" and "Addressing modes".)
+
+use super::statements::label_of;
+use super::{same, values};
+use m11_asm_operands::{Fields, fields_at};
+use m11_asm_rules::{Field, Form};
+use m11_base::{DoubleOp, Mode, Op, Size};
+use m11_scan::{Line, skipped_between};
+use m11_scan_statements::{Body, LabelKind, Span, labels_of, statement};
+use m11_scan_values::Radix;
+use std::process::Abort;
+
+const LINE: &str = "L:: MOV (R1)+,@-(R2) ;X";
+
+// The mode of a field whose operand is a register, and the place of the register.
+fn mode_of(field: &Field) -> Option<(Mode, u8)> {
+    match field {
+        Field::Formed(Form::InRegister(mode, register)) => Some((*mode, *register)),
+        _ => None,
+    }
+}
+
+// The fields are `(R1)+` and `@-(R2)`.
+fn are_both(rt: &impl Abort, line: &Line, fields: &Fields) {
+    let modes = [(Mode::Autoincrement, 9), (Mode::AutodecrementDeferred, 17)];
+    same(rt, &LINE, &fields.list.len(), &modes.len());
+    for (field, wanted) in fields.list.iter().zip(&modes) {
+        same(rt, &LINE, &mode_of(field), &Some(*wanted));
+    }
+    same(rt, &LINE, &fields.end, &20);
+    same(rt, &LINE, &fields.flags.text().len(), &0);
+    let end = line.text().len();
+    let is_skipped = usize::from(fields.end) <= end
+        && skipped_between(line, usize::from(fields.end), end);
+    same(rt, &LINE, &is_skipped, &false);
+}
+
+#[test]
+fn labels_operator_and_operands_stand_in_order(rt: HostRuntime) {
+    let line = Line::from_bytes(LINE.as_bytes());
+    let labels = labels_of(&line);
+    same(&rt, &LINE, &labels.len(), &1);
+    for label in labels.iter() {
+        same(&rt, &LINE, &label_of(label), &(LabelKind::Global, 0, 1));
+    }
+    let said = statement(&line);
+    same(&rt, &LINE, &said.label_flags.text().len(), &0);
+    same(
+        &rt,
+        &LINE,
+        &said.body,
+        &Body::Operate(Span { start: 4, end: 7 }),
+    );
+    if let Body::Operate(name) = said.body {
+        let operation = Op::Double(DoubleOp::Mov, Size::Word);
+        let names = values::Known {
+            radix: Radix::Octal,
+        };
+        let fields = fields_at(&line, usize::from(name.end), operation, &names);
+        are_both(&rt, &line, &fields);
+    }
+}

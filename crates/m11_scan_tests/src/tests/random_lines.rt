@@ -1,0 +1,169 @@
+//! Lines of awkward characters from a fixed sequence: what is read from them lies in them in order, and nothing is lost.
+
+use super::{part_after, same, token_after};
+use m11_scan::{Line, Token, blanks_length, skipped_between};
+use m11_scan_statements::{Body, Statement, labels_of, next_actual, separator_at, statement};
+use std::process::Abort;
+
+const CHARACTERS: &[u8; 32] = b"'\"<>^\\;:=?AaR$.18,+ \tBD%#(-/!@.:";
+
+/// The next number of a fixed sequence that looks like chance.
+fn next_number(number: u64) -> u64 {
+    number
+        .wrapping_mul(6364136223846793005)
+        .wrapping_add(1442695040888963407)
+}
+
+// A line of some characters that the numbers after one choose.
+fn random_line(seed: u64, length: u8) -> Line {
+    let mut line = Line::new();
+    let mut number = seed;
+    for _ in 0..length {
+        number = next_number(number);
+        line.push_all(&[CHARACTERS[(number >> 59) as usize]]);
+    }
+    line
+}
+
+// What stands between two places is blanks, the comment, and characters that are skipped.
+fn is_no_token(line: &Line, start: usize, end: usize) -> bool {
+    let text = line.text();
+    if start > end || end > text.len() {
+        return false;
+    }
+    let mut is_skipped = false;
+    for byte in &text[start..end] {
+        match *byte {
+            b';' => break,
+            b' ' | b'\t' => {}
+            _ => is_skipped = true,
+        }
+    }
+    is_skipped == skipped_between(line, start, end)
+}
+
+fn check_tokens(rt: &impl Abort, line: &Line) {
+    let mut place = 0;
+    for _ in 0..=line.text().len() {
+        let Some(Token { start, end, .. }) = token_after(line, place) else {
+            break;
+        };
+        same(
+            rt,
+            &"a gap",
+            &is_no_token(line, place, usize::from(start)),
+            &true,
+        );
+        same(rt, &"a token", &(start < end), &true);
+        place = usize::from(end);
+    }
+    same(
+        rt,
+        &"the rest",
+        &is_no_token(line, place, line.text().len()),
+        &true,
+    );
+}
+
+// Where what stands after the labels begins and ends.
+fn ends_of(body: Body, size: u8) -> (u8, u8) {
+    match body {
+        Body::Nothing => (size, size),
+        Body::Assign(assignment) => (assignment.name.start, assignment.value),
+        Body::SetCounter(value) => (value, value),
+        Body::Operate(name) => (name.start, name.end),
+        Body::Words(start) => (start, size),
+    }
+}
+
+fn check_statement(rt: &impl Abort, line: &Line, found: &Statement) {
+    let mut place = 0;
+    for label in labels_of(line).iter() {
+        same(
+            rt,
+            &"a label",
+            &(place <= label.name.start && label.name.start < label.name.end),
+            &true,
+        );
+        same(
+            rt,
+            &"its colon",
+            &(label.name.end < label.end && label.end <= found.labels_end),
+            &true,
+        );
+        place = label.end;
+    }
+    same(rt, &"the labels' end", &found.labels_end, &place);
+    let size = line.text().len() as u8;
+    let (start, end) = ends_of(found.body, size);
+    same(
+        rt,
+        &"the body",
+        &(place <= start && start <= end && end <= size),
+        &true,
+    );
+}
+
+// Actuals go on up to the end of the line or its comment, and each takes a character or more with what separates it.
+fn check_actuals(rt: &impl Abort, line: &Line) {
+    let mut place = 0;
+    for _ in 0..line.text().len() + 1 {
+        if place > line.text().len() {
+            return;
+        }
+        match next_actual(line, place, true) {
+            Some(actual) => {
+                let after = usize::from(separator_at(line, usize::from(actual.end)).end);
+                same(rt, &"an actual", &(place < after), &true);
+                place = after;
+            }
+            None => {
+                let rest = &line.text()[place..];
+                let after = rest.get(blanks_length(rest)).copied();
+                same(rt, &"after the actuals", &after.unwrap_or(b';'), &b';');
+                return;
+            }
+        }
+    }
+}
+
+fn check_line(rt: &impl Abort, line: &Line) {
+    check_tokens(rt, line);
+    check_statement(rt, line, &statement(line));
+    check_actuals(rt, line);
+    check_parts(rt, line);
+}
+
+// A part ends after it begins, and the next one begins no earlier.
+fn check_parts(rt: &impl Abort, line: &Line) {
+    let mut place = 0;
+    let mut is_first = true;
+    for _ in 0..line.text().len() + 1 {
+        let Some(part) = part_after(line, place, is_first) else {
+            return;
+        };
+        same(
+            rt,
+            &"a part",
+            &(place < part.inside.start && part.inside.start <= part.inside.end),
+            &true,
+        );
+        same(rt, &"its end", &(part.inside.end <= part.end), &true);
+        if !part.is_closed {
+            return;
+        }
+        place = part.end;
+        is_first = false;
+    }
+    same(rt, &"the parts", &place, &0);
+}
+
+#[test]
+fn awkward_lines_are_read_in_order_and_whole(rt: HostRuntime) {
+    let mut number = 1;
+    for count in 0..20000_u32 {
+        number = next_number(number);
+        let line = random_line(number, (count % 60) as u8);
+        check_line(&rt, &line);
+    }
+}

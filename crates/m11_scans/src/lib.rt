@@ -1,7 +1,0 @@
-//! Lines and the reader of lines, tokens, statements, the values of expressions and the fields of instructions: tests alone, which use
-//! only what m11_lines, m11_scan, m11_statements, m11_values and m11_fields hand out. Expected values were worked by hand from the
-//! language manual.
-#![tactic(auto)]
-
-#[cfg(test)]
-mod tests;

@@ -1,0 +1,19 @@
+use Rattle.std.proofs.Common.{◌≡◌, ◌≤◌, ◌++◌, length}
+use Rattle.m11_unfold_arguments.specs.Actuals.{actuals_from, texts_of}
+use Rattle.m11_unfold_arguments.specs.Expressions.{known_by}
+use Rattle.m11_unfold_arguments.specs.Notes.{joined}
+use Rattle.m11_unfold_arguments.proofs.actuals.actuals_from.Given as goal
+
+abbrev pub invariant-actuals : goal.invariant-actuals
+invariant-actuals g l = record {
+  texts :
+      texts_of l.texts.items ++ (actuals_from (known_by (g.N.Names.base l.names) (g.N.Names.stands_for l.names)) l.line.text l.left l.begin).texts
+      ≡ (actuals_from (known_by (g.N.Names.base l.names) (g.N.Names.stands_for l.names)) l.line.text l.wanted l.place).texts;
+  notes :
+      joined l.notes (actuals_from (known_by (g.N.Names.base l.names) (g.N.Names.stands_for l.names)) l.line.text l.left l.begin).notes
+      ≡ joined l.initial.notes (actuals_from (known_by (g.N.Names.base l.names) (g.N.Names.stands_for l.names)) l.line.text l.wanted l.place).notes;
+  most : l.begin ≤ length l.line.text;
+}
+
+abbrev pub decreases-actuals : goal.decreases-actuals
+decreases-actuals g l = l.left

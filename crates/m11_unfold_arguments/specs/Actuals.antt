@@ -1,0 +1,74 @@
+-- The actuals of a call of a macro, and of a list of `.IRP`. (MACRO-11 Language Reference Manual, "Arguments in macro definitions and
+-- macro calls" and "Numeric arguments passed as symbols". That more than are wanted are flagged Q, and not looked at, is this
+-- project's own.)
+use Rattle.std.specs.Prelude.{ℕ, zero, suc, true, List, [], ◌∷◌, ◌++◌, map, Vec, Option, Some, None}
+use Rattle.std.specs.Option.{is_some}
+use Rattle.std.specs.declared.alloc.Global.{Global}
+use Rattle.m11_base.specs.Devices.{Bytes}
+use Rattle.m11_scan.specs.ErrorFlags.{flag_Q}
+use Rattle.m11_scan.specs.Numbers.{base_of}
+use Rattle.m11_scan_statements.specs.Actuals.{next_actual, separator_at}
+use Rattle.m11_scan_statements.specs.Statements.{flag_if}
+use Rattle.m11_scan_statements.specs.declared.actuals.Actual.{Actual}
+use Rattle.m11_scan_statements.specs.declared.actuals.ActualKind.{ActualKind}
+use Rattle.m11_scan_statements.specs.declared.actuals.ActualKind.TheVariants.{Bare, Bracketed, Digits}
+use Rattle.m11_unfold_arguments.specs.Conditions.{actual_flags, text_of}
+use Rattle.m11_unfold_arguments.specs.Digits.{digits_of}
+use Rattle.m11_unfold_arguments.specs.Expressions.{Known, number_at, number_flags, symbols_at}
+use Rattle.m11_unfold_arguments.specs.Notes.{Notes, joined, no_notes, noting}
+
+-- texts, and what reading them leaves
+pub record Given : Type 0 where
+  pub texts : List Bytes
+  pub notes : Notes
+
+abbrev pub nothing_given : Given
+nothing_given = record { texts = []; notes = no_notes }
+
+abbrev pub given : Bytes → Notes → Given
+given text notes = record { texts = text ∷ []; notes = notes }
+
+-- texts before others
+abbrev pub followed_by : Given → Given → Given
+followed_by first more = record { texts = first.texts ++ more.texts; notes = joined first.notes more.notes }
+
+-- `\` and an expression are the digits of its number in the current radix
+abbrev pub numeral : Known → Bytes → ℕ → Given
+numeral known line place =
+    given (digits_of (base_of known.radix) (number_at known line place))
+    (noting (number_flags known line place) (symbols_at line place))
+
+abbrev pub characters : Bytes → Actual → Given
+characters line actual = given (text_of line actual) (noting (actual_flags actual) [])
+
+abbrev pub given_as : Known → Bytes → Actual → ActualKind → Given
+given_as known line actual Bare = characters line actual
+given_as known line actual Bracketed = characters line actual
+given_as known line actual Digits = numeral known line actual.inside.start
+
+-- the text of an actual
+abbrev pub given_by : Known → Bytes → Actual → Given
+given_by known line actual = given_as known line actual actual.kind
+
+-- an actual that is wanted, and those after it
+abbrev pub wanted_by : Known → Bytes → (ℕ → Given) → Option Actual → Given
+wanted_by known line more None = nothing_given
+wanted_by known line more (Some actual) =
+    followed_by (given_by known line actual) (more (separator_at line actual.end).end)
+
+-- one more than are wanted is dropped, and what stands after it
+abbrev pub unwanted : Option Actual → Given
+unwanted actual = record { texts = []; notes = noting (flag_if (is_some actual) flag_Q) [] }
+
+-- the actuals from a place of a line on, of which n are wanted
+abbrev pub actuals_from : Known → Bytes → ℕ → ℕ → Given
+actuals_from known line zero place = unwanted (next_actual line place true)
+actuals_from known line (suc wanted) place =
+    wanted_by known line (λ next. actuals_from known line wanted next) (next_actual line place true)
+
+-- the characters of texts that the code holds
+abbrev pub characters_of : Vec ℕ Global → Bytes
+characters_of text = text.items
+
+abbrev pub texts_of : List (Vec ℕ Global) → List Bytes
+texts_of texts = map characters_of texts

@@ -1,0 +1,44 @@
+-- `.IIF`: a condition, a comma, and a statement. (MACRO-11 Language Reference Manual, "Immediate conditional assembly directive". That
+-- all of the text after the comma is the statement is this project's own.)
+use Rattle.std.specs.Prelude.{ℕ, if◌then◌else◌, List, [], ◌∷◌, Option, Some, None}
+use Rattle.std.specs.Int.RustNames.{bit_or}
+use Rattle.m11_base.specs.Devices.{Bytes}
+use Rattle.m11_scan.specs.Cutting.{Lexeme, tokens_from}
+use Rattle.m11_scan.specs.ErrorFlags.{flag_A}
+use Rattle.m11_scan_statements.specs.Listed.{is_comma}
+use Rattle.m11_unfold_arguments.specs.declared.immediate.Immediate.{Immediate}
+use Rattle.m11_unfold_arguments.specs.Conditions.{Asked, condition}
+use Rattle.m11_unfold_arguments.specs.Expressions.{Known}
+use Rattle.m11_unfold_arguments.specs.LeftOvers.{left_over, skip_flags}
+use Rattle.m11_unfold_arguments.specs.Notes.{Notes, noting}
+
+-- the place after the comma that stands next
+abbrev pub after_comma : List Lexeme → Option ℕ
+after_comma [] = None
+after_comma (token ∷ tokens) = if is_comma token.sort then Some token.end else None
+
+-- where the statement begins
+abbrev pub statement_at : Bytes → ℕ → Option ℕ
+statement_at line place = after_comma (tokens_from line place)
+
+-- I for a skipped character before the comma; without it A, and what is left over
+abbrev pub comma_flags : Bytes → ℕ → Option ℕ → ℕ
+comma_flags line place (Some end) = skip_flags line place end
+comma_flags line place None = bit_or flag_A (left_over line place)
+
+abbrev pub statement_by : Bytes → Asked → Option ℕ → Immediate
+statement_by line asked place = record { holds = asked.holds; statement = place }
+
+abbrev pub immediate_of : Bytes → Asked → Immediate
+immediate_of line asked = statement_by line asked (statement_at line asked.end)
+
+abbrev pub immediate_notes : Bytes → Asked → Notes
+immediate_notes line asked =
+    noting (bit_or asked.flags (comma_flags line asked.end (statement_at line asked.end))) asked.symbols
+
+-- whether the condition holds, and where the statement begins
+abbrev pub immediate : Known → Bytes → ℕ → Immediate
+immediate known line place = immediate_of line (condition known line place)
+
+abbrev pub notes : Known → Bytes → ℕ → Notes
+notes known line place = immediate_notes line (condition known line place)

@@ -1,0 +1,25 @@
+-- The number of rounds of `.REPT`. (MACRO-11 Language Reference Manual, "Repeat block directive". That a missing number is 0 with A is
+-- this project's own.)
+use Rattle.std.specs.Prelude.{ℕ, if◌then◌else◌, []}
+use Rattle.std.specs.Int.RustNames.{bit_or}
+use Rattle.m11_base.specs.Devices.{Bytes}
+use Rattle.m11_scan.specs.Ends.{expression_end}
+use Rattle.m11_scan.specs.ErrorFlags.{flag_A}
+use Rattle.m11_unfold_arguments.specs.Conditions.{is_negative}
+use Rattle.m11_unfold_arguments.specs.Expressions.{Known, has_expression, number_at, number_flags, symbols_at}
+use Rattle.m11_unfold_arguments.specs.LeftOvers.{left_over}
+use Rattle.m11_unfold_arguments.specs.Notes.{Notes, noting}
+
+-- a negative number of rounds is none
+abbrev pub rounds_of : ℕ → ℕ
+rounds_of number = if is_negative number then 0 else number
+
+abbrev pub rept_count : Known → Bytes → ℕ → ℕ
+rept_count known line place =
+    if has_expression line place then rounds_of (number_at known line place) else 0
+
+abbrev pub notes : Known → Bytes → ℕ → Notes
+notes known line place =
+    if has_expression line place then
+    noting (bit_or (number_flags known line place) (left_over line (expression_end line place))) (symbols_at line place)
+    else noting (bit_or flag_A (left_over line place)) []

@@ -1,0 +1,80 @@
+//! `.IIF`. (MACRO-11 Language Reference Manual, "Immediate conditional assembly directive".)
+
+ghost use Rattle.std.specs.Prelude.{◌≡◌, ◌<◌, ◌≤◌, length, IfOk, IfSome};
+ghost use Rattle.m11_scan.specs.Cutting.{tokens_from};
+ghost use Rattle.m11_scan.specs.Views.{bits_of};
+ghost use Rattle.m11_scan_statements.specs.Listed.{is_comma};
+ghost use Rattle.m11_unfold_arguments.specs.Expressions.{known_by};
+ghost use Rattle.m11_unfold_arguments.specs.Immediate as spec;
+ghost use Rattle.m11_unfold_arguments.specs.Notes.{joined};
+
+use crate::conditions::condition;
+use crate::left_overs::{left_over, skip_flags};
+use crate::notes::Notes;
+use m11_scan::{ErrorFlags, Line, Sort, next_token};
+use m11_scan_values::Names;
+use std::alloc::AllocError;
+
+/// What `.IIF` says.
+#[derive(Clone, Copy, PartialEq, Eq, Debug)]
+pub struct Immediate {
+    /// Whether its condition holds. Where it doesn't, no statement is taken.
+    pub holds: bool,
+    /// The place where its statement begins, which is all of the text after the comma. Without the comma it has none.
+    pub statement: Option<u8>,
+}
+
+/// The condition, the comma and the statement that stand in a line from a place on. Without the comma the line has A, and Q and I
+/// for what is left over. Error: memory may be refused.
+pub fn iif<N: Names>(
+    line: &Line,
+    place: usize,
+    names: &N,
+    notes: &mut Notes,
+) -> Result<Immediate, AllocError>
+    requires { place ≤ length line.now.text }
+    ensures immediate { IfOk result (λ immediate. immediate
+        ≡ spec.immediate (known_by (N.base names.now) (N.stands_for names.now)) line.now.text place) }
+    ensures notes { IfOk result (λ _. notes.new ≡ joined notes.old
+        (spec.notes (known_by (N.base names.now) (N.stands_for names.now)) line.now.text place)) }
+    ensures within { IfOk result (λ immediate. IfSome immediate.statement (λ begin. begin ≤ length line.now.text)) }
+{
+    let verdict = condition(line, place, names, notes)?;
+    let end = usize::from(verdict.end);
+    let statement = after_comma(line, end);
+    notes.add_flags(comma_flags(line, end, statement));
+    Ok(Immediate {
+        holds: verdict.holds,
+        statement,
+    })
+}
+
+/// The place after the comma that stands next in a line from a place on, if one does.
+pub fn after_comma(line: &Line, place: usize) -> Option<u8>
+    requires { place ≤ length line.now.text }
+    ensures statement { result ≡ spec.after_comma (tokens_from line.now.text place) }
+    ensures least { IfSome result (λ begin. place < begin) }
+    ensures within { IfSome result (λ begin. begin ≤ length line.now.text) }
+{
+    match next_token(line, place) {
+        Some(token) if is_comma(token.sort) => Some(token.end),
+        _ => None,
+    }
+}
+
+fn is_comma(sort: Sort) -> bool
+    ensures { result ≡ is_comma sort }
+{
+    matches!(sort, Sort::Comma)
+}
+
+// I for a skipped character before the comma; without it A, and what is left over.
+fn comma_flags(line: &Line, place: usize, statement: Option<u8>) -> ErrorFlags
+    requires { place ≤ length line.now.text }
+    ensures { bits_of result ≡ spec.comma_flags line.now.text place statement }
+{
+    match statement {
+        Some(end) => skip_flags(line, place, usize::from(end)),
+        None => ErrorFlags::A.with(left_over(line, place)),
+    }
+}

@@ -1,0 +1,183 @@
+//! What `.IRP` and `.IRPC` repeat. (MACRO-11 Language Reference Manual, "Indefinite repeat block directives".)
+
+ghost use Rattle.std.specs.Prelude.{◌≡◌, ◌≤◌, length, map, IfOk, IfSome};
+ghost use Rattle.m11_unfold_arguments.specs.Actuals.{texts_of};
+ghost use Rattle.m11_unfold_arguments.specs.Conditions.{text_of};
+ghost use Rattle.m11_unfold_arguments.specs.Expressions.{known_by};
+ghost use Rattle.m11_unfold_arguments.specs.Indefinite as spec;
+ghost use Rattle.m11_unfold_arguments.specs.Indefinite.{rounds_seen};
+ghost use Rattle.m11_unfold_arguments.specs.Notes.{joined};
+
+use crate::actuals::{actuals_from, text_of};
+use crate::conditions::actual_flags;
+use crate::left_overs::{bad_flags, flags_before, left_over};
+use crate::macros::name_at;
+use crate::notes::Notes;
+use m11_base::Name;
+use m11_scan::{LINE_LIMIT, Line};
+use m11_scan_statements::{Actual, ActualKind, next_actual, separator_at};
+use m11_scan_values::Names;
+use std::alloc::{AllocError, Global};
+
+/// What `.IRP` or `.IRPC` repeats.
+#[derive(Drop)]
+pub struct Rounds {
+    /// The formal.
+    pub formal: Name,
+    /// Its actual in each round.
+    pub texts: Vec<Vec<u8>>,
+}
+
+// A formal, and the actual that stands for its list.
+#[derive(Clone, Copy, PartialEq, Eq, Debug)]
+pub struct Begun {
+    pub(crate) formal: Name,
+    pub(crate) list: Actual,
+}
+
+/// The formal and the list of an `.IRP` that stand in a line from a place on: in brackets a list of actuals, else one actual. Where
+/// either is bad or missing the line has A, and nothing is repeated nor read. What is left over has Q and I. Error: memory may be refused.
+pub fn irp<N: Names>(
+    alloc: Global,
+    line: &Line,
+    place: usize,
+    names: &N,
+    notes: &mut Notes,
+) -> Result<Option<Rounds>, AllocError>
+    requires { place ≤ length line.now.text }
+    ensures rounds { IfOk result (λ rounds. rounds_seen rounds ≡ (spec.irp
+        (known_by (N.base names.now) (N.stands_for names.now)) line.now.text place).rounds) }
+    ensures notes { IfOk result (λ _. notes.new ≡ joined notes.old (spec.irp
+        (known_by (N.base names.now) (N.stands_for names.now)) line.now.text place).notes) }
+{
+    let Some(begun) = begun_at(line, place, true) else {
+        notes.add_flags(bad_flags(line, place));
+        return Ok(None);
+    };
+    notes.add_flags(flags_before(line, place));
+    let texts = listed(alloc, line, &begun.list, names, notes)?;
+    notes.add_flags(left_over(line, usize::from(begun.list.end)));
+    Ok(Some(Rounds {
+        formal: begun.formal,
+        texts,
+    }))
+}
+
+/// The formal and the text of an `.IRPC` that stand in a line from a place on: each character of the text is the actual of a round.
+/// Where either is bad or missing the line has A, and nothing is repeated nor read. What is left over has Q and I. Error: memory may be refused.
+pub fn irpc(
+    alloc: Global,
+    line: &Line,
+    place: usize,
+    notes: &mut Notes,
+) -> Result<Option<Rounds>, AllocError>
+    requires { place ≤ length line.now.text }
+    ensures rounds { IfOk result (λ rounds. rounds_seen rounds
+        ≡ (spec.irpc line.now.text place).rounds) }
+    ensures notes { IfOk result (λ _. notes.new
+        ≡ joined notes.old (spec.irpc line.now.text place).notes) }
+{
+    let Some(begun) = begun_at(line, place, false) else {
+        notes.add_flags(bad_flags(line, place));
+        return Ok(None);
+    };
+    notes.add_flags(flags_before(line, place));
+    let texts = spelled(alloc, line, &begun.list, notes)?;
+    notes.add_flags(left_over(line, usize::from(begun.list.end)));
+    Ok(Some(Rounds {
+        formal: begun.formal,
+        texts,
+    }))
+}
+
+// The formal and the list that stand in a line from a place on, if neither is bad or missing.
+fn begun_at(line: &Line, place: usize, gives_digits: bool) -> Option<Begun>
+    requires { place ≤ length line.now.text }
+    ensures begun { result ≡ spec.begun_at line.now.text place gives_digits }
+    ensures begins { IfSome result (λ begun. begun.list.inside.start ≤ length line.now.text) }
+    ensures within { IfSome result (λ begun. begun.list.end ≤ length line.now.text) }
+{
+    let name = name_at(line, place)?;
+    let begin = separator_at(line, usize::from(name.end)).end;
+    let list = next_actual(line, usize::from(begin), gives_digits)?;
+    Some(Begun {
+        formal: name.name,
+        list,
+    })
+}
+
+// The actuals of `.IRP`.
+fn listed<N: Names>(
+    alloc: Global,
+    line: &Line,
+    list: &Actual,
+    names: &N,
+    notes: &mut Notes,
+) -> Result<Vec<Vec<u8>>, AllocError>
+    requires { list.now.inside.start ≤ length line.now.text }
+    ensures texts { IfOk result (λ texts. texts_of texts.items ≡ (spec.listed
+        (known_by (N.base names.now) (N.stands_for names.now)) line.now.text list.now).texts) }
+    ensures notes { IfOk result (λ _. notes.new ≡ joined notes.old (spec.listed
+        (known_by (N.base names.now) (N.stands_for names.now)) line.now.text list.now).notes) }
+{
+    match list.kind {
+        ActualKind::Bracketed => listed_in(alloc, line, list, names, notes),
+        ActualKind::Bare | ActualKind::Digits => {
+            let mut texts = Vec::new(alloc);
+            texts.push(text_of(alloc, line, list, names, notes)?)?;
+            Ok(texts)
+        }
+    }
+}
+
+// A list of actuals in brackets, which is read as a line of its own.
+fn listed_in<N: Names>(
+    alloc: Global,
+    line: &Line,
+    list: &Actual,
+    names: &N,
+    notes: &mut Notes,
+) -> Result<Vec<Vec<u8>>, AllocError>
+    ensures texts { IfOk result (λ texts. texts_of texts.items ≡ (spec.listed_in
+        (known_by (N.base names.now) (N.stands_for names.now)) line.now.text list.now).texts) }
+    ensures notes { IfOk result (λ _. notes.new ≡ joined notes.old (spec.listed_in
+        (known_by (N.base names.now) (N.stands_for names.now)) line.now.text list.now).notes) }
+{
+    notes.add_flags(actual_flags(list));
+    let inner = line_of(line, list);
+    actuals_from(alloc, &inner, 0, LINE_LIMIT, names, notes)
+}
+
+// The characters of an actual, as a line.
+fn line_of(line: &Line, actual: &Actual) -> Line
+    ensures { result.text ≡ text_of line.now.text actual.now }
+{
+    let text = actual.inside.text(line);
+    let _whole = line.text();
+    Line::from_bytes(text)
+}
+
+// Each character of a text, as a text.
+fn spelled(
+    alloc: Global,
+    line: &Line,
+    list: &Actual,
+    notes: &mut Notes,
+) -> Result<Vec<Vec<u8>>, AllocError>
+    ensures texts { IfOk result (λ texts. texts_of texts.items ≡ (spec.spelled line.now.text list.now).texts) }
+    ensures notes { IfOk result (λ _. notes.new ≡ joined notes.old (spec.spelled line.now.text list.now).notes) }
+{
+    notes.add_flags(actual_flags(list));
+    characters_of(alloc, list.inside.text(line))
+}
+
+// The characters of a text, as texts.
+fn characters_of(alloc: Global, text: &[u8]) -> Result<Vec<Vec<u8>>, AllocError>
+    ensures { IfOk result (λ texts. texts_of texts.items ≡ map spec.alone text.now) }
+{
+    let mut texts = Vec::new(alloc);
+    'characters: for byte in text {
+        texts.push([*byte].to_vec(alloc)?)?;
+    }
+    Ok(texts)
+}

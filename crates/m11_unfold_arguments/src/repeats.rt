@@ -1,0 +1,47 @@
+//! The number of rounds of `.REPT`. (MACRO-11 Language Reference Manual, "Repeat block directive".)
+
+ghost use Rattle.std.specs.Prelude.{◌≡◌, ◌<◌, ◌≤◌, length, IfOk};
+ghost use Rattle.m11_unfold_arguments.specs.Expressions.{known_by};
+ghost use Rattle.m11_unfold_arguments.specs.Notes.{joined};
+ghost use Rattle.m11_unfold_arguments.specs.Repeats as spec;
+
+use crate::conditions::is_negative;
+use crate::expression_ends::has_expression;
+use crate::expressions::number_at;
+use crate::left_overs::left_over;
+use crate::notes::Notes;
+use m11_scan::{ErrorFlags, Line};
+use m11_scan_values::Names;
+use std::alloc::AllocError;
+
+/// How many rounds a `.REPT` has whose number stands in a line from a place on: 0 to 32767. Of a negative number there are none,
+/// nor where it is missing, which has A. What is left over has Q and I. Error: memory may be refused.
+pub fn rept_count<N: Names>(
+    line: &Line,
+    place: usize,
+    names: &N,
+    notes: &mut Notes,
+) -> Result<u16, AllocError>
+    requires { place ≤ length line.now.text }
+    ensures count { IfOk result (λ count. count
+        ≡ spec.rept_count (known_by (N.base names.now) (N.stands_for names.now)) line.now.text place) }
+    ensures notes { IfOk result (λ _. notes.new ≡ joined notes.old
+        (spec.notes (known_by (N.base names.now) (N.stands_for names.now)) line.now.text place)) }
+    ensures most { IfOk result (λ count. count < 32768) }
+{
+    if !has_expression(line, place) {
+        notes.add_flags(ErrorFlags::A.with(left_over(line, place)));
+        return Ok(0);
+    }
+    let number = number_at(line, place, names, notes)?;
+    let rest = left_over(line, usize::from(number.end));
+    notes.add_flags(number.flags.with(rest));
+    Ok(rounds_of(number.value))
+}
+
+fn rounds_of(number: u16) -> u16
+    ensures rounds { result ≡ spec.rounds_of number }
+    ensures most { result < 32768 }
+{
+    if is_negative(number) { 0 } else { number }
+}

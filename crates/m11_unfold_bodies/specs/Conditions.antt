@@ -1,0 +1,91 @@
+-- The conditions that are open in one expansion, or in the source around all expansions. (MACRO-11 Language Reference Manual,
+-- "Conditional assembly block directives" and "Subconditional assembly block directives". How many may be open, and that each belongs
+-- to its expansion, is this project's own.)
+use Rattle.std.specs.Prelude.{ℕ, ◌+◌, ◌-◌, Bool, true, false, not, ◌||◌, ◌==◌, ◌&&◌, if◌then◌else◌, List, [], ◌∷◌, length}
+use Rattle.m11_unfold_bodies.specs.declared.conditions.OpenCondition.{OpenCondition}
+use Rattle.m11_unfold_bodies.specs.declared.conditions.Part.{Part}
+use Rattle.m11_unfold_bodies.specs.declared.conditions.Part.TheVariants.{False, True, Both}
+
+-- those that were entered, the innermost first; how many `.IF`s are open in the lines that are skipped; and whether a
+-- condition past the last that may be open is skipped
+pub record OpenConditions : Type 0 where
+  pub entered : List OpenCondition
+  pub nested : ℕ
+  pub is_past : Bool
+
+abbrev pub no_conditions : OpenConditions
+no_conditions = record { entered = []; nested = 0; is_past = false }
+
+-- the most that may be open
+abbrev pub most_conditions : ℕ
+most_conditions = 32
+
+-- whether the lines directly in the innermost condition are live
+abbrev pub is_live_inside : List OpenCondition → Bool
+is_live_inside [] = true
+is_live_inside (condition ∷ outer) = condition.is_live
+
+abbrev pub is_skipping : OpenConditions → Bool
+is_skipping conditions = conditions.is_past || not (is_live_inside conditions.entered)
+
+-- an `.IF` in lines that are skipped, and its `.ENDC`
+abbrev pub nested : OpenConditions → OpenConditions
+nested conditions = record {
+  entered = conditions.entered;
+  nested = conditions.nested + 1;
+  is_past = conditions.is_past;
+}
+
+abbrev pub unnested : OpenConditions → OpenConditions
+unnested conditions = record {
+  entered = conditions.entered;
+  nested = conditions.nested - 1;
+  is_past = conditions.is_past;
+}
+
+-- a condition that is entered: its lines are live where it holds
+abbrev pub entering : Bool → OpenConditions → OpenConditions
+entering holds conditions = record {
+  entered = record { holds = holds; is_live = holds } ∷ conditions.entered;
+  nested = conditions.nested;
+  is_past = conditions.is_past;
+}
+
+-- one that would be past the last
+abbrev pub past : OpenConditions → OpenConditions
+past conditions = record { entered = conditions.entered; nested = conditions.nested; is_past = true }
+
+-- whether a part of a condition is live: `.IFF`, `.IFT`, `.IFTF`
+abbrev pub is_live_in : Part → Bool → Bool
+is_live_in False holds = not holds
+is_live_in True holds = holds
+is_live_in Both holds = true
+
+-- the innermost condition goes on with a part
+abbrev pub with_part : Part → List OpenCondition → List OpenCondition
+with_part part [] = []
+with_part part (condition ∷ outer) =
+    record { holds = condition.holds; is_live = is_live_in part condition.holds } ∷ outer
+
+abbrev pub switched : Part → OpenConditions → OpenConditions
+switched part conditions = record {
+  entered = with_part part conditions.entered;
+  nested = conditions.nested;
+  is_past = conditions.is_past;
+}
+
+abbrev pub without_first : List OpenCondition → List OpenCondition
+without_first [] = []
+without_first (condition ∷ outer) = outer
+
+-- an `.ENDC`: of the condition past the last, if there is one, or else of the innermost
+abbrev pub closed : OpenConditions → OpenConditions
+closed conditions = record {
+  entered = if conditions.is_past then conditions.entered else without_first conditions.entered;
+  nested = conditions.nested;
+  is_past = false;
+}
+
+-- whether there is none that an `.ENDC` would close
+abbrev pub has_none : OpenConditions → Bool
+has_none conditions = not conditions.is_past && length conditions.entered == 0

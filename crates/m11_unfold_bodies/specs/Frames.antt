@@ -1,0 +1,84 @@
+-- One open expansion: a place in a body, the rounds that are left, and its end. (This project's own.)
+use Rattle.std.specs.Prelude.{◌≡◌, ◌<◌, ◌⊎◌, ℕ, ◌+◌, List, [], ◌∷◌, ◌++◌, length, drop, Bool, true, false, not, ◌&&◌, Option, Some, None}
+use Rattle.std.specs.List.{flat_map}
+use Rattle.m11_base.specs.Devices.{Bytes}
+use Rattle.m11_base.specs.Rad50.{Name}
+use Rattle.m11_scan_lines.specs.Line.{SourceLine}
+use Rattle.m11_unfold_bodies.specs.Bodies.{Template}
+use Rattle.m11_unfold_bodies.specs.Left.{Left, Line, End, Remains, or_else, round}
+use Rattle.m11_unfold_bodies.specs.declared.mark.Mark.{Mark}
+
+-- a body with its formals, the place of its next line, the actuals of the rounds that are left, the one that is begun
+-- first, and the expansion's end
+pub record Frame : Type 0 where
+  pub template : Template
+  pub place : ℕ
+  pub rounds : List (List Bytes)
+  pub mark : Mark
+
+-- the lines that are left of rounds, where some of the first one's are taken
+abbrev pub of_rounds : List Name → List Bytes → List Bytes → List (List Bytes) → List Left
+of_rounds formals body rest [] = []
+of_rounds formals body rest (actuals ∷ rounds) = round formals rest actuals ++ flat_map (round formals body) rounds
+
+abbrev pub lines_of : Frame → List Left
+lines_of frame = of_rounds frame.template.formals frame.template.body (drop frame.place frame.template.body) frame.rounds
+
+-- expansions, the outermost first, before what is left
+abbrev pub stacked : List Frame → List Left → List Left
+stacked [] left = left
+stacked (frame ∷ frames) left = stacked frames (lines_of frame ++ End frame.mark ∷ left)
+
+-- a line is next, or no round is left
+abbrev pub HasNext : Frame → Type 0
+HasNext frame = (frame.place < length frame.template.body) ⊎ (frame.rounds ≡ [])
+
+-- a line that stands by itself, if there is one
+abbrev pub line_left : Option SourceLine → List Left
+line_left None = []
+line_left (Some line) = Line line ∷ []
+
+-- a line, where it stands there
+abbrev pub line_where : Bool → SourceLine → Option SourceLine
+line_where false line = None
+line_where true line = Some line
+
+abbrev pub is_there : Option SourceLine → Bool
+is_there None = false
+is_there (Some line) = true
+
+-- neither a line of the source nor a statement stands there, and no expansion is open
+abbrev pub is_none_of : Bool → Bool → Bool → Bool
+is_none_of has_fed has_statement has_frame = not has_fed && (not has_statement && not has_frame)
+
+-- a statement, expansions, the outermost first, and the line of the source
+abbrev pub remains : Option SourceLine → List Frame → Option SourceLine → Remains
+remains statement frames fed =
+    record { left = line_left statement ++ stacked frames (line_left fed); has_statement = is_there statement }
+
+-- the actuals of the first round
+abbrev pub first_of : List (List Bytes) → Option (List Bytes)
+first_of [] = None
+first_of (actuals ∷ rounds) = Some actuals
+
+abbrev pub without_first : List (List Bytes) → List (List Bytes)
+without_first [] = []
+without_first (actuals ∷ rounds) = rounds
+
+-- the number of actuals of the innermost of frames that is a macro's, or else of those around them
+abbrev pub count_from : Option ℕ → List Frame → Option ℕ
+count_from count [] = count
+count_from count (frame ∷ inner) = count_from (or_else frame.mark.arguments count) inner
+
+-- bytes and conditions, with those of frames
+abbrev pub bytes_from : ℕ → List Frame → ℕ
+bytes_from bytes [] = bytes
+bytes_from bytes (frame ∷ inner) = bytes_from (bytes + frame.mark.bytes) inner
+
+abbrev pub conditions_from : ℕ → List Frame → ℕ
+conditions_from count [] = count
+conditions_from count (frame ∷ inner) = conditions_from (count + length frame.mark.conditions.entered) inner
+
+abbrev pub has_frame : List Frame → Bool
+has_frame [] = false
+has_frame (frame ∷ inner) = true

@@ -1,0 +1,94 @@
+-- What is left to take: lines, and the ends of open expansions. (MACRO-11 Language Reference Manual, "Macro directives" and
+-- "Repeat block". That it is one list is this project's own.)
+use Rattle.std.specs.Prelude.{◌≡◌, ℕ, ◌+◌, Bool, true, false, List, [], ◌∷◌, ◌++◌, map, length, Option, Some, None}
+use Rattle.std.specs.List.{flat_map}
+use Rattle.m11_base.specs.Devices.{Bytes}
+use Rattle.m11_base.specs.Rad50.{Name}
+use Rattle.m11_scan_lines.specs.Line.{SourceLine}
+use Rattle.m11_unfold_bodies.specs.Substitution.{line_with}
+use Rattle.m11_unfold_bodies.specs.declared.mark.Mark.{Mark}
+use Rattle.m11_unfold_bodies.specs.declared.left.Taken.{Taken}
+use Rattle.m11_unfold_bodies.specs.declared.left.Taken.TheVariants as taken
+
+pub data Left : Type 0 where
+  Line : SourceLine → Left
+  End : Mark → Left
+
+abbrev pub is_empty : List Left → Bool
+is_empty [] = true
+is_empty (next ∷ left) = false
+
+-- the ends that are left, the innermost expansion's first
+abbrev pub marks : List Left → List Mark
+marks [] = []
+marks (Line line ∷ left) = marks left
+marks (End mark ∷ left) = mark ∷ marks left
+
+-- how many expansions are open
+abbrev pub depth : List Left → ℕ
+depth left = length (marks left)
+
+-- the most that may be open
+abbrev pub most_expansions : ℕ
+most_expansions = 16
+
+-- whether an expansion is open
+abbrev pub has_mark : List Mark → Bool
+has_mark [] = false
+has_mark (mark ∷ marks) = true
+
+abbrev pub is_expanding : List Left → Bool
+is_expanding left = has_mark (marks left)
+
+abbrev pub or_else : Option ℕ → Option ℕ → Option ℕ
+or_else (Some count) other = Some count
+or_else None other = other
+
+-- the number of actuals of the innermost call of a macro
+abbrev pub count_in : List Mark → Option ℕ
+count_in [] = None
+count_in (mark ∷ marks) = or_else mark.arguments (count_in marks)
+
+abbrev pub argument_count : List Left → Option ℕ
+argument_count left = count_in (marks left)
+
+-- the bytes of the bodies of open repeats
+abbrev pub bytes_in : List Mark → ℕ
+bytes_in [] = 0
+bytes_in (mark ∷ marks) = bytes_in marks + mark.bytes
+
+abbrev pub bytes_held : List Left → ℕ
+bytes_held left = bytes_in (marks left)
+
+-- the conditions that are open around open expansions
+abbrev pub conditions_in : List Mark → ℕ
+conditions_in [] = 0
+conditions_in (mark ∷ marks) = conditions_in marks + length mark.conditions.entered
+
+abbrev pub conditions_open : List Left → ℕ
+conditions_open left = conditions_in (marks left)
+
+-- what is left after `.MEXIT`: from the innermost expansion's end on
+abbrev pub after_mark : List Left → List Left
+after_mark [] = []
+after_mark (Line line ∷ left) = after_mark left
+after_mark (End mark ∷ left) = End mark ∷ left
+
+-- a body's lines with one round's actuals put in
+abbrev pub round : List Name → List Bytes → List Bytes → List Left
+round formals body actuals = map (λ text. Line (line_with formals actuals text)) body
+
+-- an expansion before what was left: for each round's actuals the body's lines with them put in, then the expansion's end
+abbrev pub expanded : List Name → List (List Bytes) → List Bytes → Mark → List Left → List Left
+expanded formals rounds body mark left = flat_map (round formals body) rounds ++ End mark ∷ left
+
+-- what is left, and whether its head is a statement that was put there
+pub record Remains : Type 0 where
+  pub left : List Left
+  pub has_statement : Bool
+
+-- what is left loses its head, which is put where lines are taken to, if it is a line
+abbrev pub Takes : List Left → List Left → SourceLine → Option Taken → Type 0
+Takes old new line None = (old ≡ []) × (new ≡ [])
+Takes old new line (Some (taken.Line is_expanded)) = (old ≡ Line line ∷ new) × (is_expanded ≡ is_expanding new)
+Takes old new line (Some (taken.End mark)) = old ≡ End mark ∷ new

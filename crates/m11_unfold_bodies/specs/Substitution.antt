@@ -1,0 +1,88 @@
+-- Replacement of formals in the lines of a body. (MACRO-11 Language Reference Manual, "Arguments in macro definitions and macro
+-- calls" and "Concatenation of macro arguments". That texts and comments are no exception, and that the first of two formals of
+-- one name counts, is this project's own.)
+use Rattle.std.specs.Prelude.{ℕ, Bool, true, false, ◌||◌, ◌&&◌, ◌==◌, if◌then◌else◌, List, [], ◌∷◌, ◌++◌, Option, Some, None}
+use Rattle.m11_base.specs.Devices.{Bytes}
+use Rattle.m11_base.specs.Mnemonics.{is_name_character, six_of}
+use Rattle.m11_base.specs.Rad50.{Name, is_same_name, name_of}
+use Rattle.m11_scan_lines.specs.Line.{SourceLine, line_of}
+
+-- a piece of a body's line: a longest run of name characters, or another character
+pub data Piece : Type 0 where
+  Run : Bytes → Piece
+  Other : ℕ → Piece
+
+-- a name character before pieces belongs to the run that they begin with
+abbrev pub in_run : ℕ → List Piece → List Piece
+in_run byte [] = Run (byte ∷ []) ∷ []
+in_run byte (Run run ∷ pieces) = Run (byte ∷ run) ∷ pieces
+in_run byte (Other other ∷ pieces) = Run (byte ∷ []) ∷ Other other ∷ pieces
+
+abbrev pub pieces_of : Bytes → List Piece
+pieces_of [] = []
+pieces_of (byte ∷ text) =
+    if is_name_character byte then in_run byte (pieces_of text) else Other byte ∷ pieces_of text
+
+-- the piece that its characters are
+abbrev pub piece_of : Bytes → Piece
+piece_of [] = Run []
+piece_of (byte ∷ text) = if is_name_character byte then Run (byte ∷ text) else Other byte
+
+-- the actual of the first formal with a name
+abbrev pub actual_named : List Name → List Bytes → Name → Option Bytes
+actual_named [] actuals name = None
+actual_named (formal ∷ formals) [] name = None
+actual_named (formal ∷ formals) (actual ∷ actuals) name =
+    if is_same_name formal name then Some actual else actual_named formals actuals name
+
+abbrev pub actual_of : List Name → List Bytes → Option Name → Option Bytes
+actual_of formals actuals None = None
+actual_of formals actuals (Some name) = actual_named formals actuals name
+
+-- what is put in place of a piece: the actual of a run whose first six characters are a formal's
+abbrev pub actual_for : List Name → List Bytes → Piece → Option Bytes
+actual_for formals actuals (Run run) = actual_of formals actuals (name_of (six_of run))
+actual_for formals actuals (Other byte) = None
+
+abbrev pub is_put : Option Bytes → Bool
+is_put (Some actual) = true
+is_put None = false
+
+abbrev pub is_replaced : List Name → List Bytes → Piece → Bool
+is_replaced formals actuals piece = is_put (actual_for formals actuals piece)
+
+-- whether what stands next is replaced
+abbrev pub begins_replaced : List Name → List Bytes → List Piece → Bool
+begins_replaced formals actuals [] = false
+begins_replaced formals actuals (piece ∷ pieces) = is_replaced formals actuals piece
+
+abbrev pub is_quote : Piece → Bool
+is_quote (Run run) = false
+is_quote (Other byte) = byte == 0o47
+
+abbrev pub text_of : Piece → Bytes
+text_of (Run run) = run
+text_of (Other byte) = byte ∷ []
+
+-- a `'` directly before or after what is replaced vanishes
+abbrev pub kept : Bool → Piece → Bytes
+kept is_beside piece = if is_quote piece && is_beside then [] else text_of piece
+
+abbrev pub put_or : Bytes → Option Bytes → Bytes
+put_or text (Some actual) = actual
+put_or text None = text
+
+-- pieces with the actuals put in; before them stands what is replaced, or what isn't
+abbrev pub joined : List Name → List Bytes → Bool → List Piece → Bytes
+joined formals actuals is_after [] = []
+joined formals actuals is_after (piece ∷ pieces) =
+    put_or (kept (is_after || begins_replaced formals actuals pieces) piece) (actual_for formals actuals piece)
+    ++ joined formals actuals (is_replaced formals actuals piece) pieces
+
+-- a text with the actuals put in place of the formals
+abbrev pub substituted : List Name → List Bytes → Bytes → Bytes
+substituted formals actuals text = joined formals actuals false (pieces_of text)
+
+-- the line of a body's text in a round of an expansion
+abbrev pub line_with : List Name → List Bytes → Bytes → SourceLine
+line_with formals actuals text = line_of (substituted formals actuals text)

@@ -1,0 +1,176 @@
+//! The conditions that are open in one expansion, or in the source around all expansions. (MACRO-11 Language Reference Manual,
+//! "Conditional assembly block directives" and "Subconditional assembly block directives".)
+
+ghost use Rattle.std.specs.Prelude.{◌≡◌, ◌<◌, ◌≤◌, length, reverse};
+ghost use Rattle.m11_unfold_bodies.specs.Conditions as spec;
+
+use arrayvec::ArrayVec;
+use std::marker::Model;
+
+/// The most conditions that may be open.
+pub const CONDITION_LIMIT: usize = 32;
+
+/// A condition that was entered.
+#[derive(Clone, Copy, Default, PartialEq, Eq, Debug)]
+pub struct OpenCondition {
+    /// Whether it holds.
+    pub holds: bool,
+    /// Whether the lines of its present part are live.
+    pub is_live: bool,
+}
+
+/// A part of a condition's lines.
+#[derive(Clone, Copy, PartialEq, Eq, Debug)]
+pub enum Part {
+    /// After `.IFF`: live where the condition doesn't hold.
+    False,
+    /// After `.IFT`: live where it holds.
+    True,
+    /// After `.IFTF`: live.
+    Both,
+}
+
+/// The conditions that are open in one expansion, or around all of them.
+#[derive(Drop, Debug)]
+pub struct Conditions {
+    // The innermost is last.
+    entered: ArrayVec<OpenCondition, CONDITION_LIMIT>,
+    nested: u32,
+    is_past: bool,
+}
+
+impl Model for Conditions {
+    ghost use Rattle.std.specs.Prelude.{◌≤◌, length, reverse};
+    ghost use Rattle.m11_unfold_bodies.specs.Conditions.{OpenConditions};
+
+    ghost Value = { OpenConditions };
+
+    ghost view = { λ c. record { entered = reverse c.entered.items; nested = c.nested; is_past = c.is_past } };
+
+    ghost invariant = { λ c. length c.entered.items ≤ 32 };
+}
+
+impl Conditions {
+    /// No open condition, and nothing skipped.
+    pub fn new() -> Conditions
+        ensures { result ≡ spec.no_conditions }
+    {
+        Conditions {
+            entered: ArrayVec::new(),
+            nested: 0,
+            is_past: false,
+        }
+    }
+
+    /// Whether the lines that come are skipped.
+    pub fn is_skipping(&self) -> bool
+        ensures { result ≡ spec.is_skipping self.now }
+    {
+        self.is_past || !is_live_inside(self.entered.as_slice())
+    }
+
+    /// Whether a condition past the last that may be open is skipped.
+    pub fn is_past(&self) -> bool
+        ensures { result ≡ self.now.is_past }
+    {
+        self.is_past
+    }
+
+    /// How many `.IF`s are open in the lines that are skipped.
+    pub fn nested(&self) -> u32
+        ensures { result ≡ self.now.nested }
+    {
+        self.nested
+    }
+
+    /// An `.IF` in lines that are skipped.
+    pub fn nest(&mut self)
+        requires { self.old.nested < 4294967295 }
+        ensures { self.new ≡ spec.nested self.old }
+    {
+        self.nested += 1;
+    }
+
+    /// The `.ENDC` of an `.IF` in lines that are skipped.
+    pub fn unnest(&mut self)
+        requires { 0 < self.old.nested }
+        ensures { self.new ≡ spec.unnested self.old }
+    {
+        self.nested -= 1;
+    }
+
+    /// Enters a condition, whose lines are live where it holds.
+    pub fn enter(&mut self, holds: bool)
+        requires { length self.old.entered < spec.most_conditions }
+        ensures { self.new ≡ spec.entering holds self.old }
+    {
+        self.entered.push(OpenCondition {
+            holds,
+            is_live: holds,
+        });
+    }
+
+    /// Begins to skip a condition past the last that may be open.
+    pub fn enter_past(&mut self)
+        ensures { self.new ≡ spec.past self.old }
+    {
+        self.is_past = true;
+    }
+
+    /// Goes on with a part of the innermost condition, if there is one.
+    pub fn switch(&mut self, part: Part)
+        ensures { self.new ≡ spec.switched part self.old }
+    {
+        if let Some(condition) = self.entered.pop() {
+            self.entered.push(OpenCondition {
+                holds: condition.holds,
+                is_live: is_live_in(part, condition.holds),
+            });
+        }
+    }
+
+    /// Closes the condition past the last that may be open, or else the innermost, if there is one.
+    pub fn close(&mut self)
+        ensures { self.new ≡ spec.closed self.old }
+    {
+        if self.is_past {
+            self.is_past = false;
+        } else {
+            self.entered.pop();
+        }
+    }
+
+    /// How many were entered: at most 32.
+    pub fn count(&self) -> usize
+        ensures count { result ≡ length self.now.entered }
+        ensures limited { result ≤ spec.most_conditions }
+    {
+        self.entered.len()
+    }
+
+    /// Whether there is none that an `.ENDC` would close.
+    pub fn is_empty(&self) -> bool
+        ensures { result ≡ spec.has_none self.now }
+    {
+        !self.is_past && self.entered.is_empty()
+    }
+}
+
+fn is_live_inside(entered: &[OpenCondition]) -> bool
+    ensures { result ≡ spec.is_live_inside (reverse entered.now) }
+{
+    match entered {
+        [.., innermost] => innermost.is_live,
+        [] => true,
+    }
+}
+
+fn is_live_in(part: Part, holds: bool) -> bool
+    ensures { result ≡ spec.is_live_in part holds }
+{
+    match part {
+        Part::False => !holds,
+        Part::True => holds,
+        Part::Both => true,
+    }
+}

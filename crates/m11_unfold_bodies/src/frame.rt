@@ -1,0 +1,96 @@
+//! One open expansion: a place in a body. (MACRO-11 Language Reference Manual, "Macro directives" and "Repeat block".)
+
+ghost use Rattle.std.specs.Prelude.{◌≡◌, ◌∷◌, [], true, false};
+ghost use Rattle.m11_unfold_bodies.specs.Frames as spec;
+ghost use Rattle.m11_unfold_bodies.specs.Left as left;
+
+use crate::mark::Mark;
+use crate::rounds::Rounds;
+use crate::substitution::substitute;
+use crate::template::Template;
+use m11_scan::Line;
+use std::marker::Model;
+use std::rc::Rc;
+
+// An open expansion. A line is next, or no round is left.
+#[derive(Drop)]
+pub(crate) struct Frame {
+    template: Rc<Template>,
+    place: usize,
+    rounds: Rounds,
+    mark: Mark,
+}
+
+impl Model for Frame {
+    ghost use Rattle.m11_unfold_bodies.specs.Frames as spec;
+
+    ghost Value = { spec.Frame };
+
+    ghost view = { λ f. record { template = f.template.value; place = f.place; rounds = f.rounds; mark = f.mark } };
+
+    ghost invariant = { λ f. spec.HasNext (record { template = f.template.value; place = f.place; rounds = f.rounds; mark = f.mark }) };
+}
+
+impl Frame {
+    // All rounds of a body. One without a line has none.
+    pub(crate) fn new(template: Rc<Template>, rounds: Rounds, mark: Mark) -> Frame
+        ensures lines { spec.lines_of result
+            ≡ spec.of_rounds template.value.formals template.value.body template.value.body rounds }
+        ensures mark { result.mark ≡ mark }
+    {
+        let mut frame = Frame {
+            template,
+            place: 0,
+            rounds,
+            mark,
+        };
+        if frame.template.body().len() == 0 {
+            frame.rounds.clear();
+        }
+        frame
+    }
+
+    // Puts the next line, with the actuals put in, into `line`. Returns whether one is left.
+    pub(crate) fn next(&mut self, line: &mut Line) -> bool
+        ensures some { result ≡ true → spec.lines_of self.old ≡ left.Line line.new ∷ spec.lines_of self.new }
+        ensures none { result ≡ false → spec.lines_of self.old ≡ [] }
+        ensures mark { self.new.mark ≡ self.old.mark }
+    {
+        let lines = self.template.body().len();
+        let Some(actuals) = self.rounds.first() else {
+            return false;
+        };
+        substitute(
+            line,
+            self.template.formals(),
+            actuals,
+            self.template.body().text(self.place),
+        );
+        self.place += 1;
+        if self.place == lines {
+            self.place = 0;
+            self.rounds.pass();
+        }
+        true
+    }
+
+    // Leaves out all lines that are left.
+    pub(crate) fn leave(&mut self)
+        ensures lines { spec.lines_of self.new ≡ [] }
+        ensures mark { self.new.mark ≡ self.old.mark }
+    {
+        self.rounds.clear();
+    }
+
+    pub(crate) fn mark(&self) -> &Mark
+        ensures { result.now ≡ self.now.mark }
+    {
+        &self.mark
+    }
+
+    pub(crate) fn into_mark(self) -> Mark
+        ensures { result ≡ self.mark }
+    {
+        self.mark
+    }
+}

@@ -1,0 +1,102 @@
+//! Laws of bodies and expansions. Each is the contract of a function that does nothing.
+
+ghost use Rattle.std.specs.Prelude.{◌≡◌, ◌∷◌, ◌++◌, [], ℕ, Bool, List, Some, false, map, not};
+ghost use Rattle.std.specs.List.{list_any};
+ghost use Rattle.m11_base.specs.Devices.{Bytes};
+ghost use Rattle.m11_base.specs.Rad50.{Name};
+ghost use Rattle.m11_unfold_bodies.specs.Bodies.{HalfTaken, IsTaken, before_left, body_of, cut_at, nothing_taken, taken_with, depth_after, texts_of, with_lines};
+ghost use Rattle.m11_unfold_bodies.specs.Conditions.{OpenConditions, closed, entering, is_live_in, is_skipping};
+ghost use Rattle.m11_unfold_bodies.specs.Conditions.{nested, past, switched, unnested};
+ghost use Rattle.m11_unfold_bodies.specs.Laws.{Inside, IsReplacedBy, IsWord, SkippedInside, begins_in_word, ends_in_word};
+ghost use Rattle.m11_unfold_bodies.specs.Laws.{without_first_quote, without_last_quote};
+ghost use Rattle.m11_unfold_bodies.specs.Left.{End, Left, Line, expanded};
+ghost use Rattle.m11_unfold_bodies.specs.Substitution.{Other, Run, actual_for, is_replaced, joined, line_with, pieces_of, substituted};
+ghost use Rattle.m11_unfold_bodies.specs.declared.conditions.Part.{Part};
+ghost use Rattle.m11_unfold_bodies.specs.declared.mark.Mark.{Mark};
+ghost use Rattle.m11_unfold_bodies.specs.declared.open_body.Nesting.{Nesting};
+ghost use Rattle.m11_scan_lines.specs.Line.{SourceLine};
+
+/// A text in which no formal stands is put as it is. A `'` between two formals joins their actuals.
+pub fn formals_alone_are_replaced()
+    ensures unchanged { (formals : List Name) (actuals : List Bytes) (text : Bytes)
+        → list_any (is_replaced formals actuals) (pieces_of text) ≡ false → substituted formals actuals text ≡ text }
+    ensures joins { (formals : List Name) (actuals : List Bytes) (first second one other : Bytes)
+        → actual_for formals actuals (Run first) ≡ Some one → actual_for formals actuals (Run second) ≡ Some other
+        → joined formals actuals false (Run first ∷ Other 0o47 ∷ Run second ∷ []) ≡ one ++ other }
+{}
+
+/// A formal that is a whole word of a text gives way to its actual, and with it one `'` directly before it and one directly after
+/// it, if they stand there. What stands before and after goes on the same way.
+pub fn a_formal_gives_way_with_a_quote_on_each_side()
+    ensures { (formals : List Name) (actuals : List Bytes) (before name after actual : Bytes) → IsWord name
+        → ends_in_word before ≡ false → begins_in_word after ≡ false → actual_for formals actuals (Run name) ≡ Some actual
+        → substituted formals actuals (before ++ (name ++ after))
+        ≡ substituted formals actuals (without_last_quote before)
+        ++ (actual ++ substituted formals actuals (without_first_quote after)) }
+{}
+
+/// A word that is replaced takes one `'` on each side with it: where it stands alone, after a quote, before one, or between two,
+/// its actual is all that stays. One quote or two between two such words join their actuals; of three, one stays.
+pub fn quotes_beside_a_formal_vanish()
+    ensures alone { (formals : List Name) (actuals : List Bytes) (word actual : Bytes) → IsReplacedBy formals actuals word actual
+        → substituted formals actuals word ≡ actual }
+    ensures after_quote { (formals : List Name) (actuals : List Bytes) (word actual : Bytes)
+        → IsReplacedBy formals actuals word actual → substituted formals actuals (0o47 ∷ word) ≡ actual }
+    ensures before_quote { (formals : List Name) (actuals : List Bytes) (word actual : Bytes)
+        → IsReplacedBy formals actuals word actual → substituted formals actuals (word ++ 0o47 ∷ []) ≡ actual }
+    ensures between_quotes { (formals : List Name) (actuals : List Bytes) (word actual : Bytes)
+        → IsReplacedBy formals actuals word actual → substituted formals actuals (0o47 ∷ (word ++ 0o47 ∷ [])) ≡ actual }
+    ensures one_quote { (formals : List Name) (actuals : List Bytes) (first second one other : Bytes)
+        → IsReplacedBy formals actuals first one → IsReplacedBy formals actuals second other
+        → substituted formals actuals (first ++ 0o47 ∷ second) ≡ one ++ other }
+    ensures two_quotes { (formals : List Name) (actuals : List Bytes) (first second one other : Bytes)
+        → IsReplacedBy formals actuals first one → IsReplacedBy formals actuals second other
+        → substituted formals actuals (first ++ 0o47 ∷ 0o47 ∷ second) ≡ one ++ other }
+    ensures three_quotes { (formals : List Name) (actuals : List Bytes) (first second one other : Bytes)
+        → IsReplacedBy formals actuals first one → IsReplacedBy formals actuals second other
+        → substituted formals actuals (first ++ 0o47 ∷ 0o47 ∷ 0o47 ∷ second) ≡ one ++ 0o47 ∷ other }
+{}
+
+/// A body that is half taken goes on where it stopped: what is left is cut as if its lines still stood in front.
+pub fn half_taken_bodies_go_on()
+    ensures begins { (nesting : Bytes → Nesting) → IsTaken nesting nothing_taken }
+    ensures grows { (nesting : Bytes → Nesting) (taken : HalfTaken) (text : Bytes) (depth : ℕ) → IsTaken nesting taken
+        → depth_after (nesting text) taken.depth ≡ Some depth → IsTaken nesting (taken_with taken text depth) }
+    ensures cuts { (nesting : Bytes → Nesting) (taken : HalfTaken) (lines : List SourceLine) (left : List Left)
+        → texts_of lines ≡ taken.body → IsTaken nesting taken
+        → body_of nesting (before_left lines left) ≡ with_lines taken.body (cut_at nesting taken.depth left) }
+{}
+
+/// A repeat is its rounds one after another, and one end; a body without a line leaves its end alone.
+pub fn expansions_are_rounds_and_an_end()
+    ensures rounds { (formals : List Name) (actuals : List Bytes) (rounds : List (List Bytes)) (body : List Bytes)
+        (mark : Mark) (left : List Left) → expanded formals (actuals ∷ rounds) body mark left
+        ≡ map (λ text. Line (line_with formals actuals text)) body ++ expanded formals rounds body mark left }
+    ensures none { (formals : List Name) (body : List Bytes) (mark : Mark) (left : List Left)
+        → expanded formals [] body mark left ≡ End mark ∷ left }
+    ensures empty { (formals : List Name) (rounds : List (List Bytes)) (mark : Mark) (left : List Left)
+        → expanded formals rounds [] mark left ≡ End mark ∷ left }
+{}
+
+/// Inside a condition the last `.IFF`, `.IFT` or `.IFTF`, and whether the condition holds, decide whether the lines after it are
+/// skipped. What stood before it, other switches and whole conditions, makes no difference. Before the first one, whether the
+/// condition holds decides alone.
+pub fn the_last_switch_decides()
+    ensures skips { (holds : Bool) (part : Part) (conditions inside : OpenConditions) → conditions.is_past ≡ false
+        → Inside (entering holds conditions) inside → is_skipping (switched part inside) ≡ not (is_live_in part holds) }
+    ensures begins { (holds : Bool) (conditions : OpenConditions) → conditions.is_past ≡ false
+        → is_skipping (entering holds conditions) ≡ not holds }
+    ensures forgets { (part other : Part) (conditions : OpenConditions)
+        → switched part (switched other conditions) ≡ switched part conditions }
+{}
+
+/// An `.ENDC` undoes its `.IF`: the conditions are again as they were before it, whatever switches and whole conditions stood
+/// between the two. So does that of an `.IF` in lines that are skipped, and that of the condition past the last that may be open.
+pub fn an_endc_undoes_its_if()
+    ensures entered { (holds : Bool) (conditions inside : OpenConditions) → conditions.is_past ≡ false
+        → Inside (entering holds conditions) inside → closed inside ≡ conditions }
+    ensures skipped { (conditions inside : OpenConditions) → SkippedInside (nested conditions) inside
+        → unnested inside ≡ conditions }
+    ensures past { (conditions inside : OpenConditions) → conditions.is_past ≡ false → SkippedInside (past conditions) inside
+        → closed inside ≡ conditions }
+{}

@@ -1,0 +1,305 @@
+//! What is left to take: lines, and the ends of open expansions. (MACRO-11 Language Reference Manual, "Macro directives" and
+//! "Repeat block".)
+
+ghost use Rattle.std.specs.Prelude.{◌≡◌, ◌<◌, ◌≤◌, ◌∷◌, ◌+◌, [], false, true, length, None, Some, OnOk, OnErr};
+ghost use Rattle.m11_unfold_bodies.specs.Frames as stack;
+ghost use Rattle.m11_unfold_bodies.specs.Left as spec;
+
+use crate::frame::Frame;
+use crate::mark::Mark;
+use crate::rounds::Rounds;
+use crate::template::Template;
+use m11_scan::Line;
+use std::alloc::{AllocError, Global};
+use std::marker::Model;
+use std::rc::Rc;
+
+/// The most expansions that are open.
+pub const EXPANSION_LIMIT: usize = 16;
+
+/// What was taken.
+#[derive(Drop, Debug)]
+pub enum Taken {
+    /// A line, and whether it stands in an expansion.
+    Line(bool),
+    /// The end of an expansion.
+    End(Mark),
+}
+
+/// What is left to take: the lines of open expansions and their ends, the innermost expansion's first, and the line of the
+/// source that was fed.
+#[derive(Drop)]
+pub struct Remaining {
+    // The statement of an `.IIF`.
+    statement: Option<Line>,
+    // The innermost expansion is last.
+    frames: Vec<Frame>,
+    // The line of the source, where it is left.
+    fed: Line,
+    has_fed: bool,
+}
+
+impl Model for Remaining {
+    ghost use Rattle.std.specs.Prelude.{◌≤◌, length};
+    ghost use Rattle.m11_unfold_bodies.specs.Frames.{line_where, remains};
+    ghost use Rattle.m11_unfold_bodies.specs.Left.{Remains};
+
+    ghost Value = { Remains };
+
+    ghost view = { λ r. remains r.statement r.frames.items (line_where r.has_fed r.fed) };
+
+    ghost invariant = { λ r. length r.frames.items ≤ 16 };
+}
+
+impl Remaining {
+    /// Nothing is left.
+    pub fn new(alloc: Global) -> Remaining
+        ensures left { result.left ≡ [] }
+        ensures free { result.has_statement ≡ false }
+    {
+        Remaining {
+            statement: None,
+            frames: Vec::new(alloc),
+            fed: Line::new(),
+            has_fed: false,
+        }
+    }
+
+    /// The next line of the source, where nothing is left.
+    pub fn feed(&mut self, line: &Line)
+        requires { self.old.left ≡ [] }
+        ensures left { self.new.left ≡ spec.Line line.now ∷ [] }
+        ensures free { self.new.has_statement ≡ false }
+    {
+        self.fed.copy_from(line);
+        self.has_fed = true;
+    }
+
+    /// Puts a statement before what is left, where none stands there.
+    pub fn put(&mut self, statement: Line)
+        requires { self.old.has_statement ≡ false }
+        ensures left { self.new.left ≡ spec.Line statement ∷ self.old.left }
+    {
+        self.statement = Some(statement);
+    }
+
+    /// Takes what is next, if anything is left. A line is put into `line`, where it stays, since moving it takes longer than reading it.
+    pub fn take(&mut self, line: &mut Line) -> Option<Taken>
+        ensures taken { spec.Takes self.old.left self.new.left line.new result }
+        ensures free { self.new.has_statement ≡ false }
+    {
+        if self.statement.is_some() {
+            return self.take_statement(line);
+        }
+        if self.is_expanding() {
+            self.take_expanded(line)
+        } else {
+            self.take_fed(line)
+        }
+    }
+
+    /// Takes the line of the source, if nothing else is left, and returns whether it did. It is what `take` does then, and takes less time.
+    pub fn take_source_line(&mut self, line: &mut Line) -> bool
+        ensures taken { result ≡ true → spec.Takes self.old.left self.new.left line.new (Some (Taken.Line false)) }
+        ensures free { result ≡ true → self.new.has_statement ≡ false }
+        ensures unchanged { result ≡ false → self.new ≡ self.old }
+    {
+        if !self.has_fed || self.statement.is_some() || self.is_expanding() {
+            return false;
+        }
+        line.copy_from(&self.fed);
+        self.has_fed = false;
+        true
+    }
+
+    /// Whether nothing is left.
+    pub fn is_empty(&self) -> bool
+        ensures { result ≡ spec.is_empty self.now.left }
+    {
+        is_none_of(
+            self.has_fed,
+            self.statement.is_some(),
+            has_frame(self.frames.as_slice()),
+        )
+    }
+
+    // Takes the statement of an `.IIF`.
+    fn take_statement(&mut self, line: &mut Line) -> Option<Taken>
+        requires { self.old.has_statement ≡ true }
+        ensures taken { spec.Takes self.old.left self.new.left line.new result }
+        ensures free { self.new.has_statement ≡ false }
+    {
+        match self.statement.take() {
+            Some(statement) => {
+                *line = statement;
+                Some(Taken::Line(self.is_expanding()))
+            }
+            None => None,
+        }
+    }
+
+    // Takes the line of the source, where no expansion is open.
+    fn take_fed(&mut self, line: &mut Line) -> Option<Taken>
+        requires free { self.old.has_statement ≡ false }
+        requires unexpanded { spec.is_expanding self.old.left ≡ false }
+        ensures taken { spec.Takes self.old.left self.new.left line.new result }
+        ensures free { self.new.has_statement ≡ false }
+    {
+        if !self.has_fed {
+            return None;
+        }
+        line.copy_from(&self.fed);
+        self.has_fed = false;
+        Some(Taken::Line(false))
+    }
+
+    // Takes a line of the innermost expansion, or its end.
+    fn take_expanded(&mut self, line: &mut Line) -> Option<Taken>
+        requires free { self.old.has_statement ≡ false }
+        requires expanded { spec.is_expanding self.old.left ≡ true }
+        ensures taken { spec.Takes self.old.left self.new.left line.new result }
+        ensures free { self.new.has_statement ≡ false }
+    {
+        let mut frame = self.frames.pop()?;
+        if frame.next(line) {
+            self.frames.push_reserved(frame);
+            Some(Taken::Line(true))
+        } else {
+            Some(Taken::End(frame.into_mark()))
+        }
+    }
+
+    /// Puts an expansion before what is left: for each round's actuals the body's lines with them put in, and its end.
+    ///
+    /// Errors: want of memory. What is left is then unchanged.
+    pub fn expand(
+        &mut self,
+        template: Rc<Template>,
+        rounds: Rounds,
+        mark: Mark,
+    ) -> Result<(), AllocError>
+        requires room { spec.depth self.old.left < spec.most_expansions }
+        requires free { self.old.has_statement ≡ false }
+        ensures ok { OnOk result (self.new.left
+            ≡ spec.expanded template.value.formals rounds template.value.body mark self.old.left) }
+        ensures err { OnErr result (self.new.left ≡ self.old.left) }
+        ensures free { self.new.has_statement ≡ false }
+    {
+        self.frames.push(Frame::new(template, rounds, mark))?;
+        Ok(())
+    }
+
+    /// Leaves out all lines up to the end of the innermost expansion, which stays.
+    pub fn leave(&mut self)
+        ensures left { self.new.left ≡ spec.after_mark self.old.left }
+        ensures free { self.new.has_statement ≡ false }
+    {
+        self.statement = None;
+        match self.frames.pop() {
+            Some(mut frame) => {
+                frame.leave();
+                self.frames.push_reserved(frame);
+            }
+            None => self.has_fed = false,
+        }
+    }
+
+    /// Whether an expansion is open.
+    pub fn is_expanding(&self) -> bool
+        ensures { result ≡ spec.is_expanding self.now.left }
+    {
+        has_frame(self.frames.as_slice())
+    }
+
+    /// How many expansions are open: at most 16.
+    pub fn depth(&self) -> usize
+        ensures depth { result ≡ spec.depth self.now.left }
+        ensures limited { result ≤ spec.most_expansions }
+    {
+        self.frames.as_slice().len()
+    }
+
+    /// The number of actuals of the innermost call of a macro, if one is open.
+    pub fn argument_count(&self) -> Option<u16>
+        ensures { result ≡ spec.argument_count self.now.left }
+    {
+        argument_count(self.frames.as_slice())
+    }
+
+    /// The bytes of the bodies of open repeats.
+    pub fn bytes_held(&self) -> u64
+        ensures { result ≡ spec.bytes_held self.now.left }
+    {
+        bytes_held(self.frames.as_slice())
+    }
+
+    /// How many conditions are open around open expansions.
+    pub fn conditions_open(&self) -> usize
+        ensures { result ≡ spec.conditions_open self.now.left }
+    {
+        conditions_open(self.frames.as_slice())
+    }
+}
+
+fn is_none_of(has_fed: bool, has_statement: bool, has_frame: bool) -> bool
+    ensures { result ≡ stack.is_none_of has_fed has_statement has_frame }
+{
+    !has_fed && !has_statement && !has_frame
+}
+
+fn has_frame(frames: &[Frame]) -> bool
+    ensures { result ≡ stack.has_frame frames.now }
+{
+    match frames {
+        [_, ..] => true,
+        [] => false,
+    }
+}
+
+// The number of actuals of the last call of a macro.
+fn argument_count(frames: &[Frame]) -> Option<u16>
+    ensures { result ≡ stack.count_from None frames.now }
+{
+    let mut count = None;
+    let mut rest = frames;
+    'frames: while let Some((frame, inner)) = rest.split_first() {
+        count = inner_count(frame.mark().arguments, count);
+        rest = inner;
+    }
+    count
+}
+
+fn inner_count(arguments: Option<u16>, outer: Option<u16>) -> Option<u16>
+    ensures { result ≡ spec.or_else arguments outer }
+{
+    match arguments {
+        Some(count) => Some(count),
+        None => outer,
+    }
+}
+
+fn bytes_held(frames: &[Frame]) -> u64
+    requires { length frames.now ≤ 16 }
+    ensures { result ≡ stack.bytes_from 0 frames.now }
+{
+    let mut bytes = 0;
+    let mut rest = frames;
+    'frames: while let Some((frame, inner)) = rest.split_first() {
+        bytes += u64::from(frame.mark().bytes);
+        rest = inner;
+    }
+    bytes
+}
+
+fn conditions_open(frames: &[Frame]) -> usize
+    requires { length frames.now ≤ 16 }
+    ensures { result ≡ stack.conditions_from 0 frames.now }
+{
+    let mut count = 0;
+    let mut rest = frames;
+    'frames: while let Some((frame, inner)) = rest.split_first() {
+        count += frame.mark().conditions.count();
+        rest = inner;
+    }
+    count
+}

@@ -1,0 +1,101 @@
+//! A body whose close has not come yet. (MACRO-11 Language Reference Manual, ".MACRO directive", ".ENDM directive" and ".REPT
+//! directive".)
+
+ghost use Rattle.std.specs.Prelude.{◌≡◌, ◌<◌, ◌≤◌, true, false, Some, None};
+ghost use Rattle.m11_unfold_bodies.specs.Bodies as spec;
+
+use crate::text::Texts;
+use std::alloc::{AllocError, Global};
+use std::marker::Model;
+
+/// What a line is for the bodies of macros and repeats.
+#[derive(Clone, Copy, PartialEq, Eq, Debug)]
+pub enum Nesting {
+    /// A body begins after it.
+    Opens,
+    /// It ends the innermost body.
+    Closes,
+    /// Any other line.
+    Neither,
+}
+
+/// The lines of a body so far, and how many bodies are open inside it.
+#[derive(Drop, Debug)]
+pub struct OpenBody {
+    body: Texts,
+    depth: usize,
+}
+
+impl Model for OpenBody {
+    ghost use Rattle.std.specs.Prelude.{◌≤◌, length};
+    ghost use Rattle.m11_unfold_bodies.specs.Bodies.{HalfTaken};
+
+    ghost Value = { HalfTaken };
+
+    ghost view = { λ half. record { body = half.body; depth = half.depth } };
+
+    ghost invariant = { λ half. half.depth ≤ length half.body };
+}
+
+impl OpenBody {
+    /// A body of which no line came.
+    pub fn new(alloc: Global) -> OpenBody
+        ensures { result ≡ spec.nothing_taken }
+    {
+        OpenBody {
+            body: Texts::new(alloc),
+            depth: 0,
+        }
+    }
+
+    /// Whether a line ends the body.
+    pub fn is_closed_by(&self, nesting: Nesting) -> bool
+        ensures closes { result ≡ true → spec.depth_after nesting self.now.depth ≡ None }
+        ensures stays { result ≡ false
+            → spec.depth_after nesting self.now.depth ≡ Some (spec.depth_inside nesting self.now.depth) }
+    {
+        is_close(nesting, self.depth)
+    }
+
+    /// Takes a line, unless it is the one that ends the body. Returns whether it is.
+    ///
+    /// Errors: want of memory. What was taken is then unchanged.
+    pub fn take(&mut self, text: &[u8], nesting: Nesting) -> Result<bool, AllocError>
+        ensures { spec.TakesLine self.old self.new text.now nesting result }
+    {
+        if is_close(nesting, self.depth) {
+            return Ok(true);
+        }
+        self.body.push(text)?;
+        self.depth = depth_inside(nesting, self.depth, self.body.len());
+        Ok(false)
+    }
+
+    /// The lines that were taken.
+    pub fn into_body(self) -> Texts
+        ensures { result ≡ self.body }
+    {
+        self.body
+    }
+}
+
+// Whether a line ends a body in which some are open.
+fn is_close(nesting: Nesting, depth: usize) -> bool
+    ensures closes { result ≡ true → spec.depth_after nesting depth ≡ None }
+    ensures stays { result ≡ false → spec.depth_after nesting depth ≡ Some (spec.depth_inside nesting depth) }
+{
+    depth == 0 && nesting == Nesting::Closes
+}
+
+// How many are open inside after a line that doesn't end the body. The body has more lines than bodies were open before.
+fn depth_inside(nesting: Nesting, depth: usize, lines: usize) -> usize
+    requires { depth < lines }
+    ensures inside { result ≡ spec.depth_inside nesting depth }
+    ensures within { result ≤ lines }
+{
+    match nesting {
+        Nesting::Opens => depth + 1,
+        Nesting::Neither => depth,
+        Nesting::Closes => depth.saturating_sub(1),
+    }
+}

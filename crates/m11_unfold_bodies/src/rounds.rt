@@ -1,0 +1,80 @@
+//! The rounds of an expansion. (MACRO-11 Language Reference Manual, "Repeat block" and "Indefinite repeat block directives".)
+
+ghost use Rattle.std.specs.Prelude.{◌≡◌, [], replicate, IfSome, IfNone};
+ghost use Rattle.m11_unfold_bodies.specs.Frames as spec;
+
+use crate::text::{Text, Texts};
+use std::alloc::Global;
+use std::collections::VecDeque;
+use std::marker::Model;
+
+/// The rounds of an expansion that are left.
+#[derive(Drop, Debug)]
+pub struct Rounds {
+    // How many have no actuals: those of a repeat.
+    plain: u16,
+    // The actuals of each of the others.
+    listed: VecDeque<Texts>,
+}
+
+impl Model for Rounds {
+    ghost use Rattle.std.specs.Prelude.{◌++◌, [], List, replicate};
+    ghost use Rattle.m11_base.specs.Devices.{Bytes};
+
+    ghost Value = { List (List Bytes) };
+
+    ghost view = { λ rounds. replicate rounds.plain [] ++ rounds.listed.items };
+}
+
+impl Rounds {
+    /// Rounds without actuals, as those of a repeat. They take no memory.
+    pub fn plain(alloc: Global, count: u16) -> Rounds
+        ensures { result ≡ replicate count [] }
+    {
+        Rounds {
+            plain: count,
+            listed: VecDeque::new(alloc),
+        }
+    }
+
+    /// Rounds with the actuals of each.
+    pub fn listed(actuals: VecDeque<Texts>) -> Rounds
+        ensures { result ≡ actuals.items }
+    {
+        Rounds {
+            plain: 0,
+            listed: actuals,
+        }
+    }
+
+    // The actuals of the first round, if one is left.
+    pub(crate) fn first(&self) -> Option<&[Text]>
+        ensures some { IfSome result (λ actuals. spec.first_of self.now ≡ Some actuals.now) }
+        ensures none { IfNone result (self.now ≡ []) }
+    {
+        if self.plain > 0 {
+            return Some(&[]);
+        }
+        let actuals = self.listed.front()?;
+        Some(actuals.as_slice())
+    }
+
+    // Ends the first round, if one is left.
+    pub(crate) fn pass(&mut self)
+        ensures { self.new ≡ spec.without_first self.old }
+    {
+        if self.plain > 0 {
+            self.plain -= 1;
+        } else {
+            drop(self.listed.pop_front());
+        }
+    }
+
+    // Ends all of them.
+    pub(crate) fn clear(&mut self)
+        ensures { self.new ≡ [] }
+    {
+        self.plain = 0;
+        self.listed.clear();
+    }
+}

@@ -1,0 +1,169 @@
+-- Lines that were read up to their end, or up to a word of the condition around them.
+use Rattle.std.proofs.Common.{◌≡◌, ◌∙◌, ℕ, suc, Bool, true, List, [], ◌∷◌, ◌++◌, append_assoc, append-nil, refl, sym, ap, subst}
+use Rattle.m11_scan_lines.specs.Line.{SourceLine}
+use Rattle.m11_unfold_arguments.specs.Expressions.{Known}
+use Rattle.m11_unfold_arguments.specs.Immediate as immediate
+use Rattle.m11_unfold_arguments.specs.declared.directives.Directive.TheVariants as word
+use Rattle.m11_unfold_bodies.specs.Conditions.{is_live_inside}
+use Rattle.m11_unfold_bodies.specs.Left.{Left, after_mark, marks}
+use Rattle.m11_unfold_bodies.specs.declared.conditions.Part.{Part}
+use Rattle.m11_unfold_rules.specs.Acting.{OwnDirective, Operation}
+use Rattle.m11_unfold_rules.specs.Stages.{Stage}
+use Rattle.m11_unfold_rules.specs.Unfolding.{Given}
+use Rattle.m11_unfold_laws.specs.Laws.{Arrived, before_lines}
+use Rattle.m11_unfold_laws.specs.Places.{Place, Situation, counting, operation_at, own_line, within_condition}
+use Rattle.m11_unfold_laws.specs.Shapes.{Begins, Ending, GoesOn, Parts, Shape, statement}
+use Rattle.m11_unfold_laws.specs.Shapes as shapes
+use Rattle.m11_unfold_laws.proofs.Resting.{Rested, lifted}
+
+-- a word of the condition around lines
+pub data IsOwn : Operation → Type 0 where
+  Begin : (operator : Operation) (part : Part) (at : ℕ) → Begins operator part at → IsOwn operator
+  Close : (at : ℕ) → IsOwn (OwnDirective word.Endc at)
+
+-- what is left of lines begins with such a word, or with an `.IIF` whose statement does
+pub data Breaks (place : Place) : ℕ → Situation → SourceLine → List SourceLine → List Left → List Given → Type 0 where
+  ByWord : (n : ℕ) (situation : Situation) (line : SourceLine) (others : List SourceLine) (left : List Left) (later : List Given)
+      → IsOwn (operation_at place situation line) → Rested n (before_lines place situation (line ∷ others) left) later
+      → Breaks place n situation line others left later
+  ByStatement : (n : ℕ) (situation : Situation) (line : SourceLine) (others : List SourceLine) (left : List Left)
+      (later : List Given)
+      (known : Known) (at : ℕ) (next : SourceLine) → operation_at place situation line ≡ OwnDirective word.Iif at
+      → statement known line.text at ≡ next ∷ [] → Breaks place n (counting 1 situation) next others left later
+      → Breaks place n situation line others left (own_line place known line (immediate.notes known line.text at) ∷ later)
+
+pub data Stop (place : Place) : ℕ → Situation → Ending → List SourceLine → List Left → List Given → Type 0 where
+  Whole : (n : ℕ) (situation : Situation) (ending : Ending) (left : List Left) (later : List Given) (stage : Stage)
+      → Arrived ending place situation left stage → Rested n stage later → Stop place n situation ending [] left later
+  Broken : (n : ℕ) (situation : Situation) (line : SourceLine) (others : List SourceLine) (left : List Left) (later : List Given)
+      → (place.entered ≡ [] → ⊥) → Breaks place n situation line others left later
+      → Stop place n situation GoesOn (line ∷ others) left later
+
+pub lifted_breaks : (place : Place) (n : ℕ) (situation : Situation) (line : SourceLine) (others : List SourceLine)
+    (left : List Left)
+    (later : List Given) → Breaks place n situation line others left later → Breaks place (suc n) situation line others left later
+lifted_breaks place _ _ _ _ _ _ (Breaks.ByWord n situation line others left later is rested) =
+    Breaks.ByWord (suc n) situation line others left later is
+    (lifted n (before_lines place situation (line ∷ others) left) later rested)
+lifted_breaks place _ _ _ _ _ _ (Breaks.ByStatement n situation line others left later known at next is says breaks) =
+    Breaks.ByStatement (suc n) situation line others left later known at next is says
+    (lifted_breaks place n (counting 1 situation) next others left later breaks)
+
+pub lifted_stop : (place : Place) (n : ℕ) (situation : Situation) (ending : Ending) (others : List SourceLine) (left : List Left)
+    (later : List Given) → Stop place n situation ending others left later → Stop place (suc n) situation ending others left later
+lifted_stop place _ _ _ _ _ _ (Stop.Whole n situation ending left later stage there rested) =
+    Stop.Whole (suc n) situation ending left later stage there (lifted n stage later rested)
+lifted_stop place _ _ _ _ _ _ (Stop.Broken n situation line others left later open' breaks) =
+    Stop.Broken (suc n) situation line others left later open' (lifted_breaks place n situation line others left later breaks)
+
+-- the first of some lines have a shape, with the first of the live lines
+pub record Parsed (n : ℕ) (place : Place) (before : Situation) (lines : List SourceLine) (left : List Left)
+    (gives : List Given) : Type 0 where
+  pub taken : List SourceLine
+  pub others : List SourceLine
+  pub lines_are : lines ≡ taken ++ others
+  pub first : List Given
+  pub later : List Given
+  pub gives_are : gives ≡ first ++ later
+  pub after : Situation
+  pub ending : Ending
+  pub shape : Shape place before taken first after ending
+  pub stop : Stop place n after ending others left later
+
+-- the same of what is left of a condition
+pub record PartsParsed (n : ℕ) (place : Place) (holds is_live : Bool) (before : Situation) (lines : List SourceLine)
+    (left : List Left)
+    (gives : List Given) : Type 0 where
+  pub taken : List SourceLine
+  pub others : List SourceLine
+  pub lines_are : lines ≡ taken ++ others
+  pub first : List Given
+  pub later : List Given
+  pub gives_are : gives ≡ first ++ later
+  pub after : Situation
+  pub ending : Ending
+  pub parts : Parts place holds is_live before taken first after ending
+  pub stop : Stop place n after ending others left later
+
+-- whatever lines are read in so many moves
+abbrev pub Reads : ℕ → Type 0
+Reads n = (place : Place) (before : Situation) (lines : List SourceLine) (left : List Left) (gives : List Given)
+    → marks left ≡ place.around → is_live_inside place.entered ≡ true → after_mark left ≡ left
+    → Rested n (before_lines place before lines left) gives → Parsed n place before lines left gives
+
+abbrev pub ReadsParts : ℕ → Type 0
+ReadsParts n = (place : Place) (holds is_live : Bool) (before : Situation) (lines : List SourceLine) (left : List Left)
+    (gives : List Given)
+    → marks left ≡ place.around → is_live_inside place.entered ≡ true → after_mark left ≡ left
+    → Rested n (before_lines (within_condition holds is_live place) before lines left) gives
+    → PartsParsed n place holds is_live before lines left gives
+
+-- ---- one construct more in front
+
+module _ (n : ℕ) (place : Place) (start before : Situation) (front lines : List SourceLine) (ones more : List Given)
+    (left : List Left) where
+  pub grown : Parsed n place before lines left more
+      → ((taken : List SourceLine) (first : List Given) (after : Situation) (ending : Ending)
+      → Shape place before taken first after ending
+      → Shape place start (front ++ taken) (ones ++ first) after ending)
+      → Parsed (suc n) place start (front ++ lines) left (ones ++ more)
+  grown p make = record {
+    taken = front ++ p.taken;
+    others = p.others;
+    lines_are = ap (λ (l : List SourceLine). front ++ l) p.lines_are ∙ sym (append_assoc front p.taken p.others);
+    first = ones ++ p.first;
+    later = p.later;
+    gives_are = ap (λ (g : List Given). ones ++ g) p.gives_are ∙ sym (append_assoc ones p.first p.later);
+    after = p.after;
+    ending = p.ending;
+    shape = make p.taken p.first p.after p.ending p.shape;
+    stop = lifted_stop place n p.after p.ending p.others left p.later p.stop;
+  }
+
+-- all lines are taken
+pub all_taken : (n : ℕ) (place : Place) (before : Situation) (lines : List SourceLine) (left : List Left)
+    (first later : List Given)
+    (after : Situation) (ending : Ending) (stage : Stage) → Shape place before lines first after ending
+    → Arrived ending place after left stage → Rested n stage later → Parsed n place before lines left (first ++ later)
+all_taken n place before lines left first later after ending stage shaped there rested = record {
+  taken = lines;
+  others = [];
+  lines_are = sym (append-nil lines);
+  first = first;
+  later = later;
+  gives_are = refl;
+  after = after;
+  ending = ending;
+  shape = shaped;
+  stop = Stop.Whole n after ending left later stage there rested;
+}
+
+-- by equal live lines, and equal lines
+pub of_gives : (n : ℕ) (place : Place) (before : Situation) (lines : List SourceLine) (left : List Left)
+    (gives others : List Given)
+    → gives ≡ others → Parsed n place before lines left others → Parsed n place before lines left gives
+of_gives n place before lines left gives others same p
+    = subst (λ (g : List Given). Parsed n place before lines left g) (sym same) p
+
+pub of_lines : (n : ℕ) (place : Place) (before : Situation) (lines others : List SourceLine) (left : List Left)
+    (gives : List Given)
+    → lines ≡ others → Parsed n place before others left gives → Parsed n place before lines left gives
+of_lines n place before lines others left gives same p
+    = subst (λ (l : List SourceLine). Parsed n place before l left gives) (sym same) p
+
+-- nothing is read before a word
+pub broken : (n : ℕ) (place : Place) (before : Situation) (line : SourceLine) (lines : List SourceLine) (left : List Left)
+    (gives : List Given)
+    → (place.entered ≡ [] → ⊥) → Breaks place n before line lines left gives → Parsed n place before (line ∷ lines) left gives
+broken n place before line lines left gives inside breaks = record {
+  taken = [];
+  others = line ∷ lines;
+  lines_are = refl;
+  first = [];
+  later = gives;
+  gives_are = refl;
+  after = before;
+  ending = GoesOn;
+  shape = shapes.Shape.Nothing place before;
+  stop = Stop.Broken n before line lines left gives inside breaks;
+}

@@ -1,0 +1,194 @@
+-- Blocks of lines that are none of unfolding's own have a shape.
+use Rattle.std.proofs.Common.{◌≡◌, ◌∙◌, ℕ, suc, ◌+◌, Bool, true, false, List, [], ◌∷◌, ◌++◌, length, map, append-nil, Some, None, sym, ap, subst, arith}
+use Rattle.std.proofs.lemmas.List.{length-map}
+use Rattle.m11_base.specs.Devices.{Bytes}
+use Rattle.m11_base.specs.Rad50.{Name}
+use Rattle.m11_scan_lines.specs.Line.{SourceLine, line_of}
+use Rattle.m11_unfold_arguments.specs.Actuals.{actuals_from}
+use Rattle.m11_unfold_arguments.specs.Conditions.{condition}
+use Rattle.m11_unfold_arguments.specs.Expressions.{Known}
+use Rattle.m11_unfold_arguments.specs.Notes.{Notes}
+use Rattle.m11_unfold_arguments.specs.declared.directives.Directive.TheVariants as word
+use Rattle.m11_unfold_bodies.specs.Bodies.{Cut, cut_after, cut_at, depth_after, size_of, texts_of, with_line}
+use Rattle.m11_unfold_bodies.specs.Left.{Left}
+use Rattle.m11_unfold_bodies.specs.declared.open_body.Nesting.{Nesting}
+use Rattle.m11_unfold_bodies.specs.declared.open_body.Nesting.TheVariants.{Closes}
+use Rattle.m11_unfold_rules.specs.Acting.{Calls, OwnDirective, Operation, flagged}
+use Rattle.m11_unfold_rules.specs.Constructs.{IsPlainBody, condition_notes, lines_of_rounds}
+use Rattle.m11_unfold_rules.specs.Laws.{AreForeign}
+use Rattle.m11_unfold_rules.specs.Stages.{Macro, Repeats, line_left}
+use Rattle.m11_unfold_rules.specs.Taking.{nesting}
+use Rattle.m11_unfold_rules.specs.Unfolding.{Given}
+use Rattle.m11_unfold_rules.proofs.Expanding.{plain_lines}
+use Rattle.m11_unfold_rules.proofs.Operators.{has_no_word}
+use Rattle.m11_unfold_laws.specs.Places.{Place, Situation, counting, has_condition_left, only_entered, operation_at, other_line, own_line, stage_of, within_condition, within_expansion}
+use Rattle.m11_unfold_laws.specs.Putting.{HasBody, Opens}
+use Rattle.m11_unfold_laws.specs.Putting as putting
+use Rattle.m11_unfold_laws.specs.Shapes.{IsOther, IsText, Parts, Shape, is_plain}
+use Rattle.m11_unfold_laws.specs.Shapes as shapes
+
+-- the same with another count of lines
+recounted : (place : Place) (before after : Situation) (one other : ℕ) (lines : List SourceLine) (gives : List Given)
+    → one ≡ other
+    → Shape place before lines gives (record after { taken = one }) shapes.Ending.GoesOn
+    → Shape place before lines gives (record after { taken = other }) shapes.Ending.GoesOn
+recounted place before after one other lines gives same shaped =
+    subst (λ (n : ℕ). Shape place before lines gives (record after { taken = n }) shapes.Ending.GoesOn) same shaped
+
+pub plain : (known : Known) (place : Place) (lines : List SourceLine) (before : Situation)
+    → AreForeign (stage_of place before []) lines
+    → Shape place before lines (map (other_line place known) lines) (counting (length lines) before) shapes.Ending.GoesOn
+plain known place [] before foreign =
+    let none : before.taken ≡ before.taken + 0 = omega arith in
+    recounted place before before before.taken (before.taken + 0) [] [] none (shapes.Shape.Nothing place before)
+plain known place (line ∷ lines) before foreign =
+    let sum : before.taken + 1 + length lines ≡ before.taken + suc (length lines) = omega arith in
+    let other : IsOther (operation_at place before line) = subst IsOther (sym foreign.0) shapes.IsOther.Other in
+    recounted place before before (before.taken + 1 + length lines) (before.taken + suc (length lines)) (line ∷ lines)
+    (map (other_line place known) (line ∷ lines)) sum
+    (shapes.Shape.Other place before (counting (length lines) (counting 1 before)) shapes.Ending.GoesOn known line lines
+    (map (other_line place known) lines) other (plain known place lines (counting 1 before) foreign.1))
+
+-- ---- repeats
+
+abbrev closed_cut : List Bytes → List Left → Cut
+closed_cut body left = record { body = body; is_closed = true; after = left }
+
+plain_body : (lines others : List SourceLine) (close : SourceLine) → IsPlainBody (texts_of lines) → nesting close.text ≡ Closes
+    → HasBody (lines ++ close ∷ others) (texts_of lines) others
+plain_body [] others close plain is =
+    ap (λ (n : Nesting). cut_after close.text (map line_left others) (λ d. cut_at nesting d (map line_left others))
+    (depth_after n 0)) is
+plain_body (line ∷ lines) others close plain is =
+    let left : List Left = map line_left (lines ++ close ∷ others) in
+    ap (λ (n : Nesting). cut_after line.text left (λ d. cut_at nesting d left) (depth_after n 0)) plain.0
+    ∙ ap (with_line line.text) (plain_body lines others close plain.1 is)
+
+pub repeats : (known : Known) (place : Place) (before : Situation) (first close : SourceLine) (lines : List SourceLine)
+    (notes : Notes)
+    (formals : List Name) (rounds : List (List Bytes))
+    → Opens known first.text (operation_at place before first) notes (Repeats formals rounds)
+    → IsPlainBody (texts_of lines) → nesting close.text ≡ Closes
+    → AreForeign (stage_of (within_expansion None (size_of (texts_of lines)) place) before [])
+    (lines_of_rounds formals rounds (texts_of lines))
+    → Shape place before (first ∷ lines ++ close ∷ [])
+    (own_line place known first notes
+    ∷ map (other_line (within_expansion None (size_of (texts_of lines)) place) known)
+    (lines_of_rounds formals rounds (texts_of lines)))
+    (counting (length lines + 2 + length (lines_of_rounds formals rounds (texts_of lines))) before) shapes.Ending.GoesOn
+repeats known place before first close lines notes formals rounds opens body closing foreign =
+    let texts : List Bytes = texts_of lines in
+    let inside : Place = within_expansion None (size_of texts) place in
+    let given : List SourceLine = lines_of_rounds formals rounds texts in
+    let long : length texts ≡ length lines = length-map lines (λ l. l.text) in
+    let sum : before.taken + (length texts + 2) + length given ≡ before.taken + (length lines + 2 + length given)
+    = omega (arith, long) in
+    let gives : List Given = map (other_line inside known) given in
+    let middle : Situation = counting (length given) (counting (length texts + 2) before) in
+    let same : gives ++ [] ≡ gives = append-nil gives in
+    recounted place before before (before.taken + (length texts + 2) + length given)
+    (before.taken + (length lines + 2 + length given))
+    (first ∷ lines ++ close ∷ []) (own_line place known first notes ∷ gives) sum
+    (subst (λ (g : List Given).
+    Shape place before (first ∷ lines ++ close ∷ []) (own_line place known first notes ∷ g) middle shapes.Ending.GoesOn) same
+    (shapes.Shape.Expansion place before middle middle shapes.Ending.GoesOn shapes.Ending.GoesOn known first
+    (lines ++ close ∷ []) gives []
+    (putting.put_by_repeat notes formals rounds texts before [])
+    (putting.Puts.Repeat (operation_at place before first) notes formals rounds texts [] opens
+    (plain_body lines [] close body closing))
+    (plain known inside given (counting (length texts + 2) before) foreign) tt (shapes.Shape.Nothing place middle)))
+
+-- ---- calls
+
+pub calls : (known : Known) (place : Place) (before : Situation) (line : SourceLine) (body : List Bytes) (at : ℕ)
+    → operation_at place before line ≡ Calls (record { formals = []; body = body }) at
+    → AreForeign (stage_of (within_expansion (Some 0) 0 place) before []) (map line_of body)
+    → Shape place before (line ∷ []) (own_line place known line (actuals_from known line.text 0 at).notes
+    ∷ map (other_line (within_expansion (Some (length (actuals_from known line.text 0 at).texts)) 0 place) known)
+    (map line_of body))
+    (counting (length body + 1) before) shapes.Ending.GoesOn
+calls known place before line body at is foreign =
+    let macro : Macro = record { formals = []; body = body } in
+    let count : ℕ = length (actuals_from known line.text 0 at).texts in
+    let inside : Place = within_expansion (Some count) 0 place in
+    let put : putting.Put = putting.put_by_call macro (actuals_from known line.text 0 at) before [] in
+    let lines : List SourceLine = map line_of body in
+    let gives : List Given = map (other_line inside known) lines in
+    let long : length lines ≡ length body = length-map body line_of in
+    let sum : before.taken + 1 + length lines ≡ before.taken + (length body + 1) = omega (arith, long) in
+    let middle : Situation = counting (length lines) (counting 1 before) in
+    let shaped : Shape inside (counting 1 before) lines gives middle shapes.Ending.GoesOn
+    = plain known inside lines (counting 1 before) foreign in
+    let shaped' : Shape inside (counting 1 before) put.lines gives middle shapes.Ending.GoesOn
+    = subst (λ (ls : List SourceLine). Shape inside (counting 1 before) ls gives middle shapes.Ending.GoesOn)
+    (sym (plain_lines body)) shaped in
+    recounted place before before (before.taken + 1 + length lines) (before.taken + (length body + 1)) (line ∷ [])
+    (own_line place known line put.notes ∷ gives) sum
+    (subst (λ (g : List Given).
+    Shape place before (line ∷ []) (own_line place known line put.notes ∷ g) middle shapes.Ending.GoesOn) (append-nil gives)
+    (shapes.Shape.Expansion place before middle middle shapes.Ending.GoesOn shapes.Ending.GoesOn known line [] gives [] put
+    (subst (λ (o : Operation). putting.Puts known before line.text [] o put) (sym is) (putting.Puts.Call macro at))
+    shaped' tt (shapes.Shape.Nothing place middle)))
+
+-- ---- conditions
+
+module _ (known : Known) (place : Place) (before : Situation) (first close : SourceLine) (lines : List SourceLine) (at end : ℕ)
+  where
+    abbrev head : Given
+    head = own_line place known first (condition_notes known first.text at)
+
+    abbrev last : Given
+    last = own_line place known close (flagged 0 close.text end)
+
+    by_verdict : (holds : Bool) (gives : List Given) (after : Situation) → operation_at place before first ≡ OwnDirective word.If at
+        → has_condition_left place ≡ true → (condition known first.text at).holds ≡ holds
+        → Parts place holds holds (counting 1 before) (lines ++ close ∷ []) gives after shapes.Ending.GoesOn
+        → Shape place before (first ∷ lines ++ close ∷ []) (head ∷ gives) after shapes.Ending.GoesOn
+    by_verdict holds gives after is room verdict parts =
+        shapes.Shape.Condition place before after shapes.Ending.GoesOn known first (lines ++ close ∷ []) gives at is room
+        (subst (λ (b : Bool). Parts place b b (counting 1 before) (lines ++ close ∷ []) gives after shapes.Ending.GoesOn)
+        (sym verdict) parts)
+
+    pub holding : operation_at place before first ≡ OwnDirective word.If at → has_condition_left place ≡ true
+        → (condition known first.text at).holds ≡ true → AreForeign (stage_of (within_condition true true place) before []) lines
+        → operation_at (within_condition true true place) before close ≡ OwnDirective word.Endc end
+        → Shape place before (first ∷ lines ++ close ∷ []) (head ∷ map (other_line place known) lines ++ last ∷ [])
+        (counting (length lines + 2) before) shapes.Ending.GoesOn
+    holding is room verdict foreign closing =
+        let middle : Situation = counting (length lines) (counting 1 before) in
+        let sum : before.taken + 1 + length lines + 1 ≡ before.taken + (length lines + 2) = omega arith in
+        recounted place before before (before.taken + 1 + length lines + 1) (before.taken + (length lines + 2))
+        (first ∷ lines ++ close ∷ [])
+        (head ∷ map (other_line place known) lines ++ last ∷ []) sum
+        (by_verdict true (map (other_line place known) lines ++ last ∷ []) (counting 1 middle) is room verdict
+        (shapes.Parts.Close place true true (counting 1 before) middle (counting 1 middle) shapes.Ending.GoesOn known close
+        lines []
+        (map (other_line place known) lines) [] end
+        (shapes.OnePart.Live place true (counting 1 before) middle shapes.Ending.GoesOn lines (map (other_line place known) lines)
+        (plain known (within_condition true true place) lines (counting 1 before) foreign))
+        closing (shapes.Shape.Nothing place (counting 1 middle))))
+
+    pub foreign_text : (situation : Situation) (others : List SourceLine) → AreForeign (stage_of place situation []) others
+        → IsText false 0 others 0
+    foreign_text situation [] foreign = shapes.IsText.Nothing 0
+    foreign_text situation (line ∷ others) foreign =
+        shapes.IsText.Plain 0 0 line others
+        (ap (is_plain false 0) (has_no_word situation.macros (only_entered place.entered) line.text foreign.0))
+        (foreign_text situation others foreign.1)
+
+    pub failing : operation_at place before first ≡ OwnDirective word.If at → has_condition_left place ≡ true
+        → (condition known first.text at).holds ≡ false → AreForeign (stage_of place before []) lines
+        → operation_at (within_condition false false place) before close ≡ OwnDirective word.Endc end
+        → Shape place before (first ∷ lines ++ close ∷ []) (head ∷ last ∷ []) (counting (length lines + 2) before)
+        shapes.Ending.GoesOn
+    failing is room verdict foreign closing =
+        let middle : Situation = counting (length lines) (counting 1 before) in
+        let sum : before.taken + 1 + length lines + 1 ≡ before.taken + (length lines + 2) = omega arith in
+        recounted place before before (before.taken + 1 + length lines + 1) (before.taken + (length lines + 2))
+        (first ∷ lines ++ close ∷ [])
+        (head ∷ last ∷ []) sum
+        (by_verdict false (last ∷ []) (counting 1 middle) is room verdict
+        (shapes.Parts.Close place false false (counting 1 before) middle (counting 1 middle) shapes.Ending.GoesOn known close
+        lines []
+        [] [] end (shapes.OnePart.Text place false (counting 1 before) lines (foreign_text before lines foreign))
+        closing (shapes.Shape.Nothing place (counting 1 middle))))

@@ -1,0 +1,64 @@
+-- Where the lines of a shape lead to. (MACRO-11 Language Reference Manual, "Macro directives" and "Conditional assembly
+-- directives".)
+use Rattle.std.specs.Prelude.{◌≡◌, true, false, List, ◌++◌, map, Option}
+use Rattle.m11_scan_lines.specs.Line.{SourceLine}
+use Rattle.m11_unfold_bodies.specs.Conditions.{OpenConditions, is_live_inside}
+use Rattle.m11_unfold_bodies.specs.Left.{Left, marks}
+use Rattle.m11_unfold_rules.specs.Stages.{Opening, Stage, line_left}
+use Rattle.m11_unfold_rules.specs.Taking.{NothingLeft, move}
+use Rattle.m11_unfold_rules.specs.Unfolding.{Given, Leads, Unfolds}
+use Rattle.m11_unfold_laws.specs.Places.{Place, Situation, beginning, source_place, stage_of}
+use Rattle.m11_unfold_laws.specs.Shapes.{Ending, GoesOn, Stops, Ends, Shape}
+
+-- what is left after lines is so at their place: these expansions are open, and the lines are live in all conditions
+pub record StandsIn (place : Place) (left : List Left) : Type 0 where
+  pub around : marks left ≡ place.around
+  pub is_live : is_live_inside place.entered ≡ true
+
+-- lines before what is left
+abbrev pub before_lines : Place → Situation → List SourceLine → List Left → Stage
+before_lines place situation lines left = stage_of place situation (map line_left lines ++ left)
+
+-- some conditions and some body may be open
+pub record IsStopped (situation : Situation) (left : List Left) (stage : Stage) : Type 0 where
+  pub conditions : OpenConditions
+  pub opening : Option Opening
+  pub is : stage ≡ record {
+    left = left;
+    conditions = conditions;
+    opening = opening;
+    macros = situation.macros;
+    defined_bytes = situation.defined_bytes;
+    created = situation.created;
+    taken = situation.taken;
+    has_ended = false;
+  }
+
+-- the stage after lines, by how they end
+abbrev pub Arrived : Ending → Place → Situation → List Left → Stage → Type 0
+Arrived GoesOn place after left stage = stage ≡ stage_of place after left
+Arrived Stops place after left stage = IsStopped after left stage
+Arrived Ends place after left stage = stage.has_ended ≡ true
+
+-- `.END` became live after these lines
+pub record IsEndedAfter (before : Stage) (gives : List Given) : Type 0 where
+  pub stage : Stage
+  pub leads : Leads before gives stage
+  pub ended : stage.has_ended ≡ true
+
+-- these are all live lines of a source
+pub record HasLiveLines (source : List SourceLine) (gives : List Given) : Type 0 where
+  pub stage : Stage
+  pub unfolds : Unfolds source gives stage
+  pub rests : move stage ≡ NothingLeft
+
+-- some lines begin with others
+pub record BeginWith (gives done : List Given) : Type 0 where
+  pub more : List Given
+  pub whole : gives ≡ done ++ more
+
+-- a source has a shape with these live lines
+pub record HasShape (source : List SourceLine) (gives : List Given) : Type 0 where
+  pub after : Situation
+  pub ending : Ending
+  pub shape : Shape source_place beginning source gives after ending

@@ -1,0 +1,118 @@
+-- Where lines stand, what the lines before them have made, and what a live line shows. (MACRO-11 Language Reference Manual,
+-- "Macro directives" and "Conditional assembly directives".)
+use Rattle.std.specs.Prelude.{ℕ, ◌+◌, Bool, true, false, nat_lt, List, [], ◌∷◌, length, Option, None}
+use Rattle.m11_base.specs.Devices.{Bytes}
+use Rattle.m11_base.specs.Rad50.{Name}
+use Rattle.m11_scan_lines.specs.Line.{SourceLine}
+use Rattle.m11_unfold_arguments.specs.Expressions.{Known}
+use Rattle.m11_unfold_arguments.specs.Filling.{first_created}
+use Rattle.m11_unfold_arguments.specs.Notes.{Notes, no_notes}
+use Rattle.m11_unfold_bodies.specs.Bodies.{size_of}
+use Rattle.m11_unfold_bodies.specs.Conditions.{OpenConditions, most_conditions}
+use Rattle.m11_unfold_bodies.specs.Left.{Left, conditions_in, count_in, has_mark}
+use Rattle.m11_unfold_bodies.specs.declared.conditions.OpenCondition.{OpenCondition}
+use Rattle.m11_unfold_bodies.specs.declared.mark.Mark.{Mark}
+use Rattle.m11_unfold_arguments.specs.declared.macros.MacroFormal.{MacroFormal}
+use Rattle.m11_unfold_rules.specs.Acting.{Operation, operation}
+use Rattle.m11_unfold_rules.specs.Macros.{defined}
+use Rattle.m11_unfold_rules.specs.Stages.{Macro, Stage}
+use Rattle.m11_unfold_rules.specs.Unfolding.{Given}
+
+-- where lines stand
+pub record Place : Type 0 where
+  -- the expansions that are open around them, the innermost first
+  pub around : List Mark
+  -- the conditions of the innermost expansion that are open around them, the innermost first
+  pub entered : List OpenCondition
+
+-- what the lines before have made
+pub record Situation : Type 0 where
+  -- the macros by their names
+  pub macros : List (Name × Macro)
+  -- the bytes of their bodies, and of those that were replaced
+  pub defined_bytes : ℕ
+  -- the number of the next local symbol that is created
+  pub created : ℕ
+  -- how many lines were taken
+  pub taken : ℕ
+
+-- a source stands in no expansion and in no condition, and before its first line nothing was made
+abbrev pub source_place : Place
+source_place = record { around = []; entered = [] }
+
+abbrev pub beginning : Situation
+beginning = record { macros = []; defined_bytes = 0; created = first_created; taken = 0 }
+
+-- some more lines are taken
+abbrev pub counting : ℕ → Situation → Situation
+counting lines situation = record situation { taken = situation.taken + lines }
+
+-- a macro is defined, or defined anew
+abbrev pub defining : Name → List MacroFormal → List Bytes → Situation → Situation
+defining name formals body situation = record situation {
+  macros = defined situation.macros name (record { formals = formals; body = body });
+  defined_bytes = situation.defined_bytes + size_of body;
+}
+
+-- ---- conditions
+
+-- conditions in which no line is skipped over, but for those of a part that isn't live
+abbrev pub only_entered : List OpenCondition → OpenConditions
+only_entered entered = record { entered = entered; nested = 0; is_past = false }
+
+-- inside a condition: in a part that is live or not
+abbrev pub within_condition : Bool → Bool → Place → Place
+within_condition holds is_live place =
+    record place { entered = record { holds = holds; is_live = is_live } ∷ place.entered }
+
+-- one more condition may be open
+abbrev pub has_condition_left : Place → Bool
+has_condition_left place = nat_lt (length place.entered + conditions_in place.around) most_conditions
+
+-- ---- expansions
+
+-- inside an expansion: it has no condition of its own yet, and its end carries those around it
+abbrev pub mark_at : Place → Option ℕ → ℕ → Mark
+mark_at place arguments bytes = record { arguments = arguments; bytes = bytes; conditions = only_entered place.entered }
+
+abbrev pub within_expansion : Option ℕ → ℕ → Place → Place
+within_expansion arguments bytes place = record { around = mark_at place arguments bytes ∷ place.around; entered = [] }
+
+-- ---- lines
+
+-- what the operator of a line is: a macro that is defined, or else a directive
+abbrev pub operation_at : Place → Situation → SourceLine → Operation
+operation_at place situation line = operation (only_entered place.entered) situation.macros line.text
+
+-- a live line of unfolding's own, with its flags and symbols
+abbrev pub own_line : Place → Known → SourceLine → Notes → Given
+own_line place known line notes = record {
+  live = record { line = line; is_expanded = has_mark place.around };
+  known = known;
+  is_own = true;
+  notes = notes;
+  arguments = count_in place.around;
+}
+
+-- any other live line
+abbrev pub other_line : Place → Known → SourceLine → Given
+other_line place known line = record {
+  live = record { line = line; is_expanded = has_mark place.around };
+  known = known;
+  is_own = false;
+  notes = no_notes;
+  arguments = count_in place.around;
+}
+
+-- the stage at which what is left is taken next
+abbrev pub stage_of : Place → Situation → List Left → Stage
+stage_of place situation left = record {
+  left = left;
+  conditions = only_entered place.entered;
+  opening = None;
+  macros = situation.macros;
+  defined_bytes = situation.defined_bytes;
+  created = situation.created;
+  taken = situation.taken;
+  has_ended = false;
+}

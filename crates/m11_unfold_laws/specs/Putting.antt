@@ -1,0 +1,99 @@
+-- Lines that open a body, and the lines that a call or a repeat puts in its place. (MACRO-11 Language Reference Manual, "Macro
+-- definition", "Macro calls", "Repeat block directive" and "Indefinite repeat block directives".)
+use Rattle.std.specs.Prelude.{◌≡◌, ℕ, ◌+◌, true, false, List, [], length, map, replicate, Option, Some, None}
+use Rattle.m11_base.specs.Devices.{Bytes}
+use Rattle.m11_base.specs.Rad50.{Name}
+use Rattle.m11_scan_lines.specs.Line.{SourceLine}
+use Rattle.m11_unfold_arguments.specs.Actuals.{Given, actuals_from}
+use Rattle.m11_unfold_arguments.specs.Expressions.{Known}
+use Rattle.m11_unfold_arguments.specs.Filling.{Filled, filled}
+use Rattle.m11_unfold_arguments.specs.Indefinite.{irpc, irp}
+use Rattle.m11_unfold_arguments.specs.Macros.{header}
+use Rattle.m11_unfold_arguments.specs.Notes.{Notes, noting}
+use Rattle.m11_unfold_arguments.specs.Repeats as repeats
+use Rattle.m11_unfold_arguments.specs.declared.directives.Directive.TheVariants as word
+use Rattle.m11_unfold_bodies.specs.Bodies.{body_of, size_of}
+use Rattle.m11_unfold_rules.specs.Acting as acting
+use Rattle.m11_unfold_rules.specs.Acting.{Operation, Calls, OwnDirective, formal_name, repeating}
+use Rattle.m11_unfold_rules.specs.Constructs.{lines_of_rounds, round_lines}
+use Rattle.m11_unfold_rules.specs.Stages as stages
+use Rattle.m11_unfold_rules.specs.Stages.{Purpose, Repeats, line_left}
+use Rattle.m11_unfold_rules.specs.Taking.{nesting}
+use Rattle.m11_unfold_laws.specs.Places.{Situation, counting}
+
+-- ---- bodies
+
+-- lines begin with a body and its close, by nesting alone; the others stand after it
+abbrev pub HasBody : List SourceLine → List Bytes → List SourceLine → Type 0
+HasBody lines body others =
+    body_of nesting (map line_left lines) ≡ record { body = body; is_closed = true; after = map line_left others }
+
+-- no line closes the body that the lines begin with
+abbrev pub HasNoClose : List SourceLine → Type 0
+HasNoClose lines = (body_of nesting (map line_left lines)).is_closed ≡ false
+
+-- a line opens a body: its flags and symbols, and what the body is for
+pub data Opens (known : Known) (text : Bytes) : Operation → Notes → Purpose → Type 0 where
+  -- a macro; where the name is missing or bad, the body is for nothing
+  Macro : (place : ℕ)
+      → Opens known text (OwnDirective word.Macro place) (noting (header text place).flags [])
+      (acting.defining (header text place).named)
+  -- as many rounds as the expression says, without formals
+  Repeat : (place : ℕ)
+      → Opens known text (OwnDirective word.Rept place) (repeats.notes known text place)
+      (Repeats [] (replicate (repeats.rept_count known text place) []))
+  -- a round for each argument, which is put in place of the formal
+  IndefiniteRepeat : (place : ℕ)
+      → Opens known text (OwnDirective word.Irp place) (irp known text place).notes
+      (repeating (irp known text place).rounds)
+  -- a round for each character
+  CharacterRepeat : (place : ℕ)
+      → Opens known text (OwnDirective word.Irpc place) (irpc text place).notes
+      (repeating (irpc text place).rounds)
+
+-- ---- what is put in place
+
+-- what an expansion puts in its place: flags and symbols of its first line; the number of actuals, if it is a call; the bytes
+-- that it holds; its lines; the situation as they begin; and the lines that stand after it
+pub record Put : Type 0 where
+  pub notes : Notes
+  pub arguments : Option ℕ
+  pub bytes : ℕ
+  pub lines : List SourceLine
+  pub situation : Situation
+  pub others : List SourceLine
+
+-- a call with its actuals puts the macro's body, each formal with its actual; one that is missing is empty or a created symbol
+abbrev pub put_with : stages.Macro → Given → Filled → Situation → List SourceLine → Put
+put_with macro given filled situation others = record {
+  notes = given.notes;
+  arguments = Some (length given.texts);
+  bytes = 0;
+  lines = round_lines (map formal_name macro.formals) macro.body filled.texts;
+  situation = record situation { created = filled.created; taken = situation.taken + 1 };
+  others = others;
+}
+
+abbrev pub put_by_call : stages.Macro → Given → Situation → List SourceLine → Put
+put_by_call macro given situation others =
+    put_with macro given (filled macro.formals given.texts situation.created) situation others
+
+-- a repeat puts its body once for each round, with the round's actual in place of the formal
+abbrev pub put_by_repeat : Notes → List Name → List (List Bytes) → List Bytes → Situation → List SourceLine → Put
+put_by_repeat notes formals rounds body situation others = record {
+  notes = notes;
+  arguments = None;
+  bytes = size_of body;
+  lines = lines_of_rounds formals rounds body;
+  situation = counting (length body + 2) situation;
+  others = others;
+}
+
+pub data Puts (known : Known) (situation : Situation) (text : Bytes) (following : List SourceLine) : Operation → Put
+    → Type 0 where
+  Call : (macro : stages.Macro) (place : ℕ)
+      → Puts known situation text following (Calls macro place)
+      (put_by_call macro (actuals_from known text (length macro.formals) place) situation following)
+  Repeat : (operation : Operation) (notes : Notes) (formals : List Name) (rounds : List (List Bytes)) (body : List Bytes)
+      (others : List SourceLine) → Opens known text operation notes (Repeats formals rounds) → HasBody following body others
+      → Puts known situation text following operation (put_by_repeat notes formals rounds body situation others)

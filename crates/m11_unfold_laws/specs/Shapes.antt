@@ -1,0 +1,231 @@
+-- The shapes of a source, and the lines that become live in each. (MACRO-11 Language Reference Manual, "Macro directives",
+-- "Conditional assembly directives" and ".END directive". Limits don't count here, but for the most conditions that may be open.)
+use Rattle.std.specs.Prelude.{◌≡◌, ℕ, ◌+◌, suc, Bool, true, false, not, ◌||◌, ◌==◌, List, [], ◌∷◌, ◌++◌, length, drop, Option, Some, None, ⊤}
+use Rattle.m11_base.specs.Devices.{Bytes}
+use Rattle.m11_base.specs.Rad50.{Name}
+use Rattle.m11_scan_lines.specs.Line.{SourceLine, line_of}
+use Rattle.m11_unfold_arguments.specs.Conditions.{condition}
+use Rattle.m11_unfold_arguments.specs.Directives.{directive}
+use Rattle.m11_unfold_arguments.specs.Expressions.{Known}
+use Rattle.m11_unfold_arguments.specs.Immediate as immediate
+use Rattle.m11_unfold_arguments.specs.Notes.{Notes, noting}
+use Rattle.m11_unfold_arguments.specs.declared.directives.Directive.{Directive}
+use Rattle.m11_unfold_arguments.specs.declared.directives.Directive.TheVariants as word
+use Rattle.m11_unfold_arguments.specs.declared.macros.MacroFormal.{MacroFormal}
+use Rattle.m11_unfold_bodies.specs.Conditions.{is_live_in, past}
+use Rattle.m11_unfold_bodies.specs.Left.{has_mark}
+use Rattle.m11_unfold_bodies.specs.declared.conditions.Part.{Part}
+use Rattle.m11_unfold_bodies.specs.declared.conditions.Part.TheVariants as part
+use Rattle.m11_unfold_rules.specs.Acting.{Operation, OwnDirective, Foreign, flagged, flag_O, operation}
+use Rattle.m11_unfold_rules.specs.Constructs.{condition_notes}
+use Rattle.m11_unfold_rules.specs.Stages.{Purpose, Defines, Drops}
+use Rattle.m11_unfold_rules.specs.Unfolding.{Given}
+use Rattle.m11_unfold_laws.specs.Places.{Place, Situation, counting, defining, has_condition_left, only_entered, operation_at, other_line, own_line, within_condition, within_expansion}
+use Rattle.m11_unfold_laws.specs.Putting.{HasBody, HasNoClose, Opens, Put, Puts}
+
+-- how lines end
+pub data Ending : Type 0 where
+  -- all are taken, and none of their bodies and conditions is open
+  GoesOn : Ending
+  -- the expansion, or the source, ends with them: by `.MEXIT`, or with a body or a condition open
+  Stops : Ending
+  -- `.END` became live
+  Ends : Ending
+
+-- what stands after an expansion is taken, but after `.END`
+abbrev pub Returns : Ending → Type 0
+Returns GoesOn = ⊤
+Returns Stops = ⊤
+Returns Ends = ⊥
+
+-- a condition that isn't closed ends with the expansion or the source
+abbrev pub unclosed : Ending → Ending
+unclosed GoesOn = Stops
+unclosed Stops = Stops
+unclosed Ends = Ends
+
+-- ---- words
+
+-- an operator that is none of unfolding's own; `.NARG` and `.NCHR` say no more here than where they stand
+pub data IsOther : Operation → Type 0 where
+  Other : IsOther Foreign
+  ArgumentCount : (place : ℕ) → IsOther (OwnDirective word.Narg place)
+  CharacterCount : (place : ℕ) → IsOther (OwnDirective word.Nchr place)
+
+-- a part of a condition begins
+pub data Begins : Operation → Part → ℕ → Type 0 where
+  IfFalse : (place : ℕ) → Begins (OwnDirective word.Iff place) part.False place
+  IfTrue : (place : ℕ) → Begins (OwnDirective word.Ift place) part.True place
+  IfTrueFalse : (place : ℕ) → Begins (OwnDirective word.Iftf place) part.Both place
+
+-- a word where it has no meaning: the close of a body where none is open, a part or the end of a condition where none is open in
+-- the expansion, and an exit outside all expansions. Its line has the flag O.
+pub data IsAstray (place : Place) (text : Bytes) : Operation → Notes → Type 0 where
+  EndMacro : (at : ℕ) → IsAstray place text (OwnDirective word.Endm at) (noting flag_O [])
+  EndRepeat : (at : ℕ) → IsAstray place text (OwnDirective word.Endr at) (noting flag_O [])
+  MacroExit : (at : ℕ) → place.around ≡ [] → IsAstray place text (OwnDirective word.Mexit at) (flagged flag_O text at)
+  Begin : (operator : Operation) (part : Part) (at : ℕ) → Begins operator part at → place.entered ≡ []
+      → IsAstray place text operator (flagged flag_O text at)
+  EndCondition : (at : ℕ) → place.entered ≡ [] → IsAstray place text (OwnDirective word.Endc at) (flagged flag_O text at)
+
+-- ---- text that is skipped
+
+-- a word in skipped lines that changes nothing: any but `.IF` and `.ENDC`, and the parts of the condition that is skipped. A
+-- condition past the last has no parts.
+abbrev pub is_plain : Bool → ℕ → Option Directive → Bool
+is_plain is_past inner (Some word.If) = false
+is_plain is_past inner (Some word.Endc) = false
+is_plain is_past inner (Some word.Iff) = is_past || not (inner == 0)
+is_plain is_past inner (Some word.Ift) = is_past || not (inner == 0)
+is_plain is_past inner (Some word.Iftf) = is_past || not (inner == 0)
+is_plain is_past inner (Some other) = true
+is_plain is_past inner None = true
+
+-- lines that are skipped as text: `.IF` and `.ENDC` alone are looked at. So many inner conditions are open before and after.
+pub data IsText (is_past : Bool) : ℕ → List SourceLine → ℕ → Type 0 where
+  Nothing : (inner : ℕ) → IsText is_past inner [] inner
+  Plain : (inner last : ℕ) (line : SourceLine) (lines : List SourceLine) → is_plain is_past inner (directive line.text) ≡ true
+      → IsText is_past inner lines last → IsText is_past inner (line ∷ lines) last
+  If : (inner last : ℕ) (line : SourceLine) (lines : List SourceLine) → directive line.text ≡ Some word.If
+      → IsText is_past (suc inner) lines last → IsText is_past inner (line ∷ lines) last
+  EndCondition : (inner last : ℕ) (line : SourceLine) (lines : List SourceLine) → directive line.text ≡ Some word.Endc
+      → IsText is_past inner lines last → IsText is_past (suc inner) (line ∷ lines) last
+
+-- ---- `.IIF`
+
+-- its statement is the next line, where the condition holds
+abbrev pub statement_of : Bytes → Bool → Option ℕ → List SourceLine
+statement_of text true (Some place) = line_of (drop place text) ∷ []
+statement_of text true None = []
+statement_of text false place = []
+
+abbrev pub statement : Known → Bytes → ℕ → List SourceLine
+statement known text place =
+    statement_of text (immediate.immediate known text place).holds (immediate.immediate known text place).statement
+
+-- ---- shapes
+
+-- Lines at a place and in a situation; the lines that become live; the situation after them, and how they end. Lines that end
+-- with their expansion are all that are left of it.
+mutual
+  pub data Shape : Place → Situation → List SourceLine → List Given → Situation → Ending → Type 0 where
+    -- no line
+    Nothing : (place : Place) (before : Situation) → Shape place before [] [] before GoesOn
+    -- a line whose operator isn't unfolding's becomes live as it is
+    Other : (place : Place) (before after : Situation) (ending : Ending) (known : Known) (line : SourceLine)
+        (lines : List SourceLine) (gives : List Given) → IsOther (operation_at place before line)
+        → Shape place (counting 1 before) lines gives after ending
+        → Shape place before (line ∷ lines) (other_line place known line ∷ gives) after ending
+    -- a word where it has no meaning does nothing
+    Astray : (place : Place) (before after : Situation) (ending : Ending) (known : Known) (line : SourceLine)
+        (lines : List SourceLine) (gives : List Given) (notes : Notes)
+        → IsAstray place line.text (operation_at place before line) notes
+        → Shape place (counting 1 before) lines gives after ending
+        → Shape place before (line ∷ lines) (own_line place known line notes ∷ gives) after ending
+    -- a call or a repeat gives its own line, and then what the lines give that it puts in its place
+    Expansion : (place : Place) (before middle after : Situation) (inner ending : Ending) (known : Known) (line : SourceLine)
+        (lines : List SourceLine) (gives later : List Given) (put : Put)
+        → Puts known before line.text lines (operation_at place before line) put
+        → Shape (within_expansion put.arguments put.bytes place) put.situation put.lines gives middle inner → Returns inner
+        → Shape place middle put.others later after ending
+        → Shape place before (line ∷ lines) (own_line place known line put.notes ∷ gives ++ later) after ending
+    -- an `.END` in it is the last line of all
+    LastExpansion : (place : Place) (before after : Situation) (known : Known) (line : SourceLine) (lines : List SourceLine)
+        (gives : List Given) (put : Put) → Puts known before line.text lines (operation_at place before line) put
+        → Shape (within_expansion put.arguments put.bytes place) put.situation put.lines gives after Ends
+        → Shape place before (line ∷ lines) (own_line place known line put.notes ∷ gives) after Ends
+    -- `.MACRO`: its own line; the lines of the body are the macro's
+    Definition : (place : Place) (before after : Situation) (ending : Ending) (known : Known) (line : SourceLine)
+        (lines others : List SourceLine) (gives : List Given) (notes : Notes) (name : Name) (formals : List MacroFormal)
+        (body : List Bytes) → Opens known line.text (operation_at place before line) notes (Defines name formals)
+        → HasBody lines body others
+        → Shape place (defining name formals body (counting (length body + 2) before)) others gives after ending
+        → Shape place before (line ∷ lines) (own_line place known line notes ∷ gives) after ending
+    -- `.MACRO` without a name: the lines of the body are for nothing
+    Dropped : (place : Place) (before after : Situation) (ending : Ending) (known : Known) (line : SourceLine)
+        (lines others : List SourceLine) (gives : List Given) (notes : Notes) (body : List Bytes)
+        → Opens known line.text (operation_at place before line) notes Drops → HasBody lines body others
+        → Shape place (counting (length body + 2) before) others gives after ending
+        → Shape place before (line ∷ lines) (own_line place known line notes ∷ gives) after ending
+    -- a body without a close is for nothing, and takes all lines
+    OpenBody : (place : Place) (before : Situation) (known : Known) (line : SourceLine) (lines : List SourceLine) (notes : Notes)
+        (purpose : Purpose) → Opens known line.text (operation_at place before line) notes purpose → HasNoClose lines
+        → Shape place before (line ∷ lines) (own_line place known line notes ∷ []) (counting (length lines + 1) before) Stops
+    -- `.IF`: its own line, and then its parts, the first of which is live where it holds
+    Condition : (place : Place) (before after : Situation) (ending : Ending) (known : Known) (line : SourceLine)
+        (lines : List SourceLine) (gives : List Given) (at : ℕ) → operation_at place before line ≡ OwnDirective word.If at
+        → has_condition_left place ≡ true
+        → Parts place (condition known line.text at).holds (condition known line.text at).holds (counting 1 before) lines gives
+        after ending
+        → Shape place before (line ∷ lines) (own_line place known line (condition_notes known line.text at) ∷ gives) after ending
+    -- a 33rd condition has the flag O, and all up to its `.ENDC` is text
+    Refused : (place : Place) (before after : Situation) (ending : Ending) (known last : Known) (line close : SourceLine)
+        (text lines : List SourceLine) (gives : List Given) (at end : ℕ) → operation_at place before line ≡ OwnDirective word.If at
+        → has_condition_left place ≡ false → IsText true 0 text 0
+        → operation (past (only_entered place.entered)) before.macros close.text ≡ OwnDirective word.Endc end
+        → Shape place (counting (length text + 2) before) lines gives after ending
+        → Shape place before (line ∷ text ++ close ∷ lines)
+        (own_line place known line (noting flag_O []) ∷ own_line place last close (flagged 0 close.text end) ∷ gives) after
+        ending
+    -- or all lines are, where that doesn't come
+    OpenRefused : (place : Place) (before : Situation) (known : Known) (line : SourceLine) (lines : List SourceLine)
+        (at inner : ℕ)
+        → operation_at place before line ≡ OwnDirective word.If at → has_condition_left place ≡ false → IsText true 0 lines inner
+        → Shape place before (line ∷ lines) (own_line place known line (noting flag_O []) ∷ [])
+        (counting (length lines + 1) before) Stops
+    -- `.IIF`: its own line, and where it holds its statement as the next line
+    Immediate : (place : Place) (before after : Situation) (ending : Ending) (known : Known) (line : SourceLine)
+        (lines : List SourceLine) (gives : List Given) (at : ℕ) → operation_at place before line ≡ OwnDirective word.Iif at
+        → Shape place (counting 1 before) (statement known line.text at ++ lines) gives after ending
+        → Shape place before (line ∷ lines) (own_line place known line (immediate.notes known line.text at) ∷ gives) after ending
+    -- `.MEXIT`: no line after it in the expansion is taken, in none of its rounds
+    Exit : (place : Place) (before : Situation) (known : Known) (line : SourceLine) (lines : List SourceLine) (at : ℕ)
+        → operation_at place before line ≡ OwnDirective word.Mexit at → has_mark place.around ≡ true
+        → Shape place before (line ∷ lines) (own_line place known line (flagged 0 line.text at) ∷ []) (counting 1 before) Stops
+    -- `.END`: no line after it is taken at all
+    End : (place : Place) (before : Situation) (known : Known) (line : SourceLine) (lines : List SourceLine) (at : ℕ)
+        → operation_at place before line ≡ OwnDirective word.End at
+        → Shape place before (line ∷ lines) (other_line place known line ∷ []) (counting 1 before) Ends
+
+  -- What is left of a condition that holds or doesn't, from a part on that is live or not, with the lines after it.
+  pub data Parts : Place → Bool → Bool → Situation → List SourceLine → List Given → Situation → Ending → Type 0 where
+    -- the part, and then `.IFF`, `.IFT` or `.IFTF` with the next one
+    Next : (place : Place) (holds is_live : Bool) (before middle after : Situation) (ending : Ending) (known : Known)
+        (line : SourceLine) (lines others : List SourceLine) (gives later : List Given) (part : Part) (at : ℕ)
+        → OnePart place holds is_live before lines gives middle GoesOn
+        → Begins (operation_at (within_condition holds is_live place) middle line) part at
+        → Parts place holds (is_live_in part holds) (counting 1 middle) others later after ending
+        → Parts place holds is_live before (lines ++ line ∷ others)
+        (gives ++ own_line place known line (flagged 0 line.text at) ∷ later) after ending
+    -- the part, and then `.ENDC` with what stands after it
+    Close : (place : Place) (holds is_live : Bool) (before middle after : Situation) (ending : Ending) (known : Known)
+        (line : SourceLine) (lines others : List SourceLine) (gives later : List Given) (at : ℕ)
+        → OnePart place holds is_live before lines gives middle GoesOn
+        → operation_at (within_condition holds is_live place) middle line ≡ OwnDirective word.Endc at
+        → Shape place (counting 1 middle) others later after ending
+        → Parts place holds is_live before (lines ++ line ∷ others)
+        (gives ++ own_line place known line (flagged 0 line.text at) ∷ later) after ending
+    -- a live part up to an `.IIF` whose statement is a word of the condition, or stands before one
+    ImmediateInPart : (place : Place) (holds : Bool) (before middle after : Situation) (ending : Ending) (known : Known)
+        (line : SourceLine) (lines others : List SourceLine) (gives later : List Given) (at : ℕ)
+        → OnePart place holds true before lines gives middle GoesOn
+        → operation_at (within_condition holds true place) middle line ≡ OwnDirective word.Iif at
+        → Parts place holds true (counting 1 middle) (statement known line.text at ++ others) later after ending
+        → Parts place holds true before (lines ++ line ∷ others)
+        (gives ++ own_line place known line (immediate.notes known line.text at) ∷ later) after ending
+    -- the part alone, where the expansion, the source or all ends with it
+    Last : (place : Place) (holds is_live : Bool) (before after : Situation) (ending : Ending) (lines : List SourceLine)
+        (gives : List Given) → OnePart place holds is_live before lines gives after ending
+        → Parts place holds is_live before lines gives after (unclosed ending)
+
+  -- One part: its lines have a shape where it is live, or else are text.
+  pub data OnePart : Place → Bool → Bool → Situation → List SourceLine → List Given → Situation → Ending → Type 0 where
+    Live : (place : Place) (holds : Bool) (before after : Situation) (ending : Ending) (lines : List SourceLine)
+        (gives : List Given)
+        → Shape (within_condition holds true place) before lines gives after ending
+        → OnePart place holds true before lines gives after ending
+    Text : (place : Place) (holds : Bool) (before : Situation) (lines : List SourceLine) → IsText false 0 lines 0
+        → OnePart place holds false before lines [] (counting (length lines) before) GoesOn
+    OpenText : (place : Place) (holds : Bool) (before : Situation) (lines : List SourceLine) (inner : ℕ)
+        → IsText false 0 lines inner
+        → OnePart place holds false before lines [] (counting (length lines) before) Stops

@@ -1,0 +1,81 @@
+-- A macro with a repeat in it that is called twice, worked by hand. (MACRO-11 Language Reference Manual, "Automatic creation of
+-- local symbols" and "Repeat block directive".) In a loop that is written so, each call has a label of its own.
+use Rattle.std.specs.Prelude.{ℕ, Bool, true, false, List, [], ◌∷◌, codes, map, Option, Some, None}
+use Rattle.m11_base.specs.Devices.{Bytes}
+use Rattle.m11_base.specs.Names.{name_in_words}
+use Rattle.m11_base.specs.Rad50.{Name}
+use Rattle.m11_scan_lines.specs.Line.{SourceLine, line_of}
+use Rattle.m11_scan.specs.declared.radix.Radix.TheVariants.{Octal}
+use Rattle.m11_scan_values.specs.declared.names.Symbol.{Symbol}
+use Rattle.m11_scan_values.specs.Quantities.{Quantity}
+use Rattle.m11_unfold_arguments.specs.Expressions.{known_by}
+use Rattle.m11_unfold_arguments.specs.Notes.{no_notes}
+use Rattle.m11_unfold_arguments.specs.declared.macros.MacroFormal.{MacroFormal}
+use Rattle.m11_unfold_rules.specs.Unfolding.{Given}
+use Rattle.m11_unfold_laws.specs.Places.{Situation}
+
+abbrev pub worked_source : List SourceLine
+worked_source = map line_of
+    (codes " .MACRO TWICE ?L"
+    ∷ codes "L: .REPT 2"
+    ∷ codes " NOP"
+    ∷ codes " .ENDR"
+    ∷ codes " BR L"
+    ∷ codes " .ENDM"
+    ∷ codes " TWICE"
+    ∷ codes " TWICE"
+    ∷ [])
+
+-- a line of unfolding's own without flags or symbols, and another one
+abbrev pub worked_line : (Symbol → Quantity) → Bytes → Bool → Bool → Option ℕ → Given
+worked_line stands_for text is_own is_expanded arguments = record {
+  live = record { line = line_of text; is_expanded = is_expanded };
+  known = known_by Octal stands_for;
+  is_own = is_own;
+  notes = no_notes;
+  arguments = arguments;
+}
+
+-- outside expansions, and in a call without actuals
+abbrev pub source_line : (Symbol → Quantity) → Bytes → Given
+source_line stands_for text = worked_line stands_for text true false None
+
+abbrev pub repeat_line : (Symbol → Quantity) → Bytes → Given
+repeat_line stands_for text = worked_line stands_for text true true (Some 0)
+
+abbrev pub inner_line : (Symbol → Quantity) → Bytes → Given
+inner_line stands_for text = worked_line stands_for text false true (Some 0)
+
+-- the live lines, whatever symbols stand for
+abbrev pub worked_lines : (Symbol → Quantity) → List Given
+worked_lines stands_for =
+    source_line stands_for (codes " .MACRO TWICE ?L")
+    ∷ source_line stands_for (codes " TWICE")
+    ∷ repeat_line stands_for (codes "30000$: .REPT 2")
+    ∷ inner_line stands_for (codes " NOP")
+    ∷ inner_line stands_for (codes " NOP")
+    ∷ inner_line stands_for (codes " BR 30000$")
+    ∷ source_line stands_for (codes " TWICE")
+    ∷ repeat_line stands_for (codes "30001$: .REPT 2")
+    ∷ inner_line stands_for (codes " NOP")
+    ∷ inner_line stands_for (codes " NOP")
+    ∷ inner_line stands_for (codes " BR 30001$")
+    ∷ []
+
+-- the macro, and what is made at the end: 29 bytes of its body, two symbols, and twenty lines that were taken
+abbrev pub twice_name : Name
+twice_name = name_in_words (codes "TWICE ")
+
+abbrev pub twice_formals : List MacroFormal
+twice_formals = record { name = name_in_words (codes "L     "); is_created = true } ∷ []
+
+abbrev pub twice_body : List Bytes
+twice_body = codes "L: .REPT 2" ∷ codes " NOP" ∷ codes " .ENDR" ∷ codes " BR L" ∷ []
+
+abbrev pub worked_end : Situation
+worked_end = record {
+  macros = (twice_name, record { formals = twice_formals; body = twice_body }) ∷ [];
+  defined_bytes = 29;
+  created = 30002;
+  taken = 20;
+}

@@ -1,0 +1,50 @@
+-- After a live `.END` nothing is taken any more.
+use Rattle.std.proofs.Common.{◌≡◌, ℕ, true, List, [], refl, ap, subst, sym, ◌∙◌}
+use Rattle.std.specs.Prelude.{Bool, if◌then◌else◌}
+use Rattle.m11_scan_lines.specs.Line.{SourceLine}
+use Rattle.m11_unfold_arguments.specs.Expressions.{Known}
+use Rattle.m11_unfold_arguments.specs.declared.directives.Directive.TheVariants as word
+use Rattle.m11_unfold_rules.specs.Acting.{Operation, act, acted_by}
+use Rattle.m11_unfold_rules.specs.Laws.{IsDirective}
+use Rattle.m11_unfold_rules.specs.Stages.{Stage}
+use Rattle.m11_unfold_rules.specs.Taking.{Gives, Passes, NothingLeft, move, move_from}
+use Rattle.m11_unfold_rules.specs.Unfolding.{Given, Leads}
+use Rattle.m11_unfold_rules.specs.Unfolding as steps
+
+-- where `.END` came, nothing is taken
+pub rests_after : (stage : Stage) → stage.has_ended ≡ true → move stage ≡ NothingLeft
+rests_after stage ended = ap (λ (b : Bool). if b then NothingLeft else move_from stage.left stage) ended
+
+-- and so no stage but the same one is led to
+pub stays_after : (before after : Stage) (done : List Given) → before.has_ended ≡ true → Leads before done after
+    → (done ≡ []) × (after ≡ before)
+stays_after before _ _ ended steps.Leads.Stays = (refl, refl)
+stays_after before _ _ ended (steps.Leads.Passing done stage after steps' fault moves) =
+    let earlier = stays_after before stage done ended steps' in
+    let P : Stage → Type 0 = λ s. move s ≡ Passes after in
+    let here : move before ≡ Passes after = subst P earlier.1 moves in
+    let rests : move before ≡ NothingLeft = rests_after before ended in
+    let bad : NothingLeft ≡ Passes after = sym rests ∙ here in
+    absurd (cc bad)
+stays_after before _ _ ended (steps.Leads.Giving done stage after live known steps' fault moves acts) =
+    let earlier = stays_after before stage done ended steps' in
+    let P : Stage → Type 0 = λ s. move s ≡ Gives live after in
+    let here : move before ≡ Gives live after = subst P earlier.1 moves in
+    let rests : move before ≡ NothingLeft = rests_after before ended in
+    let bad : NothingLeft ≡ Gives live after = sym rests ∙ here in
+    absurd (cc bad)
+
+ends : (known : Known) (stage : Stage) (line : SourceLine) (place : ℕ) → IsDirective stage line word.End place
+    → (act known stage line.text).after.has_ended ≡ true
+ends known stage line place is =
+    ap (λ (o : Operation). (acted_by known line.text stage o).after.has_ended) is
+
+pub rests : (known : Known) (stage : Stage) (line : SourceLine) (place : ℕ) → IsDirective stage line word.End place
+    → move (act known stage line.text).after ≡ NothingLeft
+rests known stage line place is = rests_after (act known stage line.text).after (ends known stage line place is)
+
+pub stays : (known : Known) (stage after : Stage) (line : SourceLine) (place : ℕ) (done : List Given)
+    → IsDirective stage line word.End place → Leads (act known stage line.text).after done after
+    → (done ≡ []) × (after ≡ (act known stage line.text).after)
+stays known stage after line place done is =
+    stays_after (act known stage line.text).after after done (ends known stage line place is)

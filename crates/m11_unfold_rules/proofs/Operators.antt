@@ -1,0 +1,95 @@
+-- Where no line is skipped, an operator is looked up alike, whatever conditions are open.
+use Rattle.std.proofs.Common.{◌≡◌, ◌∙◌, ℕ, Bool, true, List, [], ◌∷◌, Option, Some, None, refl, sym, ap}
+use Rattle.std.specs.Prelude.{if◌then◌else◌}
+use Rattle.m11_base.specs.Devices.{Bytes}
+use Rattle.m11_base.specs.Mnemonics.{six_of}
+use Rattle.m11_base.specs.Rad50.{Name, name_of}
+use Rattle.m11_scan_lines.specs.Line.{SourceLine}
+use Rattle.m11_scan.specs.Cutting.{text_between}
+use Rattle.m11_scan_statements.specs.declared.spans.Span.{Span}
+use Rattle.m11_unfold_arguments.specs.Directives.{directive, directive_at, directive_named, operator}
+use Rattle.m11_unfold_arguments.specs.declared.directives.Directive.{Directive}
+use Rattle.m11_unfold_bodies.specs.Conditions.{OpenConditions, is_skipping}
+use Rattle.m11_unfold_rules.specs.Acting.{OwnDirective, Foreign, called, directed, macro_of, operation, operation_in}
+use Rattle.m11_unfold_rules.specs.Macros.{macro_named}
+use Rattle.m11_unfold_rules.specs.Stages.{Macro}
+use Rattle.m11_unfold_rules.proofs.OtherLines.{ForeignHere}
+
+module _ (macros : List (Name × Macro)) where
+  alike_macro : (one other : OpenConditions) (name : Option Name) → is_skipping one ≡ is_skipping other
+      → macro_of one macros name ≡ macro_of other macros name
+  alike_macro one other None same = refl
+  alike_macro one other (Some name) same = ap (λ (b : Bool). if b then None else macro_named macros name) same
+
+  alike_in : (one other : OpenConditions) (text : Bytes) (name : Option Span) → is_skipping one ≡ is_skipping other
+      → operation_in one macros text name ≡ operation_in other macros text name
+  alike_in one other text None same = refl
+  alike_in one other text (Some name) same =
+      let word : Bytes = six_of (text_between text name.start name.end) in
+      ap (λ (m : Option Macro). called m (directive_named word) name.end) (alike_macro one other (name_of word) same)
+
+  pub alike : (one other : OpenConditions) (text : Bytes) → is_skipping one ≡ is_skipping other
+      → operation one macros text ≡ operation other macros text
+  alike one other text same = alike_in one other text (operator text) same
+
+  pub foreign_alike : (one other : OpenConditions) (lines : List SourceLine) → is_skipping one ≡ is_skipping other
+      → ForeignHere one macros lines → ForeignHere other macros lines
+  foreign_alike one other [] same foreign = foreign
+  foreign_alike one other (line ∷ lines) same foreign =
+      (sym (alike one other line.text same) ∙ foreign.0, foreign_alike one other lines same foreign.1)
+
+  -- ---- what a word alone is
+
+  word_of_called : (macro : Option Macro) (word : Option Directive) (end place : ℕ) (directive : Directive)
+      → called macro word end ≡ OwnDirective directive place → (word ≡ Some directive) × (directed word end ≡ OwnDirective directive place)
+  word_of_called (Some macro) word end place directive is = absurd (let bad = is in cc)
+  word_of_called None None end place directive is = absurd (let bad = is in cc)
+  word_of_called None (Some word) end place directive is =
+      let same : word ≡ directive = cc in
+      (ap (λ (d : Directive). Some d) same, is)
+
+  no_word_of_called : (macro : Option Macro) (word : Option Directive) (end : ℕ) → called macro word end ≡ Foreign → word ≡ None
+  no_word_of_called (Some macro) word end is = absurd (let bad = is in cc)
+  no_word_of_called None None end is = refl
+  no_word_of_called None (Some word) end is = absurd (let bad = is in cc)
+
+  word_in : (conditions : OpenConditions) (text : Bytes) (name : Option Span) (place : ℕ) (directive : Directive)
+      → operation_in conditions macros text name ≡ OwnDirective directive place → directive_at text name ≡ Some directive
+  word_in conditions text None place directive is = absurd (let bad = is in cc)
+  word_in conditions text (Some name) place directive is =
+      let word : Bytes = six_of (text_between text name.start name.end) in
+      (word_of_called (macro_of conditions macros (name_of word)) (directive_named word) name.end place directive is).0
+
+  -- a line with a directive has its word
+  pub has_word : (conditions : OpenConditions) (text : Bytes) (place : ℕ) (word : Directive)
+      → operation conditions macros text ≡ OwnDirective word place → directive text ≡ Some word
+  has_word conditions text place word is = word_in conditions text (operator text) place word is
+
+  no_word_in : (conditions : OpenConditions) (text : Bytes) (name : Option Span)
+      → operation_in conditions macros text name ≡ Foreign → directive_at text name ≡ None
+  no_word_in conditions text None is = refl
+  no_word_in conditions text (Some name) is =
+      let word : Bytes = six_of (text_between text name.start name.end) in
+      no_word_of_called (macro_of conditions macros (name_of word)) (directive_named word) name.end is
+
+  -- a line without a macro or a directive has none
+  pub has_no_word : (conditions : OpenConditions) (text : Bytes) → operation conditions macros text ≡ Foreign → directive text ≡ None
+  has_no_word conditions text is = no_word_in conditions text (operator text) is
+
+  no_macro : (conditions : OpenConditions) (name : Option Name) → is_skipping conditions ≡ true → macro_of conditions macros name ≡ None
+  no_macro conditions None skips = refl
+  no_macro conditions (Some name) skips = ap (λ (b : Bool). if b then None else macro_named macros name) skips
+
+  skipping_in : (one other : OpenConditions) (text : Bytes) (name : Option Span) (place : ℕ) (directive : Directive)
+      → is_skipping other ≡ true → operation_in one macros text name ≡ OwnDirective directive place
+      → operation_in other macros text name ≡ OwnDirective directive place
+  skipping_in one other text None place directive skips is = is
+  skipping_in one other text (Some name) place directive skips is =
+      let word : Bytes = six_of (text_between text name.start name.end) in
+      let directs = word_of_called (macro_of one macros (name_of word)) (directive_named word) name.end place directive is in
+      ap (λ (m : Option Macro). called m (directive_named word) name.end) (no_macro other (name_of word) skips) ∙ directs.1
+
+  -- a directive is one in skipped lines too
+  pub directive_skipping : (one other : OpenConditions) (text : Bytes) (place : ℕ) (word : Directive)
+      → is_skipping other ≡ true → operation one macros text ≡ OwnDirective word place → operation other macros text ≡ OwnDirective word place
+  directive_skipping one other text place word skips is = skipping_in one other text (operator text) place word skips is

@@ -1,0 +1,205 @@
+-- What the operator of a live line does. (MACRO-11 Language Reference Manual, "Conditional assembly block directives", "Macro definition",
+-- "Macro calls", "Repeat block directives", "Indefinite repeat block directives" and "Macro exit". Which flags flag a line, and what
+-- becomes of a bad argument, is this project's own.)
+use Rattle.std.specs.Prelude.{ℕ, Bool, true, false, if◌then◌else◌, List, [], ◌∷◌, length, map, replicate, drop, Option, Some, None}
+use Rattle.std.specs.Int.RustNames.{bit_or}
+use Rattle.m11_base.specs.Devices.{Bytes}
+use Rattle.m11_base.specs.Mnemonics.{six_of}
+use Rattle.m11_base.specs.Rad50.{Name, name_of}
+use Rattle.m11_scan_lines.specs.Line.{line_of}
+use Rattle.m11_scan.specs.Cutting.{text_between}
+use Rattle.m11_scan_statements.specs.declared.spans.Span.{Span}
+use Rattle.m11_unfold_arguments.specs.Actuals.{Given, actuals_from}
+use Rattle.m11_unfold_arguments.specs.Conditions.{Asked, condition, notes_of}
+use Rattle.m11_unfold_arguments.specs.Directives.{directive_named, operator}
+use Rattle.m11_unfold_arguments.specs.Expressions.{Known}
+use Rattle.m11_unfold_arguments.specs.Filling.{Filled, filled}
+use Rattle.m11_unfold_arguments.specs.Immediate as immediate
+use Rattle.m11_unfold_arguments.specs.Indefinite.{Repeated, Repetition, irpc, irp}
+use Rattle.m11_unfold_arguments.specs.Macros.{MacroNamed, MacroHeader, header}
+use Rattle.m11_unfold_arguments.specs.LeftOvers.{left_over}
+use Rattle.m11_unfold_arguments.specs.Notes.{Notes, no_notes, noting, with_flags}
+use Rattle.m11_unfold_arguments.specs.Repeats as repeats
+use Rattle.m11_unfold_arguments.specs.declared.directives.Directive.{Directive}
+use Rattle.m11_unfold_arguments.specs.declared.directives.Directive.TheVariants as word
+use Rattle.m11_unfold_arguments.specs.declared.macros.MacroFormal.{MacroFormal}
+use Rattle.m11_unfold_bodies.specs.Bodies.{nothing_taken}
+use Rattle.m11_unfold_bodies.specs.Conditions.{OpenConditions, closed, entering, has_none, is_skipping, past, switched}
+use Rattle.m11_unfold_bodies.specs.Left.{Line, after_mark, is_expanding}
+use Rattle.m11_unfold_bodies.specs.declared.conditions.Part.TheVariants as part
+use Rattle.m11_unfold_rules.specs.Limits.{depth_fault, has_room}
+use Rattle.m11_unfold_rules.specs.Macros.{macro_named}
+use Rattle.m11_unfold_rules.specs.Stages.{Macro, Purpose, Defines, Repeats, Drops, Stage}
+use Rattle.m11_unfold_rules.specs.Taking.{opened}
+use Rattle.m11_unfold_rules.specs.declared.fault.UnfoldFault.{UnfoldFault}
+
+-- what acting on a line leaves
+pub record Acted : Type 0 where
+  -- whether the line is unfolding's own, and so places nothing
+  pub is_own : Bool
+  pub notes : Notes
+  pub after : Stage
+
+-- the set of the flag O
+abbrev pub flag_O : ℕ
+flag_O = 0o400
+
+-- ---- operators
+
+-- what a line's operator is
+pub data Operation : Type 0 where
+  -- a call of a macro, and the place after its name
+  Calls : Macro → ℕ → Operation
+  -- a directive, and the place after its name
+  OwnDirective : Directive → ℕ → Operation
+  -- anything else
+  Foreign : Operation
+
+abbrev pub directed : Option Directive → ℕ → Operation
+directed (Some directive) place = OwnDirective directive place
+directed None place = Foreign
+
+abbrev pub called : Option Macro → Option Directive → ℕ → Operation
+called (Some macro) directive place = Calls macro place
+called None directive place = directed directive place
+
+-- the macro of a word, if it is the name of one. A line that ends a skipped part is live by its directive.
+abbrev pub macro_of : OpenConditions → List (Name × Macro) → Option Name → Option Macro
+macro_of conditions macros None = None
+macro_of conditions macros (Some name) = if is_skipping conditions then None else macro_named macros name
+
+abbrev pub operation_by : OpenConditions → List (Name × Macro) → Bytes → ℕ → Operation
+operation_by conditions macros name place =
+    called (macro_of conditions macros (name_of (six_of name))) (directive_named (six_of name)) place
+
+abbrev pub operation_in : OpenConditions → List (Name × Macro) → Bytes → Option Span → Operation
+operation_in conditions macros text None = Foreign
+operation_in conditions macros text (Some name) =
+    operation_by conditions macros (text_between text name.start name.end) name.end
+
+-- the operator of a line: a macro, or else a directive
+abbrev pub operation : OpenConditions → List (Name × Macro) → Bytes → Operation
+operation conditions macros text = operation_in conditions macros text (operator text)
+
+-- ---- what they do
+
+abbrev pub own : Notes → Stage → Acted
+own notes stage = record { is_own = true; notes = notes; after = stage }
+
+abbrev pub foreign : Stage → Acted
+foreign stage = record { is_own = false; notes = no_notes; after = stage }
+
+-- flags, with those of what is left over on the line
+abbrev pub flagged : ℕ → Bytes → ℕ → Notes
+flagged flags text place = noting (bit_or flags (left_over text place)) []
+
+-- `.IF` opens a condition. A 33rd one is no entry: it and what is inside it are skipped, and its arguments aren't read.
+abbrev pub condition_opened : Bytes → Asked → Stage → Acted
+condition_opened text asked stage =
+    own (with_flags (notes_of asked) (left_over text asked.end))
+    (record stage { conditions = entering asked.holds stage.conditions })
+
+abbrev pub acted_if : Known → Bytes → ℕ → Stage → Acted
+acted_if known text place stage =
+    if has_room stage then condition_opened text (condition known text place) stage
+    else own (noting flag_O []) (record stage { conditions = past stage.conditions })
+
+-- `.IIF`: where its condition holds, its statement is the next line
+abbrev pub with_statement : Bytes → Bool → Option ℕ → Stage → Stage
+with_statement text true (Some place) stage = record stage { left = Line (line_of (drop place text)) ∷ stage.left }
+with_statement text true None stage = stage
+with_statement text false place stage = stage
+
+abbrev pub acted_immediate : Known → Bytes → ℕ → Stage → Acted
+acted_immediate known text place stage =
+    own (immediate.notes known text place)
+    (with_statement text (immediate.immediate known text place).holds (immediate.immediate known text place).statement stage)
+
+-- a switch, or `.ENDC`: it needs a condition of its own expansion
+abbrev pub acted_within : (OpenConditions → OpenConditions) → Bytes → ℕ → Stage → Acted
+acted_within change text place stage =
+    if has_none stage.conditions then own (flagged flag_O text place) stage
+    else own (flagged 0 text place) (record stage { conditions = change stage.conditions })
+
+-- what follows is to be taken as a body
+abbrev pub opens : Purpose → Stage → Stage
+opens purpose stage = record stage { opening = Some (record { purpose = purpose; taken = nothing_taken }) }
+
+-- `.REPT`: no formals in each round
+abbrev pub acted_repeat : Known → Bytes → ℕ → Stage → Acted
+acted_repeat known text place stage =
+    own (repeats.notes known text place) (opens (Repeats [] (replicate (repeats.rept_count known text place) [])) stage)
+
+-- `.MEXIT`: what is left up to the first mark isn't taken
+abbrev pub acted_exit : Bytes → ℕ → Stage → Acted
+acted_exit text place stage =
+    if is_expanding stage.left then own (flagged 0 text place) (record stage { left = after_mark stage.left })
+    else own (flagged flag_O text place) stage
+
+-- `.MACRO`: without a name its body is taken for nothing
+abbrev pub defining : Option MacroNamed → Purpose
+defining (Some macro) = Defines macro.name macro.formals
+defining None = Drops
+
+abbrev pub acted_header : MacroHeader → Stage → Acted
+acted_header header stage = own (noting header.flags []) (opens (defining header.named) stage)
+
+-- `.IRP` and `.IRPC`: one formal, and one actual in each round; no round where an argument is bad or missing
+abbrev pub alone : Bytes → List Bytes
+alone text = text ∷ []
+
+abbrev pub repeating : Option Repetition → Purpose
+repeating (Some rounds) = Repeats (rounds.formal ∷ []) (map alone rounds.texts)
+repeating None = Repeats [] []
+
+abbrev pub acted_repeated : Repeated → Stage → Acted
+acted_repeated repeated stage = own repeated.notes (opens (repeating repeated.rounds) stage)
+
+-- a call puts the body in its place, each formal with its actual; its mark carries how many actuals were given
+abbrev pub formal_name : MacroFormal → Name
+formal_name formal = formal.name
+
+abbrev pub called_with : Macro → ℕ → Filled → Stage → Stage
+called_with macro count filled stage =
+    opened (Some count) 0 (map formal_name macro.formals) (filled.texts ∷ []) macro.body
+    (record stage { created = filled.created })
+
+abbrev pub acted_call : Macro → Given → Stage → Acted
+acted_call macro given stage =
+    own given.notes (called_with macro (length given.texts) (filled macro.formals given.texts stage.created) stage)
+
+abbrev pub acted_by : Known → Bytes → Stage → Operation → Acted
+acted_by known text stage Foreign = foreign stage
+acted_by known text stage (Calls macro place) =
+    acted_call macro (actuals_from known text (length macro.formals) place) stage
+acted_by known text stage (OwnDirective word.If place) = acted_if known text place stage
+acted_by known text stage (OwnDirective word.Iff place) = acted_within (switched part.False) text place stage
+acted_by known text stage (OwnDirective word.Ift place) = acted_within (switched part.True) text place stage
+acted_by known text stage (OwnDirective word.Iftf place) = acted_within (switched part.Both) text place stage
+acted_by known text stage (OwnDirective word.Endc place) = acted_within closed text place stage
+acted_by known text stage (OwnDirective word.Iif place) = acted_immediate known text place stage
+acted_by known text stage (OwnDirective word.Macro place) = acted_header (header text place) stage
+acted_by known text stage (OwnDirective word.Endm place) = own (noting flag_O []) stage
+acted_by known text stage (OwnDirective word.Rept place) = acted_repeat known text place stage
+acted_by known text stage (OwnDirective word.Endr place) = own (noting flag_O []) stage
+acted_by known text stage (OwnDirective word.Irp place) = acted_repeated (irp known text place) stage
+acted_by known text stage (OwnDirective word.Irpc place) = acted_repeated (irpc text place) stage
+acted_by known text stage (OwnDirective word.Mexit place) = acted_exit text place stage
+acted_by known text stage (OwnDirective word.Narg place) = foreign stage
+acted_by known text stage (OwnDirective word.Nchr place) = foreign stage
+acted_by known text stage (OwnDirective word.End place) = foreign (record stage { has_ended = true })
+
+-- what the operator of a line does at a stage, under what names say
+abbrev pub act : Known → Stage → Bytes → Acted
+act known stage text = acted_by known text stage (operation stage.conditions stage.macros text)
+
+-- ---- the fault of acting
+
+abbrev pub fault_by : Stage → Operation → Option UnfoldFault
+fault_by stage Foreign = None
+fault_by stage (Calls macro place) = depth_fault stage.left
+fault_by stage (OwnDirective directive place) = None
+
+-- only a call passes a limit: one expansion too many, before an argument is read
+abbrev pub act_fault : Stage → Bytes → Option UnfoldFault
+act_fault stage text = fault_by stage (operation stage.conditions stage.macros text)

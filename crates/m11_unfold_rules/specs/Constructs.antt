@@ -1,0 +1,102 @@
+-- What a repeat, an indefinite repeat, a call and a condition put in place of themselves. (MACRO-11 Language Reference Manual, "Repeat
+-- block directive", "Indefinite repeat block directives", "Macro calls" and "Conditional assembly block directives".)
+use Rattle.std.specs.Prelude.{◌≡◌, ℕ, zero, suc, ◌+◌, ◌<◌, ◌≤◌, true, false, List, [], ◌∷◌, ◌++◌, length, map, Option, ⊤}
+use Rattle.std.specs.List.{flat_map}
+use Rattle.m11_base.specs.Devices.{Bytes}
+use Rattle.m11_base.specs.Rad50.{Name}
+use Rattle.m11_scan_lines.specs.Line.{SourceLine}
+use Rattle.m11_unfold_arguments.specs.Conditions.{condition, notes_of}
+use Rattle.m11_unfold_arguments.specs.Expressions.{Known}
+use Rattle.m11_unfold_arguments.specs.Indefinite.{Repetition}
+use Rattle.m11_unfold_arguments.specs.LeftOvers.{left_over}
+use Rattle.m11_unfold_arguments.specs.Notes.{Notes, no_notes, with_flags}
+use Rattle.m11_unfold_bodies.specs.Bodies.{size_of}
+use Rattle.m11_unfold_bodies.specs.Conditions.{most_conditions}
+use Rattle.m11_unfold_bodies.specs.Left.{Left, Line, bytes_held, conditions_open, depth, most_expansions}
+use Rattle.m11_unfold_bodies.specs.Substitution.{line_with}
+use Rattle.m11_unfold_bodies.specs.declared.open_body.Nesting.TheVariants.{Neither}
+use Rattle.m11_unfold_rules.specs.Acting.{Calls, alone, operation}
+use Rattle.m11_unfold_rules.specs.Limits.{most_bytes, most_lines}
+use Rattle.m11_unfold_rules.specs.Stages.{Stage, line_left}
+use Rattle.m11_unfold_rules.specs.Taking.{nesting}
+use Rattle.m11_unfold_rules.specs.Unfolding.{Given}
+
+-- a block of lines: the line that opens it, those inside, the one that closes it, and what is left after it
+pub record Block : Type 0 where
+  pub first : SourceLine
+  pub lines : List SourceLine
+  pub close : SourceLine
+  pub left : List Left
+
+-- a stage before a block
+abbrev pub before_block : Stage → Block → Stage
+before_block stage block = record stage { left = Line block.first ∷ map line_left block.lines ++ Line block.close ∷ block.left }
+
+-- a stage after a block: its lines are taken, and further ones that it gave
+abbrev pub after_block : Stage → Block → ℕ → Stage
+after_block stage block further =
+    record stage { left = block.left; taken = stage.taken + (length block.lines + 2) + further }
+
+-- ---- repeats
+
+-- no line of a body opens or closes another one
+abbrev pub IsPlainBody : List Bytes → Type 0
+IsPlainBody [] = ⊤
+IsPlainBody (text ∷ texts) = (nesting text ≡ Neither) × IsPlainBody texts
+
+-- the lines of a body, once for each round, with its actuals put in
+abbrev pub round_lines : List Name → List Bytes → List Bytes → List SourceLine
+round_lines formals body actuals = map (line_with formals actuals) body
+
+abbrev pub lines_of_rounds : List Name → List (List Bytes) → List Bytes → List SourceLine
+lines_of_rounds formals rounds body = flat_map (round_lines formals body) rounds
+
+-- those of `.IRP` and `.IRPC`
+abbrev pub repeated_lines : Repetition → List Bytes → List SourceLine
+repeated_lines rounds body = lines_of_rounds (rounds.formal ∷ []) (map alone rounds.texts) body
+
+-- the same lines n times
+abbrev pub times : ℕ → List SourceLine → List SourceLine
+times zero lines = []
+times (suc n) lines = lines ++ times n lines
+
+-- a block of a repeat, and the lines that it gives, pass no limit
+pub record HasRoom (stage : Stage) (block : Block) (body : List Bytes) (gives : List SourceLine) : Type 0 where
+  pub lines : stage.taken + (length block.lines + 2) + length gives ≤ most_lines
+  pub bytes : stage.defined_bytes + bytes_held block.left + size_of body ≤ most_bytes
+  pub expansions : depth block.left < most_expansions
+
+-- a line that an expansion gives, and that is none of unfolding's own
+abbrev pub expanded_given : Known → Option ℕ → SourceLine → Given
+expanded_given known arguments line = record {
+  live = record { line = line; is_expanded = true };
+  known = known;
+  is_own = false;
+  notes = no_notes;
+  arguments = arguments;
+}
+
+-- ---- calls
+
+-- a line calls a macro without formals, of some body
+abbrev pub IsCall : Stage → SourceLine → List Bytes → ℕ → Type 0
+IsCall stage line body place =
+    operation stage.conditions stage.macros line.text ≡ Calls (record { formals = []; body = body }) place
+
+-- the call's line before what is left, and the stage after its expansion
+abbrev pub before_call : Stage → SourceLine → List Left → Stage
+before_call stage line left = record stage { left = Line line ∷ left }
+
+abbrev pub after_call : Stage → List Bytes → List Left → Stage
+after_call stage body left = record stage { left = left; taken = stage.taken + 1 + length body }
+
+-- ---- conditions
+
+-- the flags and symbols of an `.IF`
+abbrev pub condition_notes : Known → Bytes → ℕ → Notes
+condition_notes known text place =
+    with_flags (notes_of (condition known text place)) (left_over text (condition known text place).end)
+
+-- one more condition may be open
+abbrev pub HasConditionLeft : Stage → Block → Type 0
+HasConditionLeft stage block = length stage.conditions.entered + conditions_open block.left < most_conditions

@@ -1,0 +1,64 @@
+-- What an unfolding has left to take, and what it keeps beside it. (MACRO-11 Language Reference Manual, "Macro definition", "Conditional
+-- assembly block directives" and "Automatic creation of local symbols".)
+use Rattle.std.specs.Prelude.{ℕ, Bool, false, List, [], map, Option, None}
+use Rattle.m11_base.specs.Devices.{Bytes}
+use Rattle.m11_base.specs.Rad50.{Name}
+use Rattle.m11_scan_lines.specs.Line.{SourceLine}
+use Rattle.m11_unfold_arguments.specs.Filling.{first_created}
+use Rattle.m11_unfold_arguments.specs.declared.macros.MacroFormal.{MacroFormal}
+use Rattle.m11_unfold_bodies.specs.Bodies.{HalfTaken}
+use Rattle.m11_unfold_bodies.specs.Conditions.{OpenConditions, no_conditions}
+use Rattle.m11_unfold_bodies.specs.Left.{Left, Line}
+
+-- a macro: its formals, and the texts of its body's lines
+pub record Macro : Type 0 where
+  pub formals : List MacroFormal
+  pub body : List Bytes
+
+-- what a body is taken for
+pub data Purpose : Type 0 where
+  -- a macro of a name, with its formals
+  Defines : Name → List MacroFormal → Purpose
+  -- a repeat: some formals, and their actuals in each round
+  Repeats : List Name → List (List Bytes) → Purpose
+  -- nothing, since the line that opened it is refused
+  Drops : Purpose
+
+-- a body that is being taken
+pub record Opening : Type 0 where
+  pub purpose : Purpose
+  pub taken : HalfTaken
+
+pub record Stage : Type 0 where
+  -- lines, and the ends of open expansions
+  pub left : List Left
+  -- the conditions of the innermost expansion
+  pub conditions : OpenConditions
+  -- what the lines that are left are taken for, if a body is open
+  pub opening : Option Opening
+  -- the macros by their names, in the order of their first definitions
+  pub macros : List (Name × Macro)
+  -- the bytes of their bodies, and of those that were replaced
+  pub defined_bytes : ℕ
+  -- the number of the next local symbol that is created
+  pub created : ℕ
+  -- how many lines were taken
+  pub taken : ℕ
+  -- whether `.END` became live
+  pub has_ended : Bool
+
+abbrev pub line_left : SourceLine → Left
+line_left line = Line line
+
+-- before the first line of a source
+abbrev pub start : List SourceLine → Stage
+start source = record {
+  left = map line_left source;
+  conditions = no_conditions;
+  opening = None;
+  macros = [];
+  defined_bytes = 0;
+  created = first_created;
+  taken = 0;
+  has_ended = false;
+}

@@ -1,0 +1,121 @@
+-- What is taken next: the end of an expansion, a line of a body, a line that is skipped, or one that becomes live. (MACRO-11 Language
+-- Reference Manual, "Macro definition", "Conditional assembly block directives". That bodies close by nesting alone, and what counts in
+-- skipped lines, is this project's own.)
+use Rattle.std.specs.Prelude.{ℕ, ◌+◌, ◌==◌, Bool, if◌then◌else◌, List, [], ◌∷◌, Option, Some, None}
+use Rattle.m11_base.specs.Devices.{Bytes}
+use Rattle.m11_base.specs.Rad50.{Name}
+use Rattle.m11_scan_lines.specs.Line.{SourceLine}
+use Rattle.m11_unfold_arguments.specs.Directives.{directive}
+use Rattle.m11_unfold_arguments.specs.declared.directives.Directive.{Directive}
+use Rattle.m11_unfold_arguments.specs.declared.directives.Directive.TheVariants as word
+use Rattle.m11_unfold_bodies.specs.Bodies.{HalfTaken, depth_after, size_of, taken_with}
+use Rattle.m11_unfold_bodies.specs.Conditions.{OpenConditions, is_skipping, nested, no_conditions, unnested}
+use Rattle.m11_unfold_bodies.specs.Left.{Left, Line, End, expanded, is_expanding}
+use Rattle.m11_unfold_bodies.specs.declared.mark.Mark.{Mark}
+use Rattle.m11_unfold_bodies.specs.declared.open_body.Nesting.{Nesting}
+use Rattle.m11_unfold_bodies.specs.declared.open_body.Nesting.TheVariants.{Opens, Closes, Neither}
+use Rattle.m11_unfold_rules.specs.Macros.{defined}
+use Rattle.m11_unfold_rules.specs.Stages.{Stage, Opening, Purpose, Defines, Repeats, Drops}
+
+-- ---- bodies
+
+-- what the word in an operator's place does to a body: either closing word closes what any of the four opens
+abbrev pub nesting_of : Option Directive → Nesting
+nesting_of (Some word.Macro) = Opens
+nesting_of (Some word.Rept) = Opens
+nesting_of (Some word.Irp) = Opens
+nesting_of (Some word.Irpc) = Opens
+nesting_of (Some word.Endm) = Closes
+nesting_of (Some word.Endr) = Closes
+nesting_of (Some other) = Neither
+nesting_of None = Neither
+
+abbrev pub nesting : Bytes → Nesting
+nesting text = nesting_of (directive text)
+
+-- an expansion is put before what is left: conditions belong to it, and its end carries those around it
+abbrev pub opened : Option ℕ → ℕ → List Name → List (List Bytes) → List Bytes → Stage → Stage
+opened arguments bytes formals rounds body stage = record stage {
+  left = expanded formals rounds body (record { arguments = arguments; bytes = bytes; conditions = stage.conditions }) stage.left;
+  conditions = no_conditions;
+}
+
+-- a body that is closed: a macro is defined by it, or a repeat put in place of it
+abbrev pub used : Purpose → List Bytes → Stage → Stage
+used (Defines name formals) body stage = record stage {
+  macros = defined stage.macros name (record { formals = formals; body = body });
+  defined_bytes = stage.defined_bytes + size_of body;
+}
+used (Repeats formals rounds) body stage = opened None (size_of body) formals rounds body stage
+used Drops body stage = stage
+
+-- one line more of a body, or its close
+abbrev pub into_body : Purpose → HalfTaken → Bytes → Option ℕ → Stage → Stage
+into_body purpose taken text None stage = used purpose taken.body (record stage { opening = None })
+into_body purpose taken text (Some depth) stage =
+    record stage { opening = Some (record { purpose = purpose; taken = taken_with taken text depth }) }
+
+-- ---- skipped lines
+
+-- a switch is live where it is the skipped condition's own; a condition past the last has none
+abbrev pub switch_in : OpenConditions → Option OpenConditions
+switch_in conditions =
+    if conditions.is_past then Some conditions else (if conditions.nested == 0 then None else Some conditions)
+
+abbrev pub close_in : OpenConditions → Option OpenConditions
+close_in conditions = if conditions.nested == 0 then None else Some (unnested conditions)
+
+-- the conditions after a line that is skipped, by its word: `.IF` and `.ENDC` alone count. None where the line is live.
+abbrev pub skipped_by : OpenConditions → Option Directive → Option OpenConditions
+skipped_by conditions (Some word.If) = Some (nested conditions)
+skipped_by conditions (Some word.Endc) = close_in conditions
+skipped_by conditions (Some word.Iff) = switch_in conditions
+skipped_by conditions (Some word.Ift) = switch_in conditions
+skipped_by conditions (Some word.Iftf) = switch_in conditions
+skipped_by conditions (Some other) = Some conditions
+skipped_by conditions None = Some conditions
+
+abbrev pub skipped : OpenConditions → Bytes → Option OpenConditions
+skipped conditions text = if is_skipping conditions then skipped_by conditions (directive text) else None
+
+-- ---- moves
+
+-- a line that became live, and whether an expansion gave it
+pub record Live : Type 0 where
+  pub line : SourceLine
+  pub is_expanded : Bool
+
+pub data Move : Type 0 where
+  -- nothing is taken any more
+  NothingLeft : Move
+  -- something is taken, and no line became live
+  Passes : Stage → Move
+  -- a line became live
+  Gives : Live → Stage → Move
+
+-- one line is taken
+abbrev pub one_taken : List Left → Stage → Stage
+one_taken left stage = record stage { left = left; taken = stage.taken + 1 }
+
+-- an expansion ends, with the conditions that were opened in it, and with a body that is open in it
+abbrev pub ended : Mark → List Left → Stage → Stage
+ended mark left stage = record stage { left = left; conditions = mark.conditions; opening = None }
+
+abbrev pub live_or_skipped : Option OpenConditions → SourceLine → Stage → Move
+live_or_skipped (Some conditions) line stage = Passes (record stage { conditions = conditions })
+live_or_skipped None line stage = Gives (record { line = line; is_expanded = is_expanding stage.left }) stage
+
+-- a line is taken into an open body, or else it is skipped or becomes live
+abbrev pub line_taken : Option Opening → SourceLine → Stage → Move
+line_taken (Some opening) line stage = Passes
+    (into_body opening.purpose opening.taken line.text (depth_after (nesting line.text) opening.taken.depth) stage)
+line_taken None line stage = live_or_skipped (skipped stage.conditions line.text) line stage
+
+abbrev pub move_from : List Left → Stage → Move
+move_from [] stage = NothingLeft
+move_from (End mark ∷ left) stage = Passes (ended mark left stage)
+move_from (Line line ∷ left) stage = line_taken stage.opening line (one_taken left stage)
+
+-- the next move: after `.END` nothing is taken
+abbrev pub move : Stage → Move
+move stage = if stage.has_ended then NothingLeft else move_from stage.left stage

@@ -1,0 +1,138 @@
+//! Laws of unfolding. Each is the contract of a function that does nothing.
+
+ghost use Rattle.std.specs.Prelude.{◌≡◌, ◌⊎◌, ◌+◌, ◌<◌, ◌≤◌, ◌++◌, ◌∷◌, ℕ, List, [], Some, true, false, length, map};
+ghost use Rattle.m11_unfold_arguments.specs.Actuals.{actuals_from};
+ghost use Rattle.m11_unfold_arguments.specs.Conditions.{condition};
+ghost use Rattle.m11_unfold_arguments.specs.Expressions.{Known};
+ghost use Rattle.m11_unfold_arguments.specs.Indefinite.{Repetition, irpc, irp};
+ghost use Rattle.m11_unfold_arguments.specs.Repeats as repeats;
+ghost use Rattle.m11_unfold_arguments.specs.declared.directives.Directive.TheVariants as directive;
+ghost use Rattle.m11_base.specs.Devices.{Bytes};
+ghost use Rattle.m11_unfold_bodies.specs.Bodies.{texts_of};
+ghost use Rattle.m11_unfold_bodies.specs.Left.{Left, argument_count, depth, most_expansions};
+ghost use Rattle.m11_unfold_bodies.specs.declared.mark.Mark.{Mark};
+ghost use Rattle.m11_unfold_bodies.specs.declared.open_body.Nesting.TheVariants.{Closes};
+ghost use Rattle.m11_scan_lines.specs.Line.{SourceLine, line_of};
+ghost use Rattle.m11_unfold_rules.specs.Acting.{act, flagged};
+ghost use Rattle.m11_unfold_rules.specs.Constructs.{Block, HasConditionLeft, HasRoom, IsCall, IsPlainBody, after_block, after_call, before_block, before_call, condition_notes, expanded_given, repeated_lines, times};
+ghost use Rattle.m11_unfold_rules.specs.Histories.{GoesOn, IsKnownBy, with_more};
+ghost use Rattle.m11_unfold_rules.specs.Laws.{AreForeign, IsDirective, IsLive, after_exit, after_lines, before_exit, before_lines, exit_given, foreign_given, own_given};
+ghost use Rattle.m11_unfold_rules.specs.Limits.{most_lines};
+ghost use Rattle.m11_unfold_rules.specs.Stages.{Stage};
+ghost use Rattle.m11_unfold_rules.specs.Taking.{Live, NothingLeft, move, nesting};
+ghost use Rattle.m11_unfold_rules.specs.Unfolding.{Given, Leads};
+
+/// Lines whose operators are no macros and no directives of unfolding become live as they are, one after the other.
+pub fn other_lines_become_live()
+    ensures { (known : Known) (stage : Stage) (lines : List SourceLine) (left : List Left) → IsLive stage
+        → AreForeign stage lines → stage.taken + length lines ≤ most_lines
+        → Leads (before_lines stage lines left) (map (foreign_given known left) lines) (after_lines stage lines left) }
+{}
+
+/// `.REPT` gives its own line, and then the lines of its body as often as it says. `.IRP` and `.IRPC` give their own line, and then
+/// the lines of their body once for each text, with that put in place of the formal.
+pub fn repeats_give_their_rounds()
+    ensures counted { (known : Known) (stage : Stage) (block : Block) (place : ℕ) → IsLive stage
+        → IsDirective stage block.first directive.Rept place → IsPlainBody (texts_of block.lines) → nesting block.close.text ≡ Closes
+        → AreForeign stage (times (repeats.rept_count known block.first.text place) (map line_of (texts_of block.lines)))
+        → HasRoom stage block (texts_of block.lines)
+        (times (repeats.rept_count known block.first.text place) (map line_of (texts_of block.lines)))
+        → Leads (before_block stage block)
+        (own_given known block.left block.first (repeats.notes known block.first.text place)
+        ∷ map (expanded_given known (argument_count block.left))
+        (times (repeats.rept_count known block.first.text place) (map line_of (texts_of block.lines))))
+        (after_block stage block
+        (length (times (repeats.rept_count known block.first.text place) (map line_of (texts_of block.lines))))) }
+    ensures listed { (known : Known) (stage : Stage) (block : Block) (place : ℕ) (rounds : Repetition)
+        → IsDirective stage block.first directive.Irp place
+        → (irp known block.first.text place).rounds ≡ Some rounds → IsLive stage
+        → IsPlainBody (texts_of block.lines) → nesting block.close.text ≡ Closes
+        → AreForeign stage (repeated_lines rounds (texts_of block.lines))
+        → HasRoom stage block (texts_of block.lines) (repeated_lines rounds (texts_of block.lines))
+        → Leads (before_block stage block)
+        (own_given known block.left block.first (irp known block.first.text place).notes
+        ∷ map (expanded_given known (argument_count block.left)) (repeated_lines rounds (texts_of block.lines)))
+        (after_block stage block (length (repeated_lines rounds (texts_of block.lines)))) }
+    ensures spelled { (known : Known) (stage : Stage) (block : Block) (place : ℕ) (rounds : Repetition)
+        → IsDirective stage block.first directive.Irpc place
+        → (irpc block.first.text place).rounds ≡ Some rounds → IsLive stage
+        → IsPlainBody (texts_of block.lines) → nesting block.close.text ≡ Closes
+        → AreForeign stage (repeated_lines rounds (texts_of block.lines))
+        → HasRoom stage block (texts_of block.lines) (repeated_lines rounds (texts_of block.lines))
+        → Leads (before_block stage block)
+        (own_given known block.left block.first (irpc block.first.text place).notes
+        ∷ map (expanded_given known (argument_count block.left)) (repeated_lines rounds (texts_of block.lines)))
+        (after_block stage block (length (repeated_lines rounds (texts_of block.lines)))) }
+{}
+
+/// A call of a macro without formals gives its own line, and then the lines of the macro's body.
+pub fn calls_give_their_bodies()
+    ensures { (known : Known) (stage : Stage) (line : SourceLine) (body : List Bytes) (place : ℕ) (left : List Left)
+        → IsLive stage → IsCall stage line body place → AreForeign stage (map line_of body) → depth left < most_expansions
+        → stage.taken + 1 + length body ≤ most_lines
+        → Leads (before_call stage line left)
+        (own_given known left line (actuals_from known line.text 0 place).notes
+        ∷ map (expanded_given known (Some 0)) (map line_of body))
+        (after_call stage body left) }
+{}
+
+/// Where an `.IF` holds, its own line, the lines inside and the `.ENDC` become live; where it doesn't, the first and the last alone.
+pub fn conditions_give_all_or_nothing()
+    ensures holds { (known : Known) (stage : Stage) (block : Block) (place end : ℕ) → IsLive stage
+        → IsDirective stage block.first directive.If place → (condition known block.first.text place).holds ≡ true
+        → HasConditionLeft stage block → AreForeign stage block.lines → IsDirective stage block.close directive.Endc end
+        → stage.taken + (length block.lines + 2) ≤ most_lines
+        → Leads (before_block stage block)
+        (own_given known block.left block.first (condition_notes known block.first.text place)
+        ∷ map (foreign_given known block.left) block.lines
+        ++ own_given known block.left block.close (flagged 0 block.close.text end) ∷ [])
+        (after_block stage block 0) }
+    ensures fails { (known : Known) (stage : Stage) (block : Block) (place end : ℕ) → IsLive stage
+        → IsDirective stage block.first directive.If place → (condition known block.first.text place).holds ≡ false
+        → HasConditionLeft stage block → stage.conditions.nested ≡ 0 → AreForeign stage block.lines
+        → IsDirective stage block.close directive.Endc end → stage.taken + (length block.lines + 2) ≤ most_lines
+        → Leads (before_block stage block)
+        (own_given known block.left block.first (condition_notes known block.first.text place)
+        ∷ own_given known block.left block.close (flagged 0 block.close.text end) ∷ [])
+        (after_block stage block 0) }
+{}
+
+/// Where one unfolding leads to a stage, and another goes on from there, the two together are one, with the lines of both.
+pub fn unfoldings_follow_each_other()
+    ensures { (before middle after : Stage) (done later : List Given) → Leads before done middle → Leads middle later after
+        → Leads before (done ++ later) after }
+{}
+
+/// Two unfoldings from one stage, under what their lines say: one of them goes on where the other stands. Where nothing is taken any
+/// more in either, they have the same lines and end at the same stage.
+pub fn a_source_has_one_unfolding()
+    ensures compared { (known_by : List Given → Live → Known) (before first second : Stage) (done later : List Given)
+        → IsKnownBy known_by done → IsKnownBy known_by later → Leads before done first → Leads before later second
+        → GoesOn done first later second ⊎ GoesOn later second done first }
+    ensures ended { (known_by : List Given → Live → Known) (before first second : Stage) (done later : List Given)
+        → IsKnownBy known_by done → IsKnownBy known_by later → Leads before done first → Leads before later second
+        → move first ≡ NothingLeft → move second ≡ NothingLeft → (done ≡ later) × (first ≡ second) }
+{}
+
+/// Further lines of a source change nothing of what became live before them.
+pub fn further_lines_change_nothing_before_them()
+    ensures { (more : List SourceLine) (before after : Stage) (done : List Given) → Leads before done after
+        → Leads (with_more more before) done (with_more more after) }
+{}
+
+/// After a live `.END` nothing is taken any more: no line becomes live, and the stage stays.
+pub fn end_is_the_last_line()
+    ensures rests { (known : Known) (stage : Stage) (line : SourceLine) (place : ℕ) → IsDirective stage line directive.End place
+        → move (act known stage line.text).after ≡ NothingLeft }
+    ensures stays { (known : Known) (stage after : Stage) (line : SourceLine) (place : ℕ) (done : List Given)
+        → IsDirective stage line directive.End place → Leads (act known stage line.text).after done after
+        → (done ≡ []) × (after ≡ (act known stage line.text).after) }
+{}
+
+/// A live `.MEXIT` in an expansion leaves what stood after the expansion, with the conditions that were open around it.
+pub fn exits_leave_what_stood_after_the_call()
+    ensures { (known : Known) (stage : Stage) (line : SourceLine) (place : ℕ) (rest : List SourceLine) (mark : Mark)
+        (left : List Left) → IsLive stage → IsDirective stage line directive.Mexit place → stage.taken + 1 ≤ most_lines
+        → Leads (before_exit stage line rest mark left) (exit_given known mark left line (flagged 0 line.text place) ∷ [])
+        (after_exit stage mark left) }
+{}

@@ -1,5 +1,0 @@
-use Rattle.m11_unfolding.proofs.OtherLines.{lines_live}
-use Rattle.m11_unfolding.proofs.laws.other_lines_become_live.Goals as goal
-
-pub returns : goal.returns
-returns c = lines_live
