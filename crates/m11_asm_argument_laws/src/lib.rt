@@ -3,15 +3,22 @@
 //! "Source program format", "Conditional assembly block directives" and "Arguments in macro definitions and macro calls".)
 #![tactic(auto)]
 
-mod conditions;
-mod digits;
-mod lists;
+// What a line says: its labels, and what stands after them.
 mod statements;
 
-pub use conditions::{a_repeat_without_a_number_has_no_round, refused_conditions_do_not_hold};
+pub use statements::{bodies_are_read_as_they_are_written, labels_are_read_as_they_are_written};
+
+// What its operator takes: numbers, and lists of names, formals and actuals.
+mod digits;
+mod lists;
+
 pub use digits::{written_numbers_are_read_back, written_numbers_begin_without_a_zero};
 pub use lists::{
     actuals_stand_one_after_the_other, formals_stand_one_after_the_other,
     names_stand_one_after_the_other,
 };
-pub use statements::{bodies_are_read_as_they_are_written, labels_are_read_as_they_are_written};
+
+// Arguments that are bad or missing.
+mod conditions;
+
+pub use conditions::{a_repeat_without_a_number_has_no_round, refused_conditions_do_not_hold};

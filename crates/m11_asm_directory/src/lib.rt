@@ -3,18 +3,28 @@
 //! Language Reference Manual, ".GLOBL directive", ".WEAK directive", ".TITLE directive", ".IDENT directive" and ".END directive".)
 #![tactic(auto)]
 
-mod definitions;
+// What the first pass of a source finds.
 mod first_pass;
-mod laws;
-mod names;
-mod references;
-mod rows;
-mod transfers;
 
 pub use first_pass::FirstPass;
+
+// Names in their order, and the rows that they give: globals that are defined, globals that another object defines, and the start.
+mod definitions;
+mod names;
+mod references;
+mod transfers;
+
+pub use names::ordered_names;
+
+// All rows, in their order.
+mod rows;
+
+pub use rows::directory_rows;
+
+// Laws of the order of names, and of what decides the rows.
+mod laws;
+
 pub use laws::{
     first_passes_that_agree_have_the_same_rows, names_in_order_are_these_alone,
     ordered_names_are_in_order,
 };
-pub use names::ordered_names;
-pub use rows::directory_rows;

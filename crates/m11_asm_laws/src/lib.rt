@@ -1,5 +1,6 @@
-//! Laws of what an assembler writes: what its definitions and those of the linker yield together. Each is the contract of a function
-//! that does nothing. Laws on what sources give to a linked program cite their rows.
+//! The law of relocations: what an assembler writes of a value, and what a linker stores there by it, say together where the target of
+//! the value lies. Each law is the contract of a function that does nothing; laws of linked programs cite its rows. (MACRO-11 Language
+//! Reference Manual, "Relocation and linking".)
 #![tactic(auto)]
 
 mod relocations;

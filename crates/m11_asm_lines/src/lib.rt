@@ -1,25 +1,38 @@
-//! What the lines of a source give, one after the other: labels and changes of the table, sizes of sections, the names that lines
-//! mention, and the limits of all of them. (MACRO-11 Language Reference Manual, "Source program format" and "Symbols and expressions".)
+//! What the lines of a source give, one after the other: labels and changes of the table, sizes of sections, the names that lines use,
+//! and the limits of all of them. (MACRO-11 Language Reference Manual, "Source program format" and "Symbols and expressions".)
 #![tactic(auto)]
 
+// What a pass keeps from line to line: the table, the sizes of sections, and the names that lines use.
+mod counting;
+mod pass;
+mod used_symbols;
+
+pub use counting::Counting;
+pub use pass::Pass;
+pub use used_symbols::UsedSymbols;
+
+// The labels of a line, and those that have moved between the passes.
+mod labels;
+mod moved;
+
+pub use labels::LabelFlags;
+
+// What stands after the labels: what it is, what it changes, and which symbols it uses.
 mod actions;
 mod assigned;
 mod changing;
-mod counting;
-mod items;
-mod labels;
-mod laws;
-mod lines;
-mod moved;
-mod pass;
 mod symbol_uses;
-mod used_symbols;
 
 pub use actions::{Action, action_after_labels, action_fields};
-pub use counting::Counting;
+
+// The whole line: its flags, what it puts, and what a listing shows of it.
+mod items;
+mod lines;
+
 pub use items::{add_content_items, is_shown};
-pub use labels::LabelFlags;
-pub use laws::a_line_goes_through_a_pass;
 pub use lines::{line_flags, put_action};
-pub use pass::Pass;
-pub use used_symbols::UsedSymbols;
+
+// The law that a line goes through a pass in these calls.
+mod laws;
+
+pub use laws::a_line_goes_through_a_pass;

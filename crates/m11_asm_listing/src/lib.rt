@@ -3,22 +3,31 @@
 //! own.)
 #![tactic(auto)]
 
+// Texts at the left or at the right of a column.
 mod columns;
+
+// The lines of a listing, and the bytes and words that they show.
 mod items;
-mod laws;
 mod listing;
+
+pub use items::{Item, Mark, place_after};
+pub use listing::{further_line, listed_line};
+
+// The lines of messages, and those of the symbol table.
 mod messages;
 mod symbol_table;
 
-pub use items::{Item, Mark, place_after};
-pub use laws::{
-    a_further_line_has_at_most_41_characters, a_listed_line_has_at_most_42_characters_and_its_text,
-    a_message_shows_its_text, further_lines_go_by_threes, no_line_ends_with_a_blank,
-    the_text_of_a_listed_line_begins_in_column_43,
-};
-pub use listing::{further_line, listed_line};
 pub use m11_obj_print::Line;
 pub use messages::{count_line, message_line};
 pub use symbol_table::{
     SectionEntry, SymbolEntry, SymbolValue, empty_line, section_line, symbol_line, title_line,
+};
+
+// Laws of the widths of these lines, and of what stands in them.
+mod laws;
+
+pub use laws::{
+    a_further_line_has_at_most_41_characters, a_listed_line_has_at_most_42_characters_and_its_text,
+    a_message_shows_its_text, further_lines_go_by_threes, no_line_ends_with_a_blank,
+    the_text_of_a_listed_line_begins_in_column_43,
 };

@@ -2,13 +2,20 @@
 //! kept here: what names stand for is the caller's. (MACRO-11 Language Reference Manual, "Operator field" and "Operand field".)
 #![tactic(auto)]
 
-mod elements;
-mod fields;
-mod operands;
+// The operator of a line, by its name: an instruction or a directive.
 mod operations;
 mod operators;
 
-pub use elements::{Elements, ListedNames, elements_at, names_at};
+pub use operators::{is_even, operator_named};
+
+// The operands of an instruction, and their forms.
+mod fields;
+mod operands;
+
 pub use fields::{FieldTerms, Fields, fields_at, instruction_size, words_of};
 pub use operands::{OperandRead, operand_at};
-pub use operators::{is_even, operator_named};
+
+// The lists of expressions and of names that directives take.
+mod elements;
+
+pub use elements::{Elements, ListedNames, elements_at, names_at};

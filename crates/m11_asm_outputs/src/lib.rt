@@ -2,12 +2,22 @@
 //! listing and of the messages. No source is read here, and no line is understood.
 #![tactic(auto)]
 
-mod laws;
-mod messages;
-mod object;
+// Each write to an output, whole or with its fault.
 mod outputs;
 
-pub use laws::{pieces_close_texts_in_turn, the_parts_are_the_object};
-pub use messages::{put_count, put_flagged};
-pub use object::{open_text, put_head, put_last, put_pieces};
 pub use outputs::{flush_files, put_listing, put_message, put_record};
+
+// The records of the object.
+mod object;
+
+pub use object::{open_text, put_head, put_last, put_pieces};
+
+// The lines of the messages.
+mod messages;
+
+pub use messages::{put_count, put_flagged};
+
+// Laws of an object that is written while its pieces come.
+mod laws;
+
+pub use laws::{pieces_close_texts_in_turn, the_parts_are_the_object};

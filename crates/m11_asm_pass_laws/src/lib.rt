@@ -1,8 +1,6 @@
-//! Laws of passes: how many live lines a pass over a source has at most; that any two passes over one source, under one map and where the
-//! same names count, have the same live lines and one end, which each pass reaches; what holds of a second pass over the lines of a
-//! first one, under another map; and that a pass places lines alike under all definitions of a source and under the last of each key.
-//! Each is the contract of a function that does nothing, but to call the laws that its own follows from. (MACRO-11 Language Reference
-//! Manual, "Symbols".)
+//! Laws of passes over one source: any two have the same live lines and one end, and maps that agree place lines alike; a second pass
+//! over the lines of a first one moves no label and passes no limit. Each is the contract of a function that does nothing, but to call
+//! the laws that its own follows from. (MACRO-11 Language Reference Manual, "Symbols".)
 #![tactic(auto)]
 
 mod laws;

@@ -2,12 +2,15 @@
 //! the definitions of m11_asm_rules give just that. Each law is the contract of a function that does nothing; no other crate names them.
 #![tactic(auto)]
 
+// Which conditions hold.
 mod conditions;
-mod directives;
-mod instructions;
-mod relocations;
 
 pub use conditions::conditions_are_as_worked;
+
+// What instructions and directives put, their flags, and what a listing shows.
+mod directives;
+mod instructions;
+
 pub use directives::{
     items_are_as_worked, listings_are_as_worked, modes_are_as_worked, places_are_as_worked,
     texts_are_as_worked, words_are_as_worked,
@@ -16,6 +19,10 @@ pub use instructions::{
     branches_are_as_worked, missing_operands_are_as_worked, operands_are_as_worked,
     registers_are_as_worked, relative_operands_are_as_worked,
 };
+
+// What a linker does to it; sections, names and limits.
+mod relocations;
+
 pub use relocations::{
     limits_are_as_worked, names_are_as_worked, sections_are_as_worked, sources_are_as_worked,
 };

@@ -3,17 +3,32 @@
 //! expressions", "Addressing modes" and "General assembler directives".)
 #![tactic(auto)]
 
-mod definitions;
-mod fields;
-mod laws;
-mod meanings;
+// Where a line stands: its section, and what holds from a line on.
 mod modes;
-mod operands;
-mod operators;
 mod sections;
 
+pub use modes::Modes;
+pub use sections::Section;
+
+// What lines define, and what symbols stand for.
+mod definitions;
+mod meanings;
+
 pub use definitions::{Definition, Key, Standing};
+pub use meanings::Context;
+
+// What the operator of a line is, and its operands.
+mod fields;
+mod operands;
+mod operators;
+
 pub use fields::{Field, FieldPlace};
+pub use operands::Form;
+pub use operators::{Directive, DirectiveRow, Operator};
+
+// Laws: lines are placed alike under every map of their symbols.
+mod laws;
+
 pub use laws::{
     a_line_fills_what_it_steps_by, a_line_sets_the_counter, a_line_steps_the_counter,
     an_operand_has_at_most_one_word, firm_assignments_are_those_of_every_map,
@@ -23,8 +38,3 @@ pub use laws::{
     sources_have_the_same_lines_under_every_map, the_map_of_a_source_solves_it,
     the_parts_of_a_text_stand_one_after_the_other,
 };
-pub use meanings::Context;
-pub use modes::Modes;
-pub use operands::Form;
-pub use operators::{Directive, DirectiveRow, Operator};
-pub use sections::Section;

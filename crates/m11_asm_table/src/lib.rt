@@ -2,11 +2,18 @@
 //! Reference Manual, "Symbols and expressions" and "Program section directives".)
 #![tactic(auto)]
 
+// The table of names, local symbols and sections that lines fill.
 mod entries;
-mod map;
-mod names;
 mod table;
 
-pub use map::Map;
-pub use names::{FirmNames, NamesAt, register_flags};
 pub use table::Table;
+
+// What a whole source gave its names in the end.
+mod map;
+
+pub use map::Map;
+
+// What symbols stand for at a line, by either.
+mod names;
+
+pub use names::{FirmNames, NamesAt, register_flags};

@@ -2,13 +2,20 @@
 //! (MACRO-11 Language Reference Manual, "Addressing modes"; PDP-11/40 Processor Handbook, "Instruction set".) No memory is taken.
 #![tactic(auto)]
 
+// A line in the making, and its parts: names of operations, numbers, operands.
 mod arguments;
-mod instructions;
-mod laws;
 mod names;
 mod numbers;
 mod source;
 
-pub use instructions::{Disassembly, byte_source, disassembled};
-pub use laws::a_line_means_its_words;
 pub use source::Source;
+
+// The line of an instruction.
+mod instructions;
+
+pub use instructions::{Disassembly, byte_source, disassembled};
+
+// The law that an assembler makes the same words of it.
+mod laws;
+
+pub use laws::a_line_means_its_words;

@@ -1,11 +1,18 @@
 //! What opens the files of a task: those of the system, or files in memory.
 #![tactic(auto)]
 
-mod memory_files;
+// What opens files, whichever they are.
 mod opens;
+
+pub use opens::{OpenRefusal, Opens};
+
+// The files of the system, with what stands in for streams that are closed.
 mod stand_ins;
 mod system_files;
 
-pub use memory_files::{MadeFile, MemoryFile, MemoryFiles};
-pub use opens::{OpenRefusal, Opens};
 pub use system_files::SystemFiles;
+
+// Files in memory.
+mod memory_files;
+
+pub use memory_files::{MadeFile, MemoryFile, MemoryFiles};

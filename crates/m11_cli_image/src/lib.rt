@@ -3,19 +3,26 @@
 //! the contract of a function that does nothing.
 #![tactic(auto)]
 
-mod links;
+// The texts of one object, with what relocations store in them.
 mod objects;
-mod tapes;
 mod texts;
+
+pub use objects::{
+    directories_are_read_back, objects_are_read_back, objects_yield_their_parts,
+    texts_are_read_back,
+};
+pub use texts::texts_store_their_pieces;
+
+// The objects of several sources in one link.
+mod links;
 
 pub use links::{
     linked_texts_end_by_the_last_address, links_have_the_texts_of_their_sources,
     links_lie_by_their_sources, links_read_their_sources, links_write_the_texts_of_their_sources,
     the_absolute_section_lies_at_0,
 };
-pub use objects::{
-    directories_are_read_back, objects_are_read_back, objects_yield_their_parts,
-    texts_are_read_back,
-};
+
+// The tape of the link, and a load of it.
+mod tapes;
+
 pub use tapes::{links_give_the_image, loads_of_links_yield_the_image};
-pub use texts::texts_store_their_pieces;

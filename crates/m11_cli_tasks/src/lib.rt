@@ -2,21 +2,31 @@
 //! the refusal of the words; and the files of a task, opened.
 #![tactic(auto)]
 
+// The words that the system gives.
 mod arguments;
-mod commands;
-mod opened;
-mod tasks;
-mod usage;
 
 pub use arguments::{WordsFault, refusal_line, words};
+
+// The parser of command lines, and what can be wrong with one.
+mod commands;
+mod usage;
+
 pub use commands::{
     leaf_command, option_argument, start_argument, steps_argument, tape_argument, with_argument,
     words_argument,
 };
-pub use opened::{
-    AsmFiles, Inputs, LinkFiles, OpenFault, open_asm_files, open_link_files, open_sim_file,
-};
+pub use usage::UsageFault;
+
+// What a command line asks for.
+mod tasks;
+
 pub use tasks::{
     AsmTask, LinkTask, SimTask, Task, address, all_texts, number_given, plan, sim_task,
 };
-pub use usage::UsageFault;
+
+// The files of a task, opened.
+mod opened;
+
+pub use opened::{
+    AsmFiles, Inputs, LinkFiles, OpenFault, open_asm_files, open_link_files, open_sim_file,
+};

@@ -2,14 +2,23 @@
 //! steps, and its stop is reported. What the machine and its steps are stands in the crate below.
 #![tactic(auto)]
 
-mod fault;
+// A tape is loaded.
 mod loading;
-mod messages;
+
+pub use loading::load;
+
+// The machine makes steps, up to a limit.
 mod runs;
+
+pub use m11_cpu_machine::{LastingStop, Machine, ProcessorStatus, Stop, Turn};
+pub use runs::run;
+
+// The stop is reported.
+mod messages;
+
+// The whole run, and what can go wrong with it.
+mod fault;
 mod simulation;
 
 pub use fault::{LoadFault, SimFault};
-pub use loading::load;
-pub use m11_cpu_machine::{LastingStop, Machine, ProcessorStatus, Stop, Turn};
-pub use runs::run;
 pub use simulation::{SimDone, sim_run};

@@ -2,26 +2,39 @@
 //! a function that does nothing; no other crate names them.
 #![tactic(auto)]
 
+// Where operands are found, and which accesses trap.
 mod addresses;
-mod branching;
-mod devices;
-mod laws;
 mod operands;
-mod registers;
-mod returns;
-mod status_word;
-mod steps;
-mod witnesses;
-mod writes;
 
 pub use addresses::{accesses_alone_trap, bad_addresses_trap};
+pub use operands::modes_find_their_operands;
+
+// What a step may change: registers, the status word, memory.
+mod registers;
+mod status_word;
+mod writes;
+
+pub use registers::{odd_registers_are_both_words, registers_stay};
+pub use status_word::{status_word_takes_what_is_stored, trace_bit_stays};
+pub use writes::memory_stays;
+
+// Where a step leads: branches, calls, traps, the trace trap.
+mod branching;
+mod returns;
+mod steps;
+
 pub use branching::branches_go;
+pub use returns::{calls_return, traps_return};
+pub use steps::trace_trap_follows;
+
+// The console, stops and runs.
+mod devices;
+mod laws;
+
 pub use devices::{failures_stop, receiver_asks_nothing_ahead};
 pub use laws::{console_is_exact, runs_are_joined, stops_stand};
-pub use operands::modes_find_their_operands;
-pub use registers::{odd_registers_are_both_words, registers_stay};
-pub use returns::{calls_return, traps_return};
-pub use status_word::{status_word_takes_what_is_stored, trace_bit_stays};
-pub use steps::trace_trap_follows;
+
+// Machines for which the premises of these laws hold.
+mod witnesses;
+
 pub use witnesses::premises_are_met;
-pub use writes::memory_stays;

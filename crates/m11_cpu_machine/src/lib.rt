@@ -2,30 +2,40 @@
 //! console, and its steps, one instruction each with the traps that it leads to.
 #![tactic(auto)]
 
+// What the machine holds: memory, registers, the status word, the console.
+mod console;
+mod machine;
+mod memory;
+mod status;
+
+pub use console::{Receiver, Transmitter};
+pub use machine::Machine;
+pub use memory::Memory;
+pub use status::ProcessorStatus;
+
+// What is read and written at an address, and the operands that modes find.
 mod abort;
 mod access;
 mod addressing;
-mod console;
+
+pub use addressing::{OperandLocation, step_of, without_low_byte};
+
+// What each instruction does, by the form of its operands.
 mod destination_use;
 mod double_operands;
 mod execution;
 mod extended;
 mod jumps;
-mod machine;
-mod memory;
 mod single_operands;
-mod status;
-mod steps;
-mod stop;
-mod traps;
 
-pub use addressing::{OperandLocation, step_of, without_low_byte};
-pub use console::{Receiver, Transmitter};
 pub use destination_use::{DestinationUse, use_by_double, use_by_single};
 pub use double_operands::sign_extended;
 pub use extended::low_word_of;
 pub use jumps::words_on;
-pub use machine::Machine;
-pub use memory::Memory;
-pub use status::ProcessorStatus;
+
+// A step: one instruction with its traps, and why a run stops.
+mod steps;
+mod stop;
+mod traps;
+
 pub use stop::{LastingStop, Stop, Turn};

@@ -2,17 +2,25 @@
 //! general step would be, and what isn't plain is left to that one. Without this crate all would run, more slowly.
 #![tactic(auto)]
 
-mod arms;
-mod doubles;
-mod extended;
-mod forms;
-mod jumps;
+// The kinds of instructions, and a table of the kind of each word.
 mod kind_table;
 mod kinds;
-mod near;
-mod operands;
-mod quick;
-mod singles;
 
 pub use kind_table::KindTable;
+
+// Operands by their forms, where they lie in registers or in memory.
+mod forms;
+mod near;
+mod operands;
+
+// What instructions do on such operands.
+mod doubles;
+mod extended;
+mod jumps;
+mod singles;
+
+// One step by the kind of its word, and the loop of steps.
+mod arms;
+mod quick;
+
 pub use quick::quick_steps;

@@ -4,24 +4,39 @@
 //! text, and the names by which records are judged.
 #![tactic(auto)]
 
-mod entries;
-mod fault;
-mod instructions;
+// Whether a file is an object or a tape, and how its bytes are shown.
 mod kind;
-mod laws;
-mod objects;
+mod view;
+
+pub use kind::{Kind, kind_of};
+pub use view::View;
+
+// Bytes as octal words, as octets or as instructions.
+mod instructions;
 mod octets;
-mod places;
+mod words;
+
+// An object, a block at a time: its records, their entries and relocations.
+mod entries;
+mod objects;
 mod records;
 mod relocations;
 mod stand;
+
+pub use objects::dump_object;
+
+// A tape, a block at a time.
 mod tapes;
-mod view;
-mod words;
+
+pub use tapes::dump_tape;
+
+// Why a dump stops, and at which byte.
+mod fault;
+mod places;
 
 pub use fault::{DumpFault, Placed};
-pub use kind::{Kind, kind_of};
+
+// Laws of what is shown, and where.
+mod laws;
+
 pub use laws::{contents_stand_where_they_are_told, each_byte_is_shown_once_in_order};
-pub use objects::dump_object;
-pub use tapes::dump_tape;
-pub use view::View;

@@ -2,15 +2,28 @@
 //! "Object file format" and "Absolute binary file format".)
 #![tactic(auto)]
 
-mod emit;
-mod front;
-mod held;
-mod laws;
+// Each write to an output, whole or with its fault.
 mod outputs;
+
+// What is written before the tape: messages on undefined globals, and the map.
+mod front;
+
+// What is written of each record after that: messages, and texts as blocks of the tape.
+mod held;
 mod reporting;
-mod run;
+
+// The second pass, a block at a time.
+mod emit;
 
 pub use emit::{Emit, LinkDone};
-pub use laws::plans_write_by_definition;
+
+// The whole link: both passes over the objects.
+mod run;
+
 pub use m11_link_layout::{Layout, LinkFault, LinkOutput, Plan};
 pub use run::{link_run, objects_yield_items};
+
+// The law that a plan of the first pass writes what the definitions say.
+mod laws;
+
+pub use laws::plans_write_by_definition;

@@ -2,17 +2,27 @@
 //! Reference Manual, ".PSECT directive"; RT-11 Volume and File Formats Manual, "Object file format".)
 #![tactic(auto)]
 
-mod attributes;
-mod bases;
-mod definition;
+// What can go wrong in a link.
 mod fault;
-mod layout;
-mod plan;
-mod planned;
+
+pub use fault::{LinkFault, LinkOutput};
+
+// What the records of the objects tell: sections with their attributes, globals, modules.
+mod attributes;
+mod definition;
 mod tables;
 
 pub use attributes::section_attributes;
-pub use fault::{LinkFault, LinkOutput};
+
+// The first pass, a block at a time.
+mod layout;
+
 pub use layout::Layout;
+
+// What it hands on: the bases of sections, and the values of globals.
+mod bases;
+mod plan;
+mod planned;
+
 pub use plan::Plan;
 pub use planned::{PlannedGlobal, PlannedSection};

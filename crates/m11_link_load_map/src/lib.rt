@@ -3,14 +3,22 @@
 //! Manual, "Object file format"; the lines are this project's own.) The objects are read once, and nothing is linked.
 #![tactic(auto)]
 
-mod fault;
-mod laws;
-mod lines;
+// The objects are read, and what the map needs of them is noted.
 mod noted;
 mod reading;
-mod run;
+
+// The lines of the map, and its whole text.
+mod lines;
 mod text;
 
+// The whole run, and what can go wrong with it.
+mod fault;
+mod run;
+
 pub use fault::LoadMapFault;
-pub use laws::{each_section_entry_is_shown_once, objects_have_one_map};
 pub use run::load_map_run;
+
+// Laws: each section entry is shown once, and objects have one map.
+mod laws;
+
+pub use laws::{each_section_entry_is_shown_once, objects_have_one_map};

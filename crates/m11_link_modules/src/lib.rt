@@ -2,15 +2,25 @@
 //! File Formats Manual, "Object file format".)
 #![tactic(auto)]
 
-mod checks;
+// What can be wrong with the records of an object.
 mod fault;
-mod laws;
-mod refusal;
-mod rules;
+
+pub use fault::ModuleFault;
+
+// Where a record may stand, and what is asked of its parts.
+mod checks;
 mod stage;
 
 pub use checks::lies_within;
-pub use fault::ModuleFault;
-pub use laws::{files_are_in_order, ordered_records_are_files};
+
+// The rules, kept while the records come.
+mod refusal;
+mod rules;
+
 pub use refusal::refuse;
 pub use rules::Rules;
+
+// Laws: records that are let through are modules, and no others.
+mod laws;
+
+pub use laws::{files_are_in_order, ordered_records_are_files};

@@ -3,24 +3,34 @@
 //! program format".)
 #![tactic(auto)]
 
-mod actuals;
+// What a line says: labels, and then an assignment, an operator or words.
 mod bodies;
-mod formals;
 mod labels;
-mod laws;
-mod listed;
-mod parts;
 mod reading;
 mod spans;
 mod statements;
 
-pub use actuals::{Actual, ActualKind, Separator, next_actual, separator_at};
 pub use bodies::{Assignment, Body};
-pub use formals::{Formal, NextFormal, next_formal};
 pub use labels::{LABEL_LIMIT, Label, LabelKind, labels_of};
-pub use laws::{case_makes_no_difference, labels_and_body_stand_in_order};
-pub use listed::{ListedName, listed_name};
-pub use parts::{Part, PartKind, next_part};
 pub use reading::statement;
 pub use spans::Span;
 pub use statements::Statement;
+
+// What directives take from their lines: lists of names, and the parts of a text.
+mod listed;
+mod parts;
+
+pub use listed::{ListedName, listed_name};
+pub use parts::{Part, PartKind, next_part};
+
+// What macros take from their lines: formals and actuals.
+mod actuals;
+mod formals;
+
+pub use actuals::{Actual, ActualKind, Separator, next_actual, separator_at};
+pub use formals::{Formal, NextFormal, next_formal};
+
+// Laws of the order of these parts, and of upper and lower case.
+mod laws;
+
+pub use laws::{case_makes_no_difference, labels_and_body_stand_in_order};

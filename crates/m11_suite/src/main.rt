@@ -2,10 +2,13 @@
 //! case that differs what differs first. The count of cases that hold comes last.
 #![tactic(auto)]
 
+// A case, read from its text.
 mod case;
-mod compare;
 mod escapes;
 mod fault;
+
+// Its commands are run, and what they leave is compared with what it states.
+mod compare;
 mod run;
 
 use crate::case::read_case;

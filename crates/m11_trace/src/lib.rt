@@ -2,20 +2,34 @@
 //! the stop are those of the run without the lines.
 #![tactic(auto)]
 
+// What is kept of a step, and the words of memory that it changed.
 mod changes;
-mod ending;
-mod laws;
+mod shots;
+
+pub use shots::{Fetched, Shot, View};
+
+// The line of a step.
 mod line;
 mod lines;
+
+// Steps with their lines, and the last ones where no line was put.
+mod recent;
+mod steps;
+
+// What is said at the end: why it ended, and parts of memory.
+mod ending;
 mod messages;
 mod ranges;
-mod recent;
-mod shots;
-mod steps;
-mod tracing;
 
 pub use ending::Ending;
-pub use laws::each_changed_word_is_shown;
 pub use ranges::Range;
-pub use shots::{Fetched, Shot, View};
+
+// The whole run.
+mod tracing;
+
 pub use tracing::trace_run;
+
+// The law that a line shows each word that changed.
+mod laws;
+
+pub use laws::each_changed_word_is_shown;

@@ -3,18 +3,29 @@
 //! directives".)
 #![tactic(auto)]
 
-mod acting;
-mod calling;
-mod laws;
+// What is kept from line to line: macros, and the body that is being taken.
 mod macros;
 mod opening;
-mod rounds;
-mod skipping;
 mod state;
+
+// The line that comes next: skipped, put into a body, or live.
+mod skipping;
 mod steps;
 mod taking;
+
+pub use steps::{Act, Step};
+
+// What the operator of a live line does: directives, calls, rounds of a repeat.
+mod acting;
+mod calling;
+mod rounds;
+
+// The unfolder of a source.
 mod unfolder;
 
-pub use laws::the_calls_unfold_the_source;
-pub use steps::{Act, Step};
 pub use unfolder::Unfolder;
+
+// The law that its calls unfold a source.
+mod laws;
+
+pub use laws::the_calls_unfold_the_source;

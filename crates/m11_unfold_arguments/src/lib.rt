@@ -3,36 +3,55 @@
 //! directives", "Macro definition", "Arguments in macro definitions and macro calls" and "Indefinite repeat block directives".)
 #![tactic(auto)]
 
-mod actuals;
-mod conditions;
-mod definedness;
-mod digits;
+// The directive that a line's operator is.
 mod directives;
+
+pub use directives::{Directive, directive_named, directive_of, operator, operator_in};
+
+// What reading arguments leaves beside their values: flags, and the symbols that were read.
+mod left_overs;
+mod notes;
+
+pub use left_overs::{
+    bad_flags, flags_before, has_token, left_over, place_in, rest_flags, skip_flags,
+};
+pub use notes::Notes;
+
+// Expressions: how far they reach, and their values.
 mod expression_ends;
 mod expressions;
-mod filling;
-mod immediate;
-mod indefinite;
-mod laws;
-mod left_overs;
-mod macros;
-mod notes;
-mod repeats;
 
-pub use actuals::actuals_from;
-pub use conditions::{Verdict, actual_flags, condition};
-pub use directives::{Directive, directive_named, directive_of, operator, operator_in};
 pub use expression_ends::{
     ExpressionEnd, expression_end_at, expression_end_from, has_expression, single_term,
 };
 pub use expressions::{note_symbols, value_at, value_by};
-pub use filling::{FIRST_CREATED, Filled, fill};
+
+// Conditions: `.IF` and `.IIF`.
+mod conditions;
+mod definedness;
+mod immediate;
+
+pub use conditions::{Verdict, actual_flags, condition};
 pub use immediate::{Immediate, after_comma, iif};
+
+// Repeats: `.REPT`, `.IRP` and `.IRPC`.
+mod indefinite;
+mod repeats;
+
 pub use indefinite::{Rounds, irp, irpc};
-pub use laws::created_symbols_differ;
-pub use left_overs::{
-    bad_flags, flags_before, has_token, left_over, place_in, rest_flags, skip_flags,
-};
-pub use macros::{Header, MacroFormal, NameAt, header_at, name_at};
-pub use notes::Notes;
 pub use repeats::rept_count;
+
+// Macros: a definition, the actuals of a call, and which formal has which.
+mod actuals;
+mod digits;
+mod filling;
+mod macros;
+
+pub use actuals::actuals_from;
+pub use filling::{FIRST_CREATED, Filled, fill};
+pub use macros::{Header, MacroFormal, NameAt, header_at, name_at};
+
+// Laws of what calls of macros take.
+mod laws;
+
+pub use laws::created_symbols_differ;

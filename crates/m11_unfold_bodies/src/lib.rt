@@ -3,27 +3,40 @@
 //! "Macro directives", "Repeat block" and "Conditional assembly block directives".)
 #![tactic(auto)]
 
-mod conditions;
-mod frame;
-mod laws;
-mod left;
-mod mark;
+// Texts that are kept, and a body while its lines come.
 mod open_body;
-mod rounds;
-mod substitution;
-mod template;
 mod text;
 
+pub use open_body::{Nesting, OpenBody};
+pub use text::{Text, Texts};
+
+// A body with its formals, and actuals put in their place.
+mod substitution;
+mod template;
+
+pub use substitution::substitute;
+pub use template::Template;
+
+// An open expansion: its rounds, its conditions, its end.
+mod conditions;
+mod frame;
+mod mark;
+mod rounds;
+
 pub use conditions::{CONDITION_LIMIT, Conditions, OpenCondition, Part};
+pub use mark::Mark;
+pub use rounds::Rounds;
+
+// What is left to take, of all open expansions and the source.
+mod left;
+
+pub use left::{EXPANSION_LIMIT, Remaining, Taken};
+
+// Laws of quotes and formals, of rounds, and of conditions.
+mod laws;
+
 pub use laws::{
     a_formal_gives_way_with_a_quote_on_each_side, an_endc_undoes_its_if,
     expansions_are_rounds_and_an_end, formals_alone_are_replaced, half_taken_bodies_go_on,
     quotes_beside_a_formal_vanish, the_last_switch_decides,
 };
-pub use left::{EXPANSION_LIMIT, Remaining, Taken};
-pub use mark::Mark;
-pub use open_body::{Nesting, OpenBody};
-pub use rounds::Rounds;
-pub use substitution::substitute;
-pub use template::Template;
-pub use text::{Text, Texts};

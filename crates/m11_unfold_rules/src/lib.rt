@@ -1,5 +1,6 @@
-//! What conditions, repeats and macros make of a source: a rewriting, of which line becomes live after which, with its limits. Here stand
-//! the definitions and their laws. (MACRO-11 Language Reference Manual, "Macro directives" and "Conditional assembly directives".)
+//! What conditions, repeats and macros make of a source: a rewriting that says which line becomes live after which, with its limits.
+//! Here stand the definitions and their laws. (MACRO-11 Language Reference Manual, "Macro directives" and "Conditional assembly
+//! directives".)
 #![tactic(auto)]
 
 mod fault;
