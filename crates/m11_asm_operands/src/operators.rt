@@ -12,44 +12,36 @@ use crate::operations::operation_of;
 use m11_asm_rules::{Directive, DirectiveRow, Operator};
 use m11_scan::is_same_six;
 
-macro_rules! row {
-    ($name:literal, $directive:expr) => {
-        DirectiveRow {
-            name: *$name,
-            directive: $directive,
-        }
-    };
-}
-
 // The directives, each with its name of six characters.
+#[rattlefmt::skip]
 const DIRECTIVES: [DirectiveRow; 27] = [
-    row!(b".WORD ", Directive::Word),
-    row!(b".BYTE ", Directive::Byte),
-    row!(b".ASCII", Directive::Ascii),
-    row!(b".ASCIZ", Directive::Asciz),
-    row!(b".RAD50", Directive::Rad50),
-    row!(b".BLKB ", Directive::Blkb),
-    row!(b".BLKW ", Directive::Blkw),
-    row!(b".EVEN ", Directive::Even),
-    row!(b".ODD  ", Directive::Odd),
-    row!(b".LIMIT", Directive::Limit),
-    row!(b".RADIX", Directive::Radix),
-    row!(b".ASECT", Directive::Asect),
-    row!(b".CSECT", Directive::Csect),
-    row!(b".PSECT", Directive::Psect),
-    row!(b".GLOBL", Directive::Globl),
-    row!(b".WEAK ", Directive::Weak),
-    row!(b".TITLE", Directive::Title),
-    row!(b".IDENT", Directive::Ident),
-    row!(b".SBTTL", Directive::Sbttl),
-    row!(b".PAGE ", Directive::Page),
-    row!(b".LIST ", Directive::List),
-    row!(b".NLIST", Directive::Nlist),
-    row!(b".ENABL", Directive::Enabl),
-    row!(b".DSABL", Directive::Dsabl),
-    row!(b".NARG ", Directive::Narg),
-    row!(b".NCHR ", Directive::Nchr),
-    row!(b".END  ", Directive::End),
+    DirectiveRow { name: *b".WORD ", directive: Directive::Word },
+    DirectiveRow { name: *b".BYTE ", directive: Directive::Byte },
+    DirectiveRow { name: *b".ASCII", directive: Directive::Ascii },
+    DirectiveRow { name: *b".ASCIZ", directive: Directive::Asciz },
+    DirectiveRow { name: *b".RAD50", directive: Directive::Rad50 },
+    DirectiveRow { name: *b".BLKB ", directive: Directive::Blkb },
+    DirectiveRow { name: *b".BLKW ", directive: Directive::Blkw },
+    DirectiveRow { name: *b".EVEN ", directive: Directive::Even },
+    DirectiveRow { name: *b".ODD  ", directive: Directive::Odd },
+    DirectiveRow { name: *b".LIMIT", directive: Directive::Limit },
+    DirectiveRow { name: *b".RADIX", directive: Directive::Radix },
+    DirectiveRow { name: *b".ASECT", directive: Directive::Asect },
+    DirectiveRow { name: *b".CSECT", directive: Directive::Csect },
+    DirectiveRow { name: *b".PSECT", directive: Directive::Psect },
+    DirectiveRow { name: *b".GLOBL", directive: Directive::Globl },
+    DirectiveRow { name: *b".WEAK ", directive: Directive::Weak },
+    DirectiveRow { name: *b".TITLE", directive: Directive::Title },
+    DirectiveRow { name: *b".IDENT", directive: Directive::Ident },
+    DirectiveRow { name: *b".SBTTL", directive: Directive::Sbttl },
+    DirectiveRow { name: *b".PAGE ", directive: Directive::Page },
+    DirectiveRow { name: *b".LIST ", directive: Directive::List },
+    DirectiveRow { name: *b".NLIST", directive: Directive::Nlist },
+    DirectiveRow { name: *b".ENABL", directive: Directive::Enabl },
+    DirectiveRow { name: *b".DSABL", directive: Directive::Dsabl },
+    DirectiveRow { name: *b".NARG ", directive: Directive::Narg },
+    DirectiveRow { name: *b".NCHR ", directive: Directive::Nchr },
+    DirectiveRow { name: *b".END  ", directive: Directive::End },
 ];
 
 /// The operator of a name of six characters in upper case, with blanks where there are fewer: a directive, or else an instruction.

@@ -38,6 +38,7 @@ pub(crate) struct Code {
 
 /// An instruction, by the kind of its word. It is one match, so that a step jumps once to what it does.
 #[inline(always)]
+#[rattlefmt::skip]
 pub(crate) fn act(
     machine: &mut Machine,
     kind: Kind,
@@ -59,41 +60,23 @@ pub(crate) fn act(
         Kind::MovAbsoluteRegister => to_register(machine, Mov, Word, Absolute, code, registers),
         Kind::MovRelativeRegister => to_register(machine, Mov, Word, Relative, code, registers),
         Kind::MovImmediateRegister => to_register(machine, Mov, Word, Immediate, code, registers),
-        Kind::MovRegisterDeferred => to_memory(
-            machine, Mov, Word, Register, Deferred, code, registers,
-        ),
-        Kind::MovRegisterIncrement => to_memory(
-            machine, Mov, Word, Register, Increment, code, registers,
-        ),
-        Kind::MovRegisterDecrement => to_memory(
-            machine, Mov, Word, Register, Decrement, code, registers,
-        ),
+        Kind::MovRegisterDeferred => to_memory(machine, Mov, Word, Register, Deferred, code, registers),
+        Kind::MovRegisterIncrement => to_memory(machine, Mov, Word, Register, Increment, code, registers),
+        Kind::MovRegisterDecrement => to_memory(machine, Mov, Word, Register, Decrement, code, registers),
         Kind::MovRegisterIndex => to_memory(machine, Mov, Word, Register, Index, code, registers),
-        Kind::MovRegisterAbsolute => to_memory(
-            machine, Mov, Word, Register, Absolute, code, registers,
-        ),
-        Kind::MovRegisterRelative => to_memory(
-            machine, Mov, Word, Register, Relative, code, registers,
-        ),
-        Kind::MovImmediateDecrement => to_memory(
-            machine, Mov, Word, Immediate, Decrement, code, registers,
-        ),
+        Kind::MovRegisterAbsolute => to_memory(machine, Mov, Word, Register, Absolute, code, registers),
+        Kind::MovRegisterRelative => to_memory(machine, Mov, Word, Register, Relative, code, registers),
+        Kind::MovImmediateDecrement => to_memory(machine, Mov, Word, Immediate, Decrement, code, registers),
         Kind::MovImmediateIndex => to_memory(machine, Mov, Word, Immediate, Index, code, registers),
         Kind::MovIndexIndex => to_memory(machine, Mov, Word, Index, Index, code, registers),
         Kind::MovIndexDecrement => to_memory(machine, Mov, Word, Index, Decrement, code, registers),
         Kind::MovIndexDeferred => to_memory(machine, Mov, Word, Index, Deferred, code, registers),
-        Kind::MovIncrementIncrement => to_memory(
-            machine, Mov, Word, Increment, Increment, code, registers,
-        ),
-        Kind::MovDeferredDeferred => to_memory(
-            machine, Mov, Word, Deferred, Deferred, code, registers,
-        ),
+        Kind::MovIncrementIncrement => to_memory(machine, Mov, Word, Increment, Increment, code, registers),
+        Kind::MovDeferredDeferred => to_memory(machine, Mov, Word, Deferred, Deferred, code, registers),
         Kind::CmpRegisterRegister => to_register(machine, Cmp, Word, Register, code, registers),
         Kind::CmpDeferredRegister => to_register(machine, Cmp, Word, Deferred, code, registers),
         Kind::CmpIndexRegister => to_register(machine, Cmp, Word, Index, code, registers),
-        Kind::CmpRegisterImmediate => to_memory(
-            machine, Cmp, Word, Register, Immediate, code, registers,
-        ),
+        Kind::CmpRegisterImmediate => to_memory(machine, Cmp, Word, Register, Immediate, code, registers),
         Kind::CmpIndexImmediate => to_memory(machine, Cmp, Word, Index, Immediate, code, registers),
         Kind::CmpIndexIndex => to_memory(machine, Cmp, Word, Index, Index, code, registers),
         Kind::BicImmediateRegister => to_register(machine, Bic, Word, Immediate, code, registers),
@@ -107,41 +90,19 @@ pub(crate) fn act(
         Kind::MovbDeferredRegister => to_register(machine, Mov, Byte, Deferred, code, registers),
         Kind::MovbIncrementRegister => to_register(machine, Mov, Byte, Increment, code, registers),
         Kind::MovbIndexRegister => to_register(machine, Mov, Byte, Index, code, registers),
-        Kind::MovbRegisterDeferred => to_memory(
-            machine, Mov, Byte, Register, Deferred, code, registers,
-        ),
-        Kind::MovbRegisterIncrement => to_memory(
-            machine, Mov, Byte, Register, Increment, code, registers,
-        ),
+        Kind::MovbRegisterDeferred => to_memory(machine, Mov, Byte, Register, Deferred, code, registers),
+        Kind::MovbRegisterIncrement => to_memory(machine, Mov, Byte, Register, Increment, code, registers),
         Kind::MovbRegisterIndex => to_memory(machine, Mov, Byte, Register, Index, code, registers),
-        Kind::MovbIncrementIncrement => to_memory(
-            machine, Mov, Byte, Increment, Increment, code, registers,
-        ),
-        Kind::MovbIndexIncrement => to_memory(
-            machine, Mov, Byte, Index, Increment, code, registers,
-        ),
-        Kind::MovbDecrementIncrement => to_memory(
-            machine, Mov, Byte, Decrement, Increment, code, registers,
-        ),
+        Kind::MovbIncrementIncrement => to_memory(machine, Mov, Byte, Increment, Increment, code, registers),
+        Kind::MovbIndexIncrement => to_memory(machine, Mov, Byte, Index, Increment, code, registers),
+        Kind::MovbDecrementIncrement => to_memory(machine, Mov, Byte, Decrement, Increment, code, registers),
         Kind::CmpbRegisterRegister => to_register(machine, Cmp, Byte, Register, code, registers),
-        Kind::CmpbRegisterImmediate => to_memory(
-            machine, Cmp, Byte, Register, Immediate, code, registers,
-        ),
-        Kind::CmpbDeferredImmediate => to_memory(
-            machine, Cmp, Byte, Deferred, Immediate, code, registers,
-        ),
-        Kind::CmpbIncrementImmediate => to_memory(
-            machine, Cmp, Byte, Increment, Immediate, code, registers,
-        ),
-        Kind::CmpbIndexImmediate => to_memory(
-            machine, Cmp, Byte, Index, Immediate, code, registers,
-        ),
-        Kind::CmpbIncrementIncrement => to_memory(
-            machine, Cmp, Byte, Increment, Increment, code, registers,
-        ),
-        Kind::BicbImmediateDeferred => to_memory(
-            machine, Bic, Byte, Immediate, Deferred, code, registers,
-        ),
+        Kind::CmpbRegisterImmediate => to_memory(machine, Cmp, Byte, Register, Immediate, code, registers),
+        Kind::CmpbDeferredImmediate => to_memory(machine, Cmp, Byte, Deferred, Immediate, code, registers),
+        Kind::CmpbIncrementImmediate => to_memory(machine, Cmp, Byte, Increment, Immediate, code, registers),
+        Kind::CmpbIndexImmediate => to_memory(machine, Cmp, Byte, Index, Immediate, code, registers),
+        Kind::CmpbIncrementIncrement => to_memory(machine, Cmp, Byte, Increment, Increment, code, registers),
+        Kind::BicbImmediateDeferred => to_memory(machine, Bic, Byte, Immediate, Deferred, code, registers),
         Kind::SubRegisterRegister => to_register(machine, Sub, Word, Register, code, registers),
         Kind::SubIndexRegister => to_register(machine, Sub, Word, Index, code, registers),
         Kind::ClrRegister => on_one(machine, Clr, Word, Register, code, registers),

@@ -127,57 +127,22 @@ pub(crate) enum Kind {
 impl Kind {
     /// The kind of a word.
     #[tactic(auto, unfolding(m11_base::specs::OperationTables::doubles, m11_base::specs::OperationTables::extended))]
+    #[rattlefmt::skip]
     pub(crate) fn of(word: u16) -> Kind
         ensures { Describes result word }
     {
         let source = Operand::of_bits(word / 0o100);
         let destination = Operand::of_bits(word);
         match word / 0o10000 {
-            0o01 => mov_kind(
-                word,
-                Form::of(Size::Word, source),
-                Form::of(Size::Word, destination),
-            ),
-            0o02 => cmp_kind(
-                word,
-                Form::of(Size::Word, source),
-                Form::of(Size::Word, destination),
-            ),
-            0o04 => bic_kind(
-                word,
-                Form::of(Size::Word, source),
-                Form::of(Size::Word, destination),
-            ),
-            0o05 => bis_kind(
-                word,
-                Form::of(Size::Word, source),
-                Form::of(Size::Word, destination),
-            ),
-            0o06 => add_kind(
-                word,
-                Form::of(Size::Word, source),
-                Form::of(Size::Word, destination),
-            ),
-            0o11 => movb_kind(
-                word,
-                Form::of(Size::Byte, source),
-                Form::of(Size::Byte, destination),
-            ),
-            0o12 => cmpb_kind(
-                word,
-                Form::of(Size::Byte, source),
-                Form::of(Size::Byte, destination),
-            ),
-            0o14 => bicb_kind(
-                word,
-                Form::of(Size::Byte, source),
-                Form::of(Size::Byte, destination),
-            ),
-            0o16 => sub_kind(
-                word,
-                Form::of(Size::Word, source),
-                Form::of(Size::Word, destination),
-            ),
+            0o01 => mov_kind(word, Form::of(Size::Word, source), Form::of(Size::Word, destination)),
+            0o02 => cmp_kind(word, Form::of(Size::Word, source), Form::of(Size::Word, destination)),
+            0o04 => bic_kind(word, Form::of(Size::Word, source), Form::of(Size::Word, destination)),
+            0o05 => bis_kind(word, Form::of(Size::Word, source), Form::of(Size::Word, destination)),
+            0o06 => add_kind(word, Form::of(Size::Word, source), Form::of(Size::Word, destination)),
+            0o11 => movb_kind(word, Form::of(Size::Byte, source), Form::of(Size::Byte, destination)),
+            0o12 => cmpb_kind(word, Form::of(Size::Byte, source), Form::of(Size::Byte, destination)),
+            0o14 => bicb_kind(word, Form::of(Size::Byte, source), Form::of(Size::Byte, destination)),
+            0o16 => sub_kind(word, Form::of(Size::Word, source), Form::of(Size::Word, destination)),
             0o00 => low_kind(word, Form::of(Size::Word, destination)),
             0o07 => extended_kind(word),
             0o10 => high_kind(word, Form::of(Size::Byte, destination)),

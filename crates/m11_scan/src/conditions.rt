@@ -42,55 +42,20 @@ struct ConditionRow {
     condition: Condition,
 }
 
+#[rattlefmt::skip]
 const CONDITIONS: [ConditionRow; 12] = [
-    ConditionRow {
-        name: *b"EQ    ",
-        condition: Condition::Zero,
-    },
-    ConditionRow {
-        name: *b"NE    ",
-        condition: Condition::NotZero,
-    },
-    ConditionRow {
-        name: *b"GT    ",
-        condition: Condition::Positive,
-    },
-    ConditionRow {
-        name: *b"LT    ",
-        condition: Condition::Negative,
-    },
-    ConditionRow {
-        name: *b"GE    ",
-        condition: Condition::NotNegative,
-    },
-    ConditionRow {
-        name: *b"LE    ",
-        condition: Condition::NotPositive,
-    },
-    ConditionRow {
-        name: *b"DF    ",
-        condition: Condition::Defined,
-    },
-    ConditionRow {
-        name: *b"NDF   ",
-        condition: Condition::NotDefined,
-    },
-    ConditionRow {
-        name: *b"B     ",
-        condition: Condition::Blank,
-    },
-    ConditionRow {
-        name: *b"NB    ",
-        condition: Condition::NotBlank,
-    },
-    ConditionRow {
-        name: *b"IDN   ",
-        condition: Condition::Identical,
-    },
-    ConditionRow {
-        name: *b"DIF   ",
-        condition: Condition::Different,
-    },
+    ConditionRow { name: *b"EQ    ", condition: Condition::Zero },
+    ConditionRow { name: *b"NE    ", condition: Condition::NotZero },
+    ConditionRow { name: *b"GT    ", condition: Condition::Positive },
+    ConditionRow { name: *b"LT    ", condition: Condition::Negative },
+    ConditionRow { name: *b"GE    ", condition: Condition::NotNegative },
+    ConditionRow { name: *b"LE    ", condition: Condition::NotPositive },
+    ConditionRow { name: *b"DF    ", condition: Condition::Defined },
+    ConditionRow { name: *b"NDF   ", condition: Condition::NotDefined },
+    ConditionRow { name: *b"B     ", condition: Condition::Blank },
+    ConditionRow { name: *b"NB    ", condition: Condition::NotBlank },
+    ConditionRow { name: *b"IDN   ", condition: Condition::Identical },
+    ConditionRow { name: *b"DIF   ", condition: Condition::Different },
 ];
 
 /// The condition of a name, in either case; its first six characters count.

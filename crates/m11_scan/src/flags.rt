@@ -62,63 +62,22 @@ struct Row {
     bit: u16,
 }
 
+#[rattlefmt::skip]
 const ROWS: [Row; 14] = [
-    Row {
-        flag: b'A',
-        bit: 0o1,
-    },
-    Row {
-        flag: b'B',
-        bit: 0o2,
-    },
-    Row {
-        flag: b'D',
-        bit: 0o4,
-    },
-    Row {
-        flag: b'E',
-        bit: 0o10,
-    },
-    Row {
-        flag: b'I',
-        bit: 0o20,
-    },
-    Row {
-        flag: b'L',
-        bit: 0o40,
-    },
-    Row {
-        flag: b'M',
-        bit: 0o100,
-    },
-    Row {
-        flag: b'N',
-        bit: 0o200,
-    },
-    Row {
-        flag: b'O',
-        bit: 0o400,
-    },
-    Row {
-        flag: b'P',
-        bit: 0o1000,
-    },
-    Row {
-        flag: b'Q',
-        bit: 0o2000,
-    },
-    Row {
-        flag: b'R',
-        bit: 0o4000,
-    },
-    Row {
-        flag: b'T',
-        bit: 0o10000,
-    },
-    Row {
-        flag: b'U',
-        bit: 0o20000,
-    },
+    Row { flag: b'A', bit: 0o1 },
+    Row { flag: b'B', bit: 0o2 },
+    Row { flag: b'D', bit: 0o4 },
+    Row { flag: b'E', bit: 0o10 },
+    Row { flag: b'I', bit: 0o20 },
+    Row { flag: b'L', bit: 0o40 },
+    Row { flag: b'M', bit: 0o100 },
+    Row { flag: b'N', bit: 0o200 },
+    Row { flag: b'O', bit: 0o400 },
+    Row { flag: b'P', bit: 0o1000 },
+    Row { flag: b'Q', bit: 0o2000 },
+    Row { flag: b'R', bit: 0o4000 },
+    Row { flag: b'T', bit: 0o10000 },
+    Row { flag: b'U', bit: 0o20000 },
 ];
 
 impl ErrorFlags {

@@ -53,44 +53,42 @@ struct DirectiveRow {
     directive: Directive,
 }
 
-macro_rules! row {
-    ($name:literal, $directive:expr) => {
-        DirectiveRow {
-            name: *$name,
-            directive: $directive,
-        }
-    };
-}
-
 // The directives by the second characters of their names, since the first is the same in all.
+#[rattlefmt::skip]
 const WITH_I: [DirectiveRow; 7] = [
-    row!(b".IF   ", Directive::If),
-    row!(b".IFF  ", Directive::Iff),
-    row!(b".IFT  ", Directive::Ift),
-    row!(b".IFTF ", Directive::Iftf),
-    row!(b".IIF  ", Directive::Iif),
-    row!(b".IRP  ", Directive::Irp),
-    row!(b".IRPC ", Directive::Irpc),
+    DirectiveRow { name: *b".IF   ", directive: Directive::If },
+    DirectiveRow { name: *b".IFF  ", directive: Directive::Iff },
+    DirectiveRow { name: *b".IFT  ", directive: Directive::Ift },
+    DirectiveRow { name: *b".IFTF ", directive: Directive::Iftf },
+    DirectiveRow { name: *b".IIF  ", directive: Directive::Iif },
+    DirectiveRow { name: *b".IRP  ", directive: Directive::Irp },
+    DirectiveRow { name: *b".IRPC ", directive: Directive::Irpc },
 ];
 
+#[rattlefmt::skip]
 const WITH_E: [DirectiveRow; 4] = [
-    row!(b".ENDC ", Directive::Endc),
-    row!(b".ENDM ", Directive::Endm),
-    row!(b".ENDR ", Directive::Endr),
-    row!(b".END  ", Directive::End),
+    DirectiveRow { name: *b".ENDC ", directive: Directive::Endc },
+    DirectiveRow { name: *b".ENDM ", directive: Directive::Endm },
+    DirectiveRow { name: *b".ENDR ", directive: Directive::Endr },
+    DirectiveRow { name: *b".END  ", directive: Directive::End },
 ];
 
+#[rattlefmt::skip]
 const WITH_M: [DirectiveRow; 2] = [
-    row!(b".MACRO", Directive::Macro),
-    row!(b".MEXIT", Directive::Mexit),
+    DirectiveRow { name: *b".MACRO", directive: Directive::Macro },
+    DirectiveRow { name: *b".MEXIT", directive: Directive::Mexit },
 ];
 
+#[rattlefmt::skip]
 const WITH_N: [DirectiveRow; 2] = [
-    row!(b".NARG ", Directive::Narg),
-    row!(b".NCHR ", Directive::Nchr),
+    DirectiveRow { name: *b".NARG ", directive: Directive::Narg },
+    DirectiveRow { name: *b".NCHR ", directive: Directive::Nchr },
 ];
 
-const WITH_R: [DirectiveRow; 1] = [row!(b".REPT ", Directive::Rept)];
+#[rattlefmt::skip]
+const WITH_R: [DirectiveRow; 1] = [
+    DirectiveRow { name: *b".REPT ", directive: Directive::Rept },
+];
 
 /// The directive of a name, in either case; its first six characters count.
 // speed: inline, since each operator comes here, and most are none of these.
