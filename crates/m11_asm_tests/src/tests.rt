@@ -55,7 +55,7 @@ fn go_over(
     Ok(())
 }
 
-// A first pass, in which the names that lines mention count.
+// A first pass, in which the names that lines use count.
 fn first_of(alloc: Global) -> Counting {
     Counting::SymbolUses(UsedSymbols::new(alloc))
 }

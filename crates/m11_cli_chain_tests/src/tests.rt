@@ -32,50 +32,22 @@ const CALLS_ITSELF: Texts<'static> = &[b".MACRO A\nA\n.ENDM\nA\n.END\n"];
 // A chain by its name: its assemblies, the words of its memory, where its program begins, and what its memory has from 1000 on.
 type Row<'a> = (&'a str, &'a [Texts<'a>], u16, u16, &'a [u8]);
 
+#[rattlefmt::skip]
 static HOLDING: [Row<'static>; 4] = [
-    (
-        "a word of another module",
-        &[FETCHES, IS_FETCHED],
-        28_672,
-        0o1000,
-        FETCHED,
-    ),
-    (
-        "in the least memory",
-        &[FETCHES, IS_FETCHED],
-        4_096,
-        0o1000,
-        FETCHED,
-    ),
-    (
-        "a place that is put twice",
-        &[PUTS_TWICE],
-        4_096,
-        0o1000,
-        &[0x02, 0x00, 0x00],
-    ),
+    ("a word of another module", &[FETCHES, IS_FETCHED], 28_672, 0o1000, FETCHED),
+    ("in the least memory", &[FETCHES, IS_FETCHED], 4_096, 0o1000, FETCHED),
+    ("a place that is put twice", &[PUTS_TWICE], 4_096, 0o1000, &[0x02, 0x00, 0x00]),
     ("no source", &[], 4_096, 1, &[0x00]),
 ];
 
 // A chain by its name, and what ends it.
 type Refused<'a> = (&'a str, &'a [Texts<'a>], ChainFault);
 
+#[rattlefmt::skip]
 static REFUSED: [Refused<'static>; 3] = [
-    (
-        "a word past the memory",
-        &[FETCHES, IS_FETCHED, LIES_AT_A_DEVICE],
-        ChainFault::Load(LoadFault::OutsideMemory),
-    ),
-    (
-        "a section past 160000",
-        &[IS_TOO_LARGE],
-        ChainFault::Link(LinkFault::TooLarge),
-    ),
-    (
-        "a macro without end",
-        &[IS_TOO_LARGE, CALLS_ITSELF],
-        ChainFault::Assembly(AsmFault::Unfold(UnfoldFault::TooDeep)),
-    ),
+    ("a word past the memory", &[FETCHES, IS_FETCHED, LIES_AT_A_DEVICE], ChainFault::Load(LoadFault::OutsideMemory)),
+    ("a section past 160000", &[IS_TOO_LARGE], ChainFault::Link(LinkFault::TooLarge)),
+    ("a macro without end", &[IS_TOO_LARGE, CALLS_ITSELF], ChainFault::Assembly(AsmFault::Unfold(UnfoldFault::TooDeep))),
 ];
 
 // A text with memory of its own.

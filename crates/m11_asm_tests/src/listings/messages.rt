@@ -2,18 +2,14 @@
 
 use m11_asm_listing::{count_line, message_line};
 
+#[rattlefmt::skip]
 const ROWS: [(&[u8], u16, &[u8], &[u8]); 6] = [
     (b"N", 1, b".WORD 18", b"N 1: .WORD 18\n"),
     (b"AQ", 2, b".=", b"AQ 2: .=\n"),
     (b"E", 0, b"", b"E 0:\n"),
     (b"N", 2, b".WORD 18 \t ", b"N 2: .WORD 18 \t\n"),
     (b"I", 1, b".ASCII \x80a\x80a", b"I 1: .ASCII ?a?a\n"),
-    (
-        b"ABDEILMNOPQRTU",
-        65535,
-        b"  ;",
-        b"ABDEILMNOPQRTU 65535:   ;\n",
-    ),
+    (b"ABDEILMNOPQRTU", 65535, b"  ;", b"ABDEILMNOPQRTU 65535:   ;\n"),
 ];
 
 #[test]

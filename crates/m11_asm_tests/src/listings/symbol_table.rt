@@ -16,35 +16,12 @@ fn a_name_has_its_value_and_marks(rt: HostRuntime) -> Result<(), Fail> {
     let unknown = SymbolValue::Unknown;
     let absolute = SymbolValue::Absolute(5);
     let register = SymbolValue::Register(2);
+    #[rattlefmt::skip]
     let rows: [(&[u8; 6], bool, SymbolValue, bool, &[u8]); 11] = [
-        (
-            b"START ",
-            false,
-            place(0, 1),
-            false,
-            b"START    000000 R    1\n",
-        ),
-        (
-            b"A     ",
-            false,
-            place(0, 1),
-            true,
-            b"A        000000 RG   1\n",
-        ),
-        (
-            b"DATA  ",
-            false,
-            place(0o177777, 63),
-            false,
-            b"DATA     177777 R   63\n",
-        ),
-        (
-            b"Y     ",
-            true,
-            place(2, 10),
-            false,
-            b"Y      = 000002 R   10\n",
-        ),
+        (b"START ", false, place(0, 1), false, b"START    000000 R    1\n"),
+        (b"A     ", false, place(0, 1), true, b"A        000000 RG   1\n"),
+        (b"DATA  ", false, place(0o177777, 63), false, b"DATA     177777 R   63\n"),
+        (b"Y     ", true, place(2, 10), false, b"Y      = 000002 R   10\n"),
         (b"X     ", true, absolute, false, b"X      = 000005\n"),
         (b"Z     ", true, absolute, true, b"Z      = 000005  G\n"),
         (b"TAB   ", false, absolute, false, b"TAB      000005\n"),
@@ -74,35 +51,12 @@ fn a_section_has_its_size_number_and_attributes(rt: HostRuntime) -> Result<(), F
         | SectionFlags::SAVED
         | SectionFlags::DATA
         | SectionFlags::READ_ONLY;
+    #[rattlefmt::skip]
     let rows: [(&[u8; 6], u16, u8, SectionFlags, &[u8]); 4] = [
-        (
-            b". ABS.",
-            0,
-            0,
-            absolute,
-            b". ABS. 000000   0 RW,I,GBL,ABS,OVR\n",
-        ),
-        (
-            b"      ",
-            2,
-            1,
-            relocatable,
-            b"       000002   1 RW,I,LCL,REL,CON\n",
-        ),
-        (
-            b"P     ",
-            0,
-            2,
-            saved,
-            b"P      000000   2 RO,D,LCL,REL,CON,SAV\n",
-        ),
-        (
-            b"S61   ",
-            0o177777,
-            63,
-            relocatable,
-            b"S61    177777  63 RW,I,LCL,REL,CON\n",
-        ),
+        (b". ABS.", 0, 0, absolute, b". ABS. 000000   0 RW,I,GBL,ABS,OVR\n"),
+        (b"      ", 2, 1, relocatable, b"       000002   1 RW,I,LCL,REL,CON\n"),
+        (b"P     ", 0, 2, saved, b"P      000000   2 RO,D,LCL,REL,CON,SAV\n"),
+        (b"S61   ", 0o177777, 63, relocatable, b"S61    177777  63 RW,I,LCL,REL,CON\n"),
     ];
     for (characters, size, number, attributes, wanted) in rows {
         let name = Name::pack(characters).ok_or("characters with codes")?;

@@ -9,35 +9,12 @@ fn texts_end_at_their_limits(rt: HostRuntime) -> Result<(), Fail> {
     let blank = name(b"      ")?;
     let added = RelocationKind::Global(name(b"Q     ")?);
     // what is placed again and again, how many bytes it takes, how many pieces, and the lengths of the records
+    #[rattlefmt::skip]
     let rows: [(&str, Piece, u16, u16, &[usize]); 6] = [
-        (
-            "32 bytes",
-            byte(blank, 0, 7, RelocationKind::Fixed),
-            1,
-            32,
-            &[10, 36],
-        ),
-        (
-            "33 bytes",
-            byte(blank, 0, 7, RelocationKind::Fixed),
-            1,
-            33,
-            &[10, 36, 5],
-        ),
-        (
-            "15 sums in words",
-            word(blank, 0, 1, added),
-            2,
-            15,
-            &[10, 34, 122],
-        ),
-        (
-            "16 sums in words",
-            word(blank, 0, 1, added),
-            2,
-            16,
-            &[10, 34, 122, 6, 10],
-        ),
+        ("32 bytes", byte(blank, 0, 7, RelocationKind::Fixed), 1, 32, &[10, 36]),
+        ("33 bytes", byte(blank, 0, 7, RelocationKind::Fixed), 1, 33, &[10, 36, 5]),
+        ("15 sums in words", word(blank, 0, 1, added), 2, 15, &[10, 34, 122]),
+        ("16 sums in words", word(blank, 0, 1, added), 2, 16, &[10, 34, 122, 6, 10]),
         ("8 limits", limit_pair(blank, 0), 4, 8, &[10, 36, 18]),
         ("9 limits", limit_pair(blank, 0), 4, 9, &[10, 36, 18, 8, 4]),
     ];

@@ -36,20 +36,15 @@ static TEXTS: [Row; 9] = [
     (&[".RAD50 /A/<2>/C/"], " 003223;"),
 ];
 
+#[rattlefmt::skip]
 static COUNTERS: [Row; 8] = [
-    (
-        &[".BYTE 1", ".EVEN", ".EVEN", ".WORD ."],
-        " 001;;; 000002+BASE;",
-    ),
+    (&[".BYTE 1", ".EVEN", ".EVEN", ".WORD ."], " 001;;; 000002+BASE;"),
     (&[".ODD", ".ODD", ".BYTE ."], ";; 001+BASE;"),
     (&[".BLKB 3", ".BLKW 2", ".WORD ."], ";B; 000010+BASE;"),
     (&[".BYTE 1", ".WORD 2"], " 001;B 000002;"),
     (&[".=.+10", ".WORD ."], "; 000010+BASE;"),
     (&[".=5", ".WORD ."], "A; 000000+BASE;"),
-    (
-        &[".ASECT", ".=177776", ".LIMIT", ".WORD ."],
-        ";; LIMITS; 000002;",
-    ),
+    (&[".ASECT", ".=177776", ".LIMIT", ".WORD ."], ";; LIMITS; 000002;"),
     (&[".=.+1", "NOP", ".WORD ."], ";B 000240; 000004+BASE;"),
 ];
 
@@ -65,30 +60,15 @@ static SECTIONS: [Row; 3] = [
     (&[".PSECT P,RO,RW,D", ".PSECT P,SAV"], ";A;"),
 ];
 
+#[rattlefmt::skip]
 static OTHERS: [Row; 9] = [
-    (
-        &[".RADIX 10.", ".WORD 12", ".RADIX 16", ".WORD 12"],
-        "; 000014;A; 000014;",
-    ),
-    (
-        &[".GLOBL Q", ".WEAK S", ".WORD Q,S"],
-        ";; 000000+Q 000000+S;",
-    ),
+    (&[".RADIX 10.", ".WORD 12", ".RADIX 16", ".WORD 12"], "; 000014;A; 000014;"),
+    (&[".GLOBL Q", ".WEAK S", ".WORD Q,S"], ";; 000000+Q 000000+S;"),
     (&[".TITLE PROG the best?", ".TITLE 5A"], ";A;"),
     (&[".IDENT /V1/", ".IDENT"], ";A;"),
     (&[".SBTTL any text", ".PAGE", ".LIST", ".NLIST"], ";;;;"),
     (&[".ENABL LC", ".DSABL LC"], ";A;"),
-    (
-        &[
-            ".MACRO M A,B",
-            ".NARG N",
-            ".WORD N",
-            ".ENDM",
-            "M 1,2",
-            "M 1",
-        ],
-        ";;; 000002;;; 000001;",
-    ),
+    (&[".MACRO M A,B", ".NARG N", ".WORD N", ".ENDM", "M 1,2", "M 1"], ";;; 000002;;; 000001;"),
     (&[".NCHR N,<abc>", ".WORD N"], "; 000003;"),
     // nothing after the end is read
     (&[".WORD 1", ".END", ".WORD 2"], " 000001;;"),

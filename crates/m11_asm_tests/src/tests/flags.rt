@@ -25,12 +25,10 @@ static FIRST_LETTERS: [Row; 7] = [
     (&[LONG], "L 000001;"),
 ];
 
+#[rattlefmt::skip]
 static LAST_LETTERS: [Row; 9] = [
     // M: the value of the first label holds
-    (
-        &["A: NOP", "A: NOP", ".WORD A"],
-        " 000240;M 000240;D 000000+BASE;",
-    ),
+    (&["A: NOP", "A: NOP", ".WORD A"], " 000240;M 000240;D 000000+BASE;"),
     // N, and a dot in its place
     (&[".WORD 9", ".WORD 9."], "N 000011; 000011;"),
     // O
@@ -44,10 +42,7 @@ static LAST_LETTERS: [Row; 9] = [
     (&[".WORD 200001", ".BYTE 400"], "T 000001;T 000;"),
     // U
     (&[".BLKB BAR", "BR X"], "U;AU 000400;"),
-    (
-        &[".NCHR X,<abc>", "X=5", "X=Y", ".GLOBL X", "Y=1"],
-        "U;U;U;;;",
-    ),
+    (&[".NCHR X,<abc>", "X=5", "X=Y", ".GLOBL X", "Y=1"], "U;U;U;;;"),
 ];
 
 #[test]

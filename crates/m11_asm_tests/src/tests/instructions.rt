@@ -54,6 +54,7 @@ static SINGLES: [Row; 14] = [
     (&["A: NOP", "CLR @A"], " 000240; 005077 177772;"),
 ];
 
+#[rattlefmt::skip]
 static BRANCHES: [Row; 9] = [
     (&["A: BR A"], " 000777;"),
     // the farthest place after a branch, and the place after it
@@ -63,20 +64,11 @@ static BRANCHES: [Row; 9] = [
     (&["X: .BLKB 376", "BR X"], "; 000600;"),
     (&["X: .BLKB 400", "BR X"], ";A 000400;"),
     // in a section that a linker moves, an absolute place is none of a branch
-    (
-        &[".PSECT P,ABS", "L: NOP", ".ASECT", "BR L", ".CSECT", "BR 0"],
-        "; 000240;; 000777;;A 000400;",
-    ),
+    (&[".PSECT P,ABS", "L: NOP", ".ASECT", "BR L", ".CSECT", "BR 0"], "; 000240;; 000777;;A 000400;"),
     // round the end of the addresses
-    (
-        &[".ASECT", ".=177774", "A: NOP", "BR 0"],
-        ";; 000240; 000400;",
-    ),
+    (&[".ASECT", ".=177774", "A: NOP", "BR 0"], ";; 000240; 000400;"),
     (&["A: SOB R1,A"], " 077101;"),
-    (
-        &["A: .BLKB 174", "SOB R1,A", ".BLKB 2", "SOB R1,A"],
-        "; 077177;;A 077100;",
-    ),
+    (&["A: .BLKB 174", "SOB R1,A", ".BLKB 2", "SOB R1,A"], "; 077177;;A 077100;"),
 ];
 
 static OTHERS: [Row; 10] = [

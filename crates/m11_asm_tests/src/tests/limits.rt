@@ -10,131 +10,32 @@ use std::process::Abort;
 type Row = (&'static [&'static str], Result<(), AsmFault>);
 
 // Each round names one more, and X is one.
+#[rattlefmt::skip]
 static NAMES: [Row; 2] = [
-    (
-        &[
-            ".MACRO DEFINE N",
-            "A'N=0",
-            ".ENDM",
-            "X=0",
-            ".REPT 7777",
-            "DEFINE \\X",
-            "X=X+1",
-            ".ENDR",
-        ],
-        Ok(()),
-    ),
-    (
-        &[
-            ".MACRO DEFINE N",
-            "A'N=0",
-            ".ENDM",
-            "X=0",
-            ".REPT 10000",
-            "DEFINE \\X",
-            "X=X+1",
-            ".ENDR",
-        ],
-        Err(AsmFault::TooManySymbols),
-    ),
+    (&[".MACRO DEFINE N", "A'N=0", ".ENDM", "X=0", ".REPT 7777", "DEFINE \\X", "X=X+1", ".ENDR"], Ok(())),
+    (&[".MACRO DEFINE N", "A'N=0", ".ENDM", "X=0", ".REPT 10000", "DEFINE \\X", "X=X+1", ".ENDR"], Err(AsmFault::TooManySymbols)),
 ];
 
 // The same, with names that are only read, and with a label and an assignment after them.
+#[rattlefmt::skip]
 static DEFINITIONS: [Row; 3] = [
-    (
-        &[
-            ".MACRO DEFINE N",
-            "A'N=0",
-            ".ENDM",
-            "X=0",
-            ".REPT 7777",
-            "DEFINE \\X",
-            "X=X+1",
-            ".ENDR",
-            ".WORD Y,Z",
-            "A7776: X=1",
-        ],
-        Ok(()),
-    ),
-    (
-        &[
-            ".MACRO DEFINE N",
-            "A'N=0",
-            ".ENDM",
-            "X=0",
-            ".REPT 7777",
-            "DEFINE \\X",
-            "X=X+1",
-            ".ENDR",
-            "Y:",
-        ],
-        Err(AsmFault::TooManySymbols),
-    ),
-    (
-        &[
-            ".MACRO DEFINE N",
-            "A'N=0",
-            ".ENDM",
-            "X=0",
-            ".REPT 7777",
-            "DEFINE \\X",
-            "X=X+1",
-            ".ENDR",
-            "Y=1",
-        ],
-        Err(AsmFault::TooManySymbols),
-    ),
+    (&[".MACRO DEFINE N", "A'N=0", ".ENDM", "X=0", ".REPT 7777", "DEFINE \\X", "X=X+1", ".ENDR", ".WORD Y,Z", "A7776: X=1"], Ok(())),
+    (&[".MACRO DEFINE N", "A'N=0", ".ENDM", "X=0", ".REPT 7777", "DEFINE \\X", "X=X+1", ".ENDR", "Y:"], Err(AsmFault::TooManySymbols)),
+    (&[".MACRO DEFINE N", "A'N=0", ".ENDM", "X=0", ".REPT 7777", "DEFINE \\X", "X=X+1", ".ENDR", "Y=1"], Err(AsmFault::TooManySymbols)),
 ];
 
 // Each round has a block of its own, with eight symbols.
+#[rattlefmt::skip]
 static LOCAL_SYMBOLS: [Row; 2] = [
-    (
-        &[
-            ".REPT 4000",
-            "1$: 2$: 3$: 4$: 5$: 6$: 7$: 8$: .CSECT",
-            ".ENDR",
-        ],
-        Ok(()),
-    ),
-    (
-        &[
-            ".REPT 4000",
-            "1$: 2$: 3$: 4$: 5$: 6$: 7$: 8$: .CSECT",
-            ".ENDR",
-            "1$:",
-        ],
-        Err(AsmFault::TooManySymbols),
-    ),
+    (&[".REPT 4000", "1$: 2$: 3$: 4$: 5$: 6$: 7$: 8$: .CSECT", ".ENDR"], Ok(())),
+    (&[".REPT 4000", "1$: 2$: 3$: 4$: 5$: 6$: 7$: 8$: .CSECT", ".ENDR", "1$:"], Err(AsmFault::TooManySymbols)),
 ];
 
 // Each round has a section more, and two are always there.
+#[rattlefmt::skip]
 static SECTIONS: [Row; 2] = [
-    (
-        &[
-            ".MACRO SELECT N",
-            ".PSECT S'N",
-            ".ENDM",
-            "X=0",
-            ".REPT 76",
-            "SELECT \\X",
-            "X=X+1",
-            ".ENDR",
-        ],
-        Ok(()),
-    ),
-    (
-        &[
-            ".MACRO SELECT N",
-            ".PSECT S'N",
-            ".ENDM",
-            "X=0",
-            ".REPT 77",
-            "SELECT \\X",
-            "X=X+1",
-            ".ENDR",
-        ],
-        Err(AsmFault::TooManySections),
-    ),
+    (&[".MACRO SELECT N", ".PSECT S'N", ".ENDM", "X=0", ".REPT 76", "SELECT \\X", "X=X+1", ".ENDR"], Ok(())),
+    (&[".MACRO SELECT N", ".PSECT S'N", ".ENDM", "X=0", ".REPT 77", "SELECT \\X", "X=X+1", ".ENDR"], Err(AsmFault::TooManySections)),
 ];
 
 fn check_limits(rt: &impl Abort, alloc: Global, rows: &[Row]) {

@@ -9,13 +9,10 @@ type Row = (
     &'static str,
 );
 
+#[rattlefmt::skip]
 static ROWS: [Row; 9] = [
     // at another place
-    (
-        &[".WORD 1", "A: .WORD 2", ".END"],
-        &["A: .WORD 2", ".END"],
-        "P 000002;;",
-    ),
+    (&[".WORD 1", "A: .WORD 2", ".END"], &["A: .WORD 2", ".END"], "P 000002;;"),
     (&["NOP", "1$: BR 1$"], &["1$: BR 1$"], "P 000777;"),
     // at the same place of another section
     (&[".PSECT X", "A: NOP"], &["A: NOP"], "P 000240;"),
@@ -24,17 +21,9 @@ static ROWS: [Row; 9] = [
     (&["A=0"], &["A: NOP"], "P 000240;"),
     (&["NOP"], &["A: NOP"], "P 000240;"),
     // the same sources
-    (
-        &[".ASECT", "A: NOP", ".CSECT", "B: 1$: BR 1$"],
-        &[".ASECT", "A: NOP", ".CSECT", "B: 1$: BR 1$"],
-        "; 000240;; 000777;",
-    ),
+    (&[".ASECT", "A: NOP", ".CSECT", "B: 1$: BR 1$"], &[".ASECT", "A: NOP", ".CSECT", "B: 1$: BR 1$"], "; 000240;; 000777;"),
     // a label that is defined before it has M alone
-    (
-        &["A: NOP", "A: NOP"],
-        &["A: NOP", "A: NOP"],
-        " 000240;M 000240;",
-    ),
+    (&["A: NOP", "A: NOP"], &["A: NOP", "A: NOP"], " 000240;M 000240;"),
     // one label of two
     (&["A: NOP", "B:"], &["A: B: NOP"], "P 000240;"),
 ];

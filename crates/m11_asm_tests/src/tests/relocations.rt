@@ -23,20 +23,11 @@ static MODULES: [Row; 2] = [
     ),
 ];
 
+#[rattlefmt::skip]
 static WORDS: [Row; 5] = [
-    (
-        &[
-            ".PSECT P",
-            "A: .WORD 0",
-            ".PSECT Q",
-            "B: .WORD A,B,5,F,F+3,A+2,B+2",
-        ],
-        "; 000000;; 000000+(P) 000000+BASE 000005 000000+F 000003+F 000002+(P) 000002+BASE;",
-    ),
-    (
-        &[".PSECT P", ".WORD X", ".PSECT", "X: .WORD 1"],
-        "; 000000+();; 000001;",
-    ),
+    (&[".PSECT P", "A: .WORD 0", ".PSECT Q", "B: .WORD A,B,5,F,F+3,A+2,B+2"],
+        "; 000000;; 000000+(P) 000000+BASE 000005 000000+F 000003+F 000002+(P) 000002+BASE;"),
+    (&[".PSECT P", ".WORD X", ".PSECT", "X: .WORD 1"], "; 000000+();; 000001;"),
     (&[".BYTE F,."], " 000+F 001+BASE;"),
     (&[".ASCII /ab/<Q><.>"], " 141 142 000+Q 003+BASE;"),
     // two places of one section

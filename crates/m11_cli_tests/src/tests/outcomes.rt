@@ -11,113 +11,44 @@ use std::process::Abort;
 use std::test::Fail;
 
 // The faults of an assembly, the status that each leaves, and its line.
+#[rattlefmt::skip]
 static ASSEMBLIES: [(AsmFault, u8, &str); 12] = [
     (AsmFault::Read, 3, "?M11 ASM 1 Read\n"),
-    (
-        AsmFault::Write(AsmOutput::Object),
-        3,
-        "?M11 ASM 2 Write OBJECT\n",
-    ),
-    (
-        AsmFault::Write(AsmOutput::Listing),
-        3,
-        "?M11 ASM 2 Write LISTING\n",
-    ),
-    (
-        AsmFault::Write(AsmOutput::Messages),
-        3,
-        "?M11 ASM 2 Write MESSAGES\n",
-    ),
+    (AsmFault::Write(AsmOutput::Object), 3, "?M11 ASM 2 Write OBJECT\n"),
+    (AsmFault::Write(AsmOutput::Listing), 3, "?M11 ASM 2 Write LISTING\n"),
+    (AsmFault::Write(AsmOutput::Messages), 3, "?M11 ASM 2 Write MESSAGES\n"),
     (AsmFault::TooManySymbols, 6, "?M11 ASM 3 TooManySymbols\n"),
     (AsmFault::TooManySections, 6, "?M11 ASM 4 TooManySections\n"),
-    (
-        AsmFault::Unfold(UnfoldFault::TooDeep),
-        6,
-        "?M11 ASM 5 Unfold 1 TooDeep\n",
-    ),
-    (
-        AsmFault::Unfold(UnfoldFault::TooManyLines),
-        6,
-        "?M11 ASM 5 Unfold 2 TooManyLines\n",
-    ),
-    (
-        AsmFault::Unfold(UnfoldFault::TooMuchText),
-        6,
-        "?M11 ASM 5 Unfold 3 TooMuchText\n",
-    ),
-    (
-        AsmFault::Unfold(UnfoldFault::TooManyMacros),
-        6,
-        "?M11 ASM 5 Unfold 4 TooManyMacros\n",
-    ),
+    (AsmFault::Unfold(UnfoldFault::TooDeep), 6, "?M11 ASM 5 Unfold 1 TooDeep\n"),
+    (AsmFault::Unfold(UnfoldFault::TooManyLines), 6, "?M11 ASM 5 Unfold 2 TooManyLines\n"),
+    (AsmFault::Unfold(UnfoldFault::TooMuchText), 6, "?M11 ASM 5 Unfold 3 TooMuchText\n"),
+    (AsmFault::Unfold(UnfoldFault::TooManyMacros), 6, "?M11 ASM 5 Unfold 4 TooManyMacros\n"),
     (AsmFault::TooMuchSource, 6, "?M11 ASM 6 TooMuchSource\n"),
     (AsmFault::NoMemory, 5, "?M11 ASM 90 NoMemory\n"),
 ];
 
 // The same of a link.
+#[rattlefmt::skip]
 static LINKS: [(LinkFault, u8, &str); 11] = [
     (LinkFault::Read, 3, "?M11 LINK 1 Read\n"),
-    (
-        LinkFault::Write(LinkOutput::Tape),
-        3,
-        "?M11 LINK 2 Write TAPE\n",
-    ),
-    (
-        LinkFault::Write(LinkOutput::Map),
-        3,
-        "?M11 LINK 2 Write MAP\n",
-    ),
-    (
-        LinkFault::Write(LinkOutput::Messages),
-        3,
-        "?M11 LINK 2 Write MESSAGES\n",
-    ),
-    (
-        LinkFault::Block(BlockFault::Device),
-        4,
-        "?M11 LINK 3 Block 1 Device\n",
-    ),
-    (
-        LinkFault::Block(BlockFault::Failed),
-        4,
-        "?M11 LINK 3 Block 7 Failed\n",
-    ),
-    (
-        LinkFault::Block(BlockFault::TooMuch),
-        4,
-        "?M11 LINK 3 Block 8 TooMuch\n",
-    ),
-    (
-        LinkFault::TooManyGlobals,
-        6,
-        "?M11 LINK 10 TooManyGlobals\n",
-    ),
-    (
-        LinkFault::TooManySections,
-        6,
-        "?M11 LINK 11 TooManySections\n",
-    ),
+    (LinkFault::Write(LinkOutput::Tape), 3, "?M11 LINK 2 Write TAPE\n"),
+    (LinkFault::Write(LinkOutput::Map), 3, "?M11 LINK 2 Write MAP\n"),
+    (LinkFault::Write(LinkOutput::Messages), 3, "?M11 LINK 2 Write MESSAGES\n"),
+    (LinkFault::Block(BlockFault::Device), 4, "?M11 LINK 3 Block 1 Device\n"),
+    (LinkFault::Block(BlockFault::Failed), 4, "?M11 LINK 3 Block 7 Failed\n"),
+    (LinkFault::Block(BlockFault::TooMuch), 4, "?M11 LINK 3 Block 8 TooMuch\n"),
+    (LinkFault::TooManyGlobals, 6, "?M11 LINK 10 TooManyGlobals\n"),
+    (LinkFault::TooManySections, 6, "?M11 LINK 11 TooManySections\n"),
     (LinkFault::TooMuch, 6, "?M11 LINK 13 TooMuch\n"),
     (LinkFault::NoMemory, 5, "?M11 LINK 90 NoMemory\n"),
 ];
 
 // The same of a run.
+#[rattlefmt::skip]
 static RUNS: [(SimFault, u8, &str); 5] = [
-    (
-        SimFault::Load(LoadFault::Tape(TapeFault::Device)),
-        3,
-        "?M11 SIM 1 Device\n",
-    ),
-    (
-        SimFault::Load(LoadFault::Tape(TapeFault::Failed)),
-        4,
-        "?M11 SIM 7 Failed\n",
-    ),
-    (
-        SimFault::Load(LoadFault::Tape(TapeFault::TooMuch)),
-        6,
-        "?M11 SIM 9 TooMuch\n",
-    ),
+    (SimFault::Load(LoadFault::Tape(TapeFault::Device)), 3, "?M11 SIM 1 Device\n"),
+    (SimFault::Load(LoadFault::Tape(TapeFault::Failed)), 4, "?M11 SIM 7 Failed\n"),
+    (SimFault::Load(LoadFault::Tape(TapeFault::TooMuch)), 6, "?M11 SIM 9 TooMuch\n"),
     (SimFault::Write, 3, "?M11 SIM 11 Write MESSAGES\n"),
     (SimFault::NoMemory, 5, "?M11 SIM 90 NoMemory\n"),
 ];

@@ -10,77 +10,18 @@ use std::test::Fail;
 
 // The words of a command whose inputs and outputs are not all ordinary files, the status that it leaves, and what is
 // reported. `SOURCES` is a folder: it opens, and its first read fails. `NOWHERE` is none.
+#[rattlefmt::skip]
 static COMMANDS: [(&[&str], u8, &str); 10] = [
-    (
-        &["m11", "asm", "-o", "OUT.OBJ", "-l", "OUT.LST", "ONE.MAC"],
-        0,
-        "ERRORS DETECTED: 0\n",
-    ),
-    (
-        &["m11", "asm", "-o", "FOLDER.OBJ", "SOURCES"],
-        3,
-        "?M11 ASM 1 Read\n",
-    ),
-    (
-        &["m11", "asm", "-o", "NONE.OBJ", "ONE.MAC", "NONE.MAC"],
-        3,
-        "?M11 OPEN NONE.MAC\n",
-    ),
-    (
-        &[
-            "m11",
-            "asm",
-            "-o",
-            "NOWHERE/P.OBJ",
-            "-l",
-            "NONE.LST",
-            "ONE.MAC",
-        ],
-        3,
-        "?M11 OPEN NOWHERE/P.OBJ\n",
-    ),
-    (
-        &[
-            "m11",
-            "asm",
-            "-o",
-            "EMPTY.OBJ",
-            "-l",
-            "NOWHERE/P.LST",
-            "ONE.MAC",
-        ],
-        3,
-        "?M11 OPEN NOWHERE/P.LST\n",
-    ),
-    (
-        &["m11", "link", "-o", "OUT.TAP", "-m", "OUT.MAP", "OUT.OBJ"],
-        0,
-        "",
-    ),
-    (
-        &["m11", "link", "-o", "FOLDER.TAP", "SOURCES"],
-        3,
-        "?M11 LINK 1 Read\n",
-    ),
-    (
-        &[
-            "m11",
-            "link",
-            "-o",
-            "NONE.TAP",
-            "-m",
-            "NOWHERE/P.MAP",
-            "OUT.OBJ",
-        ],
-        3,
-        "?M11 OPEN NOWHERE/P.MAP\n",
-    ),
+    (&["m11", "asm", "-o", "OUT.OBJ", "-l", "OUT.LST", "ONE.MAC"], 0, "ERRORS DETECTED: 0\n"),
+    (&["m11", "asm", "-o", "FOLDER.OBJ", "SOURCES"], 3, "?M11 ASM 1 Read\n"),
+    (&["m11", "asm", "-o", "NONE.OBJ", "ONE.MAC", "NONE.MAC"], 3, "?M11 OPEN NONE.MAC\n"),
+    (&["m11", "asm", "-o", "NOWHERE/P.OBJ", "-l", "NONE.LST", "ONE.MAC"], 3, "?M11 OPEN NOWHERE/P.OBJ\n"),
+    (&["m11", "asm", "-o", "EMPTY.OBJ", "-l", "NOWHERE/P.LST", "ONE.MAC"], 3, "?M11 OPEN NOWHERE/P.LST\n"),
+    (&["m11", "link", "-o", "OUT.TAP", "-m", "OUT.MAP", "OUT.OBJ"], 0, ""),
+    (&["m11", "link", "-o", "FOLDER.TAP", "SOURCES"], 3, "?M11 LINK 1 Read\n"),
+    (&["m11", "link", "-o", "NONE.TAP", "-m", "NOWHERE/P.MAP", "OUT.OBJ"], 3, "?M11 OPEN NOWHERE/P.MAP\n"),
     (&["m11", "sim", "SOURCES"], 3, "?M11 SIM 1 Device\n"),
-    (
-        &["m11", "sim", "NONE.TAP.TAP"],
-        3,
-        "?M11 OPEN NONE.TAP.TAP\n",
-    ),
+    (&["m11", "sim", "NONE.TAP.TAP"], 3, "?M11 OPEN NONE.TAP.TAP\n"),
 ];
 
 // The files that these commands leave, and how many bytes each has.
@@ -151,40 +92,13 @@ fn commands_read_and_write_the_files_of_the_system(rt: HostRuntime) -> Result<()
 }
 
 // Outputs on a device that is always full, and what is reported of them.
+#[rattlefmt::skip]
 static FULL: [(&[&str], u8, &str); 5] = [
-    (
-        &["m11", "asm", "-o", "/dev/full", "FULL.MAC"],
-        3,
-        "?M11 ASM 2 Write OBJECT\n",
-    ),
-    (
-        &[
-            "m11",
-            "asm",
-            "-o",
-            "FULL.OBJ",
-            "-l",
-            "/dev/full",
-            "FULL.MAC",
-        ],
-        3,
-        "?M11 ASM 2 Write LISTING\n",
-    ),
-    (
-        &["m11", "asm", "-o", "ONE.OBJ", "FULL.MAC"],
-        0,
-        "ERRORS DETECTED: 0\n",
-    ),
-    (
-        &["m11", "link", "-o", "/dev/full", "ONE.OBJ"],
-        3,
-        "?M11 LINK 2 Write TAPE\n",
-    ),
-    (
-        &["m11", "link", "-o", "ONE.TAP", "-m", "/dev/full", "ONE.OBJ"],
-        3,
-        "?M11 LINK 2 Write MAP\n",
-    ),
+    (&["m11", "asm", "-o", "/dev/full", "FULL.MAC"], 3, "?M11 ASM 2 Write OBJECT\n"),
+    (&["m11", "asm", "-o", "FULL.OBJ", "-l", "/dev/full", "FULL.MAC"], 3, "?M11 ASM 2 Write LISTING\n"),
+    (&["m11", "asm", "-o", "ONE.OBJ", "FULL.MAC"], 0, "ERRORS DETECTED: 0\n"),
+    (&["m11", "link", "-o", "/dev/full", "ONE.OBJ"], 3, "?M11 LINK 2 Write TAPE\n"),
+    (&["m11", "link", "-o", "ONE.TAP", "-m", "/dev/full", "ONE.OBJ"], 3, "?M11 LINK 2 Write MAP\n"),
 ];
 
 #[test]

@@ -138,66 +138,25 @@ fn make(alloc: Global, made: Made) -> Result<Vec<u8>, AllocError> {
 }
 
 // What a file shows, how it is made, and why it is refused, if it is.
+#[rattlefmt::skip]
 static FILES: [(&str, Made, Option<LinkFault>); 15] = [
     ("32 modules", Modules(32), None),
     ("33 modules", Modules(33), Some(LinkFault::TooManyModules)),
-    (
-        "a module too many is reported before its entries",
-        ModulesAndSections(32),
-        Some(LinkFault::TooManyModules),
-    ),
+    ("a module too many is reported before its entries", ModulesAndSections(32), Some(LinkFault::TooManyModules)),
     ("256 sections", Entries(1, 256, SECTION), None),
-    (
-        "257 sections",
-        Entries(1, 257, SECTION),
-        Some(LinkFault::TooManySections),
-    ),
-    (
-        "a section of several modules counts once",
-        Entries(2, 129, SECTION),
-        None,
-    ),
-    (
-        "a section too many before one that is known",
-        EntriesAndTwo(256, SECTION, (256, SECTION), (0, SECTION)),
-        Some(LinkFault::TooManySections),
-    ),
-    (
-        "a section that is known before one too many",
-        EntriesAndTwo(256, SECTION, (0, SECTION), (256, SECTION)),
-        Some(LinkFault::BadOrder),
-    ),
+    ("257 sections", Entries(1, 257, SECTION), Some(LinkFault::TooManySections)),
+    ("a section of several modules counts once", Entries(2, 129, SECTION), None),
+    ("a section too many before one that is known", EntriesAndTwo(256, SECTION, (256, SECTION), (0, SECTION)),
+        Some(LinkFault::TooManySections)),
+    ("a section that is known before one too many", EntriesAndTwo(256, SECTION, (0, SECTION), (256, SECTION)), Some(LinkFault::BadOrder)),
     ("8192 globals", Entries(1, 8_192, WEAK_REFERENCE), None),
-    (
-        "8193 globals",
-        Entries(1, 8_193, WEAK_REFERENCE),
-        Some(LinkFault::TooManyGlobals),
-    ),
-    (
-        "an entry out of order is reported before a global too many",
-        EntriesAndTwo(
-            8_191,
-            WEAK_REFERENCE,
-            (8_191, WEAK_REFERENCE),
-            (8_192, DEFINITION),
-        ),
-        Some(LinkFault::BadOrder),
-    ),
-    (
-        "a global that is named again, and a section of a global's name",
-        EntriesAndTwo(8_192, WEAK_REFERENCE, (8_191, WEAK_REFERENCE), (0, SECTION)),
-        None,
-    ),
-    (
-        "the 8193rd global in a relocation",
-        Relocations(4, 9_001),
-        Some(LinkFault::TooManyGlobals),
-    ),
-    (
-        "the place of a relocation is reported before a global too many",
-        Relocations(5, 9_001),
-        Some(LinkFault::BadDisplacement),
-    ),
+    ("8193 globals", Entries(1, 8_193, WEAK_REFERENCE), Some(LinkFault::TooManyGlobals)),
+    ("an entry out of order is reported before a global too many",
+        EntriesAndTwo(8_191, WEAK_REFERENCE, (8_191, WEAK_REFERENCE), (8_192, DEFINITION)), Some(LinkFault::BadOrder)),
+    ("a global that is named again, and a section of a global's name",
+        EntriesAndTwo(8_192, WEAK_REFERENCE, (8_191, WEAK_REFERENCE), (0, SECTION)), None),
+    ("the 8193rd global in a relocation", Relocations(4, 9_001), Some(LinkFault::TooManyGlobals)),
+    ("the place of a relocation is reported before a global too many", Relocations(5, 9_001), Some(LinkFault::BadDisplacement)),
     ("no module", Modules(0), None),
 ];
 

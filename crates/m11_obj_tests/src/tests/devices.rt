@@ -113,52 +113,13 @@ fn a_buffered_sink_hands_on_when_it_is_full_or_flushed(rt: HostRuntime) -> Resul
 }
 
 // The calls and bytes a call that a fuse passes, the calls that one outside it passes, the puts, and what is written.
+#[rattlefmt::skip]
 static FUSED_PUTS: [(&str, u64, usize, u64, &[Put<'static>], &[u8]); 5] = [
-    (
-        "no fuse burns",
-        9,
-        9,
-        9,
-        &[(b"abc", Some(3)), (b"", Some(0)), (b"d", Some(1))],
-        b"abcd",
-    ),
-    (
-        "2 calls of 3 bytes",
-        2,
-        3,
-        9,
-        &[
-            (b"abcd", Some(3)),
-            (b"de", Some(2)),
-            (b"f", None),
-            (b"", None),
-        ],
-        b"abcde",
-    ),
-    (
-        "2 calls of no byte",
-        2,
-        0,
-        9,
-        &[(b"ab", Some(0)), (b"ab", Some(0)), (b"ab", None)],
-        b"",
-    ),
-    (
-        "1 and 3 calls",
-        1,
-        2,
-        3,
-        &[(b"abc", Some(2)), (b"c", None)],
-        b"ab",
-    ),
-    (
-        "3 and 1 calls",
-        3,
-        2,
-        1,
-        &[(b"abc", Some(2)), (b"c", None)],
-        b"ab",
-    ),
+    ("no fuse burns", 9, 9, 9, &[(b"abc", Some(3)), (b"", Some(0)), (b"d", Some(1))], b"abcd"),
+    ("2 calls of 3 bytes", 2, 3, 9, &[(b"abcd", Some(3)), (b"de", Some(2)), (b"f", None), (b"", None)], b"abcde"),
+    ("2 calls of no byte", 2, 0, 9, &[(b"ab", Some(0)), (b"ab", Some(0)), (b"ab", None)], b""),
+    ("1 and 3 calls", 1, 2, 3, &[(b"abc", Some(2)), (b"c", None)], b"ab"),
+    ("3 and 1 calls", 3, 2, 1, &[(b"abc", Some(2)), (b"c", None)], b"ab"),
 ];
 
 // The puts through two fuses.

@@ -71,17 +71,10 @@ fn an_interrupted_read_is_tried_again_and_a_failed_one_is_not(rt: HostRuntime) -
 }
 
 // What the sink over a writer returns to three puts, and what is written then.
+#[rattlefmt::skip]
 static PUTS: [(ErrorKind, &[Put<'static>], &[u8]); 2] = [
-    (
-        ErrorKind::Interrupted,
-        &[(b"ab", Some(2)), (b"cd", Some(2)), (b"ef", Some(2))],
-        b"abcdef",
-    ),
-    (
-        ErrorKind::Other,
-        &[(b"ab", Some(2)), (b"cd", None), (b"ef", Some(2))],
-        b"abef",
-    ),
+    (ErrorKind::Interrupted, &[(b"ab", Some(2)), (b"cd", Some(2)), (b"ef", Some(2))], b"abcdef"),
+    (ErrorKind::Other, &[(b"ab", Some(2)), (b"cd", None), (b"ef", Some(2))], b"abef"),
 ];
 
 // The puts to a writer whose second call fails.

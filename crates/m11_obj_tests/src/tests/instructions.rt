@@ -25,15 +25,13 @@ fn each_word_is_the_code_of_its_instruction(rt: HostRuntime) {
 }
 
 // A text, and the operation that it is a name of.
+#[rattlefmt::skip]
 static NAMES: [(&str, Option<Op>); 19] = [
     // either case, and the first six characters
     ("MOVB", Some(Op::Double(DoubleOp::Mov, Size::Byte))),
     ("movB", Some(Op::Double(DoubleOp::Mov, Size::Byte))),
     ("bhis", Some(Op::Branch(BranchOp::Bcc))),
-    (
-        "SeZ",
-        Some(Op::Codes(ConditionOp::Set, ConditionCodes::ZERO)),
-    ),
+    ("SeZ", Some(Op::Codes(ConditionOp::Set, ConditionCodes::ZERO))),
     ("call", Some(Op::Call)),
     ("RETURN", Some(Op::Return)),
     ("RETURNS", Some(Op::Return)),

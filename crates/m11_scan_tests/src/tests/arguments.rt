@@ -18,121 +18,27 @@ struct PartsRow {
     flags: &'static str,
 }
 
+#[rattlefmt::skip]
 static PARTS: [PartsRow; 18] = [
-    PartsRow {
-        text: b"/ab/",
-        parts: &[(PartKind::Text, 1, 3, true)],
-        end: 4,
-        flags: "",
-    },
-    PartsRow {
-        text: b"/\"/<15>",
-        parts: &[
-            (PartKind::Text, 1, 2, true),
-            (PartKind::Expression, 4, 6, true),
-        ],
-        end: 7,
-        flags: "",
-    },
-    PartsRow {
-        text: b" <<1+2>*3> /x/ ;c",
-        parts: &[
-            (PartKind::Expression, 2, 9, true),
-            (PartKind::Text, 12, 13, true),
-        ],
-        end: 14,
-        flags: "",
-    },
-    PartsRow {
-        text: b"/ab ;c",
-        parts: &[(PartKind::Text, 1, 6, false)],
-        end: 6,
-        flags: "A",
-    },
-    PartsRow {
-        text: b"\"X",
-        parts: &[(PartKind::Text, 1, 2, false)],
-        end: 2,
-        flags: "A",
-    },
-    PartsRow {
-        text: b":xy:",
-        parts: &[(PartKind::Text, 1, 3, true)],
-        end: 4,
-        flags: "",
-    },
-    PartsRow {
-        text: b"=x=",
-        parts: &[(PartKind::Text, 1, 2, true)],
-        end: 3,
-        flags: "",
-    },
-    PartsRow {
-        text: b"//",
-        parts: &[(PartKind::Text, 1, 1, true)],
-        end: 2,
-        flags: "",
-    },
-    PartsRow {
-        text: b"<>",
-        parts: &[(PartKind::Expression, 1, 1, true)],
-        end: 2,
-        flags: "",
-    },
-    PartsRow {
-        text: b"<1 2>/a/",
-        parts: &[(PartKind::Expression, 1, 2, false)],
-        end: 2,
-        flags: "Q",
-    },
-    PartsRow {
-        text: b"<15",
-        parts: &[(PartKind::Expression, 1, 3, false)],
-        end: 3,
-        flags: "Q",
-    },
-    PartsRow {
-        text: b";a;b",
-        parts: &[(PartKind::Text, 1, 2, true), (PartKind::Text, 4, 4, false)],
-        end: 4,
-        flags: "A",
-    },
-    PartsRow {
-        text: b";a;;b",
-        parts: &[(PartKind::Text, 1, 2, true)],
-        end: 3,
-        flags: "",
-    },
-    PartsRow {
-        text: b"/a/ ;b;",
-        parts: &[(PartKind::Text, 1, 2, true)],
-        end: 3,
-        flags: "",
-    },
-    PartsRow {
-        text: b"",
-        parts: &[],
-        end: 0,
-        flags: "",
-    },
-    PartsRow {
-        text: b" \t",
-        parts: &[],
-        end: 0,
-        flags: "",
-    },
-    PartsRow {
-        text: b"\x80a\x80a",
-        parts: &[(PartKind::Text, 2, 3, true)],
-        end: 4,
-        flags: "",
-    },
-    PartsRow {
-        text: b"\x7f/a/\x01/b/",
-        parts: &[(PartKind::Text, 2, 3, true), (PartKind::Text, 6, 7, true)],
-        end: 8,
-        flags: "",
-    },
+    PartsRow { text: b"/ab/", parts: &[(PartKind::Text, 1, 3, true)], end: 4, flags: "" },
+    PartsRow { text: b"/\"/<15>", parts: &[(PartKind::Text, 1, 2, true), (PartKind::Expression, 4, 6, true)], end: 7, flags: "" },
+    PartsRow { text: b" <<1+2>*3> /x/ ;c", parts: &[(PartKind::Expression, 2, 9, true), (PartKind::Text, 12, 13, true)], end: 14,
+        flags: "" },
+    PartsRow { text: b"/ab ;c", parts: &[(PartKind::Text, 1, 6, false)], end: 6, flags: "A" },
+    PartsRow { text: b"\"X", parts: &[(PartKind::Text, 1, 2, false)], end: 2, flags: "A" },
+    PartsRow { text: b":xy:", parts: &[(PartKind::Text, 1, 3, true)], end: 4, flags: "" },
+    PartsRow { text: b"=x=", parts: &[(PartKind::Text, 1, 2, true)], end: 3, flags: "" },
+    PartsRow { text: b"//", parts: &[(PartKind::Text, 1, 1, true)], end: 2, flags: "" },
+    PartsRow { text: b"<>", parts: &[(PartKind::Expression, 1, 1, true)], end: 2, flags: "" },
+    PartsRow { text: b"<1 2>/a/", parts: &[(PartKind::Expression, 1, 2, false)], end: 2, flags: "Q" },
+    PartsRow { text: b"<15", parts: &[(PartKind::Expression, 1, 3, false)], end: 3, flags: "Q" },
+    PartsRow { text: b";a;b", parts: &[(PartKind::Text, 1, 2, true), (PartKind::Text, 4, 4, false)], end: 4, flags: "A" },
+    PartsRow { text: b";a;;b", parts: &[(PartKind::Text, 1, 2, true)], end: 3, flags: "" },
+    PartsRow { text: b"/a/ ;b;", parts: &[(PartKind::Text, 1, 2, true)], end: 3, flags: "" },
+    PartsRow { text: b"", parts: &[], end: 0, flags: "" },
+    PartsRow { text: b" \t", parts: &[], end: 0, flags: "" },
+    PartsRow { text: b"\x80a\x80a", parts: &[(PartKind::Text, 2, 3, true)], end: 4, flags: "" },
+    PartsRow { text: b"\x7f/a/\x01/b/", parts: &[(PartKind::Text, 2, 3, true), (PartKind::Text, 6, 7, true)], end: 8, flags: "" },
 ];
 
 #[test]
@@ -183,57 +89,18 @@ struct NamesRow {
     end: u8,
 }
 
+#[rattlefmt::skip]
 static NAMES: [NamesRow; 10] = [
-    NamesRow {
-        text: "A",
-        names: &[Some((0, 1))],
-        end: 1,
-    },
-    NamesRow {
-        text: " $X.1 , B ;c",
-        names: &[Some((1, 5)), Some((8, 9))],
-        end: 9,
-    },
-    NamesRow {
-        text: "5+1,A,,B",
-        names: &[None, Some((4, 5)), None, Some((7, 8))],
-        end: 8,
-    },
-    NamesRow {
-        text: "C D",
-        names: &[Some((0, 1))],
-        end: 1,
-    },
-    NamesRow {
-        text: "A+1,B",
-        names: &[Some((0, 1))],
-        end: 1,
-    },
-    NamesRow {
-        text: "",
-        names: &[None],
-        end: 0,
-    },
-    NamesRow {
-        text: "A,",
-        names: &[Some((0, 1)), None],
-        end: 2,
-    },
-    NamesRow {
-        text: ".,$",
-        names: &[None, Some((2, 3))],
-        end: 3,
-    },
-    NamesRow {
-        text: "1$,A",
-        names: &[None, Some((3, 4))],
-        end: 4,
-    },
-    NamesRow {
-        text: "?A ?,B",
-        names: &[Some((1, 2)), Some((5, 6))],
-        end: 6,
-    },
+    NamesRow { text: "A", names: &[Some((0, 1))], end: 1 },
+    NamesRow { text: " $X.1 , B ;c", names: &[Some((1, 5)), Some((8, 9))], end: 9 },
+    NamesRow { text: "5+1,A,,B", names: &[None, Some((4, 5)), None, Some((7, 8))], end: 8 },
+    NamesRow { text: "C D", names: &[Some((0, 1))], end: 1 },
+    NamesRow { text: "A+1,B", names: &[Some((0, 1))], end: 1 },
+    NamesRow { text: "", names: &[None], end: 0 },
+    NamesRow { text: "A,", names: &[Some((0, 1)), None], end: 2 },
+    NamesRow { text: ".,$", names: &[None, Some((2, 3))], end: 3 },
+    NamesRow { text: "1$,A", names: &[None, Some((3, 4))], end: 4 },
+    NamesRow { text: "?A ?,B", names: &[Some((1, 2)), Some((5, 6))], end: 6 },
 ];
 
 // The element of a list at a place, if the place is in the line.
@@ -282,119 +149,26 @@ struct ActualsRow {
     actuals: &'static [(ActualKind, u8, u8, bool)],
 }
 
+#[rattlefmt::skip]
 static ACTUALS: [ActualsRow; 16] = [
-    ActualsRow {
-        text: "",
-        gives_digits: true,
-        actuals: &[],
-    },
-    ActualsRow {
-        text: "  ;x",
-        gives_digits: true,
-        actuals: &[],
-    },
-    ActualsRow {
-        text: " 1,",
-        gives_digits: true,
-        actuals: &[(ActualKind::Bare, 1, 2, true)],
-    },
-    ActualsRow {
-        text: " ,",
-        gives_digits: true,
-        actuals: &[(ActualKind::Bare, 1, 1, true)],
-    },
-    ActualsRow {
-        text: " ,,",
-        gives_digits: true,
-        actuals: &[
-            (ActualKind::Bare, 1, 1, true),
-            (ActualKind::Bare, 2, 2, true),
-        ],
-    },
-    ActualsRow {
-        text: " ,1",
-        gives_digits: true,
-        actuals: &[
-            (ActualKind::Bare, 1, 1, true),
-            (ActualKind::Bare, 2, 3, true),
-        ],
-    },
-    ActualsRow {
-        text: " 1 , ,2",
-        gives_digits: true,
-        actuals: &[
-            (ActualKind::Bare, 1, 2, true),
-            (ActualKind::Bare, 5, 5, true),
-            (ActualKind::Bare, 6, 7, true),
-        ],
-    },
-    ActualsRow {
-        text: " <A>B",
-        gives_digits: true,
-        actuals: &[
-            (ActualKind::Bracketed, 2, 3, true),
-            (ActualKind::Bare, 4, 5, true),
-        ],
-    },
-    ActualsRow {
-        text: " <1;2",
-        gives_digits: true,
-        actuals: &[(ActualKind::Bracketed, 2, 5, false)],
-    },
-    ActualsRow {
-        text: " 1<2,3>",
-        gives_digits: true,
-        actuals: &[
-            (ActualKind::Bare, 1, 4, true),
-            (ActualKind::Bare, 5, 7, true),
-        ],
-    },
-    ActualsRow {
-        text: " <a<b>c>,\td e;f",
-        gives_digits: true,
-        actuals: &[
-            (ActualKind::Bracketed, 2, 7, true),
-            (ActualKind::Bare, 10, 11, true),
-            (ActualKind::Bare, 12, 13, true),
-        ],
-    },
-    ActualsRow {
-        text: " \\X -1",
-        gives_digits: true,
-        actuals: &[(ActualKind::Digits, 2, 6, true)],
-    },
-    ActualsRow {
-        text: " \\X \\1",
-        gives_digits: true,
-        actuals: &[
-            (ActualKind::Digits, 2, 3, true),
-            (ActualKind::Digits, 5, 6, true),
-        ],
-    },
-    ActualsRow {
-        text: " \\X \\1",
-        gives_digits: false,
-        actuals: &[
-            (ActualKind::Bare, 1, 3, true),
-            (ActualKind::Bare, 4, 6, true),
-        ],
-    },
-    ActualsRow {
-        text: " \\,2",
-        gives_digits: true,
-        actuals: &[
-            (ActualKind::Digits, 2, 2, true),
-            (ActualKind::Bare, 3, 4, true),
-        ],
-    },
-    ActualsRow {
-        text: " ? ?",
-        gives_digits: true,
-        actuals: &[
-            (ActualKind::Bare, 1, 2, true),
-            (ActualKind::Bare, 3, 4, true),
-        ],
-    },
+    ActualsRow { text: "", gives_digits: true, actuals: &[] },
+    ActualsRow { text: "  ;x", gives_digits: true, actuals: &[] },
+    ActualsRow { text: " 1,", gives_digits: true, actuals: &[(ActualKind::Bare, 1, 2, true)] },
+    ActualsRow { text: " ,", gives_digits: true, actuals: &[(ActualKind::Bare, 1, 1, true)] },
+    ActualsRow { text: " ,,", gives_digits: true, actuals: &[(ActualKind::Bare, 1, 1, true), (ActualKind::Bare, 2, 2, true)] },
+    ActualsRow { text: " ,1", gives_digits: true, actuals: &[(ActualKind::Bare, 1, 1, true), (ActualKind::Bare, 2, 3, true)] },
+    ActualsRow { text: " 1 , ,2", gives_digits: true,
+        actuals: &[(ActualKind::Bare, 1, 2, true), (ActualKind::Bare, 5, 5, true), (ActualKind::Bare, 6, 7, true)] },
+    ActualsRow { text: " <A>B", gives_digits: true, actuals: &[(ActualKind::Bracketed, 2, 3, true), (ActualKind::Bare, 4, 5, true)] },
+    ActualsRow { text: " <1;2", gives_digits: true, actuals: &[(ActualKind::Bracketed, 2, 5, false)] },
+    ActualsRow { text: " 1<2,3>", gives_digits: true, actuals: &[(ActualKind::Bare, 1, 4, true), (ActualKind::Bare, 5, 7, true)] },
+    ActualsRow { text: " <a<b>c>,\td e;f", gives_digits: true,
+        actuals: &[(ActualKind::Bracketed, 2, 7, true), (ActualKind::Bare, 10, 11, true), (ActualKind::Bare, 12, 13, true)] },
+    ActualsRow { text: " \\X -1", gives_digits: true, actuals: &[(ActualKind::Digits, 2, 6, true)] },
+    ActualsRow { text: " \\X \\1", gives_digits: true, actuals: &[(ActualKind::Digits, 2, 3, true), (ActualKind::Digits, 5, 6, true)] },
+    ActualsRow { text: " \\X \\1", gives_digits: false, actuals: &[(ActualKind::Bare, 1, 3, true), (ActualKind::Bare, 4, 6, true)] },
+    ActualsRow { text: " \\,2", gives_digits: true, actuals: &[(ActualKind::Digits, 2, 2, true), (ActualKind::Bare, 3, 4, true)] },
+    ActualsRow { text: " ? ?", gives_digits: true, actuals: &[(ActualKind::Bare, 1, 2, true), (ActualKind::Bare, 3, 4, true)] },
 ];
 
 // The actual that stands next from a place on, if the place is in the line.
@@ -470,62 +244,19 @@ struct FormalsRow {
     last: NextFormal,
 }
 
+#[rattlefmt::skip]
 static FORMALS: [FormalsRow; 11] = [
-    FormalsRow {
-        text: " X 5 Y",
-        formals: &[(1, 2, false)],
-        last: NextFormal::Bad,
-    },
-    FormalsRow {
-        text: " A B , ?C",
-        formals: &[(1, 2, false), (3, 4, false), (8, 9, true)],
-        last: NextFormal::Ends,
-    },
-    FormalsRow {
-        text: "",
-        formals: &[],
-        last: NextFormal::Ends,
-    },
-    FormalsRow {
-        text: " A,",
-        formals: &[(1, 2, false)],
-        last: NextFormal::Ends,
-    },
-    FormalsRow {
-        text: " ?",
-        formals: &[],
-        last: NextFormal::Ends,
-    },
-    FormalsRow {
-        text: " ? A",
-        formals: &[(3, 4, false)],
-        last: NextFormal::Ends,
-    },
-    FormalsRow {
-        text: " .",
-        formals: &[],
-        last: NextFormal::Bad,
-    },
-    FormalsRow {
-        text: " ?5",
-        formals: &[],
-        last: NextFormal::Bad,
-    },
-    FormalsRow {
-        text: " ?.",
-        formals: &[],
-        last: NextFormal::Bad,
-    },
-    FormalsRow {
-        text: " A,,B",
-        formals: &[(1, 2, false)],
-        last: NextFormal::Bad,
-    },
-    FormalsRow {
-        text: " ?A?B;C",
-        formals: &[(2, 3, true), (4, 5, true)],
-        last: NextFormal::Ends,
-    },
+    FormalsRow { text: " X 5 Y", formals: &[(1, 2, false)], last: NextFormal::Bad },
+    FormalsRow { text: " A B , ?C", formals: &[(1, 2, false), (3, 4, false), (8, 9, true)], last: NextFormal::Ends },
+    FormalsRow { text: "", formals: &[], last: NextFormal::Ends },
+    FormalsRow { text: " A,", formals: &[(1, 2, false)], last: NextFormal::Ends },
+    FormalsRow { text: " ?", formals: &[], last: NextFormal::Ends },
+    FormalsRow { text: " ? A", formals: &[(3, 4, false)], last: NextFormal::Ends },
+    FormalsRow { text: " .", formals: &[], last: NextFormal::Bad },
+    FormalsRow { text: " ?5", formals: &[], last: NextFormal::Bad },
+    FormalsRow { text: " ?.", formals: &[], last: NextFormal::Bad },
+    FormalsRow { text: " A,,B", formals: &[(1, 2, false)], last: NextFormal::Bad },
+    FormalsRow { text: " ?A?B;C", formals: &[(2, 3, true), (4, 5, true)], last: NextFormal::Ends },
 ];
 
 // What stands next in a list of formals, if the place is in the line.

@@ -162,27 +162,12 @@ static CHARACTERS: [Row; 6] = [
     },
 ];
 
+#[rattlefmt::skip]
 static SKIPPED: [Row; 4] = [
-    Row {
-        line: "\\5?6",
-        place: 0,
-        tokens: &[(Sort::Number, 1, 2), (Sort::Number, 3, 4)],
-    },
-    Row {
-        line: "^F1",
-        place: 0,
-        tokens: &[(Sort::Name, 1, 3)],
-    },
-    Row {
-        line: "[_]`{|}~^",
-        place: 0,
-        tokens: &[],
-    },
-    Row {
-        line: "\t \u{1}A\u{7f}",
-        place: 0,
-        tokens: &[(Sort::Name, 3, 4)],
-    },
+    Row { line: "\\5?6", place: 0, tokens: &[(Sort::Number, 1, 2), (Sort::Number, 3, 4)] },
+    Row { line: "^F1", place: 0, tokens: &[(Sort::Name, 1, 3)] },
+    Row { line: "[_]`{|}~^", place: 0, tokens: &[] },
+    Row { line: "\t \u{1}A\u{7f}", place: 0, tokens: &[(Sort::Name, 3, 4)] },
 ];
 
 fn check(rt: &impl Abort, rows: &[Row]) {

@@ -10,101 +10,38 @@ struct Row {
     length: usize,
 }
 
+#[rattlefmt::skip]
 static WHOLE: [Row; 7] = [
-    Row {
-        text: "1+2*3",
-        length: 5,
-    },
-    Row {
-        text: "1--2",
-        length: 4,
-    },
-    Row {
-        text: "-^C%<A+'B>!.",
-        length: 10,
-    },
-    Row {
-        text: "1+<2*<3>>&4",
-        length: 11,
-    },
-    Row {
-        text: "^RABC-\"XY/1$",
-        length: 5,
-    },
-    Row {
-        text: "^D<10+10>",
-        length: 6,
-    },
-    Row {
-        text: "A ! 10. & ^B1",
-        length: 6,
-    },
+    Row { text: "1+2*3", length: 5 },
+    Row { text: "1--2", length: 4 },
+    Row { text: "-^C%<A+'B>!.", length: 10 },
+    Row { text: "1+<2*<3>>&4", length: 11 },
+    Row { text: "^RABC-\"XY/1$", length: 5 },
+    Row { text: "^D<10+10>", length: 6 },
+    Row { text: "A ! 10. & ^B1", length: 6 },
 ];
 
+#[rattlefmt::skip]
 static LEFT_OVER: [Row; 7] = [
-    Row {
-        text: "1 2,3",
-        length: 1,
-    },
-    Row {
-        text: "5A",
-        length: 1,
-    },
-    Row {
-        text: "1)2",
-        length: 1,
-    },
-    Row {
-        text: "A:",
-        length: 1,
-    },
-    Row {
-        text: "<1 2>/A/",
-        length: 2,
-    },
-    Row {
-        text: "1>",
-        length: 1,
-    },
-    Row {
-        text: "2^C3",
-        length: 1,
-    },
+    Row { text: "1 2,3", length: 1 },
+    Row { text: "5A", length: 1 },
+    Row { text: "1)2", length: 1 },
+    Row { text: "A:", length: 1 },
+    Row { text: "<1 2>/A/", length: 2 },
+    Row { text: "1>", length: 1 },
+    Row { text: "2^C3", length: 1 },
 ];
 
+#[rattlefmt::skip]
 static MISSING: [Row; 8] = [
-    Row {
-        text: "",
-        length: 0,
-    },
-    Row {
-        text: ",5",
-        length: 0,
-    },
-    Row {
-        text: "=5",
-        length: 0,
-    },
-    Row {
-        text: "#5",
-        length: 0,
-    },
-    Row {
-        text: "*5",
-        length: 2,
-    },
-    Row {
-        text: "1+",
-        length: 2,
-    },
-    Row {
-        text: "<>",
-        length: 2,
-    },
-    Row {
-        text: "<1+<2",
-        length: 5,
-    },
+    Row { text: "", length: 0 },
+    Row { text: ",5", length: 0 },
+    Row { text: "=5", length: 0 },
+    Row { text: "#5", length: 0 },
+    Row { text: "*5", length: 2 },
+    Row { text: "1+", length: 2 },
+    Row { text: "<>", length: 2 },
+    Row { text: "<1+<2", length: 5 },
 ];
 
 fn check(rt: &impl Abort, rows: &[Row]) {

@@ -56,63 +56,22 @@ struct Lines {
     lines: &'static [&'static str],
 }
 
+#[rattlefmt::skip]
 static LINES: [Lines; 14] = [
-    Lines {
-        sources: ["", "", ""],
-        lines: &[],
-    },
-    Lines {
-        sources: ["A\nB\n", "", ""],
-        lines: &["A", "B"],
-    },
-    Lines {
-        sources: ["A", "", "B\nC"],
-        lines: &["A", "B", "C"],
-    },
-    Lines {
-        sources: ["\n\n", "\n", ""],
-        lines: &["", "", ""],
-    },
-    Lines {
-        sources: ["A\r\n", "", ""],
-        lines: &["A"],
-    },
-    Lines {
-        sources: ["A\r\r\n", "", ""],
-        lines: &["A\r"],
-    },
-    Lines {
-        sources: ["A\rB\n", "", ""],
-        lines: &["A\rB"],
-    },
-    Lines {
-        sources: ["A\r", "\n", ""],
-        lines: &["A\r", ""],
-    },
-    Lines {
-        sources: ["\r", "", ""],
-        lines: &["\r"],
-    },
-    Lines {
-        sources: ["A\r\0\n", "", ""],
-        lines: &["A"],
-    },
-    Lines {
-        sources: ["A\0B\n\0", "\0\0", "\0C"],
-        lines: &["AB", "C"],
-    },
-    Lines {
-        sources: ["\0", "\0\n", "\0"],
-        lines: &[""],
-    },
-    Lines {
-        sources: ["\x0cA\x0c\n", "", ""],
-        lines: &[" A "],
-    },
-    Lines {
-        sources: ["A\x0b\tB;\n", "", ""],
-        lines: &["A\x0b\tB;"],
-    },
+    Lines { sources: ["", "", ""], lines: &[] },
+    Lines { sources: ["A\nB\n", "", ""], lines: &["A", "B"] },
+    Lines { sources: ["A", "", "B\nC"], lines: &["A", "B", "C"] },
+    Lines { sources: ["\n\n", "\n", ""], lines: &["", "", ""] },
+    Lines { sources: ["A\r\n", "", ""], lines: &["A"] },
+    Lines { sources: ["A\r\r\n", "", ""], lines: &["A\r"] },
+    Lines { sources: ["A\rB\n", "", ""], lines: &["A\rB"] },
+    Lines { sources: ["A\r", "\n", ""], lines: &["A\r", ""] },
+    Lines { sources: ["\r", "", ""], lines: &["\r"] },
+    Lines { sources: ["A\r\0\n", "", ""], lines: &["A"] },
+    Lines { sources: ["A\0B\n\0", "\0\0", "\0C"], lines: &["AB", "C"] },
+    Lines { sources: ["\0", "\0\n", "\0"], lines: &[""] },
+    Lines { sources: ["\x0cA\x0c\n", "", ""], lines: &[" A "] },
+    Lines { sources: ["A\x0b\tB;\n", "", ""], lines: &["A\x0b\tB;"] },
 ];
 
 #[test]
@@ -140,85 +99,21 @@ struct Long {
     is_over_long: bool,
 }
 
+#[rattlefmt::skip]
 static LONG: [Long; 13] = [
-    Long {
-        count: 131,
-        end: "\n",
-        kept: 131,
-        is_over_long: false,
-    },
-    Long {
-        count: 132,
-        end: "\n",
-        kept: 132,
-        is_over_long: false,
-    },
-    Long {
-        count: 133,
-        end: "\n",
-        kept: 132,
-        is_over_long: true,
-    },
-    Long {
-        count: 131,
-        end: "\r\n",
-        kept: 131,
-        is_over_long: false,
-    },
-    Long {
-        count: 132,
-        end: "\r\n",
-        kept: 132,
-        is_over_long: false,
-    },
-    Long {
-        count: 133,
-        end: "\r\n",
-        kept: 132,
-        is_over_long: true,
-    },
-    Long {
-        count: 131,
-        end: "\r\r\n",
-        kept: 132,
-        is_over_long: false,
-    },
-    Long {
-        count: 132,
-        end: "\r\r\n",
-        kept: 132,
-        is_over_long: true,
-    },
-    Long {
-        count: 132,
-        end: "\0\r\0\n",
-        kept: 132,
-        is_over_long: false,
-    },
-    Long {
-        count: 131,
-        end: "\r",
-        kept: 132,
-        is_over_long: false,
-    },
-    Long {
-        count: 132,
-        end: "\r",
-        kept: 132,
-        is_over_long: true,
-    },
-    Long {
-        count: 132,
-        end: "",
-        kept: 132,
-        is_over_long: false,
-    },
-    Long {
-        count: 133,
-        end: "",
-        kept: 132,
-        is_over_long: true,
-    },
+    Long { count: 131, end: "\n", kept: 131, is_over_long: false },
+    Long { count: 132, end: "\n", kept: 132, is_over_long: false },
+    Long { count: 133, end: "\n", kept: 132, is_over_long: true },
+    Long { count: 131, end: "\r\n", kept: 131, is_over_long: false },
+    Long { count: 132, end: "\r\n", kept: 132, is_over_long: false },
+    Long { count: 133, end: "\r\n", kept: 132, is_over_long: true },
+    Long { count: 131, end: "\r\r\n", kept: 132, is_over_long: false },
+    Long { count: 132, end: "\r\r\n", kept: 132, is_over_long: true },
+    Long { count: 132, end: "\0\r\0\n", kept: 132, is_over_long: false },
+    Long { count: 131, end: "\r", kept: 132, is_over_long: false },
+    Long { count: 132, end: "\r", kept: 132, is_over_long: true },
+    Long { count: 132, end: "", kept: 132, is_over_long: false },
+    Long { count: 133, end: "", kept: 132, is_over_long: true },
 ];
 
 #[test]
@@ -251,55 +146,16 @@ struct Limit {
     fault: Option<LineFault>,
 }
 
+#[rattlefmt::skip]
 static LIMITS: [Limit; 8] = [
-    Limit {
-        length: 64,
-        count: 65_535,
-        more: &[0; 64],
-        fault: None,
-    },
-    Limit {
-        length: 64,
-        count: 65_535,
-        more: &[0; 65],
-        fault: Some(LineFault::TooMuchSource),
-    },
-    Limit {
-        length: 128,
-        count: 32_768,
-        more: &[],
-        fault: None,
-    },
-    Limit {
-        length: 128,
-        count: 32_768,
-        more: b"\n",
-        fault: Some(LineFault::TooMuchSource),
-    },
-    Limit {
-        length: 128,
-        count: 32_767,
-        more: &[b'+'; 129],
-        fault: Some(LineFault::TooMuchSource),
-    },
-    Limit {
-        length: 1,
-        count: 65_535,
-        more: &[0; 3],
-        fault: None,
-    },
-    Limit {
-        length: 1,
-        count: 65_535,
-        more: b"\0\n",
-        fault: Some(LineFault::TooManyLines),
-    },
-    Limit {
-        length: 1,
-        count: 65_535,
-        more: b"+",
-        fault: Some(LineFault::TooManyLines),
-    },
+    Limit { length: 64, count: 65_535, more: &[0; 64], fault: None },
+    Limit { length: 64, count: 65_535, more: &[0; 65], fault: Some(LineFault::TooMuchSource) },
+    Limit { length: 128, count: 32_768, more: &[], fault: None },
+    Limit { length: 128, count: 32_768, more: b"\n", fault: Some(LineFault::TooMuchSource) },
+    Limit { length: 128, count: 32_767, more: &[b'+'; 129], fault: Some(LineFault::TooMuchSource) },
+    Limit { length: 1, count: 65_535, more: &[0; 3], fault: None },
+    Limit { length: 1, count: 65_535, more: b"\0\n", fault: Some(LineFault::TooManyLines) },
+    Limit { length: 1, count: 65_535, more: b"+", fault: Some(LineFault::TooManyLines) },
 ];
 
 #[test]

@@ -12,85 +12,21 @@ struct Digits {
     flags: &'static str,
 }
 
+#[rattlefmt::skip]
 static DIGITS: [Digits; 13] = [
-    Digits {
-        digits: "0",
-        radix: Radix::Octal,
-        value: 0,
-        flags: "",
-    },
-    Digits {
-        digits: "17",
-        radix: Radix::Octal,
-        value: 15,
-        flags: "",
-    },
-    Digits {
-        digits: "18",
-        radix: Radix::Octal,
-        value: 18,
-        flags: "N",
-    },
-    Digits {
-        digits: "17",
-        radix: Radix::Decimal,
-        value: 17,
-        flags: "",
-    },
-    Digits {
-        digits: "101",
-        radix: Radix::Binary,
-        value: 5,
-        flags: "",
-    },
-    Digits {
-        digits: "12",
-        radix: Radix::Binary,
-        value: 12,
-        flags: "N",
-    },
-    Digits {
-        digits: "177777",
-        radix: Radix::Octal,
-        value: 0o177777,
-        flags: "",
-    },
-    Digits {
-        digits: "200000",
-        radix: Radix::Octal,
-        value: 0,
-        flags: "T",
-    },
-    Digits {
-        digits: "65535",
-        radix: Radix::Decimal,
-        value: 65535,
-        flags: "",
-    },
-    Digits {
-        digits: "65536",
-        radix: Radix::Decimal,
-        value: 0,
-        flags: "T",
-    },
-    Digits {
-        digits: "99999",
-        radix: Radix::Octal,
-        value: 0o103237,
-        flags: "NT",
-    },
-    Digits {
-        digits: "0000000000000000000007",
-        radix: Radix::Octal,
-        value: 7,
-        flags: "",
-    },
-    Digits {
-        digits: "10000000000000000000007",
-        radix: Radix::Octal,
-        value: 7,
-        flags: "T",
-    },
+    Digits { digits: "0", radix: Radix::Octal, value: 0, flags: "" },
+    Digits { digits: "17", radix: Radix::Octal, value: 15, flags: "" },
+    Digits { digits: "18", radix: Radix::Octal, value: 18, flags: "N" },
+    Digits { digits: "17", radix: Radix::Decimal, value: 17, flags: "" },
+    Digits { digits: "101", radix: Radix::Binary, value: 5, flags: "" },
+    Digits { digits: "12", radix: Radix::Binary, value: 12, flags: "N" },
+    Digits { digits: "177777", radix: Radix::Octal, value: 0o177777, flags: "" },
+    Digits { digits: "200000", radix: Radix::Octal, value: 0, flags: "T" },
+    Digits { digits: "65535", radix: Radix::Decimal, value: 65535, flags: "" },
+    Digits { digits: "65536", radix: Radix::Decimal, value: 0, flags: "T" },
+    Digits { digits: "99999", radix: Radix::Octal, value: 0o103237, flags: "NT" },
+    Digits { digits: "0000000000000000000007", radix: Radix::Octal, value: 7, flags: "" },
+    Digits { digits: "10000000000000000000007", radix: Radix::Octal, value: 7, flags: "T" },
 ];
 
 fn check(rt: &impl Abort, rows: &[Digits]) {

@@ -12,65 +12,23 @@ struct Row {
     is_closed: bool,
 }
 
+#[rattlefmt::skip]
 static DELIMITED: [Row; 5] = [
-    Row {
-        text: "ab/c",
-        length: 2,
-        is_closed: true,
-    },
-    Row {
-        text: "/",
-        length: 0,
-        is_closed: true,
-    },
-    Row {
-        text: "ab ;c",
-        length: 5,
-        is_closed: false,
-    },
-    Row {
-        text: "",
-        length: 0,
-        is_closed: false,
-    },
-    Row {
-        text: "<a>/",
-        length: 3,
-        is_closed: true,
-    },
+    Row { text: "ab/c", length: 2, is_closed: true },
+    Row { text: "/", length: 0, is_closed: true },
+    Row { text: "ab ;c", length: 5, is_closed: false },
+    Row { text: "", length: 0, is_closed: false },
+    Row { text: "<a>/", length: 3, is_closed: true },
 ];
 
+#[rattlefmt::skip]
 static BRACKETED: [Row; 6] = [
-    Row {
-        text: "1>2",
-        length: 1,
-        is_closed: true,
-    },
-    Row {
-        text: ">",
-        length: 0,
-        is_closed: true,
-    },
-    Row {
-        text: "a,<b;>c>d>",
-        length: 7,
-        is_closed: true,
-    },
-    Row {
-        text: "<<>>>>",
-        length: 4,
-        is_closed: true,
-    },
-    Row {
-        text: "1;2",
-        length: 3,
-        is_closed: false,
-    },
-    Row {
-        text: "<1>",
-        length: 3,
-        is_closed: false,
-    },
+    Row { text: "1>2", length: 1, is_closed: true },
+    Row { text: ">", length: 0, is_closed: true },
+    Row { text: "a,<b;>c>d>", length: 7, is_closed: true },
+    Row { text: "<<>>>>", length: 4, is_closed: true },
+    Row { text: "1;2", length: 3, is_closed: false },
+    Row { text: "<1>", length: 3, is_closed: false },
 ];
 
 // A text, and how many characters at its beginning are reported.
@@ -79,54 +37,23 @@ struct Length {
     length: usize,
 }
 
+#[rattlefmt::skip]
 static BARE: [Length; 5] = [
-    Length {
-        text: "A<B,C>",
-        length: 3,
-    },
-    Length {
-        text: "A;B",
-        length: 1,
-    },
-    Length {
-        text: "A\tB",
-        length: 1,
-    },
-    Length {
-        text: "'\\x'",
-        length: 4,
-    },
-    Length {
-        text: "",
-        length: 0,
-    },
+    Length { text: "A<B,C>", length: 3 },
+    Length { text: "A;B", length: 1 },
+    Length { text: "A\tB", length: 1 },
+    Length { text: "'\\x'", length: 4 },
+    Length { text: "", length: 0 },
 ];
 
+#[rattlefmt::skip]
 static SEPARATORS: [Length; 6] = [
-    Length {
-        text: "  A",
-        length: 2,
-    },
-    Length {
-        text: " , \tA",
-        length: 4,
-    },
-    Length {
-        text: ",,",
-        length: 1,
-    },
-    Length {
-        text: "\t",
-        length: 1,
-    },
-    Length {
-        text: "A",
-        length: 0,
-    },
-    Length {
-        text: " ;",
-        length: 1,
-    },
+    Length { text: "  A", length: 2 },
+    Length { text: " , \tA", length: 4 },
+    Length { text: ",,", length: 1 },
+    Length { text: "\t", length: 1 },
+    Length { text: "A", length: 0 },
+    Length { text: " ;", length: 1 },
 ];
 
 fn check(rt: &impl Abort, row: &Row, found: Enclosed) {

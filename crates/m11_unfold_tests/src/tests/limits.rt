@@ -118,166 +118,45 @@ static EXPANSIONS: [Row; 10] = [
     ),
 ];
 
+#[rattlefmt::skip]
 static CONDITIONS: [Row; 4] = [
-    (
-        &[(".IF EQ 0", 32), ("A", 1), (".ENDC", 32), ("B", 1)],
-        Ok(2),
-    ),
+    (&[(".IF EQ 0", 32), ("A", 1), (".ENDC", 32), ("B", 1)], Ok(2)),
     // the 33rd is no entry: what is inside it is skipped, up to its end
-    (
-        &[
-            (".IF EQ 0", 33),
-            ("A", 1),
-            (".IFF", 1),
-            ("B", 1),
-            (".ENDC", 1),
-            ("C", 1),
-        ],
-        Ok(1),
-    ),
+    (&[(".IF EQ 0", 33), ("A", 1), (".IFF", 1), ("B", 1), (".ENDC", 1), ("C", 1)], Ok(1)),
     // those around an expansion count with those in it
-    (
-        &[
-            (".IF EQ 0", 31),
-            (".REPT 1", 1),
-            (".IF EQ 0", 1),
-            ("A", 1),
-            (".IF EQ 0", 1),
-            ("B", 1),
-            (".ENDC", 2),
-            ("C", 1),
-            (".ENDR", 1),
-        ],
-        Ok(2),
-    ),
-    (
-        &[
-            (".IF EQ 0", 32),
-            (".REPT 1", 1),
-            (".IF EQ 0", 1),
-            ("A", 1),
-            (".ENDR", 1),
-            ("B", 1),
-        ],
-        Ok(1),
-    ),
+    (&[(".IF EQ 0", 31), (".REPT 1", 1), (".IF EQ 0", 1), ("A", 1), (".IF EQ 0", 1), ("B", 1), (".ENDC", 2), ("C", 1), (".ENDR", 1)],
+        Ok(2)),
+    (&[(".IF EQ 0", 32), (".REPT 1", 1), (".IF EQ 0", 1), ("A", 1), (".ENDR", 1), ("B", 1)], Ok(1)),
 ];
 
+#[rattlefmt::skip]
 static LINES: [Row; 6] = [
     // 196,602 lines of rounds, and 8 of the repeat itself
-    (
-        &[(".REPT 77777", 1), ("A", 6), (".ENDR", 1), ("A", 3_390)],
-        Ok(199_992),
-    ),
-    (
-        &[(".REPT 77777", 1), ("A", 6), (".ENDR", 1), ("A", 3_391)],
-        Err(UnfoldFault::TooManyLines),
-    ),
-    (
-        &[(".REPT 77777", 1), ("A", 7), (".ENDR", 1)],
-        Err(UnfoldFault::TooManyLines),
-    ),
+    (&[(".REPT 77777", 1), ("A", 6), (".ENDR", 1), ("A", 3_390)], Ok(199_992)),
+    (&[(".REPT 77777", 1), ("A", 6), (".ENDR", 1), ("A", 3_391)], Err(UnfoldFault::TooManyLines)),
+    (&[(".REPT 77777", 1), ("A", 7), (".ENDR", 1)], Err(UnfoldFault::TooManyLines)),
     // lines that are skipped count
-    (
-        &[
-            (".REPT 77777", 1),
-            ("A", 6),
-            (".ENDR", 1),
-            (".IF NE 0", 1),
-            ("A", 3_390),
-        ],
-        Err(UnfoldFault::TooManyLines),
-    ),
+    (&[(".REPT 77777", 1), ("A", 6), (".ENDR", 1), (".IF NE 0", 1), ("A", 3_390)], Err(UnfoldFault::TooManyLines)),
     // so do statements of `.IIF`
-    (
-        &[
-            (".REPT 77777", 1),
-            ("A", 6),
-            (".ENDR", 1),
-            (".IIF EQ 0,A", 1_695),
-        ],
-        Ok(198_297),
-    ),
-    (
-        &[
-            (".REPT 77777", 1),
-            ("A", 6),
-            (".ENDR", 1),
-            (".IIF EQ 0,A", 1_695),
-            ("A", 1),
-        ],
-        Err(UnfoldFault::TooManyLines),
-    ),
+    (&[(".REPT 77777", 1), ("A", 6), (".ENDR", 1), (".IIF EQ 0,A", 1_695)], Ok(198_297)),
+    (&[(".REPT 77777", 1), ("A", 6), (".ENDR", 1), (".IIF EQ 0,A", 1_695), ("A", 1)], Err(UnfoldFault::TooManyLines)),
 ];
 
+#[rattlefmt::skip]
 static TEXT: [Row; 9] = [
     (&[(".REPT 1", 1), (LONG, 512), (".ENDR", 1)], Ok(512)),
-    (
-        &[(".REPT 1", 1), (LONG, 512), ("", 1), (".ENDR", 1)],
-        Err(UnfoldFault::TooMuchText),
-    ),
+    (&[(".REPT 1", 1), (LONG, 512), ("", 1), (".ENDR", 1)], Err(UnfoldFault::TooMuchText)),
     // the bytes of a macro that is replaced still count
-    (
-        &[
-            (".MACRO M", 1),
-            (LONG, 256),
-            (".ENDM", 1),
-            (".MACRO M", 1),
-            (LONG, 256),
-            (".ENDM", 1),
-            ("M", 1),
-        ],
-        Ok(256),
-    ),
-    (
-        &[
-            (".MACRO M", 1),
-            (LONG, 256),
-            (".ENDM", 1),
-            (".MACRO M", 1),
-            (LONG, 256),
-            ("", 1),
-            (".ENDM", 1),
-        ],
-        Err(UnfoldFault::TooMuchText),
-    ),
+    (&[(".MACRO M", 1), (LONG, 256), (".ENDM", 1), (".MACRO M", 1), (LONG, 256), (".ENDM", 1), ("M", 1)], Ok(256)),
+    (&[(".MACRO M", 1), (LONG, 256), (".ENDM", 1), (".MACRO M", 1), (LONG, 256), ("", 1), (".ENDM", 1)], Err(UnfoldFault::TooMuchText)),
     // those of a repeat count until it ends
-    (
-        &[
-            (".REPT 1", 1),
-            (LONG, 512),
-            (".ENDR", 1),
-            (".REPT 1", 1),
-            (LONG, 512),
-            (".ENDR", 1),
-        ],
-        Ok(1_024),
-    ),
+    (&[(".REPT 1", 1), (LONG, 512), (".ENDR", 1), (".REPT 1", 1), (LONG, 512), (".ENDR", 1)], Ok(1_024)),
     // a body that is taken for nothing counts while it is open
-    (
-        &[(".MACRO", 1), (LONG, 512), ("", 1)],
-        Err(UnfoldFault::TooMuchText),
-    ),
-    (
-        &[
-            (".MACRO", 1),
-            (LONG, 512),
-            (".ENDM", 1),
-            (".REPT 1", 1),
-            (LONG, 512),
-            (".ENDR", 1),
-        ],
-        Ok(512),
-    ),
+    (&[(".MACRO", 1), (LONG, 512), ("", 1)], Err(UnfoldFault::TooMuchText)),
+    (&[(".MACRO", 1), (LONG, 512), (".ENDM", 1), (".REPT 1", 1), (LONG, 512), (".ENDR", 1)], Ok(512)),
     // lines count as they were cut
-    (
-        &[(".REPT 1", 1), (CUT, 492), (REST, 1), (".ENDR", 1)],
-        Ok(493),
-    ),
-    (
-        &[(".REPT 1", 1), (CUT, 493), (".ENDR", 1)],
-        Err(UnfoldFault::TooMuchText),
-    ),
+    (&[(".REPT 1", 1), (CUT, 492), (REST, 1), (".ENDR", 1)], Ok(493)),
+    (&[(".REPT 1", 1), (CUT, 493), (".ENDR", 1)], Err(UnfoldFault::TooMuchText)),
 ];
 
 fn check_rows(rt: &impl Abort, alloc: Global, rows: &[Row]) {
@@ -310,30 +189,15 @@ fn bodies_may_have_65536_bytes(rt: HostRuntime) {
 // A source, how many of its lines become live before a fault, but for unfolding's own, and the fault.
 type Place = (&'static [Lines], u32, UnfoldFault);
 
+#[rattlefmt::skip]
 static PLACES: [Place; 4] = [
     // a repeat inside sixteen others, and a call inside sixteen others
-    (
-        &[("A", 2), (".REPT 1", 17), ("B", 1), (".ENDR", 17)],
-        2,
-        UnfoldFault::TooDeep,
-    ),
-    (
-        &[(".MACRO M", 1), ("A", 1), ("M", 1), (".ENDM", 1), ("M", 1)],
-        16,
-        UnfoldFault::TooDeep,
-    ),
+    (&[("A", 2), (".REPT 1", 17), ("B", 1), (".ENDR", 17)], 2, UnfoldFault::TooDeep),
+    (&[(".MACRO M", 1), ("A", 1), ("M", 1), (".ENDM", 1), ("M", 1)], 16, UnfoldFault::TooDeep),
     // the 200,001st line
-    (
-        &[(".REPT 77777", 1), ("A", 6), (".ENDR", 1), ("A", 3_400)],
-        199_992,
-        UnfoldFault::TooManyLines,
-    ),
+    (&[(".REPT 77777", 1), ("A", 6), (".ENDR", 1), ("A", 3_400)], 199_992, UnfoldFault::TooManyLines),
     // the 65,537th byte, before the body is closed
-    (
-        &[("A", 3), (".REPT 1", 1), (LONG, 512), ("", 1), (".ENDR", 1)],
-        3,
-        UnfoldFault::TooMuchText,
-    ),
+    (&[("A", 3), (".REPT 1", 1), (LONG, 512), ("", 1), (".ENDR", 1)], 3, UnfoldFault::TooMuchText),
 ];
 
 #[test]
@@ -396,31 +260,10 @@ pub(super) fn write(text: &mut Vec<u8>, live: &LiveLine<'_>, act: &Act) -> Resul
     Ok(())
 }
 
+#[rattlefmt::skip]
 static CREATED: [TextRow; 2] = [
-    (
-        &[
-            (".MACRO M ?A", 1),
-            ("A:", 1),
-            (".ENDM", 1),
-            (".REPT 77777", 1),
-            ("M", 1),
-            (".ENDR", 1),
-            ("M", 2_769),
-        ],
-        "65535$:",
-    ),
-    (
-        &[
-            (".MACRO M ?A", 1),
-            ("A:", 1),
-            (".ENDM", 1),
-            (".REPT 77777", 1),
-            ("M", 1),
-            (".ENDR", 1),
-            ("M", 2_770),
-        ],
-        "30000$:",
-    ),
+    (&[(".MACRO M ?A", 1), ("A:", 1), (".ENDM", 1), (".REPT 77777", 1), ("M", 1), (".ENDR", 1), ("M", 2_769)], "65535$:"),
+    (&[(".MACRO M ?A", 1), ("A:", 1), (".ENDM", 1), (".REPT 77777", 1), ("M", 1), (".ENDR", 1), ("M", 2_770)], "30000$:"),
 ];
 
 #[test]

@@ -37,31 +37,12 @@ static LINE_FAULTS: [(LineFault, AsmFault); 3] = [
 ];
 
 // Faults of unfolding, each with its number and its name, and what they are to an assembly.
+#[rattlefmt::skip]
 static UNFOLD_FAULTS: [(UnfoldFault, u8, &str, AsmFault); 5] = [
-    (
-        UnfoldFault::TooDeep,
-        1,
-        "TooDeep",
-        AsmFault::Unfold(UnfoldFault::TooDeep),
-    ),
-    (
-        UnfoldFault::TooManyLines,
-        2,
-        "TooManyLines",
-        AsmFault::Unfold(UnfoldFault::TooManyLines),
-    ),
-    (
-        UnfoldFault::TooMuchText,
-        3,
-        "TooMuchText",
-        AsmFault::Unfold(UnfoldFault::TooMuchText),
-    ),
-    (
-        UnfoldFault::TooManyMacros,
-        4,
-        "TooManyMacros",
-        AsmFault::Unfold(UnfoldFault::TooManyMacros),
-    ),
+    (UnfoldFault::TooDeep, 1, "TooDeep", AsmFault::Unfold(UnfoldFault::TooDeep)),
+    (UnfoldFault::TooManyLines, 2, "TooManyLines", AsmFault::Unfold(UnfoldFault::TooManyLines)),
+    (UnfoldFault::TooMuchText, 3, "TooMuchText", AsmFault::Unfold(UnfoldFault::TooMuchText)),
+    (UnfoldFault::TooManyMacros, 4, "TooManyMacros", AsmFault::Unfold(UnfoldFault::TooManyMacros)),
     (UnfoldFault::NoMemory, 90, "NoMemory", AsmFault::NoMemory),
 ];
 
