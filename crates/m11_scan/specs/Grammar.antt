@@ -11,14 +11,14 @@ use Rattle.m11_scan.specs.Expressions.{role_of}
 pub data IsWritten : Bool → List Sort → Type 0 where
   -- a name, a number or a character is a term
   Single : (sort : Sort) → role_of sort ≡ Term → IsWritten true (sort ∷ [])
-  -- so is a term with what stands before it
+  -- a term with what stands before it is a term
   Prefixed : (sort : Sort) (sorts : List Sort) → role_of sort ≡ Prefix → IsWritten true sorts → IsWritten true (sort ∷ sorts)
   Signed : (sort : Sort) (sorts : List Sort) → role_of sort ≡ Sign → IsWritten true sorts → IsWritten true (sort ∷ sorts)
-  -- and an expression in brackets
+  -- an expression in brackets is a term
   Grouped : (sorts : List Sort) → IsWritten false sorts → IsWritten true (Less ∷ (sorts ++ Greater ∷ []))
   -- a term is an expression
   Alone : (sorts : List Sort) → IsWritten true sorts → IsWritten false sorts
-  -- so is an expression, what stands between two terms, and a term
+  -- an expression, what stands between two terms, and a term are an expression
   Added : (front : List Sort) (sort : Sort) (sorts : List Sort) → IsWritten false front → role_of sort ≡ Sign
       → IsWritten true sorts → IsWritten false (front ++ sort ∷ sorts)
   Joined : (front : List Sort) (sort : Sort) (sorts : List Sort) → IsWritten false front → role_of sort ≡ Operator

@@ -25,7 +25,7 @@ has_skipped text = list_any (λ (piece : Piece). is_skipped piece.form) (pieces_
 abbrev pub is_kept : ℕ → Bool
 is_kept byte = is_name_character byte || is_blank byte || not (is_skipped (mark_form byte))
 
--- another one stands in a text, before its comment
+-- a text has a character before its comment that may be skipped
 abbrev pub has_unkept : Bytes → Bool
 has_unkept [] = false
 has_unkept (byte ∷ text) = if is_kept byte then has_unkept text else not (byte == 0o73)

@@ -14,7 +14,7 @@ delimited delimiter text = record {
   is_closed = list_any (λ byte. byte == delimiter) text;
 }
 
--- one character more before it
+-- an enclosed text with one character more before it
 abbrev pub longer : Enclosed → Enclosed
 longer enclosed = record { length = suc enclosed.length; is_closed = enclosed.is_closed }
 

@@ -6,10 +6,10 @@ ghost use Rattle.m11_base.specs.Rad50.{code_of};
 ghost use Rattle.m11_scan.specs.Codes.{code_or_none};
 ghost use Rattle.m11_scan.specs.Skipped.{is_kept};
 
-/// There are codes below this one, which stands for a character that has none.
+/// What stands for a character without a code: all codes are below it.
 pub(crate) const NO_CODE: u8 = 40;
 
-// Of each byte, by rows of sixteen; small letters have the codes of capital ones. Names are read so often that a search would take a
+// The code of each byte, in rows of sixteen; small letters have the codes of capital ones. Names are read so often that a search would take a
 // tenth of an assembly.
 #[rattlefmt::skip]
 static CODES: [u8; 256] = [
@@ -31,8 +31,8 @@ static CODES: [u8; 256] = [
     40, 40, 40, 40, 40, 40, 40, 40, 40, 40, 40, 40, 40, 40, 40, 40,
 ];
 
-// What each byte is, by rows of sixteen, so that one comparison tells those of names, and those that are never skipped: 0 a flag, `$` or `.`,
-// 1 a digit, 2 a blank or a tab, 3 a mark, 4 `;`, and 5 any other.
+// What each byte is, in rows of sixteen, so that one comparison tells those of names, and those that are never skipped: 0 a letter, `$` or
+// `.`, 1 a digit, 2 a blank or a tab, 3 a mark, 4 `;`, and 5 any other.
 #[rattlefmt::skip]
 static KINDS: [u8; 256] = [
     5, 5, 5, 5, 5, 5, 5, 5, 5, 2, 5, 5, 5, 5, 5, 5,

@@ -8,7 +8,7 @@ ghost use Rattle.m11_scan.specs.Views.{bits_of};
 use arrayvec::ArrayVec;
 use bitflags::{Flag, Flags, bitflag_items};
 
-/// A set of letters. Clauses speak of its bits, one for each letter in the order of the alphabet.
+/// A set of flags. Clauses speak of its bits, one for each flag in the order of the alphabet.
 #[derive(Clone, Copy, PartialEq, Eq, Debug)]
 pub struct ErrorFlags(u16);
 
@@ -102,7 +102,7 @@ impl ErrorFlags {
         if holds { self } else { ErrorFlags(0) }
     }
 
-    /// The letters in alphabetical order, each once.
+    /// The flags as letters, in alphabetical order, each once.
     pub fn text(&self) -> ArrayVec<u8, 14>
         ensures { result.items ≡ flags_text (bits_of self.now) }
     {

@@ -17,7 +17,7 @@ pub record LineReading : Type 0 where
   pub line : SourceLine
   pub fault : Option LineFault
 
--- at the start of the first source
+-- a reading at the start of the first source
 abbrev pub unread : LineReading
 unread =
     record { source = 0; bytes_left = most_bytes; lines_left = most_lines; line = no_line; fault = None }

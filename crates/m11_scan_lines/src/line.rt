@@ -52,7 +52,7 @@ impl Line {
         line
     }
 
-    /// No character any more.
+    /// Empties the line.
     pub fn clear(&mut self)
         ensures { self.new ≡ no_line }
     {

@@ -51,7 +51,7 @@ impl OpenLine {
         !self.has_return && self.kept.text().is_empty()
     }
 
-    /// No character any more.
+    /// Empties the line.
     pub(crate) fn clear(&mut self)
         ensures { self.new ≡ nothing_open }
     {
@@ -196,7 +196,7 @@ fn plain_of_four(first: u8, second: u8, third: u8, fourth: u8) -> usize
     }
 }
 
-// The same of any bytes, one by one.
+// How many bytes, from the first on, are kept as they are. They are looked at one by one.
 fn short_run(bytes: &[u8]) -> usize
     ensures run { result ≡ prefix_len is_plain bytes.now }
     ensures within { result ≤ length bytes.now }
@@ -213,7 +213,7 @@ fn short_run(bytes: &[u8]) -> usize
     count
 }
 
-// Of each byte 1 where it is kept as it is, by rows of sixteen. Each byte of a source is looked at in both passes.
+// For each byte 1 where it is kept as it is, in rows of sixteen. Each byte of a source is looked at in both passes.
 #[rattlefmt::skip]
 static PLAIN: [u8; 256] = [
     0, 1, 1, 1, 1, 1, 1, 1, 1, 1, 0, 1, 0, 0, 1, 1,

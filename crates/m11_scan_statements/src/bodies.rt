@@ -38,7 +38,7 @@ pub enum Body {
     Words(u8),
 }
 
-// What stands in a line from a place on, by the token that stands next there.
+// The body that stands in a line from a place on, by the token that stands next there.
 pub(crate) fn body_at(line: &Line, place: usize, next: Option<Token>) -> Body
     requires within { place ≤ length line.now.text }
     requires next { MatchOption next (tokens_from line.now.text place ≡ [])
@@ -53,7 +53,7 @@ pub(crate) fn body_at(line: &Line, place: usize, next: Option<Token>) -> Body
     }
 }
 
-// What begins with a token.
+// The body that begins with a token.
 fn begun_body(line: &Line, first: Token) -> Body
     requires { first.end ≤ length line.now.text }
     ensures body { result ≡ spec.begun_body line.now.text (lexeme line.now.text first)
@@ -143,7 +143,7 @@ fn name_set(name: Token, equals: Token) -> Option<Body>
     }))
 }
 
-// What begins with a token that isn't assigned to: an operator where it is a name, but for the counter.
+// The body that begins with a token that isn't assigned to: an operator where it is a name, but for the counter.
 fn operation(line: &Line, first: Token) -> Body
     ensures { result ≡ spec.operation (lexeme line.now.text first) }
 {

@@ -73,7 +73,7 @@ fn is_comma(sort: Sort) -> bool
     matches!(sort, Sort::Comma)
 }
 
-// What is no name goes up to the next comma.
+// An element that is no name: it goes up to the next comma.
 fn passed_over(line: &Line, place: usize) -> ListedName
     requires { place ≤ length line.now.text }
     ensures element { result ≡ spec.passed_over place (tokens_from line.now.text place) }

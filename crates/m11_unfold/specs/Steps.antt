@@ -27,7 +27,7 @@ grows_from (Line line ∷ left) stage = is_some stage.opening
 abbrev pub grows : Stage → Bool
 grows stage = grows_from stage.left stage
 
--- the same of a move, which takes memory only for a body
+-- the fault of a move: the limit that is passed, or want of memory, which a move takes only for a body
 abbrev pub FailsMoving : Option UnfoldFault → Bool → UnfoldFault → Type 0
 FailsMoving passed grows NoMemory = (passed ≡ None) × (grows ≡ true)
 FailsMoving passed grows fault = passed ≡ Some fault

@@ -39,7 +39,7 @@ pub record Stops (before : Stage) (fault : UnfoldFault) : Type 0 where
   pub passing : Leads before [] middle
   pub passes : FailsMoving (next_fault middle) (grows middle) fault
 
--- from one live line to the next, or to the end of what is left; the line is where the call puts it
+-- a call leads from one live line to the next, or to the end of what is left, and puts the line where it is told
 abbrev pub Steps : Stage → Stage → SourceLine → Result Step UnfoldFault → Type 0
 Steps before after line (Ok NeedLine) = Leads before [] after × (after.left ≡ []) × (after.has_ended ≡ false)
 Steps before after line (Ok End) = Leads before [] after × (after.has_ended ≡ true)

@@ -244,7 +244,7 @@ impl State {
         Ok(())
     }
 
-    // What follows is to be taken as a body.
+    // Opens a body, into which the lines that follow are taken.
     fn open(&mut self, alloc: Global, purpose: Purpose)
         requires { IsPurpose purpose }
         ensures { stage_of self.new ≡ spec.opens (purpose_of purpose) (stage_of self.old) }
@@ -271,7 +271,7 @@ impl State {
     }
 }
 
-// What the header of a macro opens a body for.
+// The purpose of the body after the header of a macro.
 fn defining(header: Option<Header>) -> Purpose
     requires { IsFew (header_seen header) }
     ensures few { IsPurpose result }

@@ -94,7 +94,7 @@ impl State {
         self.macros.get(&name)
     }
 
-    // A call puts the body in its place, each formal with its actual.
+    // Expands a call: puts the body in its place, each formal replaced by its actual.
     #[tactic(auto, using(crate::proofs::KeptActing::kept_created))]
     fn call<N: Names>(
         &mut self,

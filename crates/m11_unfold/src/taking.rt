@@ -36,7 +36,7 @@ const MACRO_MOST: usize = 256;
 // What one move gives.
 #[derive(Clone, Copy)]
 pub enum Moved {
-    // Nothing is taken any more.
+    // Nothing is left to take.
     NothingLeft,
     // Something was taken, and no line became live.
     Passes,
@@ -104,7 +104,7 @@ impl State {
         }
     }
 
-    // One line is taken, which stood before what is left.
+    // Takes one line, which stood before what is left.
     // speed: inline, since each line of a source comes here.
     #[tactic(auto, using(crate::proofs::Falling::kept_untaken, crate::proofs::Falling::kept_taken))]
     #[inline(always)]
@@ -158,7 +158,7 @@ impl State {
         }
     }
 
-    // A line is taken into a body, or closes it. After a fault no body is open.
+    // Takes a line into a body, which the line may close. After a fault no body is open.
     #[tactic(auto, using(crate::proofs::Falling::kept_dropped))]
     fn take_into(&mut self, alloc: Global, opening: Opening, line: &Line) -> Result<(), UnfoldFault>
         requires kept { IsKept (record (stage_of self.old) { opening = Some opening }) }
@@ -194,7 +194,7 @@ impl State {
             + 1
     }
 
-    // A body is closed: its macro is defined, or its repeat put before what is left.
+    // Closes a body: defines its macro, or puts its repeat before what is left.
     fn close(&mut self, alloc: Global, closed: Closed) -> Result<(), UnfoldFault>
         requires few { IsPurpose closed.purpose }
         requires bytes { size_of closed.body ≡ closed.bytes }

@@ -175,7 +175,7 @@ impl State {
         }
     }
 
-    // What comes where nothing is taken any more.
+    // What comes where nothing is left to take: the end, or the next line of the source.
     fn rested(&self) -> Step
         ensures { result ≡ spec.rested self.now.has_ended }
     {

@@ -56,7 +56,7 @@ wanted_by known line more None = nothing_given
 wanted_by known line more (Some actual) =
     followed_by (given_by known line actual) (more (separator_at line actual.end).end)
 
--- one more than are wanted is dropped, and what stands after it
+-- an actual past those that are wanted is dropped, and what stands after it
 abbrev pub unwanted : Option Actual → Given
 unwanted actual = record { texts = []; notes = noting (flag_if (is_some actual) flag_Q) [] }
 

@@ -47,11 +47,11 @@ symbols_in (token ∷ tokens) = with_symbol (symbol_in token.sort token.text) (s
 abbrev pub value_at : Known → Bytes → ℕ → Quantity
 value_at known line place = value_in known (tokens_from line place)
 
--- its number, whatever its kind
+-- the number of the expression at a place, whatever its kind
 abbrev pub number_at : Known → Bytes → ℕ → ℕ
 number_at known line place = (value_at known line place).number
 
--- its flags: those of its value, that of a kind which isn't absolute, and I for a skipped character in it
+-- the flags of the expression at a place: those of its value, that of a kind which isn't absolute, and I for a skipped character in it
 abbrev pub number_flags : Known → Bytes → ℕ → ℕ
 number_flags known line place =
     bit_or (bit_or (value_at known line place).flags (absence (value_at known line place).kind))

@@ -14,8 +14,8 @@ use m11_scan::{ErrorFlags, Line};
 use m11_scan_values::Names;
 use std::alloc::AllocError;
 
-/// How many rounds a `.REPT` has whose number stands in a line from a place on: 0 to 32767. Of a negative number there are none,
-/// nor where it is missing, which has A. What is left over has Q and I. Error: memory may be refused.
+/// The number of rounds of a `.REPT`, read from a place of its line: 0 to 32767. A negative number gives none; a missing one gives
+/// none, and has A. What is left over has Q and I. Error: memory may be refused.
 pub fn rept_count<N: Names>(
     line: &Line,
     place: usize,

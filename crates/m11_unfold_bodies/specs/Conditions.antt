@@ -6,7 +6,7 @@ use Rattle.m11_unfold_bodies.specs.declared.conditions.OpenCondition.{OpenCondit
 use Rattle.m11_unfold_bodies.specs.declared.conditions.Part.{Part}
 use Rattle.m11_unfold_bodies.specs.declared.conditions.Part.TheVariants.{False, True, Both}
 
--- those that were entered, the innermost first; how many `.IF`s are open in the lines that are skipped; and whether a
+-- the conditions that were entered, the innermost first; how many `.IF`s are open in the lines that are skipped; and whether a
 -- condition past the last that may be open is skipped
 pub record OpenConditions : Type 0 where
   pub entered : List OpenCondition
@@ -51,7 +51,7 @@ entering holds conditions = record {
   is_past = conditions.is_past;
 }
 
--- one that would be past the last
+-- the conditions after one that would be past the last
 abbrev pub past : OpenConditions → OpenConditions
 past conditions = record { entered = conditions.entered; nested = conditions.nested; is_past = true }
 

@@ -47,7 +47,7 @@ abbrev pub is_there : Option SourceLine → Bool
 is_there None = false
 is_there (Some line) = true
 
--- neither a line of the source nor a statement stands there, and no expansion is open
+-- whether neither a line of the source nor a statement is there, and no expansion is open
 abbrev pub is_none_of : Bool → Bool → Bool → Bool
 is_none_of has_fed has_statement has_frame = not has_fed && (not has_statement && not has_frame)
 

@@ -65,7 +65,7 @@ impl Texts {
         }
     }
 
-    /// One text more.
+    /// Adds a text.
     ///
     /// Errors: want of memory. The texts are then unchanged.
     pub fn push(&mut self, text: &[u8]) -> Result<(), AllocError>

@@ -25,7 +25,7 @@ past_body cut stage = record stage {
   has_ended = false;
 }
 
--- those of a body without a close are
+-- the lines of a body without a close are taken
 abbrev pub past_open_body : Cut → Stage → Stage
 past_open_body cut stage = record stage {
   left = cut.after;

@@ -93,7 +93,7 @@ pub data IsText (is_past : Bool) : ℕ → List SourceLine → ℕ → Type 0 wh
 
 -- ---- `.IIF`
 
--- its statement is the next line, where the condition holds
+-- the statement of an `.IIF` is the next line, where the condition holds
 abbrev pub statement_of : Bytes → Bool → Option ℕ → List SourceLine
 statement_of text true (Some place) = line_of (drop place text) ∷ []
 statement_of text true None = []
@@ -167,7 +167,7 @@ mutual
         → Shape place before (line ∷ text ++ close ∷ lines)
         (own_line place known line (noting flag_O []) ∷ own_line place last close (flagged 0 close.text end) ∷ gives) after
         ending
-    -- or all lines are, where that doesn't come
+    -- all lines after a 33rd condition are text, where its `.ENDC` doesn't come
     OpenRefused : (place : Place) (before : Situation) (known : Known) (line : SourceLine) (lines : List SourceLine)
         (at inner : ℕ)
         → operation_at place before line ≡ OwnDirective word.If at → has_condition_left place ≡ false → IsText true 0 lines inner

@@ -51,7 +51,7 @@ round_lines formals body actuals = map (line_with formals actuals) body
 abbrev pub lines_of_rounds : List Name → List (List Bytes) → List Bytes → List SourceLine
 lines_of_rounds formals rounds body = flat_map (round_lines formals body) rounds
 
--- those of `.IRP` and `.IRPC`
+-- the lines that the rounds of an `.IRP` or `.IRPC` give
 abbrev pub repeated_lines : Repetition → List Bytes → List SourceLine
 repeated_lines rounds body = lines_of_rounds (rounds.formal ∷ []) (map alone rounds.texts) body
 

@@ -103,8 +103,8 @@ pub fn unfoldings_follow_each_other()
         → Leads before (done ++ later) after }
 {}
 
-/// Two unfoldings from one stage, under what their lines say: one of them goes on where the other stands. Where nothing is taken any
-/// more in either, they have the same lines and end at the same stage.
+/// Two unfoldings from one stage, under what their lines say: one of them goes on where the other stands. Where nothing is left to
+/// take in either, they have the same lines and end at the same stage.
 pub fn a_source_has_one_unfolding()
     ensures compared { (known_by : List Given → Live → Known) (before first second : Stage) (done later : List Given)
         → IsKnownBy known_by done → IsKnownBy known_by later → Leads before done first → Leads before later second
@@ -120,7 +120,7 @@ pub fn further_lines_change_nothing_before_them()
         → Leads (with_more more before) done (with_more more after) }
 {}
 
-/// After a live `.END` nothing is taken any more: no line becomes live, and the stage stays.
+/// After a live `.END` nothing more is taken: no line becomes live, and the stage stays.
 pub fn end_is_the_last_line()
     ensures rests { (known : Known) (stage : Stage) (line : SourceLine) (place : ℕ) → IsDirective stage line directive.End place
         → move (act known stage line.text).after ≡ NothingLeft }

@@ -184,7 +184,7 @@ fn limits_are_passed_by_one_byte_and_by_one_line(rt: HostRuntime) -> Result<(), 
     Ok(())
 }
 
-// Of calls, each byte takes one and each end another. A failure comes where they end, and the lines before it are whole.
+// Each byte takes a call, and each end another. A failure comes where they end, and the lines before it are whole.
 #[test]
 fn a_device_that_fails_is_blamed(rt: HostRuntime) {
     for (calls, count) in [(0, 0), (1, 0), (2, 1), (4, 1), (5, 2), (6, 2)] {

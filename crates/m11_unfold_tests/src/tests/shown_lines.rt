@@ -24,7 +24,7 @@ fn mark(text: &mut Vec<u8>, mark: u8, holds: bool) -> Result<(), AllocError> {
     Ok(())
 }
 
-// Of more than 40 characters the first eight are shown.
+// Shows a line: the first eight characters of one that has more than 40.
 fn show(text: &mut Vec<u8>, line: &[u8]) -> Result<(), AllocError> {
     if line.len() > 40 {
         text.extend_from_slice(&line[..8])?;
