@@ -15,13 +15,13 @@ use Rattle.m11_scan_statements.specs.declared.actuals.Actual.{Actual}
 use Rattle.m11_scan_statements.specs.declared.listed.ListedName.{ListedName}
 use Rattle.m11_scan_statements.specs.declared.spans.Span.{Span}
 
--- formals that stand one after the other behind a place, with the flags of their list: blanks, a comma or both stand before
+-- formals that stand one after the other from a place on, with the flags of their list: blanks, a comma or both stand before
 -- each
 pub data AreFormals (line : Bytes) : ℕ → List MacroFormal → ℕ → Type 0 where
   -- where none stands next, the list ends
   NoFormal : (place flags : ℕ) → listed_at line (separator_at line place).end ≡ Ending flags
       → AreFormals line place [] flags
-  -- where one stands next, the list goes on behind it
+  -- where one stands next, the list goes on after it
   OneFormal : (place : ℕ) (formal : MacroFormal) (flags end : ℕ) (formals : List MacroFormal) (further : ℕ)
       → listed_at line (separator_at line place).end ≡ Formally formal flags end → AreFormals line end formals further
       → AreFormals line place (formal ∷ formals) (bit_or flags further)

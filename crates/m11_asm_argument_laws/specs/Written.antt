@@ -64,17 +64,17 @@ abbrev pub equals_of : Bool → Sort
 equals_of false = Equals
 equals_of true = TwoEquals
 
--- a token stands behind another one, with nothing but blanks between them
+-- a token stands next after another one, with nothing but blanks between them
 abbrev pub IsBehind : Bytes → Lexeme → Lexeme → Type 0
 IsBehind line first second = skipped_between line first.end second.start ≡ false
 
--- neither `=` nor `==` stands behind a token
+-- neither `=` nor `==` stands next after a token
 abbrev pub IsUnassigned : Bytes → Lexeme → List Lexeme → Type 0
 IsUnassigned line first [] = Unit {0}
 IsUnassigned line first (second ∷ tokens) =
     (is_global : Bool) → IsBehind line first second → second.sort ≡ equals_of is_global → ⊥
 
--- no `=` stands behind a token
+-- no `=` stands next after a token
 abbrev pub IsUnset : Bytes → Lexeme → List Lexeme → Type 0
 IsUnset line first [] = Unit {0}
 IsUnset line first (second ∷ tokens) = IsBehind line first second → second.sort ≡ Equals → ⊥
@@ -82,12 +82,12 @@ IsUnset line first (second ∷ tokens) = IsBehind line first second → second.s
 -- tokens of a line after its labels, and what they say
 pub data Says (line : Bytes) : List Lexeme → Body → Type 0 where
   SaysNothing : Says line [] Nothing
-  -- a name with `=` or `==` behind it is assigned
+  -- a name with `=` or `==` after it is assigned
   SaysAssignment : (name equals : Lexeme) (tokens : List Lexeme) (is_global : Bool) → IsNamed name → IsBehind line name equals
       → equals.sort ≡ equals_of is_global
       → Says line (name ∷ (equals ∷ tokens))
       (Assign (record { name = record { start = name.start; end = name.end }; is_global = is_global; value = equals.end }))
-  -- `.` with `=` behind it sets the counter
+  -- `.` with `=` after it sets the counter
   SaysCounter : (point equals : Lexeme) (tokens : List Lexeme) → IsPoint point → IsBehind line point equals → equals.sort ≡ Equals
       → Says line (point ∷ (equals ∷ tokens)) (SetCounter equals.end)
   -- any other name is an operator
@@ -96,5 +96,5 @@ pub data Says (line : Bytes) : List Lexeme → Body → Type 0 where
   -- any other `.` begins words
   SaysPoint : (point : Lexeme) (tokens : List Lexeme) → IsPoint point → IsUnset line point tokens
       → Says line (point ∷ tokens) (Words point.start)
-  -- and so does what is no name
+  -- a token that is no name begins words
   SaysWords : (first : Lexeme) (tokens : List Lexeme) → (first.sort ≡ Name → ⊥) → Says line (first ∷ tokens) (Words first.start)

@@ -7,7 +7,7 @@ use Rattle.std.specs.Ordering.{nat_cmp, ordering_then}
 use Rattle.std.specs.declared.cmp.Ordering.{Ordering}
 use Rattle.m11_base.specs.Rad50.{Name, is_same_name}
 
--- by the first words, and where those are one by the second
+-- the order of two names: by the first words, and where those are one by the second
 abbrev pub name_order : Name → Name → Ordering
 name_order one other = ordering_then (nat_cmp one.0 other.0) (nat_cmp one.1 other.1)
 

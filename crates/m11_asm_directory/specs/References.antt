@@ -21,7 +21,7 @@ is_open_by table name (Some definition) = is_unknown_as definition.standing && h
 abbrev pub is_open : Table → Name → Bool
 is_open table name = is_open_by table name (last_definition (Named name) table.definitions)
 
--- of the names that lines refer to or make global those that are open
+-- the names that lines refer to or make global and that are open, in order
 abbrev pub references : DirectoryFacts → List Name
 references facts = ordered (filter (is_open facts.table) (facts.referred ++ facts.table.globals))
 

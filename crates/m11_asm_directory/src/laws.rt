@@ -12,7 +12,7 @@ pub fn ordered_names_are_in_order()
     ensures { (names : List Name) → AreInOrder (ordered names) names }
 {}
 
-/// No other list has the names of a list so.
+/// The ordered names are the only list of these names that is in order and has each once.
 #[tactic(auto, using(crate::proofs::InOrder::ordered_alone))]
 pub fn names_in_order_are_these_alone()
     ensures { (list names : List Name) → AreInOrder list names → list ≡ ordered names }

@@ -16,8 +16,8 @@ bytes_by found module_index own location text (Some relocation) =
     stored_bytes found module_index own location relocation.is_byte relocation.target
 bytes_by found module_index own location text None = text
 
--- those of a piece at a location, in a text of the module of this index that stands after this base. Which displacement its relocation has
--- changes nothing
+-- the bytes of a piece at a location, when they are linked: it stands in a text of the module of this index, after this base. Which
+-- displacement its relocation has changes nothing
 abbrev pub linked_bytes : Findings → ℕ → ℕ → ℕ → PieceContent → Bytes
 linked_bytes found module_index own location content =
     bytes_by found module_index own location (content_bytes content) (relocation_at 4 content)
@@ -25,7 +25,7 @@ linked_bytes found module_index own location content =
 abbrev pub constant_of : RelocationKind → ℕ → Stored
 constant_of kind constant = record { constant = constant; kind = kind }
 
--- of a word, and of a byte
+-- the linked bytes of a word, and of a byte
 abbrev pub linked_word : Findings → ℕ → ℕ → ℕ → RelocationKind → ℕ → Bytes
 linked_word found module_index own location kind constant =
     linked_bytes found module_index own location (Word (constant_of kind constant))

@@ -45,7 +45,7 @@ pub fn values_move_with_other_sections()
         ≡ (modulo (found.base index name + number) % 256) ∷ [] }
 {}
 
-/// The same, displaced: less the place after the word.
+/// A displaced value of another section moves by the base of that section's contribution, less the place after the word.
 pub fn displaced_sections_are_counted_from_the_word()
     ensures { (found : Findings) (index own location number : ℕ) (name : Name) → AreWords found
         → linked_word found index own location (kind.SectionDisplaced name) number
@@ -61,7 +61,7 @@ pub fn values_move_with_globals()
         ≡ (modulo (symbol found name + number) % 256) ∷ [] }
 {}
 
-/// The same, displaced: less the place after the word.
+/// A displaced value that counts from a global moves by the global's value, less the place after the word.
 pub fn displaced_globals_are_counted_from_the_word()
     ensures { (found : Findings) (index own location number : ℕ) (name : Name) → AreWords found
         → linked_word found index own location (kind.GlobalDisplaced name) number

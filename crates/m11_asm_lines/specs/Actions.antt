@@ -19,7 +19,7 @@ action_seen (Assign assignment) = lines.Assign assignment.name assignment.is_glo
 action_seen (SetCounter value) = lines.SetCounter value
 action_seen (Operate operator start) = lines.Operate operator start
 
--- its places lie in a line of a size
+-- the places of an action lie in a line of a size
 abbrev pub IsWithin : ℕ → Action → Type 0
 IsWithin size NoAction = Unit {0}
 IsWithin size (Assign assignment) = assignment.value ≤ size
@@ -38,7 +38,7 @@ AreActionTerms line (Assign assignment) fields terms = IfSome terms.first (λ te
 AreActionTerms line (SetCounter value) fields terms = Unit {0}
 AreActionTerms line (Operate operator start) fields terms = AreTerms line fields terms
 
--- its fields: those of an instruction
+-- the fields of an action: only an instruction has any
 abbrev pub action_fields : Table → Bytes → Action → Fields
 action_fields table line (Operate operator start) = operator_fields table line start operator
 action_fields table line other = no_fields 0

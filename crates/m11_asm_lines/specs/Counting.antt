@@ -1,5 +1,5 @@
 -- Which names a reading counts beside those that its table defines. Each reading counts for itself. (MACRO-11 Language Reference Manual,
--- "Symbols". That a first reading counts the names that its lines mention, which are those that they define and those that they only read,
+-- "Symbols". That a first reading counts the names that its lines use, which are those that they define and those that they only read,
 -- and that a second one counts no more than it defines, is this project's own.)
 use Rattle.std.specs.Prelude.{◌≡◌, ◌<◌, List, [], length, Result, Ok, Err}
 use Rattle.m11_asm_faults.specs.declared.fault.AsmFault.{AsmFault}
@@ -15,7 +15,7 @@ use Rattle.m11_asm_lines.specs.declared.counting.Counting.TheVariants.{SymbolUse
 abbrev pub none_used : Counting
 none_used = SymbolUses none_gathered
 
--- what lines mentioned so far
+-- what lines used so far
 abbrev pub gathered_in : Counting → Gathered
 gathered_in (SymbolUses gathered) = gathered
 gathered_in Definitions = none_gathered
@@ -24,12 +24,12 @@ abbrev pub names_counted : Counting → List Name
 names_counted (SymbolUses gathered) = gathered.names
 names_counted Definitions = []
 
--- with further mentions
+-- what is counted with further uses of symbols
 abbrev pub with_counted : List SymbolUse → Counting → Counting
 with_counted symbol_uses (SymbolUses gathered) = SymbolUses (with_all symbol_uses gathered)
 with_counted symbol_uses Definitions = Definitions
 
--- they are counted, or one of them is a name too many
+-- uses of symbols are counted, or one of them is a name too many
 abbrev pub Counts : List SymbolUse → Counting → Counting → Result (Unit {0}) AsmFault → Type 0
 Counts symbol_uses old new (Ok _) = new ≡ with_counted symbol_uses old
 Counts symbol_uses old new (Err fault) = Refuses fault (most_names < length (names_counted (with_counted symbol_uses old))) ⊥

@@ -1,5 +1,5 @@
--- What a line changes, puts and mentions by the table that a pass keeps, once the labels of the line stand. (MACRO-11 Language Reference
--- Manual, "Source program format".)
+-- What a line changes, puts and uses, by the table of a pass in which its labels are defined. (MACRO-11 Language Reference Manual,
+-- "Source program format".)
 use Rattle.std.specs.Prelude.{ℕ, List}
 use Rattle.std.specs.Int.RustNames.{bit_or}
 use Rattle.m11_unfold_arguments.specs.LeftOvers.{skip_flags}

@@ -53,7 +53,7 @@ moved_kind map table name label.Global = moved_name map table name
 moved_kind map table name (label.Local number) = moved_key map table (Numbered table.modes.block number)
 moved_kind map table name label.Outside = 0
 
--- those of the labels of a line, each asked of the table before it
+-- the flags of the labels of a line, each by the table before it
 abbrev pub moved_flags : Map → Bytes → Table → List Label → ℕ
 moved_flags map line table [] = 0
 moved_flags map line table (named ∷ labels) =

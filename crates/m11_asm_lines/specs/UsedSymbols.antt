@@ -1,4 +1,4 @@
--- The names that lines mention, as a pass gathers them. (MACRO-11 Language Reference Manual, "Table of contents and symbol table" and
+-- The names that lines use, as a pass gathers them. (MACRO-11 Language Reference Manual, "Table of contents and symbol table" and
 -- ".GLOBL directive". Which of them count against the limit, is this project's own.)
 use Rattle.std.specs.Prelude.{◌≡◌, ◌<◌, ℕ, ◌==◌, ◌||◌, Bool, if◌then◌else◌, List, [], ◌∷◌, ◌++◌, length, map, Result, Ok, Err}
 use Rattle.std.specs.List.{list_any}
@@ -48,18 +48,18 @@ abbrev pub names_referred : List SymbolUse → List Name → List Name
 names_referred [] names = names
 names_referred (symbol_use ∷ symbol_uses) names = names_referred symbol_uses (with_reference symbol_use.symbol symbol_use.context names)
 
--- with a name that is mentioned anywhere
+-- what is gathered with a name that a line uses anywhere
 abbrev pub noted : Name → Gathered → Gathered
 noted name gathered = record gathered {
   names = with_symbol (Ordinary name) gathered.names;
   registers = with_register (Ordinary name) gathered.registers;
 }
 
--- and where one without a definition is a reference
+-- what is gathered with a name that is used where one without a definition is a reference
 abbrev pub with_referred : Name → Context → Gathered → Gathered
 with_referred name context gathered = record gathered { referred = with_reference (Ordinary name) context gathered.referred }
 
--- with further mentions
+-- what is gathered with further uses of symbols
 abbrev pub with_all : List SymbolUse → Gathered → Gathered
 with_all symbol_uses gathered = record {
   names = with_uses symbol_uses gathered.names;
@@ -67,7 +67,7 @@ with_all symbol_uses gathered = record {
   referred = names_referred symbol_uses gathered.referred;
 }
 
--- they are added, or one of them is a name too many
+-- uses of symbols are added, or one of them is a name too many
 abbrev pub Adds : List SymbolUse → Gathered → Gathered → Result (Unit {0}) AsmFault → Type 0
 Adds symbol_uses old new (Ok _) = new ≡ with_all symbol_uses old
 Adds symbol_uses old new (Err fault) = Refuses fault (most_names < length (with_all symbol_uses old).names) ⊥

@@ -30,7 +30,7 @@ pub enum Action {
     Operate(Operator, u8),
 }
 
-/// What stands after the labels of a line. A line that unfolding has done, a call or an operator of its own, places nothing.
+/// The action of a line, by what stands after its labels. A line that unfolding has done, a call or an operator of its own, has none.
 pub fn action_after_labels(is_own: bool, line: &Line, body: Body) -> Action
     requires { body ≡ body_of line.now.text }
     ensures action { action_seen result ≡ spec.action is_own line.now.text }
@@ -45,8 +45,8 @@ pub fn action_after_labels(is_own: bool, line: &Line, body: Body) -> Action
     }
 }
 
-/// The fields of what stands after the labels of a line, by the table once they stand: those of an instruction. Of an assignment the first
-/// term is that of its expression. They are read once for what the line puts, mentions and changes.
+/// The fields of an action, by the table in which the labels of its line are defined. An instruction has those of its operands; for an
+/// assignment the first term is that of its expression. They are read once for what the line puts, uses and changes.
 pub fn action_fields(table: &Table, line: &Line, action: &Action) -> Fields
     requires { IsWithin (length line.now.text) action.now }
     ensures fields { fields_seen result ≡ actions.action_fields table.now line.now.text action.now }
@@ -77,7 +77,7 @@ fn action_of(line: &Line, body: Body) -> Action
     }
 }
 
-// What begins with a name: its operator, or words.
+// The action of a text that begins with a name: an operator, or words.
 fn operating(line: &Line, name: Span) -> Action
     requires first { name.start ≤ name.end }
     requires within { name.end ≤ length line.now.text }
@@ -91,7 +91,7 @@ fn operating(line: &Line, name: Span) -> Action
     }
 }
 
-// All of the text from a place on, as if `.WORD` stood before it.
+// The action of a text from a place on that is read as if `.WORD` stood before it.
 fn implied_words(start: u8) -> Action
     ensures { result ≡ Action.Operate (Operator.Directive Directive.Word) start }
 {

@@ -34,7 +34,8 @@ use m11_unfold_arguments::{Notes, note_symbols};
 use std::alloc::{AllocError, Global};
 
 impl Pass {
-    // Does what an assignment changes, and finds what is shown of its value, whether its name takes it or not: the value is found once for both.
+    // Applies an assignment, and returns what a listing shows of its value, whether its name takes it or not. The value is found once for
+    // both.
     pub(crate) fn take_assignment(
         &mut self,
         map: &Map<'_>,
@@ -61,7 +62,7 @@ impl Pass {
         Ok(value_item(value))
     }
 
-    // What is written before the `=`, if it is a name, is assigned the value of the expression at a place.
+    // Assigns the value of the expression at a place to what is written before the `=`, if that is a name.
     fn assign_to(
         &mut self,
         line: &Line,
@@ -92,7 +93,7 @@ impl Pass {
         }
     }
 
-    // A name is assigned the value of the expression at a place. A label's name becomes doubled.
+    // Assigns the value of the expression at a place to a name. A label's name becomes doubly defined.
     fn assign(
         &mut self,
         line: &Line,
@@ -124,7 +125,7 @@ impl Pass {
         Ok(())
     }
 
-    // What the expression gives the name.
+    // Defines a name as the value of the expression at a place.
     fn define_assigned(
         &mut self,
         line: &Line,
@@ -152,7 +153,7 @@ impl Pass {
     }
 }
 
-// What a value gives a name.
+// The definition of a name by a value.
 fn definition_of(name: Name, value: &Value, is_firm: bool) -> Definition
     ensures { result ≡ record {
       key = Named name;
@@ -169,7 +170,7 @@ fn definition_of(name: Name, value: &Value, is_firm: bool) -> Definition
     }
 }
 
-// Whether all symbols of the expression at a place are firm, with its one token where it is found to be one term.
+// Whether all symbols of the expression at a place are firm, asked of its one token where it was found to be one term.
 fn is_firm_by(
     alloc: Global,
     table: &Table,

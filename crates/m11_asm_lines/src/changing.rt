@@ -38,9 +38,9 @@ use m11_scan::Line;
 use m11_scan_values::Kind;
 
 impl Pass {
-    /// Does what stands after the labels of a line changes, once they stand, and finds what is shown of what it assigns: a value, whether its
-    /// name takes it or not, or the number of `.NARG` and `.NCHR`. It is asked of firm names alone, but for the value of an assignment.
-    /// `arguments` is the number of actuals of the macro around the line.
+    /// Applies the action of a line whose labels are defined, and returns what a listing shows of an assignment: the value, whether its name
+    /// takes it or not, or the number of `.NARG` and `.NCHR`. Only the value of an assignment may ask names that aren't firm. `arguments` is
+    /// the number of actuals of the macro around the line.
     ///
     /// Errors: `TooManySymbols` where more than 4,096 names besides those of the registers would be defined, `TooManySections` where a 65th
     /// section would be selected, and `NoMemory`.
@@ -83,7 +83,7 @@ impl Pass {
         }
     }
 
-    // Does what `.=` changes.
+    // Sets the counter by `.=`.
     fn take_counter(&mut self, line: &Line, start: u8) -> Result<(), AsmFault>
         requires within { start ≤ length line.now.text }
         requires block { self.old.table.modes.block + 1 < 2 ^ 64 }
@@ -101,7 +101,7 @@ impl Pass {
         self.take(line, &change)
     }
 
-    // Does what an operator changes, and finds what is shown of the number that it assigns, if it does.
+    // Applies the change of an operator, and returns what a listing shows of the number that it assigns, if it does.
     fn take_operator(
         &mut self,
         line: &Line,
@@ -133,7 +133,7 @@ impl Pass {
         Ok(number_item(&change))
     }
 
-    // Does what a line changes that assigns no expression, once its labels stand.
+    // Applies the change of a line that assigns no expression, and whose labels are defined.
     fn take(&mut self, line: &Line, change: &Change) -> Result<(), AsmFault>
         requires block { self.old.table.modes.block + 1 < 2 ^ 64 }
         requires section { self.old.table.modes.section < 64 }
@@ -161,8 +161,8 @@ impl Pass {
         }
     }
 
-    /// Does what an instruction changes, whose name ends at a place of its line, and whose fields these are: the counter goes on. Of other
-    /// operators a change is handed on by memory.
+    /// Moves the counter past an instruction with these fields, whose name ends at a place of its line. The changes of other operators are
+    /// handed on by memory.
     pub fn step_over(&mut self, line: &Line, start: u8, operation: Op, fields: &Fields)
         requires fields { fields_seen fields.now ≡ operator_fields self.old.table line.now.text start (Instruction operation) }
         requires section { self.old.table.modes.section < 64 }
@@ -176,7 +176,7 @@ impl Pass {
         self.count(Move::Steps(steps));
     }
 
-    // A name is assigned a number.
+    // Assigns a number to a name.
     fn number(&mut self, name: Name, number: u16) -> Result<(), AsmFault>
         ensures numbers { IfOk result (λ _. Follows self.old self.new (with_number name number)) }
         ensures tables { IfOk result (λ _. tables.Follows self.old.table self.new.table (with_number name number)) }
@@ -191,7 +191,7 @@ impl Pass {
         }
     }
 
-    // The names of the list at a place become global.
+    // Makes the names of the list at a place global.
     fn export_list(&mut self, line: &Line, start: u8) -> Result<(), AsmFault>
         ensures exports { IfOk result (λ _. Follows self.old self.new (with_globals (listed_names line.now.text start))) }
         ensures tables { IfOk result (λ _. tables.Follows self.old.table self.new.table
@@ -202,7 +202,7 @@ impl Pass {
         self.export_all(listed_names(line, within(line, start)).as_slice())
     }
 
-    // Names become global, in order. An element that is none is passed over.
+    // Makes names global, in order. An element that is none is passed over.
     fn export_all(&mut self, names: &[Option<Name>]) -> Result<(), AsmFault>
         ensures exports { IfOk result (λ _. Follows self.old self.new (with_globals (names_among names.now))) }
         ensures tables { IfOk result (λ _. tables.Follows self.old.table self.new.table (with_globals (names_among names.now))) }
@@ -231,7 +231,7 @@ impl Pass {
     }
 }
 
-// A place within a line. After its end no token stands, as at its end.
+// A place within a line: its end for one after that, since no token stands at either.
 pub(crate) fn within(line: &Line, place: u8) -> usize
     ensures same { tokens_from line.now.text result ≡ tokens_from line.now.text place }
     ensures within { result ≤ length line.now.text }
@@ -241,7 +241,7 @@ pub(crate) fn within(line: &Line, place: u8) -> usize
     if place <= end { place } else { end }
 }
 
-// A number is firm.
+// The definition of a name as a number, which is firm.
 fn numbered(name: Name, number: u16) -> Definition
     ensures { result ≡ numbered name number }
 {

@@ -17,9 +17,9 @@ use std::alloc::Global;
 /// Which names a reading counts beside those that its table defines.
 #[derive(Drop)]
 pub enum Counting {
-    /// Those that its lines mention, in a first reading.
+    /// The names that its lines use, in a first reading.
     SymbolUses(UsedSymbols),
-    /// None, in a second one: it asks nothing of what its lines mention.
+    /// No others, in a second reading: it asks nothing of what its lines use.
     Definitions,
 }
 
@@ -35,7 +35,7 @@ impl Counting {
         }
     }
 
-    /// The names of labels, where those that lines mention count. Errors are those of `UsedSymbols::add_labels`.
+    /// Adds the names of labels, where the names that lines use count. Errors are those of `UsedSymbols::add_labels`.
     #[inline(always)]
     pub fn add_labels(&mut self, line: &Line, labels: &[Label]) -> Result<(), AsmFault>
         ensures counts { Counts (flat_map (label_uses line.now.text) labels.now) self.old self.new result }
@@ -48,7 +48,7 @@ impl Counting {
         }
     }
 
-    /// What lines mentioned: nothing where that isn't counted.
+    /// The symbols that lines used: none where these aren't counted.
     pub fn into_used(self, alloc: Global) -> UsedSymbols
         ensures { result ≡ gathered_in self }
     {

@@ -49,7 +49,7 @@ pub fn is_shown(modes: &Modes, is_expanded: bool) -> bool
     modes.unlisted <= modes.listed && (!is_expanded || modes.shows_expansions)
 }
 
-// What is shown of a value that is assigned. One that isn't known isn't shown.
+// The item of a value that is assigned. A value that isn't known has none.
 pub(crate) fn value_item(value: Value) -> Option<Item>
     ensures { option_to_list result ≡ spec.value_items (quantity value) }
 {
@@ -60,7 +60,7 @@ pub(crate) fn value_item(value: Value) -> Option<Item>
     }
 }
 
-// What is shown of a number that a directive assigns.
+// The item of a number that a directive assigns.
 pub(crate) fn number_item(change: &Change) -> Option<Item>
     ensures { option_to_list result ≡ spec.number_items (change_seen change.now) }
 {
@@ -70,7 +70,7 @@ pub(crate) fn number_item(change: &Change) -> Option<Item>
     }
 }
 
-// By what a linker does.
+// The mark of an item, by what a linker does to it.
 fn mark_of(kind: RelocationKind) -> Mark
     ensures { result ≡ spec.mark_of kind }
 {
@@ -82,7 +82,7 @@ fn mark_of(kind: RelocationKind) -> Mark
     }
 }
 
-// By what a value counts from.
+// The mark of an item, by what its value counts from.
 fn mark_by(kind: Kind) -> Mark
     ensures { result ≡ spec.mark_by kind }
 {

@@ -136,7 +136,7 @@ impl Pass {
         }
     }
 
-    // A name that is new opens a block of local symbols. One that is defined becomes doubled.
+    // Defines a name. One that is new opens a block of local symbols. One that is defined becomes doubly defined.
     fn define_name_of(
         &mut self,
         map: &Map<'_>,
@@ -169,7 +169,7 @@ impl Pass {
         }
     }
 
-    // A name that is new.
+    // Defines a name that is new.
     fn define_new_name(&mut self, name: Name, is_global: bool) -> Result<(), AsmFault>
         requires { self.old.table.modes.block + 1 < 2 ^ 64 }
         ensures defines { IfOk result (λ _. Follows self.old self.new
@@ -193,7 +193,7 @@ impl Pass {
         Ok(())
     }
 
-    // A local symbol belongs to the block that is open.
+    // Defines a local symbol in the block that is open.
     fn define_local(&mut self, map: &Map<'_>, number: u16) -> Result<LabelFlags, AsmFault>
         ensures defines { IfOk result (λ flags. Defines self.old self.new (bits_of flags.doubly_defined)
             (λ before. spec.with_key (Numbered before.modes.block number) before)

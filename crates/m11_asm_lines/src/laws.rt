@@ -13,10 +13,10 @@ ghost use Rattle.m11_asm_lines.specs.Labels.{DefinesAll};
 ghost use Rattle.m11_asm_lines.specs.Lines.{change_by, flags_from, uses_by, written_by};
 ghost use Rattle.m11_asm_lines.specs.Passes.{Follows, Kept, Matches};
 
-/// A line goes through a pass in its calls: its labels are defined, and what its operator changes by the table that is kept then is
-/// taken. The pass then keeps what counts of the table after that line, and the flags of the labels are those of the line. What the line
-/// puts and mentions by the table that is kept is what it puts and mentions by the table of all definitions, and its flags are those
-/// that `line_flags` joins.
+/// A line goes through a pass in its calls: its labels are defined, and then the change of its operator is applied, by the table that is
+/// kept then. The pass then keeps what counts of the table after that line, and the flags of the labels are those of the line. What the
+/// line puts and uses by the table that is kept is what it puts and uses by the table of all definitions, and its flags are those that
+/// `line_flags` joins.
 #[tactic(auto, using(crate::proofs::LinesTaken::line_written, crate::proofs::LinesTaken::line_used))]
 pub fn a_line_goes_through_a_pass()
     ensures takes { (old stood new : Kept) (flags : ℕ) (map : Map) (before : Table) (given : Given) → Matches old before

@@ -19,8 +19,8 @@ use m11_scan_statements::{Assignment, Body};
 use m11_unfold_arguments::skip_flags;
 use std::alloc::AllocError;
 
-/// What stands after the labels of a line puts at its places, with the flags of the operator and its arguments: under a map, what a whole source gives its names.
-/// Error: memory may be refused.
+/// Adds what the action of a line puts at its places, with the flags of its operator and arguments. The map says what the whole source
+/// gives its names. Error: memory may be refused.
 pub fn put_action(
     put: &mut Put,
     map: &Map<'_>,

@@ -151,7 +151,7 @@ impl Pass {
         Ok(())
     }
 
-    // A key is doubled from here on.
+    // Makes a key doubly defined from here on.
     pub(crate) fn double(&mut self, key: &Key) -> Result<(), AsmFault>
         ensures doubles { IfOk result (λ _. Follows self.old self.new (with_doubly_defined key.now)) }
         ensures tables { IfOk result (λ _. tables.Follows self.old.table self.new.table (with_doubly_defined key.now)) }
@@ -163,7 +163,7 @@ impl Pass {
         Ok(())
     }
 
-    // A name is global from here on.
+    // Makes a name global from here on.
     pub(crate) fn export(&mut self, name: Name) -> Result<(), AsmFault>
         ensures exports { IfOk result (λ _. Follows self.old self.new (with_global name)) }
         ensures tables { IfOk result (λ _. tables.Follows self.old.table self.new.table (with_global name)) }
@@ -175,7 +175,7 @@ impl Pass {
         Ok(())
     }
 
-    // A new block of local symbols begins.
+    // Begins a new block of local symbols.
     pub(crate) fn open_block(&mut self)
         requires { self.old.table.modes.block + 1 < 2 ^ 64 }
         ensures opens { Follows self.old self.new with_block }
@@ -186,7 +186,7 @@ impl Pass {
         self.table.open_block();
     }
 
-    // Other settings hold from here on.
+    // Sets the modes that hold from here on.
     pub(crate) fn set(&mut self, modes: Modes)
         ensures sets { Follows self.old self.new (with_modes modes) }
         ensures tables { tables.Follows self.old.table self.new.table (with_modes modes) }
@@ -195,7 +195,7 @@ impl Pass {
         self.table.set(modes);
     }
 
-    // A section is selected. One whose name is new has these attributes, where there is room for one: the limit is asked before anything
+    // Selects a section. One whose name is new has these attributes, where there is room for one: the limit is asked before anything
     // grows.
     pub(crate) fn select(&mut self, name: Name, attributes: u8) -> Result<(), AsmFault>
         requires { self.old.table.modes.block + 1 < 2 ^ 64 }
@@ -217,7 +217,7 @@ impl Pass {
         Ok(())
     }
 
-    // The counter of the section goes on, or is set.
+    // Moves the counter of the section on, or sets it.
     pub(crate) fn count(&mut self, step: Move)
         requires { self.old.table.modes.section < 64 }
         ensures counts { Follows self.old self.new (with_move (move_seen step)) }
@@ -228,7 +228,7 @@ impl Pass {
         self.note_size();
     }
 
-    // The size of the section is the greatest place of its counter.
+    // Makes the size of the section the greatest place of its counter.
     fn note_size(&mut self)
         requires { self.old.table.modes.section < 64 }
         ensures { self.new ≡ with_size self.old }
@@ -241,7 +241,7 @@ impl Pass {
     }
 }
 
-// Before the first line each section has size 0.
+// The sizes of sections before the first line: each is 0.
 #[tactic(auto, unfolding(crate::specs::Passes::no_sizes))]
 fn no_sizes() -> [u16; 64]
     ensures { result ≡ no_sizes }
@@ -249,7 +249,7 @@ fn no_sizes() -> [u16; 64]
     [0; 64]
 }
 
-// The counter of the section goes on, or is set.
+// Moves the counter of a table's section on, or sets it.
 fn move_counter(table: &mut Table, step: Move)
     requires { table.old.modes.section < 64 }
     ensures { tables.Follows table.old table.new (with_move (move_seen step)) }

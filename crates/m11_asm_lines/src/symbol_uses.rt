@@ -34,7 +34,7 @@ use m11_scan_values::{Symbol, symbol_of};
 use m11_unfold_arguments::{Notes, note_symbols, single_term};
 
 impl UsedSymbols {
-    /// The labels of a line. Errors as those of `add_all`, but `NoMemory` only at a label up to which no name is one too many.
+    /// Adds the labels of a line. Errors are those of `add_all`, but `NoMemory` only at a label up to which no name is one too many.
     pub fn add_labels(&mut self, line: &Line, labels: &[Label]) -> Result<(), AsmFault>
         ensures adds { Adds (flat_map (spec.label_uses line.now.text) labels.now) self.old self.new result }
         ensures limit_first { IfErr result (λ fault. fault ≡ NoMemory → FitsUpToLabel labels.now
@@ -63,7 +63,7 @@ impl UsedSymbols {
         }
     }
 
-    // A name that is defined.
+    // Adds a name that is defined.
     fn define(&mut self, name: Option<Name>) -> Result<(), AsmFault>
         ensures adds { Adds (spec.defined name) self.old self.new result }
         ensures limit_first { IfErr result (λ fault. fault ≡ NoMemory
@@ -75,8 +75,8 @@ impl UsedSymbols {
         }
     }
 
-    /// What stands after the labels of a line, with the number of actuals of a macro around it and the fields that it has by the table once
-    /// its labels stand. Errors as those of `add_all`.
+    /// Adds the symbols that the action of a line uses. `arguments` is the number of actuals of the macro around the line, and the fields are
+    /// those by the table in which its labels are defined. Errors are those of `add_all`.
     // speed: inline, since most lines use nothing, or what the fields of an instruction use.
     #[inline(always)]
     pub fn add_action(
@@ -101,7 +101,7 @@ impl UsedSymbols {
         }
     }
 
-    // The symbols in the arguments of an operator.
+    // Adds the symbols in the arguments of an operator.
     // speed: inline, since most lines use nothing, or what the fields of an instruction use.
     #[inline(always)]
     fn add_operator(
@@ -125,7 +125,7 @@ impl UsedSymbols {
         }
     }
 
-    // The name of an assignment and what its value reads.
+    // Adds the name of an assignment, and the symbols that its value reads.
     // speed: a call, since in the caller each line would save the registers that it needs.
     #[inline(never)]
     fn add_assignment(
@@ -141,7 +141,7 @@ impl UsedSymbols {
         self.read_by(line, assignment.value, term, Context::LocalOnly)
     }
 
-    // The symbols of the expression at a place. Most expressions are one term, of which no list need be made.
+    // Adds the symbols of the expression at a place. Most expressions are one term, so no list is made of them.
     fn read(&mut self, line: &Line, start: u8, context: Context) -> Result<(), AsmFault>
         ensures { Adds (spec.read_at context line.now.text start) self.old self.new result }
     {
@@ -152,7 +152,7 @@ impl UsedSymbols {
         }
     }
 
-    // What an expression reads, with its one token where it was found to be one term.
+    // Adds the symbols that an expression reads, by its one token where it was found to be one term.
     fn read_by(
         &mut self,
         line: &Line,
@@ -238,7 +238,7 @@ impl UsedSymbols {
         }
     }
 
-    // The symbols in the arguments of a directive.
+    // Adds the symbols in the arguments of a directive.
     // speed: a call, since in the caller each line would save the registers that it needs.
     #[inline(never)]
     fn add_directive(
@@ -266,7 +266,7 @@ impl UsedSymbols {
         }
     }
 
-    // The symbols of the list at a place.
+    // Adds the symbols of the list at a place.
     // speed: a call, since in the caller room for the elements of one would be cleared for each directive.
     #[inline(never)]
     fn add_list(&mut self, line: &Line, start: usize) -> Result<(), AsmFault>
@@ -277,7 +277,7 @@ impl UsedSymbols {
         self.add_elements(line, elements.places.as_slice())
     }
 
-    // The names that become global or weak.
+    // Adds the names that become global or weak.
     // speed: a call, since in the caller room for their list would be cleared for each directive.
     #[inline(never)]
     fn add_exports(&mut self, line: &Line, start: usize) -> Result<(), AsmFault>
@@ -288,7 +288,7 @@ impl UsedSymbols {
         self.add_names(names.as_slice())
     }
 
-    // The elements of a list of words or bytes.
+    // Adds the symbols in the elements of a list of words or bytes.
     fn add_elements(&mut self, line: &Line, places: &[u8]) -> Result<(), AsmFault>
         ensures { Adds (flat_map (spec.read_at Context.MayBeGlobal line.now.text) places.now) self.old self.new result }
     {
@@ -301,7 +301,7 @@ impl UsedSymbols {
         }
     }
 
-    // The symbols of the expressions among the parts of a text.
+    // Adds the symbols of the expressions among the parts of a text.
     // speed: a call, since in the caller room for the parts would be cleared for each directive.
     #[inline(never)]
     fn add_text(&mut self, line: &Line, start: usize, context: Context) -> Result<(), AsmFault>
@@ -333,7 +333,7 @@ impl UsedSymbols {
         }
     }
 
-    // The names of a list. An element that is none is passed over.
+    // Adds the names of a list. An element that is none is passed over.
     fn add_names(&mut self, names: &[Option<Name>]) -> Result<(), AsmFault>
         ensures { Adds (map spec.named (names_among names.now)) self.old self.new result }
     {
@@ -346,7 +346,7 @@ impl UsedSymbols {
         }
     }
 
-    // The name that is assigned a number.
+    // Adds the name that is assigned a number.
     fn add_number(&mut self, change: &Change) -> Result<(), AsmFault>
         ensures { Adds (spec.numbered_use (change_seen change.now)) self.old self.new result }
     {

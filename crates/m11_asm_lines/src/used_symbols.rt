@@ -1,4 +1,4 @@
-//! The names that lines mention. (MACRO-11 Language Reference Manual, "Table of contents and symbol table" and ".GLOBL directive".)
+//! The names that lines use. (MACRO-11 Language Reference Manual, "Table of contents and symbol table" and ".GLOBL directive".)
 
 ghost use Rattle.std.specs.Prelude.{◌≡◌, ◌<◌, ◌≤◌, ◌∷◌, [], IfOk, IfErr, length, true};
 ghost use Rattle.m11_asm_rules.specs.Limits.{most_names};
@@ -19,14 +19,14 @@ use std::marker::Model;
 /// The most names of a source besides those of the registers.
 const MOST_NAMES: usize = 4096;
 
-/// The names that lines mention, each once, in the order in which they appear: 4,096 at most besides those of the registers.
+/// The names that lines use, each once, in the order in which they appear: 4,096 at most besides those of the registers.
 #[derive(Drop)]
 pub struct UsedSymbols {
     pub(crate) alloc: Global,
-    // Besides those of the registers.
+    // The names besides those of the registers.
     names: IndexSet<Name>,
     registers: IndexSet<Name>,
-    // Where a name without a definition is a reference to another object.
+    // The names that stand where one without a definition is a reference to another object.
     referred: IndexSet<Name>,
 }
 
@@ -84,7 +84,7 @@ impl UsedSymbols {
         &self.referred
     }
 
-    /// Symbols that are mentioned one after the other.
+    /// Adds symbols that are used one after the other.
     ///
     /// Errors: `TooManySymbols` where there would be more than 4,096 names besides those of the registers, and `NoMemory`. Memory may be
     /// refused at a symbol before the one whose name is one too many.
@@ -111,7 +111,7 @@ impl UsedSymbols {
         }
     }
 
-    /// A symbol that is mentioned. Errors are those of `add_all`, but `NoMemory` only where its name isn't one too many.
+    /// Adds a symbol that is used. Errors are those of `add_all`, but `NoMemory` only where its name isn't one too many.
     pub fn add(&mut self, symbol: Symbol, context: Context) -> Result<(), AsmFault>
         ensures adds { Adds (symbol_use context symbol ∷ []) self.old self.new result }
         ensures limit_first { IfErr result (λ fault. fault ≡ NoMemory
@@ -133,7 +133,7 @@ impl UsedSymbols {
         Ok(())
     }
 
-    // A name that is mentioned anywhere. The limit is asked before anything grows.
+    // Adds a name that is used anywhere. The limit is asked before anything grows.
     #[tactic(auto, using(crate::proofs::Gathering::noted_register, crate::proofs::Gathering::noted_other))]
     fn note_name(&mut self, name: Name) -> Result<(), AsmFault>
         ensures notes { IfOk result (λ _. self.new ≡ noted name self.old) }
@@ -149,7 +149,7 @@ impl UsedSymbols {
         }
     }
 
-    // It stands where one without a definition is a reference to another object.
+    // Adds a name to the references, where it stands where one without a definition is a reference to another object.
     fn note_reference(&mut self, name: Name, context: Context) -> Result<(), AllocError>
         ensures { IfOk result (λ _. self.new ≡ with_referred name context self.old) }
     {
@@ -173,7 +173,7 @@ impl UsedSymbols {
         Ok(())
     }
 
-    // A name that is none of a register's.
+    // Adds a name that is none of a register's.
     fn count_name(&mut self, name: Name) -> Result<(), AsmFault>
         ensures notes { IfOk result (λ _. self.new ≡ record self.old { names = spec.with_name name self.old.names }) }
         ensures refuses { IfErr result (λ fault. Refuses fault

@@ -9,7 +9,7 @@ blanks count = replicate count 0o40
 abbrev pub at_left : ℕ → Bytes → Bytes
 at_left width text = text ++ blanks (width - length text)
 
--- at the right
+-- a text at the right of a column of this width
 abbrev pub at_right : ℕ → Bytes → Bytes
 at_right width text = blanks (width - length text) ++ text
 

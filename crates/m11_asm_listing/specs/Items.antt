@@ -36,7 +36,7 @@ items_column items = item_column (slice_get items 0) ++ item_column (slice_get i
 
 -- ---- where items lie
 
--- in bytes
+-- the size of an item, in bytes
 abbrev pub item_size : Item → ℕ
 item_size (InByte byte mark) = 1
 item_size (InWord word mark) = 2

@@ -45,7 +45,7 @@ pub struct SectionEntry {
     pub size: u16,
     /// 63 at most, in the order in which sections appear.
     pub number: u8,
-    /// Those of the first directive that names it. A later one changes none.
+    /// The attributes of the first directive that names it. A later one changes none.
     pub attributes: SectionFlags,
 }
 

@@ -17,7 +17,7 @@ all_to_listing lines = each to_listing lines
 
 -- ---- a line of the source, after a table
 
--- its items lie from the place on where it puts them
+-- the lines of a source line: its items lie from the place on where it puts them
 abbrev pub lines_of : Map → Table → ℕ → ℕ → Given → List Bytes
 lines_of map table flags number given =
     listed_lines (flags_text flags) number (place table)

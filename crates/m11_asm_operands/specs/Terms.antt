@@ -25,12 +25,12 @@ IsFieldTerm line (Targeted start) term = IsAlone line start term
 IsFieldTerm line (Numbered start) term = IsAlone line start term
 IsFieldTerm line Missing term = ⊥
 
--- that of the first of some fields
+-- the one term of the first of some fields
 abbrev pub IsTermIn : Bytes → List Field → Token → Type 0
 IsTermIn line [] term = ⊥
 IsTermIn line (field ∷ fields) term = IsFieldTerm line field term
 
--- those of the first and of the second one, where they are one term
+-- the terms of the first and of the second field, where these are one term
 pub record AreTerms (line : Bytes) (fields : List Field) (terms : FieldTerms) : Type 0 where
   pub first_is : IfSome terms.first (λ term. IsTermIn line fields term)
   pub second_is : IfSome terms.second (λ term. IsTermIn line (others fields) term)

@@ -56,7 +56,7 @@ messages_after program before (line ∷ lines) =
     cons_option (message_of (flags_at program before line) line.number line.given.live.line.text)
     (messages_after program (before ++ line ∷ []) lines)
 
--- that of the added line
+-- the message of the added line
 abbrev pub added_message : Ended → List Bytes
 added_message ended = if ended.has_end then [] else message_line (flags_text flag_E) ended.read [] ∷ []
 

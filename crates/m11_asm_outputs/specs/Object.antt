@@ -21,7 +21,7 @@ use Rattle.m11_asm_outputs.specs.Outputs.{Write, to_object}
 abbrev pub head_contents : List DirectoryRow → List Content
 head_contents rows = directory.directory_records rows ++ EndOfGsd ∷ []
 
--- then the texts with their relocations, and the end of the module
+-- the records of an object: its head, the texts with their relocations, and the end of the module
 abbrev pub object_contents : List DirectoryRow → List Piece → List Content
 object_contents rows pieces = head_contents rows ++ text_records pieces ++ EndOfModule ∷ []
 
@@ -58,7 +58,7 @@ texts_of pieces = texts_after None (cutting pieces)
 unfoldable pub closed_records : List Piece → List Content
 closed_records pieces = flat_map records_of (without_last (texts_of pieces))
 
--- those of the last one, if there is a piece
+-- the records of the last text, if there is a piece
 unfoldable pub last_records : List Piece → List Content
 last_records pieces = flat_map records_of (last_alone (texts_of pieces))
 
@@ -70,7 +70,7 @@ records_closed_by before pieces = added closed_records before pieces
 abbrev pub IsOpenAfter : List Piece → Option TextParts → Type 0
 IsOpenAfter pieces last = text.IsOpenText pieces (closed_records pieces) last
 
--- the same of a directory: its records but the last one, which may still take entries
+-- the records of a directory but the last one, which may still take entries
 unfoldable pub full_records : List DirectoryRow → List Content
 full_records rows = without_last (directory.directory_records rows)
 

@@ -91,7 +91,7 @@ Writes old new all result = writes.Writes assembly old new all result
 
 -- ---- the flush
 
--- those that may hold bytes back, in the order in which an assembly flushes them. The messages are for someone who reads along
+-- the outputs that may hold bytes back, in the order in which an assembly flushes them. The messages are for someone who reads along
 abbrev pub files : List AsmOutput
 files = Object ∷ Listing ∷ []
 

@@ -18,8 +18,8 @@ pub fn a_source_has_at_most_200000_live_lines()
         → PassLines map counting source lines stage → length lines ≤ most_lines }
 {}
 
-/// Of two passes over beginnings of one source, under one map and where the same names count, one goes on from the lines of the other:
-/// the live lines of one of them begin with those of the other.
+/// Two passes over beginnings of one source, under one map and where the same names count, go on from each other: the live lines of one
+/// of them begin with those of the other.
 pub fn one_pass_goes_on_from_the_other()
     ensures { (map : Map) (counting : Counting) (all source other more rest : List SourceLine) (lines later : List Numbered)
         (stage after : Stage) → PassLines map counting source lines stage → PassLines map counting other later after

@@ -51,7 +51,7 @@ pub fn no_label_has_moved_in_a_second_pass_over_the_same_lines()
 }
 
 /// A second pass over the lines that a first one read to its end passes no limit, whatever its map is: it has the same names, local symbols
-/// and sections. Its lines mention no name that those of the first one didn't.
+/// and sections. Its lines use no name that those of the first one didn't.
 pub fn a_second_pass_over_the_same_lines_passes_no_limit()
     ensures limits { (one other : Map) (counting : Counting) (all source read : List SourceLine) (lines later : List Numbered)
         (stage : Stage) (fault : AsmFault) → EndsAfter one counting all source lines stage

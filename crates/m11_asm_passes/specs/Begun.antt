@@ -33,7 +33,7 @@ pub record States (live : Live) (statement : Statement) : Type 0 where
   pub body_is : statement.body ≡ body_of live.line.text
   pub flags_are : bits_of statement.label_flags ≡ label_flags live.line
 
--- from before the line to where its labels stand and unfolding has done its operator
+-- the pass goes from before the line to where its labels stand and unfolding has done its operator
 pub record Begins (map : Map) (live : Live) (old new : Going) (does : Action) (begun : Begun) : Type 0 where
   pub labels : Labels map old.counting live.line.text old.kept new.kept begun.found
   pub named : new.counting ≡ with_counted (uses_of_labels live.line.text) old.counting
@@ -41,7 +41,7 @@ pub record Begins (map : Map) (live : Live) (old new : Going) (does : Action) (b
   pub action_is : action_seen does ≡ action begun.act.is_own live.line.text
   pub fields_are : fields_seen begun.fields ≡ action_fields new.kept.table live.line.text does
 
--- from there to the end of the line, with what a listing shows of what it assigns; or the line passes a limit
+-- the pass goes from where the labels stand to the end of the line, with what a listing shows of what it assigns; or the line passes a limit
 abbrev pub Finishes : Map → Live → Stage → Going → Going → Result (Option Item) AsmFault → Type 0
 Finishes map live stage old new (Ok item) = (table : Table) → Matches old.kept table
     → LeavesAfter map table live stage old new × (option_to_list item ≡ assigned_items map table (given_by table live stage))

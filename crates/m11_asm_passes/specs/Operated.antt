@@ -1,5 +1,5 @@
--- What stands after the labels of a line mentions and changes, by the table that is kept once they stand. (MACRO-11 Language Reference
--- Manual, "Operator field" and "Symbols".)
+-- What the action of a line uses and changes, by the table in which its labels are defined. (MACRO-11 Language Reference Manual,
+-- "Operator field" and "Symbols".)
 use Rattle.std.specs.Prelude.{ℕ, List, ◌++◌, map, Option}
 use Rattle.m11_base.specs.Devices.{Bytes}
 use Rattle.m11_unfold_arguments.specs.Notes.{Notes}
@@ -9,7 +9,7 @@ use Rattle.m11_asm_rules.specs.declared.meanings.Context.TheVariants.{LocalOnly}
 use Rattle.m11_asm_rules.specs.SymbolUses.{SymbolUse, action_uses, symbol_use}
 use Rattle.m11_asm_rules.specs.Tables.{Table, firm_table}
 
--- what unfolding read, and what the operator mentions
+-- what unfolding read, and what the operator uses
 abbrev pub uses_after : Table → Bytes → Notes → Option ℕ → Action → List SymbolUse
 uses_after table line notes arguments does = map (symbol_use LocalOnly) notes.symbols ++ action_uses table line arguments does
 

@@ -19,7 +19,7 @@ use Rattle.m11_asm_passes.specs.declared.placed.PlacedLine.{PlacedLine}
 abbrev pub live_in : LiveLine → Live
 live_in live = record { line = live.line; is_expanded = live.is_expanded }
 
--- it is this line, and this is what stands after its labels
+-- a live line is this one, with what stands after its labels
 pub record IsLive (given : Given) (live : LiveLine) : Type 0 where
   pub live_is : live_in live ≡ given.live
   pub action_is : action_seen live.action ≡ action given.is_own given.live.line.text
@@ -29,7 +29,7 @@ abbrev pub all_flags : Map → Table → Given → ℕ
 all_flags map table given =
     bit_or (flags map table given) (moved_flags map given.live.line.text table (labels_at given.live.line.text))
 
--- it is this line after a table, and this is what it put
+-- a placed line is this one after a table, and has put this
 pub record IsPlaced (map : Map) (table : Table) (given : Given) (placed : PlacedLine) (put : Put) : Type 0 where
   pub is_live : IsLive given placed.live
   pub flags_are : bits_of placed.flags ≡ all_flags map table given

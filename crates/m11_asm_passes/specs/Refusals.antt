@@ -1,4 +1,4 @@
--- The first limit that a live line passes: its labels come first, then what unfolding does of it, then what its operator mentions and
+-- The first limit that a live line passes: its labels come first, then what unfolding does of it, then what its operator uses and
 -- changes. (MACRO-11 Language Reference Manual, "Symbols", "Local symbols", "Program section directives" and "Macro calls". The limits and
 -- their order are this project's own.)
 use Rattle.std.specs.Prelude.{◌||◌, nat_lt, if◌then◌else◌, List, length, Option, Some, None}
@@ -54,7 +54,7 @@ abbrev pub placing_fault : Map → Table → Counting → Given → Option AsmFa
 placing_fault map table counting given =
     of_limit (limit_fault (names_counted (with_counted (symbol_uses table given) counting)) (after_line map table given))
 
--- of a line that became live, after a table, by which names count
+-- the fault of a line that became live, after a table, by which names count
 abbrev pub line_fault : Map → Table → Counting → Live → Stage → Option AsmFault
 line_fault map table counting live stage =
     option_or (labels_fault counting table live.line.text)

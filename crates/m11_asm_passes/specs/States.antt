@@ -18,7 +18,7 @@ pub record Going : Type 0 where
   pub counting : Counting
   pub put : Put
 
--- and the fault that ended the pass, if one did
+-- what a pass keeps, and the fault that ended it, if one did
 pub record PassState : Type 0 where
   pub going : Going
   pub fault : Option AsmFault
@@ -26,7 +26,7 @@ pub record PassState : Type 0 where
 abbrev pub going_of : State → Going
 going_of state = record { unfolder = state.unfolder; kept = state.pass; counting = state.counting; put = state.put }
 
--- with a line of the source to be taken
+-- what a pass keeps when a line of the source was fed
 abbrev pub fed : SourceLine → Going → Going
 fed line going = record going {
   unfolder = record {

@@ -43,7 +43,7 @@ SaysPlaced map placed put = λ table given. IsPlaced map table given placed put
 abbrev pub SaysLive : LiveLine → Said
 SaysLive live = λ table given. IsLive given live
 
--- it is placed after a table, and this is said of it
+-- a line is placed after a table, and this is said of it
 pub record PlacesAfter (map : Map) (table : Table) (live : Live) (stage : Stage) (old new : Going) (said : Said) : Type 0 where
   pub leaves : LeavesAfter map table live stage old new
   pub is_said : said table (given_by table live stage)
@@ -73,7 +73,7 @@ pub data FailsAt (map : Map) (old : Going) (fault : AsmFault) : Type 0 where
       → ((table : Table) → Matches old.kept table → Fails (line_fault map table old.counting live stage) fault)
       → FailsAt map old fault
 
--- from one live line to the next, which stands where the call puts it, or to the end of what is left
+-- a turn leads from one live line to the next, which stands where the call puts it, or to the end of what is left
 abbrev pub Turns : Map → Going → Going → Live → Said → Result Turn AsmFault → Type 0
 Turns map old new live said (Ok NeedLine) =
     Steps old.unfolder.stage new.unfolder.stage live.line (Ok step.NeedLine) × IsUnplaced old new
@@ -88,7 +88,7 @@ IsEmpty after (Ok End) = Unit {0}
 IsEmpty after (Ok Line) = Unit {0}
 IsEmpty after (Err fault) = Unit {0}
 
--- and at a live line more lines were taken than before, within the limit
+-- nothing is left where the next line is needed; and at a live line more lines were taken than before, within the limit
 abbrev pub IsNext : ℕ → Stage → Result Turn AsmFault → Type 0
 IsNext taken after (Ok NeedLine) = after.left ≡ []
 IsNext taken after (Ok End) = Unit {0}

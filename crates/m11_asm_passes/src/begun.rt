@@ -29,7 +29,7 @@ use m11_unfold::{Act, Unfolder};
 use m11_unfold_arguments::operator_in;
 use m11_unfold_rules::UnfoldFault;
 
-// What was found of a line whose labels stand and whose operator unfolding has done.
+// What was found of a line whose labels are defined, and whose operator unfolding has done.
 #[derive(Drop)]
 pub struct Begun {
     // The flags of its labels.
@@ -86,7 +86,7 @@ impl State {
     }
 }
 
-// What unfolding does of a line, once its labels stand.
+// Lets unfolding do the operator of a line whose labels are defined.
 fn act_on(
     unfolder: &mut Unfolder,
     line: &Line,
@@ -102,7 +102,7 @@ fn act_on(
     act_under(unfolder, line, operator, pass.table())
 }
 
-// Under the firm names of a table.
+// Lets unfolding do the operator of a line, under the firm names of a table.
 fn act_under(
     unfolder: &mut Unfolder,
     line: &Line,

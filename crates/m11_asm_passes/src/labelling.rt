@@ -90,7 +90,7 @@ fn define_all(
     ensures limit_first { IfErr result (λ fault. fault ≡ NoMemory → (before : LineTable) → Matches pass.old before
         → FitUpToOne counting.old before line.now.text) }
 {
-    // the names are counted before any label is defined, so that want of memory for a label hides no limit on names that are mentioned
+    // the names are counted before any label is defined, so that want of memory for a label hides no limit on names that are used
     counting.add_labels(line, labels)?;
     counting.names_are_within_the_limit();
     let flags = pass.define_labels(map, line, labels)?;

@@ -32,7 +32,7 @@ use m11_base::Name;
 use m11_scan::Line;
 use m11_unfold_arguments::Notes;
 
-// What a line puts, in place of what the line before it put.
+// Puts what a line puts, in place of what the line before it put.
 pub(crate) fn put_line(
     put: &mut Put,
     map: &Map<'_>,
@@ -55,7 +55,7 @@ pub(crate) fn put_line(
     Ok(())
 }
 
-// The symbols that unfolding read.
+// Adds the symbols that unfolding read.
 fn use_read(used_symbols: &mut UsedSymbols, notes: &Notes) -> Result<(), AsmFault>
     ensures { Adds (map (symbol_use LocalOnly) notes.now.symbols) used_symbols.old used_symbols.new result }
 {
@@ -66,7 +66,7 @@ fn use_read(used_symbols: &mut UsedSymbols, notes: &Notes) -> Result<(), AsmFaul
     }
 }
 
-// The symbols that unfolding read, and those that the operator mentions, with the fields that it has by a table.
+// Adds the symbols that unfolding read, and those that the action of a line uses, with its fields by a table.
 // speed: inline, since most lines use nothing, or what the fields of an instruction use.
 #[inline(always)]
 fn use_line(
@@ -90,7 +90,7 @@ fn use_line(
     Ok(())
 }
 
-// Notes the symbols that a line uses, where they count.
+// Adds the symbols that a line uses, where they count.
 #[inline(always)]
 pub(crate) fn count_line(
     counting: &mut Counting,
@@ -116,7 +116,7 @@ pub(crate) fn count_line(
     }
 }
 
-// What a line changes for the lines after it, and what a listing shows of what it assigns.
+// Applies the action of a line, and returns what a listing shows of an assignment.
 #[inline(always)]
 pub(crate) fn change_line(
     pass: &mut Pass,
@@ -159,7 +159,8 @@ pub(crate) fn change_line(
     }
 }
 
-// What an operator changes, and what a listing shows of what it assigns. Most operators are instructions, which change the counter alone.
+// Applies the change of an operator, and returns what a listing shows of what it assigns. Most operators are instructions, which change
+// the counter alone.
 #[inline(always)]
 fn operate_line(
     pass: &mut Pass,
@@ -203,7 +204,7 @@ fn operate_line(
     }
 }
 
-// Changes what a line changes, whatever stands after its labels.
+// Applies any action of a line, and returns what a listing shows of an assignment.
 // speed: a call, since in the caller room for a change would be cleared for each line.
 #[inline(never)]
 fn change_any(
@@ -261,7 +262,7 @@ pub(crate) fn is_shown(pass: &Pass, is_expanded: bool) -> bool
     m11_asm_lines::is_shown(&pass.table().modes(), is_expanded)
 }
 
-// Where the operator of a line puts what it puts.
+// The place at which the operator of a line puts.
 pub(crate) fn put_place(pass: &Pass, action: &Action) -> u16
     ensures { result ≡ put_place pass.now.table (action_seen action.now) }
 {

@@ -26,7 +26,7 @@ use std::alloc::{AllocError, Global};
 use std::marker::Model;
 
 /// One pass over a source: lines are fed in order, and `next` gives each live line as it is placed, or `define` gives it with what it
-/// defines alone. It defines at most 4,096 names besides those of the registers, and mentions at most as many where that counts; it keeps
+/// defines alone. It defines at most 4,096 names besides those of the registers, and uses at most as many where that counts; it keeps
 /// at most 16,384 local symbols, 64 sections, and what an unfolder keeps. After a fault each call returns it again.
 #[derive(Drop)]
 pub struct SourcePass {
@@ -130,7 +130,7 @@ impl SourcePass {
         self.state.pass.size(number)
     }
 
-    /// What the pass leaves: its table with the sizes of sections, and the names that its lines mention, none where they don't count.
+    /// What the pass leaves: its table with the sizes of sections, and the names that its lines use, none where they don't count.
     pub fn end(self) -> (Pass, UsedSymbols)
         ensures pass { result.0 ≡ self.going.kept }
         ensures used_symbols { result.1 ≡ gathered_in self.going.counting }

@@ -173,8 +173,8 @@ impl State {
         Ok(())
     }
 
-    // What a line that has begun mentions, where that counts, and changes, and what a listing shows of what it assigns. It is put into both
-    // callers: the call, and the move of what it returns, took a sixth of its instructions.
+    // Adds the symbols that a line uses whose labels are defined, where they count, applies its action, and returns what a listing shows of
+    // an assignment. It is put into both callers: the call, and the move of what it returns, took a sixth of its instructions.
     #[inline(always)]
     fn finish(
         &mut self,

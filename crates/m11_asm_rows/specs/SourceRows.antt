@@ -21,7 +21,7 @@ pub record Gives : Type 0 where
   pub weak : List Name
   -- the number of the address where it begins
   pub transfer : Option ℕ
-  -- the names that it mentions and those of registers, each once, in the order in which they appear; and those of other objects
+  -- the names that it uses and those of registers, each once, in the order in which they appear; and those of other objects
   pub names : List Name
   pub registers : List Name
   pub references : List Name

@@ -17,7 +17,7 @@ pub fn sections_are_as_worked()
     ensures { map found section_rows ≡ map expected section_rows }
 {}
 
-/// Titles, identifications, weak names, addresses, and the names that lines mention.
+/// Titles, identifications, weak names, addresses, and the names that lines use.
 pub fn sources_are_as_worked()
     ensures { map given_by source_rows ≡ map expected_by source_rows }
 {}

@@ -65,7 +65,7 @@ globl_flags map name =
 abbrev pub definition_flags : Map → Table → Name → ℕ
 definition_flags map table name = bit_or (label_flags table name) (globl_flags map name)
 
--- of a change that assigns a number
+-- flags of a change that assigns a number
 abbrev pub number_flags : Map → Table → Change → ℕ
 number_flags map table (Numbers name number) = definition_flags map table name
 number_flags map table other = 0

@@ -172,7 +172,7 @@ fields_flags line_context operation (field ∷ fields) =
 
 -- ---- the words
 
--- those after the instruction, one after the other
+-- the words after that of the code, one after the other
 abbrev pub words_from : LineContext → ℕ → List Form → Put
 words_from line_context place [] = nothing 0
 words_from line_context place (form ∷ forms) =

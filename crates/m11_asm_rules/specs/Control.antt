@@ -91,7 +91,7 @@ list modes line start =
     if has_token (tokens_from line start) then with_words modes true (texts_of line (names_at line start).list)
     else Sets (record modes { listed = modes.listed + 1 })
 
--- and down
+-- the level goes down where nothing stands
 abbrev pub nlist : Modes → Bytes → ℕ → Change
 nlist modes line start =
     if has_token (tokens_from line start) then with_words modes false (texts_of line (names_at line start).list)

@@ -109,7 +109,7 @@ abbrev pub expression_flags : Option Quantity → ℕ
 expression_flags (Some value) = bit_and value.flags decided_by_text
 expression_flags None = 0
 
--- of the text: its expression, what is skipped, and what is left over
+-- the flags that the text of an `.END` decides: of its expression, of what is skipped, and of what is left over
 abbrev pub end_flags : Map → Table → Bytes → ℕ → ℕ
 end_flags map table line start =
     bit_or (expression_flags (transfer map table line start))

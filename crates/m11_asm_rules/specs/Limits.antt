@@ -16,14 +16,14 @@ use Rattle.m11_asm_rules.specs.Tables.{Table}
 abbrev pub most_names : ℕ
 most_names = 4096
 
--- they stand among those that a table defines, of which each has all of them
+-- each table defines the names of the registers among its own
 abbrev pub most_defined_names : ℕ
 most_defined_names = most_names + length registers
 
 abbrev pub most_local_symbols : ℕ
 most_local_symbols = 16384
 
--- with the two that each assembly has
+-- the two sections that each assembly has count
 abbrev pub most_sections : ℕ
 most_sections = 64
 
@@ -31,7 +31,7 @@ pub data LimitFault : Type 0 where
   TooManySymbols : LimitFault
   TooManySections : LimitFault
 
--- ---- names that lines mention, each once, in the order in which they appear: a first reading counts them too
+-- ---- names that lines use, each once, in the order in which they appear: a first reading counts them too
 
 abbrev pub is_counted : Name → List Name → Bool
 is_counted name names = is_defined (Named name) registers || list_any (λ other. is_same_name other name) names
@@ -81,7 +81,7 @@ local_count table = count_by is_local_definition table.definitions
 abbrev pub has_too_many : Table → Bool
 has_too_many table = nat_lt most_defined_names (name_count table) || nat_lt most_local_symbols (local_count table)
 
--- of names that are mentioned, and of the table
+-- the limit that the names that lines use pass, or the table
 abbrev pub limit_fault : List Name → Table → Option LimitFault
 limit_fault names table =
     if nat_lt most_names (length names) || has_too_many table then Some TooManySymbols

@@ -20,7 +20,7 @@ of_program = 0o040
 abbrev pub of_control : ℕ
 of_control = 0o144
 
--- those that each assembly has; it begins in the blank one
+-- the sections that each assembly has; it begins in the blank one
 abbrev pub first_sections : List Section
 first_sections = section absolute_name of_absolute ∷ section blank_name of_program ∷ []
 

@@ -1,5 +1,5 @@
 -- The symbols that a line defines or reads, in the order in which they stand. (MACRO-11 Language Reference Manual, "Symbols", "Table of
--- contents and symbol table" and ".GLOBL directive". That what is left over of a line mentions nothing is this project's own.)
+-- contents and symbol table" and ".GLOBL directive". That what is left over of a line uses nothing is this project's own.)
 use Rattle.std.specs.Prelude.{ℕ, true, List, [], ◌∷◌, ◌++◌, map, Option, Some, None}
 use Rattle.std.specs.List.{flat_map}
 use Rattle.m11_unfold_arguments.specs.Expressions.{symbols_at}
@@ -43,7 +43,7 @@ pub record SymbolUse : Type 0 where
 abbrev pub symbol_use : Context → Symbol → SymbolUse
 symbol_use context symbol = record { symbol = symbol; context = context }
 
--- those of the expression at a place
+-- the symbols that the expression at a place reads
 abbrev pub read_at : Context → Bytes → ℕ → List SymbolUse
 read_at context line start = map (symbol_use context) (symbols_at line start)
 
@@ -128,7 +128,7 @@ action_uses table line arguments (Assign name is_global start) = defined (target
 action_uses table line arguments (SetCounter start) = read_at LocalOnly line start
 action_uses table line arguments (Operate operator start) = operator_uses table line start arguments operator
 
--- those of a line: of its labels, those that unfolding read, and those of its operator
+-- the symbols that a line uses: its labels, those that unfolding read, and those of its operator
 abbrev pub symbol_uses : Table → Given → List SymbolUse
 symbol_uses table given =
     flat_map (label_uses given.live.line.text) (labels_at given.live.line.text)

@@ -43,8 +43,8 @@ pub fn a_pass_has_the_lines_of_the_whole_source()
     a_source_has_one_unfolding();
 }
 
-/// Lines mention each name that they define. So a reading that counts the names that its lines mention never has more names defined than
-/// it may before it has more mentioned than it may.
+/// Lines use each name that they define. So a reading that counts the names that its lines use has no more names defined than it may, as
+/// long as it has no more used than it may.
 #[tactic(auto, using(crate::proofs::Defining::few_defined))]
 pub fn what_lines_define_they_use()
     ensures { (map : Map) (lines : List Given)

@@ -1,5 +1,5 @@
 //! Laws of whole sources: that a pass, which reads one line of a source after the other, has the live lines of the rewriting of the
-//! whole source; and that lines mention what they define. Each is the contract of a function that does nothing, but to call the law
+//! whole source; and that lines use what they define. Each is the contract of a function that does nothing, but to call the law
 //! that its own follows from. (MACRO-11 Language Reference Manual, "Macro directives", "Conditional assembly directives" and "Symbols".)
 #![tactic(auto)]
 

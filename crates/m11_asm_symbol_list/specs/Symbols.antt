@@ -12,7 +12,7 @@ use Rattle.m11_asm_rules.specs.Definitions.{last_definition}
 use Rattle.m11_asm_rules.specs.declared.sections.Section.{Section}
 use Rattle.m11_asm_symbol_list.specs.Values.{is_assigned, symbol_value}
 
--- its last definition, if it has one
+-- the last definition of a name, if it has one
 abbrev pub definition_of : DirectoryFacts → Name → Option Definition
 definition_of facts name = last_definition (Named name) facts.table.definitions
 

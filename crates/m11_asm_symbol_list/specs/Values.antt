@@ -27,7 +27,7 @@ abbrev pub value_of : List Section → Standing → SymbolValue
 value_of sections (Known number counted) = known_value sections number counted
 value_of sections Unknown = shown.Unknown
 
--- by the last definition, if there is one
+-- the value that a symbol is shown with, by its last definition, if there is one
 abbrev pub symbol_value : List Section → Option Definition → SymbolValue
 symbol_value sections (Some definition) = value_of sections definition.standing
 symbol_value sections None = shown.Unknown

@@ -17,7 +17,7 @@ pub fn each_name_stands_once_and_in_order()
     ordered_names_are_in_order();
 }
 
-/// Entries depend on the last definition of each name, on which names are mentioned, global and referred to, and on nothing else
+/// Entries depend on the last definition of each name, on which names are used, global and referred to, and on nothing else
 /// of how a table keeps them: first passes that agree have the same entries of the same names.
 pub fn first_passes_that_agree_have_the_same_symbols()
     ensures { (one other : DirectoryFacts) (names others : List Name) → FirstPassesAgree one other → HaveTheSame names others

@@ -1,4 +1,4 @@
-//! The symbol table of a source, from what its first pass finds: an entry for each name that its lines mention, and one for each section.
+//! The symbol table of a source, from what its first pass finds: an entry for each name that its lines use, and one for each section.
 //! m11_asm_listing has their lines. (MACRO-11 Language Reference Manual, "Table of contents and symbol table".)
 #![tactic(auto)]
 

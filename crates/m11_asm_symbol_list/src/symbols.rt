@@ -75,7 +75,7 @@ fn joined_names(alloc: Global, names: &[Name], registers: &[Name]) -> Result<Vec
     ordered_names(alloc, list.as_slice())
 }
 
-/// The entries of the names that lines mention, and of the registers that they mention, by the two words of their names. Error: memory may
+/// The entries of the names and of the registers that lines use, by the two words of their names. Error: memory may
 /// be refused.
 #[tactic(auto, unfolding(crate::specs::Symbols::symbol_entries))]
 pub fn symbol_entries(

@@ -19,7 +19,7 @@ pub record Asked : Type 0 where
 abbrev pub asked : Map → Context → Table → ℕ → Asked
 asked map context table place = record { map = map; context = context; table = table; place = place }
 
--- of firm names alone
+-- a question that firm names alone answer
 pub record FirmAsked : Type 0 where
   pub table : Table
   pub place : ℕ

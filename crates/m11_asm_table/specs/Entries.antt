@@ -93,10 +93,10 @@ empty_table = table_of (record {
   modes = first_modes;
 })
 
--- with one more section
+-- a table with one more section
 abbrev pub with_new_section : Section → Table → Table
 with_new_section new table = record table { sections = table.sections ++ new ∷ [] }
 
--- with the names of the registers, each as if it were assigned
+-- a table with the names of the registers, each as if it were assigned
 abbrev pub with_registers : Table → Table
 with_registers table = fold (λ so_far register. with_definition register so_far) table registers

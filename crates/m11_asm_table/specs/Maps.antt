@@ -3,7 +3,7 @@ use Rattle.std.specs.Prelude.{Option, Some, None}
 use Rattle.m11_asm_rules.specs.Meanings.{Map, empty_map, map_of}
 use Rattle.m11_asm_rules.specs.Tables.{Table}
 
--- that of a table, or none
+-- the map of a table, or one that knows nothing
 abbrev pub map_by : Option Table → Map
 map_by (Some table) = map_of table
 map_by None = empty_map

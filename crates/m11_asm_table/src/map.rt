@@ -57,7 +57,7 @@ impl<'a> Map<'a> {
         self.table?.entry(key)
     }
 
-    /// Whether a key is doubled.
+    /// Whether a key is doubly defined.
     pub fn is_doubly_defined(&self, key: &Key) -> bool
         ensures { result ≡ has_key key.now self.now.doubly_defined }
     {

@@ -136,7 +136,7 @@ fn counter_value(table: &Table, place: u16) -> Value
     }
 }
 
-// What a standing gives, with D where its key is doubled, and with U where it isn't known.
+// The value of a standing, with D where its key is doubly defined, and with U where it isn't known.
 fn value_of(standing: Standing, is_doubly_defined: bool) -> Value
     ensures { quantity result ≡ quantity_of (flag_if is_doubly_defined flag_D) standing }
 {
@@ -151,7 +151,7 @@ fn value_of(standing: Standing, is_doubly_defined: bool) -> Value
     }
 }
 
-// What a symbol without a definition stands for.
+// The value of a symbol without a definition.
 fn undefined(context: Context, symbol: Symbol) -> Value
     ensures { quantity result ≡ undefined context symbol }
 {
@@ -165,7 +165,7 @@ fn undefined(context: Context, symbol: Symbol) -> Value
     }
 }
 
-// What a key stands for by what is kept of it, or else something other.
+// The value of a key by what is kept of its definition, or another value where it has none.
 fn given_or(found: Option<&Entry>, is_doubly_defined: bool, other: Value) -> Value
     ensures { quantity result ≡ given_by is_doubly_defined (quantity other) (option_copied found.entry) }
 {
@@ -175,7 +175,7 @@ fn given_or(found: Option<&Entry>, is_doubly_defined: bool, other: Value) -> Val
     }
 }
 
-// The last definition before the line, or else that of the map.
+// The value of a key by its last definition before the line, or else by that of the map.
 // speed: inline, since each symbol of an expression comes here, and a call would hand its result on by memory.
 #[inline(always)]
 fn meaning_of(map: &Map<'_>, other: Value, table: &Table, key: &Key) -> Value
@@ -187,7 +187,7 @@ fn meaning_of(map: &Map<'_>, other: Value, table: &Table, key: &Key) -> Value
     }
 }
 
-// What a definition gives, as far as it is firm.
+// What a definition makes of a symbol, as far as it is firm.
 fn firm_standing(entry: &Entry) -> Standing
     ensures { result ≡ firm_standing entry.now.is_firm entry.now.standing }
 {

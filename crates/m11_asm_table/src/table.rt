@@ -93,7 +93,7 @@ impl Table {
         }
     }
 
-    // The sections and the names with which each source begins.
+    // Adds the sections and the names with which each source begins.
     fn begin(&mut self) -> Result<(), AllocError>
         requires { self.old ≡ empty_table }
         ensures { IfOk result (λ _. Alike self.new first_table) }
@@ -104,7 +104,7 @@ impl Table {
         Ok(())
     }
 
-    // Nothing but the first settings.
+    // A table with nothing but the first modes.
     #[tactic(auto, unfolding(crate::specs::Entries::no_counters))]
     fn empty(alloc: Global) -> Table
         ensures { result ≡ empty_table }
@@ -128,7 +128,7 @@ impl Table {
         }
     }
 
-    // The names of the registers, as if they were assigned.
+    // Adds the names of the registers, as if they were assigned.
     fn add_registers(&mut self) -> Result<(), AllocError>
         ensures { IfOk result (λ _. Follows self.old self.new with_registers) }
     {
@@ -312,7 +312,7 @@ impl Table {
         }
     }
 
-    /// Whether a key is doubled.
+    /// Whether a key is doubly defined.
     // speed: inline, since each symbol of an expression comes here, and a call would hand its result on by memory.
     #[inline(always)]
     pub fn is_doubly_defined(&self, key: &Key) -> bool
@@ -363,8 +363,8 @@ impl Table {
 }
 
 impl Table {
-    /// A section is selected, and with it a new block of local symbols begins. One whose name is new has these attributes, and there is room
-    /// for it. Error: memory may be refused.
+    /// Selects a section, and begins a new block of local symbols. A section whose name is new gets these attributes, and there is room for it.
+    /// Error: memory may be refused.
     pub fn select(&mut self, name: Name, attributes: u8) -> Result<(), AllocError>
         requires blocks { self.old.modes.block + 1 < 2 ^ 64 }
         requires room { number_of name self.old.sections ≡ None → length self.old.sections < most_sections }
@@ -381,7 +381,7 @@ impl Table {
         Ok(())
     }
 
-    // A section whose name is new, where there is room for one.
+    // Adds a section whose name is new, where there is room for one.
     fn add_section(&mut self, name: Name, attributes: u8) -> Result<(), AllocError>
         requires absent { number_of name self.old.sections ≡ None }
         requires room { length self.old.sections < most_sections }
@@ -391,7 +391,7 @@ impl Table {
         Ok(())
     }
 
-    // The section of a number, with a new block of local symbols.
+    // Goes to the section of a number, with a new block of local symbols.
     fn enter(&mut self, number: u16)
         requires { self.old.modes.block + 1 < 2 ^ 64 }
         ensures { self.new ≡ with_modes (in_number number self.old.modes) self.old }
@@ -400,7 +400,7 @@ impl Table {
         self.modes.block += 1;
     }
 
-    /// One more definition, which is then the last one of its key. It says whether the key had none before. Error: memory may be refused.
+    /// Adds a definition, which is then the last one of its key, and returns whether the key had none before. Error: memory may be refused.
     pub fn insert(&mut self, definition: &Definition) -> Result<bool, AllocError>
         ensures follows { IfOk result (λ _. Follows self.old self.new (with_definition definition.now)) }
         ensures is_new { IfOk result (λ is_new. is_new ≡ not (is_defined definition.now.key self.old.definitions)) }
@@ -444,7 +444,7 @@ impl Table {
         Ok(before.is_none())
     }
 
-    /// A key is doubled from here on. Error: memory may be refused.
+    /// Makes a key doubly defined from here on. Error: memory may be refused.
     pub fn double(&mut self, key: &Key) -> Result<(), AllocError>
         ensures { IfOk result (λ _. Follows self.old self.new (with_doubly_defined key.now)) }
     {
@@ -470,7 +470,7 @@ impl Table {
         Ok(())
     }
 
-    /// A name is global from here on. Error: memory may be refused.
+    /// Makes a name global from here on. Error: memory may be refused.
     pub fn export(&mut self, name: Name) -> Result<(), AllocError>
         ensures { IfOk result (λ _. Follows self.old self.new (with_global name)) }
     {
@@ -478,7 +478,7 @@ impl Table {
         Ok(())
     }
 
-    /// A new block of local symbols begins.
+    /// Begins a new block of local symbols.
     pub fn open_block(&mut self)
         requires { self.old.modes.block + 1 < 2 ^ 64 }
         ensures { self.new ≡ with_block self.old }
@@ -486,14 +486,14 @@ impl Table {
         self.modes.block += 1;
     }
 
-    /// Other settings hold from here on.
+    /// Sets the modes that hold from here on.
     pub fn set(&mut self, modes: Modes)
         ensures { self.new ≡ with_modes modes self.old }
     {
         self.modes = modes;
     }
 
-    /// The counter of the section is set to a place.
+    /// Sets the counter of the section to a place.
     pub fn go_to(&mut self, place: u16)
         requires { self.old.modes.section < 64 }
         ensures { Follows self.old self.new (with_move (Goes place)) }
@@ -501,7 +501,7 @@ impl Table {
         self.counters[usize::from(self.modes.section)] = place;
     }
 
-    /// The counter of the section goes on by some bytes, modulo 65536.
+    /// Moves the counter of the section on by some bytes, modulo 65536.
     pub fn step(&mut self, size: u32)
         requires { self.old.modes.section < 64 }
         ensures { Follows self.old self.new (with_move (Steps size)) }

@@ -212,7 +212,7 @@ fn table_of_globals(alloc: Global, names: &SourceNames) -> Result<Table, AllocEr
     table(alloc, &assigned, &listed)
 }
 
-// The same source with a title, an identification, `.WORD Q` and `.END A`.
+// The rows of the source of those globals with a title, an identification, `.WORD Q` and `.END A`.
 fn rows_of_globals(
     alloc: Global,
     names: &SourceNames,

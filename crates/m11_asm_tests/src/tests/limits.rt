@@ -16,7 +16,7 @@ static NAMES: [Row; 2] = [
     (&[".MACRO DEFINE N", "A'N=0", ".ENDM", "X=0", ".REPT 10000", "DEFINE \\X", "X=X+1", ".ENDR"], Err(AsmFault::TooManySymbols)),
 ];
 
-// The same, with names that are only read, and with a label and an assignment after them.
+// Each round defines one name more, and X is one. After them come names that are only read, a label or an assignment.
 #[rattlefmt::skip]
 static DEFINITIONS: [Row; 3] = [
     (&[".MACRO DEFINE N", "A'N=0", ".ENDM", "X=0", ".REPT 7777", "DEFINE \\X", "X=X+1", ".ENDR", ".WORD Y,Z", "A7776: X=1"], Ok(())),
