@@ -102,7 +102,7 @@ Loads old new before after (Err OutsideMemory) =
     (address : ℕ) × (taken : Bytes) × (here : Place) × InsideData old here before after address taken
     × GivesOutside here new (length before) (address + length taken)
 
--- the same of a feed, of which no more bytes are read than a tape may have
+-- what a load of a feed yields; no more bytes are read than a tape may have
 abbrev pub LoadsFrom : Option Text → Option Text → ℕ → ℕ → Bytes → Bytes → Result ℕ LoadFault → Type 0
 LoadsFrom text text' faults faults' before after result =
     (room : ℕ) × Loads (place text faults most_bytes) (place text' faults' room) before after result
@@ -112,7 +112,7 @@ abbrev pub CountsFailure : ℕ → ℕ → Result ℕ LoadFault → Type 0
 CountsFailure faults faults' (Err (Tape fault.Device)) = Rises faults faults'
 CountsFailure faults faults' _ = faults' ≡ faults
 
--- the same into a machine, of which nothing but the memory changes
+-- what a load into a machine yields; nothing but its memory changes
 abbrev pub LoadsInto : Option Text → Option Text → ℕ → ℕ → Machine → Machine → Result ℕ LoadFault → Type 0
 LoadsInto text text' faults faults' before after result =
     LoadsFrom text text' faults faults' before.memory after.memory result

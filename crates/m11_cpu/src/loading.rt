@@ -50,7 +50,7 @@ fn load_block<F: Feed>(
     Ok(())
 }
 
-// The same into a memory.
+// Puts the data of a tape into a memory, and returns the transfer address.
 fn load_tape<F: Feed>(memory: &mut Memory, feed: &mut F) -> Result<u16, LoadFault>
     ensures loads { LoadsFrom (F.text feed.old) (F.text feed.new) (F.faults feed.old) (F.faults feed.new)
         memory.old memory.new result }

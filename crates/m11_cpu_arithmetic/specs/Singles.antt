@@ -37,7 +37,7 @@ keeping_carry codes computed = record {
   };
 }
 
--- the value below 0 by as much as it was above: C unless the result is 0
+-- the negative of a value; C unless the result is 0
 abbrev pub negated : Size → ℕ → Computed
 negated size value =
     let opposite = modulo (size_limit size) (neg_ℤ (pos value)) in

@@ -50,7 +50,7 @@ pub fn exclusive_or(register: u16, destination: u16, codes: ConditionCodes) -> C
     with_codes(Size::Word, register ^ destination, false, codes.carry)
 }
 
-// One value and another one.
+// The sum of two values.
 #[inline(always)]
 pub(crate) fn sum(size: Size, first: u16, second: u16) -> Computed
     requires first { first < size_limit size }
@@ -64,7 +64,7 @@ pub(crate) fn sum(size: Size, first: u16, second: u16) -> Computed
     )
 }
 
-// One value less another one.
+// The difference of two values.
 #[inline(always)]
 pub(crate) fn difference(size: Size, first: u16, second: u16) -> Computed
     requires first { first < size_limit size }

@@ -67,7 +67,7 @@ fn quotient(dividend: i32, divisor: i32) -> i64
     i64::from(dividend) / i64::from(divisor)
 }
 
-// What is left of the dividend then.
+// The remainder of a dividend, whose quotient is rounded towards 0.
 fn remainder(dividend: i32, divisor: i32) -> i32
     requires { divisor ≢ pos 0 }
     ensures { result ≡ int_rem dividend divisor }
@@ -75,7 +75,7 @@ fn remainder(dividend: i32, divisor: i32) -> i32
     (i64::from(dividend) % i64::from(divisor)) as i32
 }
 
-// No word holds the quotient.
+// The refusal of a quotient that no word holds.
 fn refused_quotient(quotient: i64) -> Division
     ensures { result ≡ refused_quotient quotient }
 {

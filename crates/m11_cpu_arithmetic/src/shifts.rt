@@ -25,8 +25,9 @@ pub fn shift(value: u16, count: u16) -> Computed
     )
 }
 
-/// What ASHC computes of the 32 bits of two words; the rest is as with `shift`. (PDP-11/40 Processor
-/// Handbook, "Extended instruction set": ASHC.)
+/// What ASHC computes of the 32 bits of two words. Of `count` the six lowest bits count, as a number with a sign: that
+/// many places to the left, or to the right where it is negative. C is the last bit that left, and V is set where the
+/// sign changed on the way. (PDP-11/40 Processor Handbook, "Extended instruction set": ASHC.)
 #[tactic(auto, unfolding(crate::specs::Shifts::shift_pair_result))]
 pub fn shift_pair(high: u16, low: u16, count: u16) -> Pair
     ensures { result ≡ shift_pair_result high low count }

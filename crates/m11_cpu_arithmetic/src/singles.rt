@@ -68,7 +68,7 @@ fn keeping_carry(codes: ConditionCodes, computed: Computed) -> Computed
     }
 }
 
-// The value below 0 by as much as it was above.
+// The negative of a value. C is set unless the result is 0.
 #[inline(always)]
 fn negated(size: Size, value: u16) -> Computed
     requires { value < size_limit size }

@@ -61,7 +61,7 @@ pointers_by mode.IndexDeferred register =
 abbrev pub pointers : Operand → List Access
 pointers operand = pointers_by operand.mode operand.register
 
--- and the operand itself, where it lies in memory or in a device
+-- the accesses of an operand: those of its address, and the operand itself, where it lies in memory or in a device
 abbrev pub operand_accesses : Operand → Size → List Access
 operand_accesses operand size =
     pointers operand ++ record { size = size; address = place_of operand size >>= address_of } ∷ []
@@ -101,11 +101,11 @@ abbrev pub SomeFindsNothing : List Access → Machine → List Exchange → Type
 SomeFindsNothing [] m exchanges = ⊥
 SomeFindsNothing (access ∷ accesses) m exchanges = FindsNothing access m exchanges ⊎ SomeFindsNothing accesses m exchanges
 
--- it ends by the trap through 4 after these exchanges
+-- a dialogue ends by the trap through 4 after these exchanges
 abbrev pub EndsAt4 : {A : Type 0} → Dialogue (Result A Abort × Machine) → List Exchange → Machine → Type 0
 EndsAt4 {A = A} d exchanges left = Leads {A = Result A Abort × Machine} d exchanges (Err (Traps BusError), left)
 
--- it traps through 4 exactly where one of these accesses finds nothing
+-- a dialogue traps through 4 exactly where one of these accesses finds nothing
 pub record TrapsAtThese {A : Type 0} (d : Dialogue (Result A Abort × Machine)) (accesses : List Access) (m : Machine) : Type 0
   where
     pub only : (exchanges : List Exchange) (left : Machine) → EndsAt4 d exchanges left

@@ -38,7 +38,7 @@ pub record RegistersStay (changed : List ℕ) (old new : Machine) : Type 0 where
 abbrev pub stepped : Operand → List ℕ
 stepped operand = if is_stepping operand.mode then register_number operand.register ∷ [] else []
 
--- that of a destination: stepped, or stored to where it is itself the operand
+-- whether the operand is the register itself, which a destination then stores to
 abbrev pub is_direct : Mode → Bool
 is_direct mode.Register = true
 is_direct other = false
@@ -72,7 +72,7 @@ changed_by (insn.Bare Rti) = register_number Sp ∷ []
 changed_by (insn.Bare Rtt) = register_number Sp ∷ []
 changed_by other = []
 
--- those of the instruction whose code was read; where no code could be read there are none
+-- the registers that the instruction changes whose code was read; where no code could be read there are none
 abbrev pub changed_by_code : Result ℕ Abort → List ℕ
 changed_by_code (Ok word) = changed_by (instruction_of word)
 changed_by_code (Err abort) = []

@@ -64,7 +64,7 @@ DoublesAtStatus operation size source destination m =
     → AtStatus (λ read. double_result operation size value read formed.status.codes) size address formed
     (EndsAs (insn.Double operation size source destination) m (first ++ second))
 
--- of one operand
+-- instructions of one operand
 abbrev pub SinglesAtStatus : SingleOp → Size → Operand → Machine → Type 0
 SinglesAtStatus operation size operand m =
     (exchanges : List Exchange) (address : ℕ) (formed : Machine) → stores_single operation ≡ true
@@ -107,7 +107,7 @@ is_return Rti = true
 is_return Rtt = true
 is_return other = false
 
--- they load the whole status from the second word that they pop
+-- RTI and RTT load the whole status from the second word that they pop
 abbrev pub ReturnsLoad : BareOp → Machine → Type 0
 ReturnsLoad operation m =
     (first second : List Exchange) (address word : ℕ) (n o : Machine) → is_return operation ≡ true

@@ -49,7 +49,7 @@ InstructionEnds m = (word : ℕ) (fetched left : Machine) (ending : Ending) (fir
     → Leads (execute (instruction_of word) fetched) second (Ok ending, left)
     → Leads (step m) ((first ++ second) ++ third) came → Follows (instruction_of word) left third came
 
--- it is aborted, where it is read or later
+-- an instruction is aborted, where it is read or later
 abbrev pub InstructionAborts : Machine → Type 0
 InstructionAborts m = (abort : Abort) (left : Machine) (first second : List Exchange) (came : Turn × Machine)
     → Leads (instruction m) first (Err abort, left) → Leads (step m) (first ++ second) came

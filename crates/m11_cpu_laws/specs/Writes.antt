@@ -87,7 +87,7 @@ stores_double Bis = true
 stores_double Add = true
 stores_double Sub = true
 
--- neither do JMP and TST
+-- JMP and TST store nothing
 abbrev pub stores_single : SingleOp → Bool
 stores_single Jmp = false
 stores_single Swab = true
@@ -132,7 +132,7 @@ destination_bytes (insn.Condition operation named) = no_bytes
 destination_bytes (insn.Branch operation words) = no_bytes
 destination_bytes (insn.Reserved word) = no_bytes
 
--- those of the instruction at the program counter
+-- the bytes that the instruction at the program counter writes
 unfoldable pub written_bytes : Act (List ℕ)
 written_bytes = next_word >>= λ word. destination_bytes (instruction_of word)
 

@@ -12,7 +12,7 @@ Act A = Machine → Dialogue (Result A Abort × Machine)
 unfoldable pub value : {A : Type 0} → (Machine → A) → Act A
 value of m = Comes (Ok (of m), m)
 
--- one part after the other; an abort ends them
+-- the next part of an act, where the part before it isn't aborted
 abbrev pub unless_aborted : {A B : Type 0} → (A → Act B) → Result A Abort → Act B
 unless_aborted next (Ok x) m = next x m
 unless_aborted next (Err abort) m = Comes (Err abort, m)

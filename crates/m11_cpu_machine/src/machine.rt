@@ -26,7 +26,7 @@ pub struct Machine {
     pub receiver: Receiver,
     /// The console's printer.
     pub transmitter: Transmitter,
-    /// The stop after which no step is made any more.
+    /// The stop after which no more steps are made.
     pub stopped: Option<LastingStop>,
 }
 

@@ -44,7 +44,7 @@ pub enum Turn {
 impl LastingStop {
     ghost use Rattle.m11_cpu_machine.specs.Stop.{stop_of};
 
-    /// The same stop among all ways in which a run ends, for its number and its name.
+    /// This stop as one of all ways in which a run ends, which have numbers and names.
     pub fn stop(self) -> Stop
         ensures { result ≡ stop_of self }
     {

@@ -30,39 +30,39 @@ pub record IsDouble (operation : DoubleOp) (size : Size) (source destination : F
   pub source_is : IsForm source size (operand_of (word / 0o100 % 0o100))
   pub destination_is : IsForm destination size (operand_of (word % 0o100))
 
--- of an operation on one operand of a form
+-- a word is that of an operation on one operand of a form
 pub record IsSingle (operation : SingleOp) (size : Size) (form : Form) (word : ℕ) : Type 0 where
   pub operation_is : operation_by_tables word ≡ Some (op.Single operation size)
   pub operand_is : IsForm form size (operand_of (word % 0o100))
 
--- of a branch
+-- a word is that of a branch
 abbrev pub IsBranch : BranchOp → ℕ → Type 0
 IsBranch operation word = operation_by_tables word ≡ Some (op.Branch operation)
 
--- of SOB, of a register that isn't the program counter
+-- a word is that of SOB, of a register that isn't the program counter
 pub record IsCount (word : ℕ) : Type 0 where
   pub operation_is : operation_by_tables word ≡ Some op.Sob
   pub general : word / 0o100 % 0o10 < 7
 
--- of JSR of the program counter, to an operand of a form
+-- a word is that of JSR of the program counter, to an operand of a form
 pub record IsCall (form : Form) (word : ℕ) : Type 0 where
   pub operation_is : operation_by_tables word ≡ Some (op.Register Jsr)
   pub counter : word / 0o100 % 0o10 ≡ 7
   pub operand_is : IsForm form Word (operand_of (word % 0o100))
 
--- of RTS of the program counter
+-- a word is that of RTS of the program counter
 pub record IsReturn (word : ℕ) : Type 0 where
   pub operation_is : operation_by_tables word ≡ Some op.Rts
   pub counter : word % 0o10 ≡ 7
 
--- of an operation on C alone
+-- the codes of an operation on C alone
 abbrev pub carry_alone : ConditionCodes
 carry_alone = record { negative = false; zero = false; overflow = false; carry = true }
 
 abbrev pub IsOnCarry : ConditionOp → ℕ → Type 0
 IsOnCarry operation word = meaning (operation_by_tables word) word ≡ instruction.Condition operation carry_alone
 
--- of MUL, of a register before SP
+-- a word is that of MUL, of a register before SP
 pub record IsProduct (word : ℕ) : Type 0 where
   pub operation_is : operation_by_tables word ≡ Some (op.Extended Mul)
   pub general : word / 0o100 % 0o10 < 6

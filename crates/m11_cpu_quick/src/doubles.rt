@@ -49,7 +49,8 @@ pub(crate) fn double_to_register(
     Some(after)
 }
 
-/// An operation whose destination lies in memory, likewise.
+/// An operation whose destination lies in memory: the program counter after it; None where source or destination isn't
+/// plain, and nothing changes.
 #[inline(always)]
 pub(crate) fn double_to_memory(
     machine: &mut Machine,
@@ -129,7 +130,7 @@ fn double_into_register(
     }
 }
 
-// The same on a word or byte in memory.
+// Does an operation whose destination is a word or byte in memory.
 #[inline(always)]
 fn double_into_memory(
     machine: &mut Machine,

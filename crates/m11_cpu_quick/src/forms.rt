@@ -15,7 +15,7 @@ pub(crate) enum Form {
     Deferred,
     /// `(R)+`, where the register steps by the bytes of the operand.
     Increment,
-    /// `-(R)`, likewise.
+    /// `-(R)`, where the register steps back by the bytes of the operand.
     Decrement,
     /// `X(R)`.
     Index,

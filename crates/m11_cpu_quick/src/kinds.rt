@@ -595,7 +595,7 @@ fn jmp_kind(word: u16, operand: Form) -> Kind
     }
 }
 
-// Of JSR of the program counter.
+// The kind of a JSR of the program counter.
 fn jsr_kind(word: u16, operand: Form) -> Kind
     requires operation { operation_by_tables word ≡ Some (op.Register Jsr) }
     requires counter { word / 0o100 % 0o10 ≡ 7 }

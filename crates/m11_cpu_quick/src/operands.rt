@@ -108,7 +108,7 @@ pub(crate) fn address_of(
     }
 }
 
-/// What an operand holds, and the program counter after it; else as above.
+/// What an operand holds, and the program counter after it; None where it doesn't lie in memory, and nothing changes.
 #[tactic(auto, using(crate::proofs::OperandsFound::put_back, crate::proofs::OperandsFound::kept_back))]
 #[inline(always)]
 pub(crate) fn value_of(

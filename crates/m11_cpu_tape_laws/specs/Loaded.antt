@@ -16,7 +16,7 @@ use Rattle.m11_cpu_tape_laws.specs.Tapes.{transfer_address}
 abbrev pub LiesInside : ℕ → Image → Type 0
 LiesInside size image = (address : ℕ) → size ≤ address → image.byte address ≡ None
 
--- one of them does
+-- a byte of the image lies at or past this size
 pub record LiesPast (size : ℕ) (image : Image) : Type 0 where
   pub address : ℕ
   pub byte : ℕ

@@ -7,8 +7,8 @@ ghost use Rattle.m11_obj_blocks.specs.Tapes.{IsTape};
 ghost use Rattle.m11_cpu_tape_laws.specs.Image.{Image, byte_of};
 ghost use Rattle.m11_cpu_tape_laws.specs.Tapes.{IsTapeOf, image_of_blocks, transfer_address};
 
-/// Of blocks that stand one after another the later count: the byte at an address is that of the later ones, and where
-/// they have none there that of the others.
+/// Later blocks count: the byte at an address is that of the later ones, and where they have none there that of the ones
+/// before them.
 pub fn later_blocks_count()
     ensures { (blocks later : List (ℕ × Bytes)) (address : ℕ)
         → byte_of (blocks ++ later) address ≡ option_or (byte_of later address) (byte_of blocks address) }

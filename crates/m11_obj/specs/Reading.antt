@@ -195,7 +195,7 @@ content_of bytes = do
 abbrev pub IsRecord : Bytes → Type 0
 IsRecord bytes = is_ok (content_of bytes) ≡ true
 
--- and no more than a block holds
+-- the bytes are those of some record, and no more than a block holds
 abbrev pub IsHeldRecord : Bytes → Type 0
 IsHeldRecord bytes = IsRecord bytes × (length bytes ≤ content_limit)
 

@@ -120,7 +120,7 @@ fn row_of(code: u8) -> Result<Command, RecordFault>
     }
 }
 
-// The same, or a refusal where a byte is asked for and the command has no such form.
+// The command of a code, in its form of words or of bytes. A code whose command has no form of bytes is refused there.
 #[tactic(auto, unfolding(crate::specs::Reading::form_of))]
 #[inline(always)]
 pub(crate) fn command_of(is_byte: bool, code: u8) -> Result<Command, RecordFault>

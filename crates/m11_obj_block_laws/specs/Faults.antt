@@ -21,7 +21,7 @@ Shows fault.BadSum bytes rest = (content : List ℕ) × (byte : ℕ) × (length 
     × (bytes ≡ (header (length content) ++ content) ++ byte ∷ rest)
 Shows other bytes rest = ⊥
 
--- the same after zeros
+-- the bytes show the fault after zeros
 pub record ShowsAfterZeros (fault : BlockFault) (bytes rest : List ℕ) : Type 0 where
   pub zeros : ℕ
   pub following : List ℕ

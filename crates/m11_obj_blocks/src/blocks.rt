@@ -146,7 +146,8 @@ fn read_front_bytes<F: Feed>(feed: &mut F, room: &mut u32) -> Result<Option<u16>
     Ok(Some(count))
 }
 
-// The same: at once, where all of it is ready.
+// Goes after what stands before the content of a block, at once where all of it is ready, else byte by byte. It returns
+// the count of the content, where there is a block.
 fn read_front<F: Feed>(feed: &mut F, room: &mut u32) -> Result<Option<u16>, BlockFault>
     ensures front { ReadsFront (place (F.text feed.old) (F.faults feed.old) room.old)
         (place (F.text feed.new) (F.faults feed.new) room.new) result }

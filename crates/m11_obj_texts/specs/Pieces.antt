@@ -66,7 +66,7 @@ last_place piece = (piece.place + (size_of piece - 1)) % 65536
 abbrev pub text_bytes : List Piece → Bytes
 text_bytes pieces = flat_map (λ piece. content_bytes piece.content) pieces
 
--- their relocations, the first piece standing at this displacement
+-- the relocations of pieces that stand one after another, the first one at this displacement
 abbrev pub relocations_from : ℕ → List Piece → List Relocation
 relocations_from displacement [] = []
 relocations_from displacement (piece ∷ pieces) =

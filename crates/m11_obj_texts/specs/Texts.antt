@@ -25,7 +25,7 @@ are_contiguous first (next ∷ rest) = follows first next && are_contiguous next
 abbrev pub most_bytes : ℕ
 most_bytes = 32
 
--- of the relocations alone, without the type word of their record
+-- the bytes of the relocations alone, without the type word of their record
 abbrev pub most_relocation_bytes : ℕ
 most_relocation_bytes = 120
 

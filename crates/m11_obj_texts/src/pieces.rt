@@ -26,11 +26,11 @@ pub enum RelocationKind {
     InternalDisplaced,
     /// Commands 2 and 5: it is added to a global symbol.
     Global(Name),
-    /// Commands 4 and 6: the same, displaced.
+    /// Commands 4 and 6: it is added to a global symbol, displaced.
     GlobalDisplaced(Name),
     /// Commands 12 and 15: it is moved with another section.
     Section(Name),
-    /// Commands 14 and 16: the same, displaced.
+    /// Commands 14 and 16: it is moved with another section, displaced.
     SectionDisplaced(Name),
 }
 

@@ -13,7 +13,7 @@ const HALTS: [u8; 20] = [
     0o001, 0o000, 0o006, 0o000, 0o000, 0o002, 0o367,
 ];
 
-// The same with a wrong sum of the block.
+// `MOV #1,R0` and `HALT` at 1000, where the program starts, in a block with a wrong sum.
 const HALTS_WITH_A_WRONG_SUM: [u8; 20] = [
     0o001, 0o000, 0o014, 0o000, 0o000, 0o002, 0o300, 0o025, 0o001, 0o000, 0o000, 0o000, 0o034,
     0o001, 0o000, 0o006, 0o000, 0o000, 0o002, 0o367,
