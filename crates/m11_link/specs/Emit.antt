@@ -127,7 +127,7 @@ abbrev pub directory_writes : ℕ → List GsdEntry → Reporting → List Write
 directory_writes module_index entries t =
     held_writes t.held ++ entries_writes (planned t.plan) module_index t.defined entries
 
--- and what stands after it
+-- the state after a directory record
 abbrev pub with_directory : ℕ → List GsdEntry → Reporting → Reporting
 with_directory module_index entries t = with_entries module_index entries (with_held None t)
 
@@ -168,7 +168,7 @@ abbrev pub written : Planned → Bool → List Part → List Write
 written plan has_begun parts =
     if has_begun then front_writes (planned plan) ++ parts_writes (planned plan) parts else []
 
--- it stands after these parts, of which none has a fault
+-- a second pass stands after these parts, of which none has a fault
 pub record EmitStands (plan : Planned) (parts : List Part) (state : Emitting) : Type 0 where
   pub sound : first_fault [] parts ≡ None
   pub known : state.known ≡ known_of parts

@@ -54,7 +54,8 @@ LaysOutObject text faults faults' bottom before layout (Err fault.NoMemory) = fa
 LaysOutObject text faults faults' bottom before layout (Err stopped) =
     (faults' ≡ faults) × (items : List Item) × GivesItems text items × (taken before items ≡ Err stopped)
 
--- the same of several
+-- several objects were laid out after these parts; or the first fault of one was returned; or a feed failed, and what had
+-- come till then has no fault; or memory was refused
 abbrev pub LaysOut : {F : Type 0} → Pass F → ℕ → List Part → LayoutState → Result (Unit {0}) LinkFault → Type 0
 LaysOut pass bottom before layout (Ok done) = NoneFailed pass.faults pass.old pass.new
     × (items : List Item) × GiveItems pass.text pass.old items × Reaches bottom before items layout

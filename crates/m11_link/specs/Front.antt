@@ -24,7 +24,7 @@ abbrev pub written_if : (Name → Write) → Option Name → List Write
 written_if write None = []
 written_if write (Some name) = write name ∷ []
 
--- in order of first reference
+-- the undefined names, in order of first reference
 unfoldable pub undefined_names : Findings → Bool → List (Name × Bool) → List Name
 undefined_names found is_strong references = filter_map (undefined_by found is_strong) references
 

@@ -50,7 +50,7 @@ pub data ObjectItems : ℕ → Bytes → List Item → Type 0 where
   Passes : {room : ℕ} {bytes : Bytes} → room < length bytes → IsShort (first_block (take room bytes))
       → ObjectItems room bytes (Refused fault.TooMuch ∷ [])
 
--- the same of a beginning of an object, after which nothing is known: its whole blocks
+-- the items of a beginning of an object, after which nothing is known: its whole blocks
 pub data BeginningItems : ℕ → Bytes → List Item → Type 0 where
   Begins : {room left : ℕ} {bytes rest content : Bytes} {items : List Item}
       → first_block bytes ≡ Ok (content, rest) → length bytes + left ≡ length rest + room

@@ -26,7 +26,7 @@ abbrev pub outputs_of : {S T U : Type 0} → Ghosts S → Ghosts T → Ghosts U 
 outputs_of known_tape known_map known_messages tape map messages =
     outputs (output_of known_tape tape) (optional_output known_map map) (output_of known_messages messages)
 
--- they are distinguished
+-- whether two outputs are one
 abbrev pub is_output : LinkOutput → LinkOutput → Bool
 is_output Tape Tape = true
 is_output Map Map = true
@@ -91,7 +91,7 @@ Writes old new all result = writes.Writes link old new all result
 
 -- ---- the end
 
--- those that may hold bytes back: a link flushes them in this order when all is written. The messages are for someone who
+-- the outputs that may hold bytes back: a link flushes them in this order when all is written. The messages are for someone who
 -- reads along
 abbrev pub files : List LinkOutput
 files = Tape ∷ Map ∷ []

@@ -263,7 +263,7 @@ impl Reporter {
         }
     }
 
-    // The same of a section that is entered with these attributes.
+    // Reports a section that is entered with these attributes, where those of its first entry are others.
     fn note_section_with<U: Sink>(
         &mut self,
         module_index: usize,

@@ -46,7 +46,7 @@ linked found text =
 abbrev pub linked_text : Findings → ObjectText → ℕ × Bytes
 linked_text found text = ((linked found text).address, (linked found text).bytes)
 
--- the address and the bytes of each, in order
+-- the address and the bytes of each text, in order
 abbrev pub linked_texts : Findings → List Part → List (ℕ × Bytes)
 linked_texts found parts = map (linked_text found) (object_texts parts)
 
@@ -54,6 +54,6 @@ abbrev pub has_data : Bytes → Bool
 has_data [] = false
 has_data (byte ∷ bytes) = true
 
--- those that are blocks of the tape: a block without data would be the transfer block
+-- the texts that are blocks of the tape: a block without data would be the transfer block
 abbrev pub tape_blocks : Findings → List Part → List (ℕ × Bytes)
 tape_blocks found parts = filter (λ text. has_data text.1) (linked_texts found parts)

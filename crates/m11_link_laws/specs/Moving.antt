@@ -130,7 +130,7 @@ pub record Moved (distance : ℕ) (parts : List Part) (near far : Findings) : Ty
   pub bottom : far.bottom ≡ near.bottom + distance
   pub top : far.top ≡ near.top + distance
 
--- the same as one result, for an even distance
+-- the findings from a bottom that lies an even distance farther, made from those of the near one
 abbrev pub findings_moved : ℕ → List Part → Findings → Findings
 findings_moved distance parts near = record {
   base = λ index name. moved distance (moves parts index name) (near.base index name);

@@ -16,7 +16,7 @@ only_selects (target.LocationCounterDefinition name constant) = true
 only_selects (target.LocationCounterModification constant) = true
 only_selects other = false
 
--- one that changes a text
+-- a relocation that changes a text
 abbrev pub stores : Part → Bool
 stores (Relocated relocation) = not (only_selects relocation.target)
 stores part = false

@@ -67,7 +67,7 @@ definition_value bottom parts definition = place_value bottom parts definition.m
 abbrev pub first_definition : List Part → Name → Option Definition
 first_definition parts name = lookup (is_same_name name) (definitions_of parts)
 
--- its value, where it is defined
+-- the value of a global, where it is defined
 unfoldable pub global_value : ℕ → List Part → Name → Option ℕ
 global_value bottom parts name = option_map (definition_value bottom parts) (first_definition parts name)
 

@@ -19,7 +19,7 @@ pub record LayoutState : Type 0 where
   pub bottom : ℕ
   pub fault : Option LinkFault
 
--- it stands after these parts, of which none has a fault
+-- a layout stands after these parts, of which none has a fault
 pub record LayoutStands (bottom : ℕ) (parts : List Part) (reading : LayoutState) : Type 0 where
   pub sound : first_fault [] parts ≡ None
   pub known : reading.known ≡ known_of parts

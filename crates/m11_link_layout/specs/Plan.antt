@@ -170,7 +170,7 @@ planned_globals plan = map (global_planned plan) plan.gathered.definitions
 
 -- ---- how large its tables are
 
--- they grow with the names in parts alone: a contribution at most for each entry of a section, the name of each module
+-- the tables grow with the names in parts alone: a contribution at most for each entry of a section, the name of each module
 -- that ended, no more weak names than globals, a base at most for each section
 pub record TablesGrow (parts : List Part) (plan : Planned) : Type 0 where
   pub contributions : length plan.gathered.contributions ≤ length (sections_in parts)
@@ -178,7 +178,7 @@ pub record TablesGrow (parts : List Part) (plan : Planned) : Type 0 where
   pub weak : length plan.gathered.weak ≤ length (global_names parts)
   pub bases : length plan.bases ≤ length (section_names parts)
 
--- and no further than the limits of a link, which count the module that may not have ended
+-- the tables grow no further than the limits of a link, which count the module that may not have ended
 pub record TablesBounded (plan : Planned) : Type 0 where
   pub contributions : length plan.gathered.contributions ≤ (most_modules + 1) * most_sections
   pub names : length plan.gathered.names ≤ most_modules

@@ -147,7 +147,7 @@ unfoldable pub contribution_base : ℕ → List Part → List Part → List Part
 contribution_base bottom parts earlier own name = base_entered (lookup (is_same_name name) (sections_in own))
     (section_base bottom parts name + offset_after (first_attributes parts name) (sizes_of earlier name))
 
--- the same for the module of an index, as an address: octal 200000 is after the last one
+-- the base of the contribution of the module of an index, as an address: octal 200000 is after the last one
 unfoldable pub module_base : ℕ → List Part → ℕ → Name → ℕ
 module_base bottom parts index name =
     contribution_base bottom parts (modules_before parts index) (module_at parts index) name % 0o200000

@@ -31,7 +31,7 @@ pub(crate) struct Tables {
     definitions: IndexMap<Name, Definition>,
     references: IndexMap<Name, bool>,
     transfer: Option<Transfer>,
-    // The same, should this module still enter `. ABS.` as relocatable, which its entries so far don't say.
+    // The transfer address, should this module still enter `. ABS.` as relocatable, which its entries so far don't say.
     moved: Option<Transfer>,
 }
 

@@ -44,7 +44,7 @@ contribution_in index c = if nat_eq c.module_index index then Some (c.section, c
 abbrev pub lies_at : ℕ → PlannedGlobal → Bool
 lies_at address global = nat_eq global.value address
 
--- the same globals by their values; those of one value stay in their order
+-- the globals in the order of their values; those of one value stay in their order
 pub record IsByValue (globals order : List PlannedGlobal) : Type 0 where
   pub same : IsPermutation globals order
   pub rise : IsNonDecreasingBy (λ (global : PlannedGlobal). global.value) order

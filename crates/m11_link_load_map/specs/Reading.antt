@@ -40,7 +40,7 @@ pub record NotedBetween (bottom : ℕ) (parts : List Part) (layout : LayoutState
   pub between : StandsBetween bottom parts layout
   pub noted-are : noted ≡ noted_of parts
 
--- the same of several objects
+-- several objects were taken and noted; or they ended as the first pass of a link does
 abbrev pub NotesObjects : {F : Type 0} → Pass F → ℕ → List Part → LayoutState → List Noted → Result (Unit {0}) LinkFault → Type 0
 NotesObjects pass bottom before layout noted (Ok done) = NoneFailed pass.faults pass.old pass.new
     × (items : List Item) × GiveItems pass.text pass.old items × ReachesNoted bottom before items layout noted

@@ -7,7 +7,7 @@ ghost use Rattle.m11_link_load_map.specs.LoadMap.{IsLoadMap, contribution_in, co
 ghost use Rattle.m11_link_modules.specs.Parts.{Part};
 ghost use Rattle.m11_link_modules.specs.Places.{sections_in};
 
-/// Of each module the map shows each section that it enters once, in the order of the entries, with its size in the module.
+/// The map shows each section that a module enters once, in the order of the entries, with its size in the module.
 #[tactic(auto, using(crate::proofs::Shown::each_shown))]
 pub fn each_section_entry_is_shown_once()
     ensures { (parts : List Part) (index : ℕ)

@@ -180,7 +180,7 @@ fn check_place(relocation: &Relocation, text: Option<usize>) -> Result<(), Modul
     }
 }
 
-// What is stored has to be known, or there has to be room for its name.
+// The target of a relocation: what it names has to be known, or there has to be room for the name.
 fn check_target(
     target: Target,
     entered: &IndexMap<Name, u16>,

@@ -28,7 +28,7 @@ pub record Findings : Type 0 where
   pub bottom : ℕ
   pub top : ℕ
 
--- by the definitions, over the parts of all objects
+-- what a first pass finds, by the definitions, over the parts of all objects
 unfoldable pub findings_of : ℕ → List Part → Findings
 findings_of bottom parts = record {
   base = λ module_index name. module_base bottom parts module_index name;
@@ -43,7 +43,7 @@ findings_of bottom parts = record {
   top = top bottom parts;
 }
 
--- the same by a plan
+-- what a first pass found, by its plan
 abbrev pub planned : Planned → Findings
 planned plan = record {
   base = λ module_index name. planned_base plan module_index name;

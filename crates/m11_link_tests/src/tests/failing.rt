@@ -13,7 +13,7 @@ use std::test::Fail;
 // A feed of one of the readings, or an output.
 #[derive(Clone, Copy, Debug, PartialEq, Eq)]
 enum Device {
-    // Of the first pass and then the second one, two each.
+    // A feed by its index: two of the first pass, and then two of the second one.
     Feed(usize),
     Output(LinkOutput),
 }
@@ -83,7 +83,7 @@ fn link_broken(
     )
 }
 
-// The same, with what the texts are then.
+// Links two files with a broken device, and returns what comes of it with the texts.
 fn linked_broken(alloc: Global, files: [&[u8]; 2], broken: Broken, most: usize) -> Linked {
     let mut tape = Vec::new(alloc);
     let mut map = Vec::new(alloc);

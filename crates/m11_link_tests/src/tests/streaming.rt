@@ -104,7 +104,7 @@ fn writes_texts_in_turn(mut emit: Emit, outputs: &mut Outputs) -> bool {
     }
 }
 
-// The same of a second pass of the two modules.
+// Whether a second pass of the two modules holds one text, and no more.
 fn holds_one_text(alloc: Global) -> Result<bool, LinkFault> {
     let emit = Emit::new(alloc, plan(alloc)?);
     let mut outputs = Outputs {
@@ -161,7 +161,7 @@ const NAMED_A: &[u8] = &[0x40, 0x06, 0x00, 0x00, 0x00, 0x00, 0x00, 0x00];
 // A section, PROG, of 0 bytes, flags 040.
 const ENTERS_PROG: &[u8] = &[0xDF, 0x66, 0xC0, 0x2B, 0x20, 0x05, 0x00, 0x00];
 
-// The same, which is read-only.
+// A section, PROG, of 0 bytes, flags 060, which make it read-only.
 const ENTERS_PROG_TO_READ: &[u8] = &[0xDF, 0x66, 0xC0, 0x2B, 0x30, 0x05, 0x00, 0x00];
 
 // A section, DATA, of 0 bytes, flags 040.
