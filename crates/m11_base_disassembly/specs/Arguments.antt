@@ -33,7 +33,8 @@ by_register mode.AutodecrementDeferred register word = DeferredBackward register
 by_register mode.Index register word = Indexed word register
 by_register mode.IndexDeferred register word = DeferredIndexed word register
 
--- the same with the program counter, of which four modes have a form of their own; `after` is the place after that word
+-- the operand of a mode and the program counter, of which four modes have a form of their own; `after` is the place after the
+-- word that the mode takes
 abbrev pub by_counter : Mode → ℕ → ℕ → Argument
 by_counter mode.Autoincrement after word = Immediate word
 by_counter mode.AutoincrementDeferred after word = Absolute word

@@ -20,7 +20,7 @@ held_among (file ∷ more) path =
 abbrev pub made_of : MadeFile → Made
 made_of file = record { path = string_bytes file.path; kept = option_map (λ bytes. bytes.items) file.kept }
 
--- those that are stored, and those that were made
+-- the files that are stored, and the files that were made
 abbrev pub files_of : List MemoryFile → List MadeFile → Files
 files_of stored made = record { held = held_among stored; made = map made_of made }
 

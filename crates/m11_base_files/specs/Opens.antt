@@ -24,17 +24,17 @@ abbrev pub Holds : Option Files → Bytes → Option Text → Type 0
 Holds None path text = ⊤
 Holds (Some files) path text = (files.held path ≡ text) × IsSome text
 
--- there is none
+-- there is no file at this path
 abbrev pub Lacks : Option Files → Bytes → Type 0
 Lacks None path = ⊤
 Lacks (Some files) path = files.held path ≡ None
 
--- there is one
+-- there is a file at this path
 abbrev pub Has : Option Files → Bytes → Type 0
 Has None path = ⊤
 Has (Some files) path = IsSome (files.held path)
 
--- there is one at each of these
+-- there is a file at each of these paths
 abbrev pub HasAll : Option Files → List Bytes → Type 0
 HasAll files [] = ⊤
 HasAll files (path ∷ paths) = Has files path × HasAll files paths
@@ -113,7 +113,7 @@ abbrev pub Counts : ℕ → ℕ → OpenRefusal → Type 0
 Counts old new NotOpened = Rises old new
 Counts old new NoMemory = new ≡ old
 
--- and nowhere else
+-- a count of refusals rises where a file was refused, and nowhere else
 abbrev pub CountsRefusal : {A : Type 0} → ℕ → ℕ → Result A OpenRefusal → Type 0
 CountsRefusal old new (Ok file) = new ≡ old
 CountsRefusal old new (Err refusal) = Counts old new refusal

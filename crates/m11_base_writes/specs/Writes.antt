@@ -44,7 +44,7 @@ abbrev pub GainTexts : {O E : Type 0} → Kinds O E → (O → Output) → (O �
 GainTexts {O} kinds old new writes =
     (output : O) → Appends (old output).text (new output).text (gained kinds output writes)
 
--- and none failed
+-- each output gained what the writes say for it, and none failed
 pub record Gains {O E : Type 0} (kinds : Kinds O E) (old new : O → Output) (writes : List (Write O)) : Type 0 where
   pub texts : GainTexts kinds old new writes
   pub faults : (output : O) → (new output).faults ≡ (old output).faults

@@ -12,7 +12,7 @@ IsOfTexts (assembly.Write output) = ⊥
 IsOfTexts assembly.NoMemory = ⊥
 IsOfTexts stopped = ⊤
 
--- the same of objects
+-- a fault of objects: no device failed, and no memory was refused
 abbrev pub IsOfObjects : LinkFault → Type 0
 IsOfObjects linking.Read = ⊥
 IsOfObjects (linking.Write output) = ⊥

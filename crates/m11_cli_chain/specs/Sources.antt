@@ -30,7 +30,7 @@ sources_of all = map source_of all
 abbrev pub AreLive : List Bytes → List Numbered → Type 0
 AreLive texts lines = (ended : Ended) × Ends empty_map none_used (reading_of texts) lines ended
 
--- those of several assemblies, each with its texts
+-- these are the live lines of several assemblies, each of its texts
 abbrev pub AllLive : List (List Bytes) → List (List Numbered) → Type 0
 AllLive [] [] = ⊤
 AllLive [] (lines ∷ others) = ⊥

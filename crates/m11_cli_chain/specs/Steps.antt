@@ -54,7 +54,7 @@ AssemblyFails texts (Assembly stopped) = IsOfTexts stopped × AreRefused texts s
 AssemblyFails texts NoMemory = ⊤
 AssemblyFails texts other = ⊥
 
--- those of several assemblies
+-- the objects of several assemblies, each of the source that its texts are
 pub record AreObjectsOf (all : List (List Bytes)) (objects : List Bytes) : Type 0 where
   pub lines : List (List Numbered)
   pub live : AllLive all lines
@@ -81,7 +81,7 @@ pub record IsTapeOfObjects (bottom : ℕ) (objects : List Bytes) (tape : Bytes) 
   pub parts_are : outcome bottom items ≡ Ok parts
   pub tape_is : tape ≡ gained link output.Tape (link_writes (findings_of bottom parts) parts)
 
--- it is refused
+-- the link of the objects is refused
 pub record ObjectsRefused (bottom : ℕ) (objects : List Bytes) (stopped : LinkFault) : Type 0 where
   pub items : List Item
   pub are : AreItems objects items

@@ -66,7 +66,7 @@ fn texts_of(alloc: Global, texts: Texts<'_>) -> Result<Vec<Vec<u8>>, AllocError>
     Ok(all)
 }
 
-// Those of all assemblies.
+// The texts of all assemblies.
 fn sources_of(alloc: Global, sources: &[Texts<'_>]) -> Result<Vec<Vec<Vec<u8>>>, AllocError> {
     let mut all = Vec::new(alloc);
     for texts in sources {

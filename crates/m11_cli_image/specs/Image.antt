@@ -32,7 +32,7 @@ addresses_of bottom sources = record {
 abbrev pub placed_pieces : Addresses → ℕ × Source → List (ℕ × Bytes)
 placed_pieces addresses numbered = map (placed addresses numbered.0) numbered.1.pieces
 
--- those of the first source, then those of the next
+-- the pieces of all sources: the first source, then the next
 abbrev pub all_placed : Addresses → List Source → List (ℕ × Bytes)
 all_placed addresses sources = flat_map (placed_pieces addresses) (enumerate_from 0 sources)
 

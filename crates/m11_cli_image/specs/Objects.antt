@@ -30,7 +30,7 @@ use Rattle.m11_cli_image.specs.Sources.{Source}
 
 -- ---- the object
 
--- its records: those of the directory, those of the texts, and the end of the module
+-- the records of the object of a source: those of the directory, those of the texts, and the end of the module
 abbrev pub contents_of : Source → List Content
 contents_of source = object_contents (directory_rows source.facts) source.pieces
 
@@ -59,11 +59,11 @@ pub record SourceFits (source : Source) : Type 0 where
 abbrev pub source_parts : Source → List Part
 source_parts source = flat_map parts_of (contents_of source)
 
--- with the end of its file
+-- the parts of the object of a source, with the end of its file
 abbrev pub object_parts : Source → List Part
 object_parts source = source_parts source ++ EndOfFile ∷ []
 
--- of objects one after another
+-- the parts of the objects of sources, one after another
 abbrev pub link_parts : List Source → List Part
 link_parts sources = flat_map object_parts sources
 

@@ -36,13 +36,13 @@ number_at program here (kind.Section name) constant = modulo (program.base here.
 number_at program here (kind.SectionDisplaced name) constant =
     less (modulo (program.base here.source name + constant)) (following here.address)
 
--- its bytes: a byte is the low one of its number, and a pair of limits the bottom and the top
+-- the bytes of a piece: a byte is the low one of its number, and a pair of limits the bottom and the top
 abbrev pub bytes_at : Addresses → Spot → PieceContent → Bytes
 bytes_at program here (Byte stored) = value_bytes true (number_at program here stored.kind stored.constant)
 bytes_at program here (Word stored) = value_bytes false (number_at program here stored.kind stored.constant)
 bytes_at program here Limits = word_bytes program.bottom ++ word_bytes program.top
 
--- they begin at its address
+-- the bytes of a piece, which begin at its address
 abbrev pub laid : Addresses → Spot → PieceContent → ℕ × Bytes
 laid program here content = (here.address, bytes_at program here content)
 

@@ -29,11 +29,11 @@ own_section facts numbered = record {
   size = facts.size_of numbered.0;
 }
 
--- in the order of their numbers
+-- the sections of a source, in the order of their numbers
 abbrev pub sections_of : Source → List OwnSection
 sections_of source = map (own_section source.facts) (enumerate_from 0 source.facts.table.sections)
 
--- those of the first source, then those of the next
+-- the sections of all sources: the first source, then the next
 abbrev pub all_sections : List Source → List OwnSection
 all_sections sources = flat_map sections_of sources
 
@@ -52,7 +52,7 @@ size_entered section = (section.name, section.size)
 abbrev pub attributes_of : List Source → Name → ℕ
 attributes_of sources name = unwrap_or (lookup (is_same_name name) (map attributes_entered (all_sections sources))) 0
 
--- its sizes in the sources that have it
+-- the sizes of a section in the sources that have it
 abbrev pub sizes_of : List Source → Name → List ℕ
 sizes_of sources name = filter_map (size_under name) (map size_entered (all_sections sources))
 

@@ -22,7 +22,7 @@ address_in program source section place = modulo (program.base source section + 
 abbrev pub lying : Addresses → ℕ → ℕ → Stated → ℕ × Bytes
 lying program source address stated = (address, stated_bytes program source address stated)
 
--- one thing after another, the first at a place of a section
+-- what lines state, one thing after another, the first at a place of a section
 abbrev pub lying_from : Addresses → ℕ → Name → ℕ → List Stated → List (ℕ × Bytes)
 lying_from program source section place [] = []
 lying_from program source section place (stated ∷ more) =
@@ -48,6 +48,6 @@ lines_lying program source map table (given ∷ lines) =
 abbrev pub source_lying : Addresses → ℕ × List Given → List (ℕ × Bytes)
 source_lying program numbered = lines_lying program numbered.0 (program_map numbered.1) first_table numbered.1
 
--- those of the first source, then those of the next
+-- what the lines of all sources state: the first source, then the next
 abbrev pub all_lying : Addresses → List (List Given) → List (ℕ × Bytes)
 all_lying program all = flat_map (source_lying program) (enumerate_from 0 all)

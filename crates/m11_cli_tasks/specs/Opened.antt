@@ -63,7 +63,7 @@ CountsOpening old new (Err fault) = Counts old new fault
 
 -- ---- parts of an opening
 
--- one path that is read
+-- why one path that is read doesn't open: there is no file, or memory was refused
 abbrev pub LacksOne : Option Files → Bytes → OpenFault → Type 0
 LacksOne files path (NotOpened reported) = (reported.now ≡ path) × Lacks files path
 LacksOne files path NoMemory = ⊤

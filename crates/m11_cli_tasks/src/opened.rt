@@ -31,7 +31,7 @@ impl<T: Drop> From<AllocFailed<T>> for OpenFault<'_> {
 pub struct Inputs<I> {
     /// The inputs, in order, for the first pass.
     pub first: Vec<I>,
-    /// The same, for the second pass.
+    /// The inputs, in order, for the second pass.
     pub second: Vec<I>,
 }
 

@@ -148,7 +148,7 @@ Judges parts known content blocks count (Ok done) = TakesAfter parts known (reco
 Judges parts known content blocks count (Err said) = (inner : ModuleFault) × TakesAfter parts known (record_parts content) (Err inner)
     × (said ≡ placed_at (of_rule inner) blocks (rule_byte inner content count))
 
--- the end of the bytes was judged likewise
+-- the end of the bytes was judged after these parts: it ends a file; or it breaks a rule, as this is said after so many blocks
 abbrev pub JudgesEnd : List Part → ℕ → ℕ → Result (Unit {0}) Placed → Type 0
 JudgesEnd parts blocks count (Ok done) = first_fault parts (EndOfFile ∷ []) ≡ None
 JudgesEnd parts blocks count (Err said) = (inner : ModuleFault) × (first_fault parts (EndOfFile ∷ []) ≡ Some inner)

@@ -32,7 +32,7 @@ abbrev pub address_after : ℕ → Content → ℕ
 address_after address (Text own bytes) = own
 address_after address content = address
 
--- the same of a block's content, which is a record or shows nothing
+-- what is shown of a block's content, which is a record or shows nothing
 abbrev pub shown : View → ℕ → Result Content RecordFault → Bytes
 shown view address (Ok content) = record_text view address content
 shown view address (Err fault) = []

@@ -112,7 +112,7 @@ fn take_record<S: Sink>(
     }
 }
 
-// The same of a block, where it is a record.
+// Shows and judges the record of a block, and returns where the dump then stands. A block may hold no record.
 fn take_block<S: Sink>(
     alloc: Global,
     view: View,

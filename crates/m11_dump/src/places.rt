@@ -64,7 +64,7 @@ fn index_with(content: &Block, fault: RecordFault) -> usize
     unreachable!()
 }
 
-// The same of any fault: it shows at the end of a content that ends too early.
+// The index of the byte that shows any fault of a content. One that ends too early shows it at its end.
 fn index_of(content: &Block, fault: RecordFault) -> usize
     requires { content_of content.now.items ≡ Err fault }
     ensures shows { spec.FaultShowsAt fault content.now.items result }

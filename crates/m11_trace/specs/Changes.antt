@@ -14,7 +14,7 @@ even_addresses (suc count) = even_addresses count ++ 2 * count ∷ []
 abbrev pub has_changed : Bytes → Bytes → ℕ → Bool
 has_changed before later address = not (word_at before address == word_at later address)
 
--- those of so many addresses at which the words differ
+-- the first even addresses, so many of them, at which the words differ
 unfoldable pub changed_among : ℕ → Bytes → Bytes → List ℕ
 changed_among count before later = filter (has_changed before later) (even_addresses count)
 
@@ -22,7 +22,7 @@ changed_among count before later = filter (has_changed before later) (even_addre
 abbrev pub word_text : ℕ → ℕ → Bytes
 word_text address word = (codes "\t@#" ++ octal_text address) ++ (codes " " ++ octal_text word)
 
--- the words there
+-- the words at the addresses that changed, among so many
 unfoldable pub changes_among : ℕ → Bytes → Bytes → Bytes
 changes_among count before later =
     flat_map (λ address. word_text address (word_at later address)) (changed_among count before later)
@@ -31,7 +31,7 @@ changes_among count before later =
 abbrev pub changed_addresses : Bytes → Bytes → List ℕ
 changed_addresses before later = changed_among most_words before later
 
--- these words, in order of their addresses
+-- the words that a step changed, in order of their addresses
 abbrev pub memory_changes : Bytes → Bytes → Bytes
 memory_changes before later = changes_among most_words before later
 

@@ -36,7 +36,7 @@ fetched_at memory place =
       third = word_past memory place 4;
     }
 
--- those that are there, up to the first that isn't
+-- the words that are there, up to the first that isn't
 abbrev pub words_by : Option ℕ → Option ℕ → Option ℕ → List ℕ
 words_by None second third = []
 words_by (Some first) None third = first ∷ []

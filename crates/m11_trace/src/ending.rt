@@ -5,7 +5,7 @@ use m11_cpu_machine::Stop;
 /// How a run with lines ends.
 #[derive(Clone, Copy, Debug, PartialEq, Eq)]
 pub enum Ending {
-    /// As a run without them.
+    /// At a stop, as a run without lines.
     Stopped(Stop),
     /// At a place that was named, before its instruction.
     Reached,

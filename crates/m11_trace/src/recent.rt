@@ -14,7 +14,7 @@ use m11_cpu::SimFault;
 /// The last 16 steps, the latest first.
 pub(crate) type Recent = ArrayVec<Shot, 16>;
 
-/// Keeps one more step, and leaves out the one that is none of the last 16 any more.
+/// Keeps one more step, and drops the oldest where 16 are kept.
 pub(crate) fn keep(recent: &mut Recent, shot: Shot)
     ensures { recent.new.items ≡ take 16 (shot ∷ recent.old.items) }
 {

@@ -32,7 +32,7 @@ pub struct Shot {
     pub fetched: Fetched,
     /// The registers and the processor status before it.
     pub before: View,
-    /// The same after it.
+    /// The registers and the processor status after it.
     pub later: View,
 }
 

@@ -93,7 +93,7 @@ fault_line (sim.Load load.OutsideMemory) = codes "?M11 SIM 10 OutsideMemory\n"
 fault_line sim.Write = codes "?M11 SIM 11 Write MESSAGES\n"
 fault_line sim.NoMemory = codes "?M11 SIM 90 NoMemory\n"
 
--- none where there is no fault, and none of a tape that does not open, which is reported where it is found
+-- the line of an outcome: none without a fault, and none of a tape that does not open, which is reported where it is found
 abbrev pub line_of : Outcome → Bytes
 line_of (Usage fault) = usage_line fault
 line_of NotOpened = []

@@ -25,7 +25,7 @@ streams input input_faults printed printed_faults reported reported_faults = rec
   reported = output_of reported reported_faults;
 }
 
--- its files, where they are known, and how often one was refused
+-- the files of a command, where they are known, and how often one was refused
 pub record Store : Type 0 where
   pub files : Option Files
   pub refusals : ℕ

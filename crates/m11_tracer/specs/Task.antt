@@ -94,7 +94,7 @@ abbrev pub AddsPlaces : List Text → List ℕ → List ℕ → Result (Unit {0}
 AddsPlaces texts old new (Ok done) = (more : List ℕ) × (addresses_of texts ≡ Ok more) × (new ≡ old ++ more)
 AddsPlaces texts old new (Err fault) = (fault ≡ NoMemory) ⊎ (addresses_of texts ≡ Err fault)
 
--- the same of parts of memory
+-- the parts of memory that texts name were added; or the first fault among them, or memory was refused
 abbrev pub AddsRanges : List Text → List Range → List Range → Result (Unit {0}) UsageFault → Type 0
 AddsRanges texts old new (Ok done) = (more : List Range) × (ranges_by texts ≡ Ok more) × (new ≡ old ++ more)
 AddsRanges texts old new (Err fault) = (fault ≡ NoMemory) ⊎ (ranges_by texts ≡ Err fault)

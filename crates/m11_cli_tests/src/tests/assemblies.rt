@@ -113,7 +113,7 @@ pub(crate) fn assembled_from<'a>(
     }
 }
 
-// The same with a listing.
+// Assembles what two passes read, with a listing.
 pub(crate) fn listed_from<'a>(
     alloc: Global,
     first: &mut [MemoryFeed<'a>],

@@ -147,7 +147,7 @@ impl Write for ShortFile {
     }
 }
 
-// Such a file behind a buffer.
+// A buffer over a file that takes as many bytes as it has room for.
 #[derive(Drop)]
 struct HeldFile {
     sink: BufferedSink<ShortFile>,
@@ -171,7 +171,7 @@ impl Sink for HeldFile {
     }
 }
 
-// The files of an assembly of that source, each behind a buffer of `capacity` bytes. One that is created at the path `short` takes `room`
+// The files of an assembly of that source, each with a buffer of `capacity` bytes. One that is created at the path `short` takes `room`
 // bytes.
 #[derive(Drop)]
 struct ShortFiles {

@@ -27,7 +27,7 @@ static ASSEMBLIES: [(AsmFault, u8, &str); 12] = [
     (AsmFault::NoMemory, 5, "?M11 ASM 90 NoMemory\n"),
 ];
 
-// The same of a link.
+// The faults of a link, the status that each leaves, and its line.
 #[rattlefmt::skip]
 static LINKS: [(LinkFault, u8, &str); 11] = [
     (LinkFault::Read, 3, "?M11 LINK 1 Read\n"),
@@ -43,7 +43,7 @@ static LINKS: [(LinkFault, u8, &str); 11] = [
     (LinkFault::NoMemory, 5, "?M11 LINK 90 NoMemory\n"),
 ];
 
-// The same of a run.
+// The faults of a run, the status that each leaves, and its line.
 #[rattlefmt::skip]
 static RUNS: [(SimFault, u8, &str); 5] = [
     (SimFault::Load(LoadFault::Tape(TapeFault::Device)), 3, "?M11 SIM 1 Device\n"),

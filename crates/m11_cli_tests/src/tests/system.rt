@@ -109,7 +109,7 @@ fn a_full_device_is_reported_as_the_output_on_it(rt: HostRuntime) -> Result<(), 
         check_commands(&rt, &FULL)?;
         // The object is flushed first.
         remove(&rt, &[("FULL.OBJ", 53), ("ONE.OBJ", 53)])?;
-        // So is the tape.
+        // The tape of a link is flushed first.
         fs::remove_file(&rt, "ONE.TAP")?;
         fs::remove_file(&rt, "FULL.MAC")?;
     }

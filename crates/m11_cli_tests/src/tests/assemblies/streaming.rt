@@ -231,7 +231,7 @@ fn returns_again(mut second: Second, outputs: &mut Outputs) -> bool {
     outputs.end(second) == Err(fault) && shown && outputs.has(46, "")
 }
 
-// The same of a second pass whose first one met no line.
+// Whether a second pass whose first one met no line returns its fault again, and writes nothing more.
 fn second_returns_again(alloc: Global) -> Result<bool, AsmFault> {
     let second = Second::new(alloc, symbols_of(alloc, &[])?)?;
     let mut outputs = Outputs::new(alloc);
