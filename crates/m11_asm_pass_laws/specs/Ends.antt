@@ -8,7 +8,7 @@ use Rattle.m11_asm_passes.specs.Reaching.{Exceeds}
 use Rattle.m11_asm_rules.specs.Meanings.{Map}
 use Rattle.m11_unfold_rules.specs.Stages.{Stage}
 
--- nothing comes any more: `.END` became live, or no line is left to read and nothing to take
+-- nothing more comes: `.END` became live, or no line is left to read and nothing to take
 abbrev pub IsOver : List SourceLine → Stage → Type 0
 IsOver more stage = (stage.has_ended ≡ true) ⊎ ((more ≡ []) × (stage.left ≡ []) × (stage.has_ended ≡ false))
 

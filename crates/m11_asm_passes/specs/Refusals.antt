@@ -46,7 +46,7 @@ labels_fault counting table line =
 
 -- ---- a line
 
--- a live line, which knows what the table before it says once the labels of the line stand
+-- a live line, which knows what the table before it says with the labels of the line defined
 abbrev pub given_by : Table → Live → Stage → Given
 given_by table live stage = given (known_after_labels (labels_stand table live.line.text)) live stage
 

@@ -73,7 +73,7 @@ abbrev pub with_labels : Bytes → Table → List Label → Table
 with_labels line table [] = table
 with_labels line table (named ∷ labels) = with_labels line (with_label line table named) labels
 
--- the table once the labels of a line stand
+-- the table in which the labels of a line are defined
 abbrev pub labels_stand : Table → Bytes → Table
 labels_stand table line = with_labels line table (labels_at line)
 

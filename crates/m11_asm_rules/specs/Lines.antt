@@ -58,7 +58,7 @@ action_of line (body.Words start) = implied_words start
 abbrev pub action : Bool → Bytes → Action
 action is_own line = if is_own then NoAction else action_of line (body_of line)
 
--- ---- what changes, by the table once the labels stand, as far as it is firm
+-- ---- what changes, by the table in which the labels are defined, as far as it is firm
 
 abbrev pub change_of : Table → Bytes → Option ℕ → Action → Change
 change_of table line arguments NoAction = Keeps

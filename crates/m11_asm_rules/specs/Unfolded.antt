@@ -10,7 +10,7 @@ use Rattle.m11_asm_rules.specs.Lines.{after_line, stands}
 use Rattle.m11_asm_rules.specs.Meanings.{Map, firm_known}
 use Rattle.m11_asm_rules.specs.Tables.{Table, first_table, place}
 
--- what conditions, repeats and macros know once the labels of their line stand
+-- what conditions, repeats and macros know when the labels of their line are defined
 abbrev pub known_after_labels : Table → Known
 known_after_labels stood = firm_known stood (place stood)
 

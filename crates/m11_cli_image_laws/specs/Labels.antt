@@ -30,7 +30,7 @@ pub record LineOf (lines : List Given) : Type 0 where
   pub after : List Given
   pub whole : lines ≡ before ++ given ∷ after
 
--- the table before a line, and the one once its labels stand
+-- the table before a line, and the one in which its labels are defined
 abbrev pub before_line : (lines : List Given) → LineOf lines → Table
 before_line lines line = table_after (program_map lines) line.before
 

@@ -126,7 +126,7 @@ action_stated map table line (lines.Operate operator start) =
     operator_stated map table (place_for (is_even operator) (place table)) line start operator
 action_stated map table line other = []
 
--- what a line states once its labels stand
+-- what a line states, by the table in which its labels are defined
 unfoldable pub line_stated : Map → Table → Given → List Stated
 line_stated map stood given =
     action_stated map stood given.live.line.text (action given.is_own given.live.line.text)

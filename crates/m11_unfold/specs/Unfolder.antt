@@ -64,7 +64,7 @@ IsEmpty after (Err fault) = Unit {0}
 abbrev pub needs_line : Stage → Bool
 needs_line stage = not stage.has_ended && is_empty stage.left
 
--- what comes where nothing is taken any more
+-- what comes where nothing is left to take
 abbrev pub rested : Bool → Step
 rested true = End
 rested false = NeedLine

@@ -86,7 +86,7 @@ pub record Live : Type 0 where
   pub is_expanded : Bool
 
 pub data Move : Type 0 where
-  -- nothing is taken any more
+  -- nothing is left to take
   NothingLeft : Move
   -- something is taken, and no line became live
   Passes : Stage → Move
