@@ -24,41 +24,17 @@ fn records(alloc: Global, rows: &[DirectoryRow]) -> Result<Vec<Block>, AllocErro
 fn rows_have_their_entries(rt: HostRuntime) -> Result<(), Fail> {
     let absolute = name(b". ABS.")?;
     let blank = name(b"      ")?;
+    #[rattlefmt::skip]
     let rows = [
         DirectoryRow::Module(name(b".MAIN.")?),
         DirectoryRow::Identification(name(b"ABCDEF")?),
-        DirectoryRow::Section {
-            name: absolute,
-            flags: SectionFlags::GLOBAL | SectionFlags::OVERLAID,
-            size: 0,
-        },
-        DirectoryRow::Definition {
-            name: name(b"B     ")?,
-            is_relocatable: false,
-            value: 2,
-        },
-        DirectoryRow::Reference {
-            name: name(b"A     ")?,
-            is_weak: false,
-        },
-        DirectoryRow::Reference {
-            name: name(b"Q     ")?,
-            is_weak: true,
-        },
-        DirectoryRow::Section {
-            name: blank,
-            flags: SectionFlags::RELOCATABLE,
-            size: 4,
-        },
-        DirectoryRow::Definition {
-            name: name(b"Z     ")?,
-            is_relocatable: true,
-            value: 1,
-        },
-        DirectoryRow::Transfer {
-            section: absolute,
-            value: 1,
-        },
+        DirectoryRow::Section { name: absolute, flags: SectionFlags::GLOBAL | SectionFlags::OVERLAID, size: 0 },
+        DirectoryRow::Definition { name: name(b"B     ")?, is_relocatable: false, value: 2 },
+        DirectoryRow::Reference { name: name(b"A     ")?, is_weak: false },
+        DirectoryRow::Reference { name: name(b"Q     ")?, is_weak: true },
+        DirectoryRow::Section { name: blank, flags: SectionFlags::RELOCATABLE, size: 4 },
+        DirectoryRow::Definition { name: name(b"Z     ")?, is_relocatable: true, value: 1 },
+        DirectoryRow::Transfer { section: absolute, value: 1 },
     ];
     same(
         &rt,
