@@ -1,4 +1,4 @@
-//! That outcomes speak of the rewriting of whole sources. Each law is the contract of a function that does nothing but to call the law
+//! The law that outcomes speak of the rewriting of whole sources. Each law is the contract of a function that does nothing but to call the law
 //! that its own follows from.
 
 ghost use Rattle.m11_asm.specs.Outcome.{HasOutcome, Outcome};

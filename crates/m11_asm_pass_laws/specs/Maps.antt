@@ -8,7 +8,7 @@ use Rattle.m11_asm_rules.specs.Meanings.{Map}
 use Rattle.m11_asm_rules.specs.declared.definitions.Key.{Key}
 
 pub record MapsAgree (one other : Map) : Type 0 where
-  -- each key has the same last definition, and is doubled in both or in none; each name is global in both or in none
+  -- each key has the same last definition, and is doubly defined in both or in none; each name is global in both or in none
   pub definitions : (key : Key) → last_definition key one.definitions ≡ last_definition key other.definitions
   pub doubly_defined : (key : Key) → has_key key one.doubly_defined ≡ has_key key other.doubly_defined
   pub globals : (name : Name) → list_any (λ global. is_same_name global name) one.globals

@@ -1,4 +1,4 @@
-//! That the calls of a pass place the lines of a source. It is the contract of a function that does nothing.
+//! The law that the calls of a pass place the lines of a source. It is the contract of a function that does nothing.
 
 ghost use Rattle.std.specs.Prelude.{◌≡◌, ◌++◌, ◌∷◌, List, [], Result, false};
 ghost use Rattle.m11_asm_faults.specs.declared.fault.AsmFault.{AsmFault};

@@ -28,7 +28,7 @@ assigned map table key line start = record {
   label = None;
 }
 
--- the table after an assignment: a label's name becomes doubled
+-- the table after an assignment: a label's name becomes doubly defined
 abbrev pub with_assigned : Map → Key → Bytes → ℕ → Table → Table
 with_assigned map key line start table =
     if is_labelled key table.definitions then with_doubly_defined key table

@@ -1,5 +1,5 @@
 -- What lines define. (MACRO-11 Language Reference Manual, "Symbols", "Direct assignment statements", "Label field" and "Local symbols".
--- That a further definition of a label's name only makes the name doubled, and which definitions are firm, is this project's own.)
+-- That a further definition of a label's name only makes the name doubly defined, and which definitions are firm, is this project's own.)
 use Rattle.std.specs.Prelude.{ℕ, ◌==◌, ◌&&◌, Bool, true, false, if◌then◌else◌, List, [], ◌∷◌, map, codes, Option, Some, None}
 use Rattle.std.specs.List.{list_any}
 use Rattle.std.specs.Option.{is_some}

@@ -1,4 +1,4 @@
--- That what a line puts fills what its counter goes on by. (MACRO-11 Language Reference Manual, "Current location counter".)
+-- What a line puts fills what its counter goes on by. (MACRO-11 Language Reference Manual, "Current location counter".)
 use Rattle.std.specs.Prelude.{◌≡◌, ◌⊎◌, ℕ, ◌+◌, List, []}
 use Rattle.m11_obj_texts.specs.declared.pieces.PieceContent.{PieceContent}
 use Rattle.m11_asm_rules.specs.Alignment.{gap}

@@ -45,7 +45,7 @@ with_block table = record table { modes = new_block table.modes }
 abbrev pub global_if : Bool → Name → Table → Table
 global_if is_global name table = if is_global then with_global name table else table
 
--- a name that is new opens a block; one that is defined becomes doubled
+-- a name that is new opens a block; one that is defined becomes doubly defined
 abbrev pub with_name : Bool → Table → Option Name → Table
 with_name is_global table (Some name) =
     if is_defined (Named name) table.definitions then with_doubly_defined (Named name) table

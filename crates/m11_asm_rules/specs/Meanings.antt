@@ -42,7 +42,7 @@ abbrev pub undefined : Context → Symbol → Quantity
 undefined MayBeGlobal (Ordinary name) = record { number = 0; kind = Reference name; flags = 0 }
 undefined context symbol = absolute 0 flag_U
 
--- what a definition gives, with D where its key is doubled; without one there is something else
+-- what a definition gives, with D where its key is doubly defined; without one there is something else
 abbrev pub defined_or : Key → List Key → Quantity → Option Definition → Quantity
 defined_or key doubly_defined other (Some definition) =
     quantity_of (flag_if (has_key key doubly_defined) flag_D) definition.standing

@@ -20,7 +20,7 @@ first_modes = record {
 }
 
 pub record Table : Type 0 where
-  -- definitions, and the keys that are doubled, in the order of the lines
+  -- definitions, and the keys that are doubly defined, in the order of the lines
   pub definitions : List Definition
   pub doubly_defined : List Key
   -- names that were made global

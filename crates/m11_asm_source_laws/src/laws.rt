@@ -1,4 +1,4 @@
-//! That a pass, which reads one line after the other, has the live lines of the rewriting of the whole source. Each law is the
+//! Laws of a pass, which reads one line after the other: it has the live lines of the rewriting of the whole source. Each law is the
 //! contract of a function that does nothing.
 
 ghost use Rattle.std.specs.Prelude.{◌≡◌, ◌≤◌, ◌+◌, ◌++◌, List, [], length};

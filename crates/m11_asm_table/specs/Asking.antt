@@ -31,7 +31,7 @@ firm_asked table place = record { table = table; place = place }
 abbrev pub counted : ℕ → Kind → Quantity
 counted place kind = record { number = place; kind = kind; flags = 0 }
 
--- what is kept of a key gives a value, with D where the key is doubled; where nothing is kept there is something else
+-- what is kept of a key gives a value, with D where the key is doubly defined; where nothing is kept there is something else
 abbrev pub given_by : Bool → Quantity → Option Entry → Quantity
 given_by is_doubly_defined other (Some entry) = quantity_of (flag_if is_doubly_defined flag_D) entry.standing
 given_by is_doubly_defined other None = other

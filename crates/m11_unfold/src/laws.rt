@@ -1,4 +1,4 @@
-//! That an unfolder's calls together give the unfolding of a source. It is the contract of a function that does nothing.
+//! The law that an unfolder's calls together give the unfolding of a source. It is the contract of a function that does nothing.
 
 ghost use Rattle.std.specs.Prelude.{◌≡◌, ◌++◌, ◌∷◌, Bool, List, [], Result, Ok};
 ghost use Rattle.m11_unfold_arguments.specs.Expressions.{Known};

@@ -15,7 +15,7 @@ of_name name =
     if name.0 == 0o113000 then record { number = 0o12; kind = Absolute; flags = 0 }
     else (if name.0 == 0o14400 then record { number = 1; kind = Absolute; flags = 4 } else unknown)
 
--- X is 12, D is 1 and doubled, `.` is 100, in octal, and no other symbol is known
+-- X is 12, D is 1 and doubly defined, `.` is 100, in octal, and no other symbol is known
 abbrev pub known : Symbol → Quantity
 known (Ordinary name) = of_name name
 known (Local number) = unknown

@@ -19,7 +19,7 @@ use m11_unfold_rules::UnfoldFault;
 use std::alloc::{AllocError, Global};
 use std::process::Abort;
 
-// X is 12, D is 1 and doubled, `.` is 100, in octal, no other symbol is known, and numbers are octal.
+// X is 12, D is 1 and doubly defined, `.` is 100, in octal, no other symbol is known, and numbers are octal.
 struct Known;
 
 impl Names for Known {
