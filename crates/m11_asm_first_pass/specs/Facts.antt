@@ -25,7 +25,7 @@ abbrev pub each_once : List Name → List Name → List Name
 each_once names [] = names
 each_once names (name ∷ more) = each_once (insert_key is_same_name names name) more
 
--- with what one more line says, after a table
+-- the facts with what one more line says, after a table
 abbrev pub with_line : Table → Given → Facts → Facts
 with_line table given facts = record {
   title = last_or (line_title given) facts.title;

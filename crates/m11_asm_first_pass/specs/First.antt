@@ -46,7 +46,7 @@ pub record FirstStands (source : List SourceLine) (state : FirstState) : Type 0 
 abbrev pub HasRoom : FirstState → Type 0
 HasRoom state = (state.has_ended ≡ false) × (state.read < most_lines)
 
--- or it is one too many
+-- one more line would be one too many
 abbrev pub IsFull : FirstState → Type 0
 IsFull state = (state.has_ended ≡ false) × (state.read ≡ most_lines)
 
@@ -75,7 +75,7 @@ TakesLeft source new facts (Err fault) = (lines : List Numbered) × Refused empt
 
 -- ---- what the pass gives
 
--- the table after the last line with the sizes of sections, the names that the lines mention, and what they say beside that
+-- the table after the last line with the sizes of sections, the names that the lines use, and what they say beside that
 pub record Symbols : Type 0 where
   pub kept : Kept
   pub gathered : Gathered

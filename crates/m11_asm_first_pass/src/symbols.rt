@@ -7,7 +7,7 @@ use crate::facts::Facts;
 use m11_asm_lines::{Pass, UsedSymbols};
 use std::marker::Model;
 
-/// What the first pass of a source gives: what its lines give their names, which names they mention, and what they say of their module.
+/// What the first pass of a source gives: what its lines give their names, which names they use, and what they say of their module.
 #[derive(Drop)]
 pub struct Symbols {
     pass: Pass,
@@ -24,7 +24,7 @@ impl Model for Symbols {
 }
 
 impl Symbols {
-    // Of a pass that took its lines.
+    // What a pass gives that took its lines.
     pub(crate) fn new(pass: Pass, used_symbols: UsedSymbols, facts: Facts) -> Symbols
         ensures { result ≡ record { kept = pass; gathered = used_symbols; facts = facts } }
     {
@@ -43,7 +43,7 @@ impl Symbols {
         self.pass.counts_are_within_the_limits();
     }
 
-    /// The table after the last line with the sizes of sections, the names that the lines mention, and what they say beside that.
+    /// The table after the last line with the sizes of sections, the names that the lines use, and what they say beside that.
     pub fn into_parts(self) -> (Pass, UsedSymbols, Facts)
         ensures pass { result.0 ≡ self.kept }
         ensures used_symbols { result.1 ≡ self.gathered }

@@ -10,11 +10,11 @@ use Rattle.m11_asm_rules.specs.declared.operands.Form.{Form}
 use Rattle.m11_asm_rules.specs.declared.operands.Form.TheVariants.{Absent, InRegister, Indexed, Unindexed, AfterCounter}
 use Rattle.m11_scan_values.specs.Quantities.{Quantity, absolute}
 
--- that of a field which asks for none
+-- the value of a field that asks for none
 abbrev pub no_value : Quantity
 no_value = absolute 0 0
 
--- that of the register of a form
+-- the value of the register of a form
 abbrev pub form_value : LineContext → Form → Quantity
 form_value line_context Absent = no_value
 form_value line_context (InRegister kind start) = value_at line_context.known line_context.line start
@@ -29,7 +29,7 @@ field_value line_context (Targeted start) = value_at line_context.known line_con
 field_value line_context (Numbered start) = value_at line_context.known line_context.line start
 field_value line_context Missing = no_value
 
--- that in the first of some fields
+-- the value in the first of some fields
 abbrev pub value_in : LineContext → List Field → Quantity
 value_in line_context [] = no_value
 value_in line_context (field ∷ fields) = field_value line_context field

@@ -9,7 +9,7 @@ section_seen Unnamed = sections.Unnamed
 section_seen (Named name) = sections.NamedAt name.name name.end
 section_seen Bad = sections.Bad
 
--- its end is in a line of a size
+-- the end of a name is in a line of a size
 abbrev pub IsWithin : ℕ → SectionAt → Type 0
 IsWithin size Unnamed = Unit {0}
 IsWithin size (Named name) = name.end ≤ size

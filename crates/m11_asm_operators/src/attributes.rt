@@ -116,7 +116,7 @@ fn with_named(bits: u8, line: &Line, name: Option<Span>) -> u8
     }
 }
 
-// Bits with those of the attributes that the names of a list are. The last of two of one field holds.
+// The bits after the named attributes are set or cleared. The last of two of one field holds.
 pub(crate) fn with_attributes(bits: u8, line: &Line, names: &[Option<Span>]) -> u8
     ensures { result ≡ spec.with_attributes bits (texts_of line.now.text names.now) }
 {

@@ -27,7 +27,7 @@ use m11_asm_table::Table;
 use m11_base::Op;
 use m11_scan::Line;
 
-/// What an operator changes, whose name ends at a place of its line, and whose fields these are. It is asked of firm names alone.
+/// The change that an operator with these fields makes, whose name ends at a place of its line. It is asked of firm names alone.
 /// `arguments` is the number of actuals of the macro around the line.
 #[tactic(auto, using(crate::proofs::FirmEffects::change_firm))]
 pub fn operator_change(
@@ -70,7 +70,7 @@ pub fn instruction_steps(
     u32::from(passed) + u32::from(size)
 }
 
-// What an operator changes that stands at a place, after some bytes that are passed over.
+// The change of an operator that stands at a place, after some bytes that are passed over.
 fn change_at(
     table: &Table,
     passed: u16,
@@ -97,7 +97,7 @@ fn change_at(
     }
 }
 
-// The counter goes on by the bytes that are passed over, and by those of the operator.
+// The change that moves the counter past the bytes that are passed over, and past those of the operator.
 fn steps(passed: u16, size: u32) -> Change
     requires { size ≤ 131070 }
     ensures { change_seen result ≡ spec.steps passed size }
@@ -105,7 +105,7 @@ fn steps(passed: u16, size: u32) -> Change
     Change::Counts(Move::Steps(u32::from(passed) + size))
 }
 
-// What a directive changes.
+// The change of a directive.
 fn directive_change(
     table: &Table,
     passed: u16,

@@ -42,8 +42,8 @@ use m11_scan::{ErrorFlags, Line};
 use m11_unfold_arguments::left_over;
 use std::alloc::AllocError;
 
-/// What an operator puts, whose name ends at a place of its line, and whose fields these are, with its flags. What has to stand at an even
-/// place goes on to the next one, with B. `arguments` is the number of actuals of the macro around the line. Error: memory may be refused.
+/// Puts what an operator with these fields puts, whose name ends at a place of its line, with its flags. What has to stand at an even place
+/// goes on to the next one, with B. `arguments` is the number of actuals of the macro around the line. Error: memory may be refused.
 pub fn put_operator(
     put: &mut Put,
     map: &Map<'_>,
@@ -68,7 +68,7 @@ pub fn put_operator(
     put_at(put, &line_context, start, arguments, operator, fields)
 }
 
-// What an operator puts at the place of a setting.
+// Puts what an operator puts at the place of its line.
 fn put_at(
     put: &mut Put,
     line_context: &LineContext,

@@ -38,7 +38,7 @@ impl Waiting {
         }
     }
 
-    // No code comes any more: blanks fill the last word.
+    // Ends the codes: blanks fill the last word.
     pub(crate) fn end(self, put: &mut Put) -> Result<(), AllocError>
         ensures { IfOk result (λ _. put.new ≡ packing put.old self (codes_of [] 0)) }
     {

@@ -81,7 +81,7 @@ local_count table = count_by is_local_definition table.definitions
 abbrev pub has_too_many : Table → Bool
 has_too_many table = nat_lt most_defined_names (name_count table) || nat_lt most_local_symbols (local_count table)
 
--- the limit that the names that lines use pass, or the table
+-- the limit that is passed, by the names that lines use or by the table
 abbrev pub limit_fault : List Name → Table → Option LimitFault
 limit_fault names table =
     if nat_lt most_names (length names) || has_too_many table then Some TooManySymbols

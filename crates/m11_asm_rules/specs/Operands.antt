@@ -3,7 +3,7 @@
 --   R      register                 (R) or @R   register deferred
 --   (R)+   autoincrement            @(R)+       autoincrement deferred
 --   -(R)   autodecrement            @-(R)       autodecrement deferred
---   X(R)   index                    @X(R)       index deferred        @(R)   the same, with the word 0
+--   X(R)   index                    @X(R)       index deferred        @(R)   as @X(R), with the word 0
 --   #n     immediate: 27            @#n         absolute: 37
 --   A      relative: 67             @A          relative deferred: 77
 use Rattle.std.specs.Prelude.{ℕ, ◌+◌, ◌*◌, ◌&&◌, not, Bool, true, false, if◌then◌else◌, List, [], ◌∷◌}
