@@ -76,21 +76,16 @@ impl NameCommand {
 
 impl NameAndConstantCommand {
     #[inline(always)]
+    #[rattlefmt::skip]
     pub(crate) fn target(self, name: Name, constant: u16) -> Target
         ensures { result ≡ both_target self name constant }
     {
         match self {
             NameAndConstantCommand::GlobalAdditive => Target::GlobalAdditive(name, constant),
-            NameAndConstantCommand::GlobalAdditiveDisplaced => {
-                Target::GlobalAdditiveDisplaced(name, constant)
-            }
-            NameAndConstantCommand::LocationCounterDefinition => {
-                Target::LocationCounterDefinition(name, constant)
-            }
+            NameAndConstantCommand::GlobalAdditiveDisplaced => Target::GlobalAdditiveDisplaced(name, constant),
+            NameAndConstantCommand::LocationCounterDefinition => Target::LocationCounterDefinition(name, constant),
             NameAndConstantCommand::SectionAdditive => Target::SectionAdditive(name, constant),
-            NameAndConstantCommand::SectionAdditiveDisplaced => {
-                Target::SectionAdditiveDisplaced(name, constant)
-            }
+            NameAndConstantCommand::SectionAdditiveDisplaced => Target::SectionAdditiveDisplaced(name, constant),
         }
     }
 }

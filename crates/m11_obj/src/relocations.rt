@@ -66,6 +66,7 @@ impl EntryParts {
 }
 
 impl Target {
+    #[rattlefmt::skip]
     fn parts(&self) -> EntryParts
         ensures command { result.command ≡ (parts_of self.now).command }
         ensures name { result.name ≡ (parts_of self.now).name }
@@ -77,39 +78,15 @@ impl Target {
             Target::Global(name) => EntryParts::new(0o2, Some(*name), None),
             Target::InternalDisplaced(constant) => EntryParts::new(0o3, None, Some(*constant)),
             Target::GlobalDisplaced(name) => EntryParts::new(0o4, Some(*name), None),
-            Target::GlobalAdditive(name, constant) => EntryParts::new(
-                0o5,
-                Some(*name),
-                Some(*constant),
-            ),
-            Target::GlobalAdditiveDisplaced(name, constant) => EntryParts::new(
-                0o6,
-                Some(*name),
-                Some(*constant),
-            ),
-            Target::LocationCounterDefinition(name, constant) => EntryParts::new(
-                0o7,
-                Some(*name),
-                Some(*constant),
-            ),
-            Target::LocationCounterModification(constant) => EntryParts::new(
-                0o10,
-                None,
-                Some(*constant),
-            ),
+            Target::GlobalAdditive(name, constant) => EntryParts::new(0o5, Some(*name), Some(*constant)),
+            Target::GlobalAdditiveDisplaced(name, constant) => EntryParts::new(0o6, Some(*name), Some(*constant)),
+            Target::LocationCounterDefinition(name, constant) => EntryParts::new(0o7, Some(*name), Some(*constant)),
+            Target::LocationCounterModification(constant) => EntryParts::new(0o10, None, Some(*constant)),
             Target::ProgramLimits => EntryParts::new(0o11, None, None),
             Target::Section(name) => EntryParts::new(0o12, Some(*name), None),
             Target::SectionDisplaced(name) => EntryParts::new(0o14, Some(*name), None),
-            Target::SectionAdditive(name, constant) => EntryParts::new(
-                0o15,
-                Some(*name),
-                Some(*constant),
-            ),
-            Target::SectionAdditiveDisplaced(name, constant) => EntryParts::new(
-                0o16,
-                Some(*name),
-                Some(*constant),
-            ),
+            Target::SectionAdditive(name, constant) => EntryParts::new(0o15, Some(*name), Some(*constant)),
+            Target::SectionAdditiveDisplaced(name, constant) => EntryParts::new(0o16, Some(*name), Some(*constant)),
         }
     }
 }
