@@ -2,14 +2,21 @@
 //! another; what is shown of a file is the work of `m11_dump`, and the load map of objects that of `m11_link_load_map`.
 #![tactic(auto)]
 
+// The words of a command line, and the files that they name.
 mod application;
-mod driver;
+mod paths;
+
+// The lines that the program writes by itself.
 mod lines;
 mod map_lines;
+
+// Files, shown one after another, or their load map.
 mod mapping;
-mod paths;
 mod showing;
 mod stop;
+
+// All of the program's work.
+mod driver;
 
 use crate::driver::{command, command_without_words};
 use m11_base::WriterSink;

@@ -2,11 +2,16 @@
 //! of `m11_trace`.
 #![tactic(auto)]
 
+// The words of a command line, and the run that they ask for.
 mod application;
-mod driver;
+mod task;
+
+// What is said of words and of a tape, and the status.
 mod outcome;
 mod reports;
-mod task;
+
+// All of the program's work.
+mod driver;
 
 use crate::driver::{command, command_without_words};
 use m11_base::{ReaderFeed, WriterSink};
