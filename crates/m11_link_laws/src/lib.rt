@@ -4,13 +4,11 @@
 
 // Where sections lie, with the contributions of modules in them.
 mod places;
-mod tables;
 
 pub use places::{
     contributions_lie_in_order, overlaid_contributions_begin_together,
     relocatable_sections_lie_in_order,
 };
-pub use tables::tables_grow_with_names_alone;
 
 // What changes with the bottom of a link, and with files that are joined.
 mod joining;
@@ -36,7 +34,9 @@ pub use outputs::{
 };
 pub use texts::unrelocated_texts_are_the_tape;
 
-// Whole runs over known objects.
+// Whole runs over known objects, and how large the tables of a link grow.
 mod runs;
+mod tables;
 
 pub use runs::{known_objects_decide_the_run, known_objects_leave_their_texts};
+pub use tables::tables_grow_with_names_alone;
