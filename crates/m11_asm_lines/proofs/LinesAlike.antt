@@ -6,7 +6,7 @@ use Rattle.m11_unfold_arguments.specs.Expressions.{has_expression, number_at, va
 use Rattle.m11_unfold_arguments.specs.LeftOvers.{left_over, skip_flags}
 use Rattle.m11_base.specs.Devices.{Bytes}
 use Rattle.m11_base.specs.Rad50.{Name}
-use Rattle.m11_base.specs.declared.instruction.Op.{Op}
+use Rattle.m11_base_instructions.specs.declared.instruction.Op.{Op}
 use Rattle.m11_scan.specs.Ends.{expression_end}
 use Rattle.m11_scan_statements.specs.declared.parts.Part.{Part}
 use Rattle.m11_scan_statements.specs.declared.parts.PartKind.{PartKind}

@@ -33,7 +33,8 @@ use m11_asm_operators::{
 };
 use m11_asm_rules::{Definition, Key, Operator, Standing};
 use m11_asm_table::Map;
-use m11_base::{Name, Op};
+use m11_base::Name;
+use m11_base_instructions::Op;
 use m11_scan::Line;
 use m11_scan_values::Kind;
 

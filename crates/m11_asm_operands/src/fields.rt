@@ -14,7 +14,7 @@ ghost use Rattle.m11_scan.specs.Views.{bits_of};
 use crate::operands::operand_at;
 use arrayvec::ArrayVec;
 use m11_asm_rules::{Field, FieldPlace, Form};
-use m11_base::Op;
+use m11_base_instructions::Op;
 use m11_scan::{ErrorFlags, Line, Token};
 use m11_scan_values::Names;
 use m11_unfold_arguments::{after_comma, expression_end_at, has_expression, place_in};

@@ -2,7 +2,7 @@
 use Rattle.std.proofs.Common.{◌≡◌, ◌≤◌, List, [], ◌∷◌, length, refl, sym, ap, arith}
 use Rattle.std.specs.Int.Bits.{or_zero_r}
 use Rattle.std.specs.Int.RustNames.{bit_or}
-use Rattle.m11_base.specs.declared.instruction.Op.{Op}
+use Rattle.m11_base_instructions.specs.declared.instruction.Op.{Op}
 use Rattle.m11_asm_operators.specs.CodeValues.{flags_in}
 use Rattle.m11_asm_rules.specs.Codes.{LineContext, field_flags, fields_flags, others}
 use Rattle.m11_asm_rules.specs.declared.fields.Field.{Field}

@@ -2,7 +2,7 @@
 -- "Instruction set" and "Addressing modes".)
 use Rattle.std.specs.Prelude.{ℕ, List, [], ◌∷◌}
 use Rattle.m11_unfold_arguments.specs.Expressions.{value_at}
-use Rattle.m11_base.specs.declared.instruction.Op.{Op}
+use Rattle.m11_base_instructions.specs.declared.instruction.Op.{Op}
 use Rattle.m11_asm_rules.specs.Codes.{LineContext, field_flags}
 use Rattle.m11_asm_rules.specs.declared.fields.Field.{Field}
 use Rattle.m11_asm_rules.specs.declared.fields.Field.TheVariants.{Formed, Registered, Targeted, Numbered, Missing}

@@ -2,7 +2,7 @@
 //! "Diagnostic error message summary", A, R and T.)
 
 ghost use Rattle.std.specs.Prelude.{◌≡◌, ◌<◌, ℕ, IsTrue};
-ghost use Rattle.m11_base.specs.Encoding as encoding;
+ghost use Rattle.m11_base_instructions.specs.Encoding as encoding;
 ghost use Rattle.m11_asm_operators.specs.CodeValues.{field_value, flags_in, value_in};
 ghost use Rattle.m11_asm_operators.specs.LineContext.{line_context_of};
 ghost use Rattle.m11_asm_operands.specs.ListedOperations.{is_listed};
@@ -16,7 +16,7 @@ use crate::line_context::LineContext;
 use crate::operands::{as_register_flags, form_flags, operand_of, register};
 use m11_asm_rules::Field;
 use m11_asm_table::register_flags;
-use m11_base::{BareOp, Insn, Mode, NumberOp, Op, Operand, Register, RegisterOp};
+use m11_base_instructions::{BareOp, Insn, Mode, NumberOp, Op, Operand, Register, RegisterOp};
 use m11_scan::ErrorFlags;
 use m11_scan_values::Value;
 

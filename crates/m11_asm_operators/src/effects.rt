@@ -24,7 +24,7 @@ use crate::storage::{LIMIT_SIZE, blkb_size, blkw_size, byte_size, word_size};
 use m11_asm_operands::{Fields, instruction_size, is_even};
 use m11_asm_rules::{Directive, Operator};
 use m11_asm_table::Table;
-use m11_base::Op;
+use m11_base_instructions::Op;
 use m11_scan::Line;
 
 /// The change that an operator with these fields makes, whose name ends at a place of its line. It is asked of firm names alone.

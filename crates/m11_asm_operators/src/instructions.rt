@@ -23,7 +23,7 @@ use crate::relocations::fixed;
 use crate::values::further;
 use m11_asm_operands::FieldTerms;
 use m11_asm_rules::Field;
-use m11_base::{Op, encode};
+use m11_base_instructions::{Op, encode};
 use m11_scan::{ErrorFlags, Token};
 use m11_scan_values::Value;
 use m11_unfold_arguments::{left_over, skip_flags};

@@ -3,7 +3,7 @@
 
 ghost use Rattle.std.specs.Prelude.{◌≡◌, ◌*◌, ◌%◌, IfOk, IfSome};
 ghost use Rattle.m11_unfold_arguments.specs.Expressions.{IsAlone, value_at};
-ghost use Rattle.m11_base.specs.Operand.{register_of};
+ghost use Rattle.m11_base_instructions.specs.Operand.{register_of};
 ghost use Rattle.m11_asm_operands.specs.Terms.{IsFormTerm};
 ghost use Rattle.m11_asm_operators.specs.CodeValues.{form_value};
 ghost use Rattle.m11_asm_operators.specs.LineContext.{line_context_of};
@@ -18,7 +18,7 @@ use crate::line_context::LineContext;
 use crate::puts::Put;
 use crate::values::put_word;
 use m11_asm_rules::Form;
-use m11_base::{Mode, Operand, Register};
+use m11_base_instructions::{Mode, Operand, Register};
 use m11_scan::{ErrorFlags, Token};
 use m11_scan_values::Value;
 use std::alloc::AllocError;

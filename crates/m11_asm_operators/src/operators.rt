@@ -37,7 +37,7 @@ use crate::titles::title_flags;
 use m11_asm_operands::{Fields, is_even};
 use m11_asm_rules::{Directive, Operator};
 use m11_asm_table::{Map, Table};
-use m11_base::Op;
+use m11_base_instructions::Op;
 use m11_scan::{ErrorFlags, Line};
 use m11_unfold_arguments::left_over;
 use std::alloc::AllocError;

@@ -13,7 +13,7 @@ use arrayvec::ArrayVec;
 use m11_asm_operands::{FieldTerms, Fields, fields_at};
 use m11_asm_rules::Operator;
 use m11_asm_table::{FirmNames, Table};
-use m11_base::Op;
+use m11_base_instructions::Op;
 use m11_scan::{ErrorFlags, Line, Token};
 
 /// The fields of an operator whose name ends at a place of its line: those of an instruction, whose forms are asked of firm names. A

@@ -7,7 +7,7 @@ use Rattle.m11_unfold_arguments.specs.Definedness.{flag_U}
 use Rattle.m11_unfold_arguments.specs.Expressions.{value_at}
 use Rattle.m11_unfold_arguments.specs.LeftOvers.{has_token}
 use Rattle.m11_base.specs.Devices.{Bytes}
-use Rattle.m11_base.specs.Mnemonics.{six_of}
+use Rattle.m11_base.specs.NameCharacters.{six_of}
 use Rattle.m11_base.specs.Rad50.{Name, is_same_name, name_of}
 use Rattle.m11_scan.specs.Cutting.{text_between, tokens_from}
 use Rattle.m11_scan.specs.Ends.{expression_end}

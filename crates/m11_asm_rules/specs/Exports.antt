@@ -6,7 +6,7 @@ use Rattle.std.specs.Int.RustNames.{bit_and, bit_or}
 use Rattle.m11_unfold_arguments.specs.Expressions.{has_expression, value_at}
 use Rattle.m11_unfold_arguments.specs.LeftOvers.{left_over, flags_before, rest_flags, skip_flags}
 use Rattle.m11_base.specs.Devices.{Bytes}
-use Rattle.m11_base.specs.Mnemonics.{six_of}
+use Rattle.m11_base.specs.NameCharacters.{six_of}
 use Rattle.m11_base.specs.Rad50.{Name, name_of}
 use Rattle.m11_scan.specs.Cutting.{Lexeme, tokens_from}
 use Rattle.m11_scan.specs.Ends.{expression_end}

@@ -6,9 +6,5 @@ pub mod Fuses
 pub mod Ready
 pub mod Known
 pub mod LastBlanks
-pub mod EachWord
-pub mod OneRow
-pub mod Words
-pub mod Codes
 pub mod NameWords
 pub mod SameNames

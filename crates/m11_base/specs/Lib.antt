@@ -1,13 +1,9 @@
 pub mod Blanks
 pub mod Devices
-pub mod OperationTables
-pub mod Encoding
 pub mod Feed
 pub mod Fuse
-pub mod Instructions
-pub mod Mnemonics
+pub mod NameCharacters
 pub mod Names
 pub mod Octal
-pub mod Operand
 pub mod Rad50
 pub mod Sink

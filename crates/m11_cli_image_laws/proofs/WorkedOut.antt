@@ -1,6 +1,6 @@
 -- The worked program has the bytes that were worked out.
 use Rattle.std.proofs.Common.{◌≡◌, [], ◌∷◌, refl}
-use Rattle.m11_base.specs.Instructions.{other_names, row_of, rows}
+use Rattle.m11_base_instructions.specs.Instructions.{other_names, row_of, rows}
 use Rattle.m11_base.specs.Rad50.{alphabet, code_of}
 use Rattle.m11_link_modules.specs.Places.{distinct}
 use Rattle.m11_asm_rules.specs.Lines.{line_change, line_put}

@@ -5,8 +5,8 @@ use Rattle.std.specs.Prelude.{ℕ, ◌+◌, ◌*◌, ◌%◌, if◌then◌else�
 use Rattle.std.specs.List.{flat_map}
 use Rattle.m11_unfold_arguments.specs.Expressions.{value_at}
 use Rattle.m11_base.specs.Devices.{Bytes}
-use Rattle.m11_base.specs.Encoding.{code_of}
-use Rattle.m11_base.specs.declared.instruction.Op.{Op}
+use Rattle.m11_base_instructions.specs.Encoding.{code_of}
+use Rattle.m11_base_instructions.specs.declared.instruction.Op.{Op}
 use Rattle.m11_asm_rules.specs.Alignment.{place_for}
 use Rattle.m11_asm_rules.specs.Codes.{LineContext, instruction, is_relative}
 use Rattle.m11_asm_rules.specs.Contents.{element_value, further}

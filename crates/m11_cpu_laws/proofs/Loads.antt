@@ -1,13 +1,13 @@
 -- What the forming of an address leaves as it was: it asks the console, and steps the program counter and the registers
 -- of operands.
 use Rattle.std.proofs.Common.{◌≡◌, ℕ, true, refl, Option, Some, None}
-use Rattle.m11_base.specs.declared.operand.Mode.{Mode}
-use Rattle.m11_base.specs.declared.operand.Mode.TheVariants as mode
-use Rattle.m11_base.specs.declared.operand.Operand.{Operand}
-use Rattle.m11_base.specs.declared.operand.Register.{Register}
-use Rattle.m11_base.specs.declared.operand.Register.TheVariants.{Sp, Pc}
-use Rattle.m11_base.specs.declared.operand.Size.{Size}
-use Rattle.m11_base.specs.declared.operand.Size.TheVariants.{Word, Byte}
+use Rattle.m11_base_instructions.specs.declared.operand.Mode.{Mode}
+use Rattle.m11_base_instructions.specs.declared.operand.Mode.TheVariants as mode
+use Rattle.m11_base_instructions.specs.declared.operand.Operand.{Operand}
+use Rattle.m11_base_instructions.specs.declared.operand.Register.{Register}
+use Rattle.m11_base_instructions.specs.declared.operand.Register.TheVariants.{Sp, Pc}
+use Rattle.m11_base_instructions.specs.declared.operand.Size.{Size}
+use Rattle.m11_base_instructions.specs.declared.operand.Size.TheVariants.{Word, Byte}
 use Rattle.m11_cpu_machine.specs.Access.{is_inside, is_odd, load_byte, load_device, load_register, load_word, receive, received, receiver_status}
 use Rattle.m11_cpu_machine.specs.Acts.{value, ◌>>=◌}
 use Rattle.m11_cpu_machine.specs.Console.{device_at, is_waiting}

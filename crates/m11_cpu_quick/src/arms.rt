@@ -2,11 +2,11 @@
 //! nothing has changed. What stands among the registers for the program counter counts for nothing.
 
 ghost use Rattle.std.specs.Prelude.{◌≡◌, IfSome, None};
-ghost use Rattle.m11_base.specs.Instructions.{meaning};
-ghost use Rattle.m11_base.specs.OperationTables.{operation_by_tables};
-ghost use Rattle.m11_base.specs.declared.instruction.Insn.TheVariants as instruction;
-ghost use Rattle.m11_base.specs.declared.instruction.SingleOp.TheVariants as one;
-ghost use Rattle.m11_base.specs.declared.operand.Size.TheVariants as size;
+ghost use Rattle.m11_base_instructions.specs.Instructions.{meaning};
+ghost use Rattle.m11_base_instructions.specs.OperationTables.{operation_by_tables};
+ghost use Rattle.m11_base_instructions.specs.declared.instruction.Insn.TheVariants as instruction;
+ghost use Rattle.m11_base_instructions.specs.declared.instruction.SingleOp.TheVariants as one;
+ghost use Rattle.m11_base_instructions.specs.declared.operand.Size.TheVariants as size;
 ghost use Rattle.m11_cpu_quick.specs.Kinds.{Describes, IsBranch, IsCall, IsCount, IsDouble, IsOnCarry, IsProduct, IsReturn, IsSingle};
 ghost use Rattle.m11_cpu_quick.specs.Near.{NearKeeps};
 ghost use Rattle.m11_cpu_quick.specs.Quick.{Executes};
@@ -21,12 +21,10 @@ use crate::forms::Form::{
 use crate::jumps::{call, count_down, jump, return_by_counter, take_branch};
 use crate::kinds::Kind;
 use crate::singles::single;
-use m11_base::DoubleOp::{Add, Bic, Bis, Cmp, Mov, Sub};
-use m11_base::SingleOp::{Adc, Asl, Asr, Clr, Com, Dec, Inc, Neg, Rol, Ror, Sbc, Tst};
-use m11_base::Size::{Byte, Word};
-use m11_base::{
-    BranchOp, ConditionCodes, ConditionOp, DoubleOp, Insn, Operand, SingleOp, Size, decode,
-};
+use m11_base_instructions::DoubleOp::{Add, Bic, Bis, Cmp, Mov, Sub};
+use m11_base_instructions::SingleOp::{Adc, Asl, Asr, Clr, Com, Dec, Inc, Neg, Rol, Ror, Sbc, Tst};
+use m11_base_instructions::Size::{Byte, Word};
+use m11_base_instructions::{BranchOp, ConditionCodes, ConditionOp, DoubleOp, Insn, Operand, SingleOp, Size, decode};
 use m11_cpu_machine::Machine;
 
 /// The word of an instruction, and the program counter after it.
@@ -283,7 +281,7 @@ fn count(machine: &mut Machine, code: Code, registers: &mut [u16; 8]) -> Option<
     ensures none { result ≡ None → machine.new ≡ machine.old }
     ensures registers { result ≡ None → registers.new ≡ registers.old }
 {
-    let register = m11_base::Register::of_bits(code.word / 0o100);
+    let register = m11_base_instructions::Register::of_bits(code.word / 0o100);
     Some(count_down(register, code.word, registers, code.counter))
 }
 
@@ -366,7 +364,7 @@ fn product(machine: &mut Machine, code: Code, registers: &mut [u16; 8]) -> Optio
     ensures none { result ≡ None → machine.new ≡ machine.old }
     ensures registers { result ≡ None → registers.new ≡ registers.old }
 {
-    let register = m11_base::Register::of_bits(code.word / 0o100);
+    let register = m11_base_instructions::Register::of_bits(code.word / 0o100);
     let source = Operand::of_bits(code.word);
     let after = multiply(machine, register, source, registers, code.counter)?;
     Some(after)

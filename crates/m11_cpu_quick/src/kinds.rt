@@ -2,18 +2,18 @@
 //! kind of a word is found once, so that a step looks at its word once. (PDP-11/40 Processor Handbook, "Instruction set".)
 
 ghost use Rattle.std.specs.Prelude.{◌≡◌, ◌/◌, ◌%◌, ◌<◌, Some};
-ghost use Rattle.m11_base.specs.Operand.{operand_of};
-ghost use Rattle.m11_base.specs.OperationTables.{operation_by_tables};
-ghost use Rattle.m11_base.specs.declared.instruction.DoubleOp.TheVariants.{Add, Bic, Bis, Cmp, Mov, Sub};
-ghost use Rattle.m11_base.specs.declared.instruction.Op.TheVariants as op;
-ghost use Rattle.m11_base.specs.declared.instruction.RegisterOp.TheVariants.{Jsr};
-ghost use Rattle.m11_base.specs.declared.instruction.SingleOp.TheVariants.{Adc, Asl, Asr, Clr, Com, Dec, Inc, Jmp, Neg, Rol, Ror, Sbc, Tst};
-ghost use Rattle.m11_base.specs.declared.operand.Size.TheVariants.{Byte, Word};
+ghost use Rattle.m11_base_instructions.specs.Operand.{operand_of};
+ghost use Rattle.m11_base_instructions.specs.OperationTables.{operation_by_tables};
+ghost use Rattle.m11_base_instructions.specs.declared.instruction.DoubleOp.TheVariants.{Add, Bic, Bis, Cmp, Mov, Sub};
+ghost use Rattle.m11_base_instructions.specs.declared.instruction.Op.TheVariants as op;
+ghost use Rattle.m11_base_instructions.specs.declared.instruction.RegisterOp.TheVariants.{Jsr};
+ghost use Rattle.m11_base_instructions.specs.declared.instruction.SingleOp.TheVariants.{Adc, Asl, Asr, Clr, Com, Dec, Inc, Jmp, Neg, Rol, Ror, Sbc, Tst};
+ghost use Rattle.m11_base_instructions.specs.declared.operand.Size.TheVariants.{Byte, Word};
 ghost use Rattle.m11_cpu_quick.specs.Forms.{IsForm};
 ghost use Rattle.m11_cpu_quick.specs.Kinds.{Describes};
 
 use crate::forms::Form;
-use m11_base::{Operand, Size};
+use m11_base_instructions::{Operand, Size};
 
 /// A kind: an operation, and the forms of its operands, the source first.
 #[derive(Clone, Copy)]
@@ -126,7 +126,7 @@ pub(crate) enum Kind {
 
 impl Kind {
     /// The kind of a word.
-    #[tactic(auto, unfolding(m11_base::specs::OperationTables::doubles, m11_base::specs::OperationTables::extended))]
+    #[tactic(auto, unfolding(m11_base_instructions::specs::OperationTables::doubles, m11_base_instructions::specs::OperationTables::extended))]
     #[rattlefmt::skip]
     pub(crate) fn of(word: u16) -> Kind
         ensures { Describes result word }
@@ -455,7 +455,7 @@ fn tstb_kind(word: u16, operand: Form) -> Kind
 }
 
 // The kind of a word 00xxxx.
-#[tactic(auto, unfolding(m11_base::specs::OperationTables::low))]
+#[tactic(auto, unfolding(m11_base_instructions::specs::OperationTables::low))]
 fn low_kind(word: u16, operand: Form) -> Kind
     requires digits { word / 0o10000 ≡ 0 }
     requires operand { IsForm operand Word (operand_of (word % 0o100)) }
@@ -510,7 +510,7 @@ fn low_kind(word: u16, operand: Form) -> Kind
 }
 
 // The kind of a word 10xxxx.
-#[tactic(auto, unfolding(m11_base::specs::OperationTables::high))]
+#[tactic(auto, unfolding(m11_base_instructions::specs::OperationTables::high))]
 fn high_kind(word: u16, operand: Form) -> Kind
     requires digits { word / 0o10000 ≡ 8 }
     requires operand { IsForm operand Byte (operand_of (word % 0o100)) }
@@ -555,7 +555,7 @@ fn high_kind(word: u16, operand: Form) -> Kind
 }
 
 // The kind of a word 07xxxx: MUL or SOB, of a register that isn't the program counter.
-#[tactic(auto, unfolding(m11_base::specs::OperationTables::extended))]
+#[tactic(auto, unfolding(m11_base_instructions::specs::OperationTables::extended))]
 fn extended_kind(word: u16) -> Kind
     requires { word / 0o10000 ≡ 7 }
     ensures { Describes result word }
@@ -569,7 +569,7 @@ fn extended_kind(word: u16) -> Kind
 }
 
 // The kind of a word 0002xx: RTS of the program counter, CLC or SEC.
-#[tactic(auto, unfolding(m11_base::specs::OperationTables::low, m11_base::specs::OperationTables::last))]
+#[tactic(auto, unfolding(m11_base_instructions::specs::OperationTables::low, m11_base_instructions::specs::OperationTables::last))]
 fn last_kind(word: u16) -> Kind
     ensures { Describes result word }
 {

@@ -3,7 +3,7 @@ use Rattle.std.proofs.Common.{◌≡◌, ℕ, zero, suc, ◌+◌, ◌-◌, ◌�
 use Rattle.std.specs.Prelude.{◌==◌, ◌||◌, if◌then◌else◌, drop, length, min, not}
 use Rattle.std.specs.List.{list_any, prefix_len}
 use Rattle.std.proofs.lemmas.Bool.{cases_Bool, eqb-true, false≢true, true≢false}
-use Rattle.m11_base.specs.Mnemonics.{is_name_character}
+use Rattle.m11_base.specs.NameCharacters.{is_name_character}
 use Rattle.m11_scan.specs.Characters.{is_blank, is_digit}
 use Rattle.m11_scan.specs.Cutting.{pieces_after}
 use Rattle.m11_scan.specs.Pieces.{caret_piece, doubled_piece, first_piece, mark_form, mark_piece, number_ending, number_piece, token}

@@ -4,7 +4,7 @@ use Rattle.std.specs.List.{list_all}
 use Rattle.std.specs.Option.{is_some}
 use Rattle.std.proofs.lemmas.Bool.{agree_below_at, cases_Bool, cases_lt, false≢true, le-ltb, lt-ltb}
 use Rattle.std.proofs.lemmas.List.Folds.{list_all_at}
-use Rattle.m11_base.specs.Mnemonics.{character_at, folded, is_name_character, six_of}
+use Rattle.m11_base.specs.NameCharacters.{character_at, folded, is_name_character, six_of}
 use Rattle.m11_base.specs.Rad50.{alphabet, code_of, name_of, name_of_words, word_of_codes}
 
 or_of_not : (a b : Bool) → a ≡ true → (not a || b) ≡ b

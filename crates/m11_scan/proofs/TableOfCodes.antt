@@ -1,7 +1,7 @@
 -- The table of codes has the code of each byte.
 use Rattle.std.proofs.Common.{◌≡◌, ℕ, ◌<◌, Bool, true, eqb, get_or, Option, Some, None, refl}
 use Rattle.std.proofs.lemmas.Bool.{agree_below_at, eqb-true, lt-ltb}
-use Rattle.m11_base.specs.Mnemonics.{folded}
+use Rattle.m11_base.specs.NameCharacters.{folded}
 use Rattle.m11_base.specs.Rad50.{alphabet, code_of, word_of_codes}
 use Rattle.m11_base.proofs.Characters.{character_again}
 use Rattle.m11_scan.specs.Codes.{code_or_no, code_or_none}

@@ -1,7 +1,7 @@
 -- The table of kinds says which bytes may stand in a name, and which are never skipped.
 use Rattle.std.proofs.Common.{◌≡◌, ℕ, ◌<◌, Bool, ltb, get_or, refl}
 use Rattle.std.proofs.lemmas.Bool.{agree_below_at}
-use Rattle.m11_base.specs.Mnemonics.{is_name_character}
+use Rattle.m11_base.specs.NameCharacters.{is_name_character}
 use Rattle.m11_scan.specs.Skipped.{is_kept}
 use Rattle.m11_scan.specs.declared.codes.TheConstants.{KINDS}
 

@@ -3,7 +3,7 @@
 use Rattle.std.specs.Prelude.{◌≡◌, ℕ, ◌<◌, ◌≤◌, Bool, ◌==◌, nat_le, if◌then◌else◌, List, [], ◌∷◌, ◌++◌, length, take, drop, Option, Some, None}
 use Rattle.std.specs.List.{list_all}
 use Rattle.m11_base.specs.Devices.{Bytes}
-use Rattle.m11_base.specs.Mnemonics.{folded, is_name_character}
+use Rattle.m11_base.specs.NameCharacters.{folded, is_name_character}
 use Rattle.m11_scan.specs.Characters.{is_blank, is_digit}
 use Rattle.m11_scan.specs.Cutting.{Lexeme, text_between}
 use Rattle.m11_scan.specs.Pieces.{mark_form}

@@ -3,7 +3,7 @@
 use Rattle.std.specs.Prelude.{ℕ, Bool, [], ◌∷◌, map, Option, Some, None}
 use Rattle.std.specs.List.{list_all}
 use Rattle.m11_base.specs.Devices.{Bytes}
-use Rattle.m11_base.specs.Mnemonics.{character_at, is_name_character}
+use Rattle.m11_base.specs.NameCharacters.{character_at, is_name_character}
 use Rattle.m11_base.specs.Rad50.{packed_at}
 use Rattle.m11_scan.specs.ErrorFlags.{flag_Q}
 

@@ -3,7 +3,7 @@
 use Rattle.std.specs.Prelude.{ℕ, Bool, true, false, not, ◌||◌, ◌==◌, if◌then◌else◌, [], ◌∷◌}
 use Rattle.std.specs.List.{list_any}
 use Rattle.m11_base.specs.Devices.{Bytes}
-use Rattle.m11_base.specs.Mnemonics.{is_name_character}
+use Rattle.m11_base.specs.NameCharacters.{is_name_character}
 use Rattle.m11_scan.specs.Characters.{is_blank}
 use Rattle.m11_scan.specs.Pieces.{mark_form}
 use Rattle.m11_scan.specs.declared.sort.Form.{Form}

@@ -2,7 +2,7 @@
 
 ghost use Rattle.std.specs.Prelude.{◌≡◌, ◌≤◌, length};
 ghost use Rattle.std.specs.List.{prefix_len};
-ghost use Rattle.m11_base.specs.Mnemonics.{is_name_character};
+ghost use Rattle.m11_base.specs.NameCharacters.{is_name_character};
 ghost use Rattle.m11_scan.specs.Characters.{is_blank, is_digit};
 
 use crate::codes::is_name_character;

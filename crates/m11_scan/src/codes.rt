@@ -1,7 +1,7 @@
 //! Codes of characters in RADIX-50 and what characters are, by tables. (MACRO-11 Language Reference Manual, appendix on the RADIX-50 character set.)
 
 ghost use Rattle.std.specs.Prelude.{◌≡◌};
-ghost use Rattle.m11_base.specs.Mnemonics.{folded, is_name_character};
+ghost use Rattle.m11_base.specs.NameCharacters.{folded, is_name_character};
 ghost use Rattle.m11_base.specs.Rad50.{code_of};
 ghost use Rattle.m11_scan.specs.Codes.{code_or_none};
 ghost use Rattle.m11_scan.specs.Skipped.{is_kept};

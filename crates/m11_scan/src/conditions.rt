@@ -1,7 +1,7 @@
 //! The names of conditions. (MACRO-11 Language Reference Manual, "Conditional assembly block directives".)
 
 ghost use Rattle.std.specs.Prelude.{◌≡◌};
-ghost use Rattle.m11_base.specs.Mnemonics.{six_of};
+ghost use Rattle.m11_base.specs.NameCharacters.{six_of};
 ghost use Rattle.m11_scan.specs.Conditions.{condition_named};
 
 use crate::names::{is_same_six, six_characters};

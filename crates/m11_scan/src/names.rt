@@ -3,7 +3,7 @@
 ghost use Rattle.std.specs.Prelude.{◌≡◌, ◌<◌, ◌+◌, ◌^◌, true, IfSome};
 ghost use Rattle.std.specs.Option.{is_some};
 ghost use Rattle.std.specs.Str.{bytes_eq};
-ghost use Rattle.m11_base.specs.Mnemonics.{character_at, six_of};
+ghost use Rattle.m11_base.specs.NameCharacters.{character_at, six_of};
 ghost use Rattle.m11_base.specs.Rad50.{code_of, name_of, name_of_words, packed_at, word_limit, word_of_codes};
 ghost use Rattle.m11_scan.specs.Codes.{code_or_no, code_or_none};
 ghost use Rattle.m11_scan.specs.Names.{has_name_characters_alone, packed_flags, packed_word, word_or_none};

@@ -3,7 +3,7 @@ use Rattle.std.proofs.Common.{◌≡◌, ℕ, Bool, List, [], ◌∷◌, map, ta
 use Rattle.std.specs.Prelude.{◌==◌, if◌then◌else◌, not}
 use Rattle.std.specs.List.{prefix_len}
 use Rattle.std.proofs.lemmas.List.{take-map}
-use Rattle.m11_base.specs.Mnemonics.{folded}
+use Rattle.m11_base.specs.NameCharacters.{folded}
 use Rattle.m11_scan.specs.Characters.{is_digit}
 use Rattle.m11_scan.specs.Cutting.{Lexeme, tokens_from, tokens_of}
 use Rattle.std.specs.Int.RustNames.{bit_or}

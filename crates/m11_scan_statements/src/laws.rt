@@ -2,7 +2,7 @@
 
 ghost use Rattle.std.specs.Prelude.{◌≡◌, Bool, length, map};
 ghost use Rattle.m11_base.specs.Devices.{Bytes};
-ghost use Rattle.m11_base.specs.Mnemonics.{folded};
+ghost use Rattle.m11_base.specs.NameCharacters.{folded};
 ghost use Rattle.m11_scan_statements.specs.Labels.{labels_at, labels_end};
 ghost use Rattle.m11_scan_statements.specs.Order.{BodyStands, LabelsStand};
 ghost use Rattle.m11_scan_statements.specs.Statements.{body_of, label_flags};

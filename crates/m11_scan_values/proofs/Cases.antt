@@ -3,7 +3,7 @@ use Rattle.std.proofs.Common.{◌≡◌, ℕ, Bool, true, false, List, [], ◌�
 use Rattle.std.proofs.lemmas.Bool.{cases_lt, le-ltb, lt-ltb}
 use Rattle.std.proofs.lemmas.Bool.Decides.{nat_tests}
 use Rattle.std.proofs.lemmas.List.{get_or-map, length-map}
-use Rattle.m11_base.specs.Mnemonics.{character_at, folded, six_of}
+use Rattle.m11_base.specs.NameCharacters.{character_at, folded, six_of}
 use Rattle.m11_base.specs.Rad50.{name_of, packed_at}
 use Rattle.m11_scan.specs.Cutting.{Lexeme}
 use Rattle.m11_scan.specs.Names.{packed_flags, packed_word, word_or_none}

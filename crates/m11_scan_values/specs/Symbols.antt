@@ -2,7 +2,7 @@
 -- "Symbols" and "Character set".)
 use Rattle.std.specs.Prelude.{◌≡◌, List, [], ◌∷◌, map, Option, Some, None}
 use Rattle.m11_base.specs.Devices.{Bytes}
-use Rattle.m11_base.specs.Mnemonics.{folded}
+use Rattle.m11_base.specs.NameCharacters.{folded}
 use Rattle.m11_scan.specs.Cutting.{Lexeme, text_between}
 use Rattle.m11_scan.specs.declared.cutting.Token.{Token}
 use Rattle.m11_scan.specs.declared.sort.Sort.{Sort}

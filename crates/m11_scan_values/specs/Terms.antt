@@ -3,7 +3,7 @@
 -- is missing, and that a local symbol outside 1 to 65535 is 0 with A, is this project's own.)
 use Rattle.std.specs.Prelude.{◌+◌, ◌-◌, ◌*◌, ◌%◌, ◌==◌, if◌then◌else◌, Bool, false, [], ◌∷◌, length, take, Option, Some, None}
 use Rattle.m11_base.specs.Devices.{Bytes}
-use Rattle.m11_base.specs.Mnemonics.{six_of}
+use Rattle.m11_base.specs.NameCharacters.{six_of}
 use Rattle.m11_base.specs.Rad50.{Name, name_of}
 use Rattle.m11_scan.specs.Cutting.{Lexeme}
 use Rattle.m11_scan.specs.ErrorFlags.{flag_A}

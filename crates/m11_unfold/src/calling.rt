@@ -7,7 +7,7 @@ ghost use Rattle.m11_unfold_arguments.specs.Actuals.{actuals_from};
 ghost use Rattle.m11_unfold_arguments.specs.Directives.{operator as line_operator};
 ghost use Rattle.m11_unfold_arguments.specs.Expressions.{known_by};
 ghost use Rattle.m11_unfold_arguments.specs.Notes.{joined};
-ghost use Rattle.m11_base.specs.Mnemonics.{six_of};
+ghost use Rattle.m11_base.specs.NameCharacters.{six_of};
 ghost use Rattle.m11_base.specs.Rad50.{name_of};
 ghost use Rattle.m11_unfold_bodies.specs.Left.{depth, most_expansions};
 ghost use Rattle.m11_unfold_rules.specs.Acting as spec;

@@ -3,7 +3,7 @@
 use Rattle.std.specs.Prelude.{ℕ, ◌==◌, List, [], ◌∷◌, codes, filter, find, Option, Some, None, slice_index}
 use Rattle.std.specs.Str.{bytes_eq}
 use Rattle.m11_base.specs.Devices.{Bytes}
-use Rattle.m11_base.specs.Mnemonics.{six_of}
+use Rattle.m11_base.specs.NameCharacters.{six_of}
 use Rattle.m11_scan.specs.Cutting.{text_between}
 use Rattle.m11_scan_statements.specs.declared.bodies.Body.{Body}
 use Rattle.m11_scan_statements.specs.declared.bodies.Body.TheVariants.{Nothing, Assign, SetCounter, Operate, Words}

@@ -2,7 +2,7 @@
 //! assembly block directives", "Macro definition", "Indefinite repeat block directives" and ".END directive".)
 
 ghost use Rattle.std.specs.Prelude.{◌≡◌, ◌≤◌, ℕ, true, length, IfSome};
-ghost use Rattle.m11_base.specs.Mnemonics.{six_of};
+ghost use Rattle.m11_base.specs.NameCharacters.{six_of};
 ghost use Rattle.m11_scan_statements.specs.Bodies.{end_of};
 ghost use Rattle.m11_unfold_arguments.specs.Directives as spec;
 

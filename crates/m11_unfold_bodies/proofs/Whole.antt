@@ -2,7 +2,7 @@
 use Rattle.std.proofs.Common.{◌≡◌, ◌∙◌, ℕ, Bool, true, false, List, [], ◌∷◌, ◌++◌, map, refl, ap, append_assoc, append-nil, Option, Some, None}
 use Rattle.std.specs.Prelude.{◌||◌, ◌&&◌, ◌==◌, if◌then◌else◌}
 use Rattle.std.specs.List.{flat_map, list_any}
-use Rattle.m11_base.specs.Mnemonics.{is_name_character}
+use Rattle.m11_base.specs.NameCharacters.{is_name_character}
 use Rattle.m11_scan_lines.specs.Line.{SourceLine}
 use Rattle.m11_unfold_bodies.specs.Bodies.{HalfTaken, IsTaken, before_left, body_of, cut_after, cut_at, depth_after, depth_next, depth_past, taken_with, texts_of, with_line, with_lines}
 use Rattle.m11_unfold_bodies.specs.Left.{End, Left, Line, expanded, round}

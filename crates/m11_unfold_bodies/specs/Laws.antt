@@ -1,7 +1,7 @@
 -- Words in a text with the quotes beside them; what stands inside a condition.
 use Rattle.std.specs.Prelude.{◌≡◌, ◌==◌, Bool, true, false, if◌then◌else◌, List, [], ◌∷◌, Some}
 use Rattle.m11_base.specs.Devices.{Bytes}
-use Rattle.m11_base.specs.Mnemonics.{is_name_character}
+use Rattle.m11_base.specs.NameCharacters.{is_name_character}
 use Rattle.m11_base.specs.Rad50.{Name}
 use Rattle.m11_scan.specs.Names.{has_name_characters_alone}
 use Rattle.m11_unfold_bodies.specs.Conditions.{OpenConditions, closed, entering, nested, past, switched, unnested}

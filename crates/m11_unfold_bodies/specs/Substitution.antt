@@ -3,7 +3,7 @@
 -- one name counts, is this project's own.)
 use Rattle.std.specs.Prelude.{ℕ, Bool, true, false, ◌||◌, ◌&&◌, ◌==◌, if◌then◌else◌, List, [], ◌∷◌, ◌++◌, Option, Some, None}
 use Rattle.m11_base.specs.Devices.{Bytes}
-use Rattle.m11_base.specs.Mnemonics.{is_name_character, six_of}
+use Rattle.m11_base.specs.NameCharacters.{is_name_character, six_of}
 use Rattle.m11_base.specs.Rad50.{Name, is_same_name, name_of}
 use Rattle.m11_scan_lines.specs.Line.{SourceLine, line_of}
 

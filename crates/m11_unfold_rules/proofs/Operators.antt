@@ -2,7 +2,7 @@
 use Rattle.std.proofs.Common.{◌≡◌, ◌∙◌, ℕ, Bool, true, List, [], ◌∷◌, Option, Some, None, refl, sym, ap}
 use Rattle.std.specs.Prelude.{if◌then◌else◌}
 use Rattle.m11_base.specs.Devices.{Bytes}
-use Rattle.m11_base.specs.Mnemonics.{six_of}
+use Rattle.m11_base.specs.NameCharacters.{six_of}
 use Rattle.m11_base.specs.Rad50.{Name, name_of}
 use Rattle.m11_scan_lines.specs.Line.{SourceLine}
 use Rattle.m11_scan.specs.Cutting.{text_between}

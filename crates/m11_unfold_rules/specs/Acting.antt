@@ -4,7 +4,7 @@
 use Rattle.std.specs.Prelude.{ℕ, Bool, true, false, if◌then◌else◌, List, [], ◌∷◌, length, map, replicate, drop, Option, Some, None}
 use Rattle.std.specs.Int.RustNames.{bit_or}
 use Rattle.m11_base.specs.Devices.{Bytes}
-use Rattle.m11_base.specs.Mnemonics.{six_of}
+use Rattle.m11_base.specs.NameCharacters.{six_of}
 use Rattle.m11_base.specs.Rad50.{Name, name_of}
 use Rattle.m11_scan_lines.specs.Line.{line_of}
 use Rattle.m11_scan.specs.Cutting.{text_between}

@@ -1,5 +1,5 @@
 use Rattle.std.proofs.Common.{refl}
-use Rattle.m11_base.specs.Instructions.{other_names, rows}
+use Rattle.m11_base_instructions.specs.Instructions.{other_names, rows}
 use Rattle.m11_base.specs.Rad50.{alphabet, code_of}
 use Rattle.m11_asm_rules.specs.Lines.{line_change, line_put}
 use Rattle.m11_asm_rows.proofs.relocations.names_are_as_worked.Goals as goal

@@ -1,6 +1,6 @@
 use Rattle.std.proofs.Common.{◌≡◌, ◌+◌, length}
 use Rattle.std.specs.List.{prefix_len}
-use Rattle.m11_base.specs.Mnemonics.{is_name_character}
+use Rattle.m11_base.specs.NameCharacters.{is_name_character}
 use Rattle.m11_scan.proofs.characters.name_length.Given as goal
 
 abbrev pub invariant-characters : goal.invariant-characters

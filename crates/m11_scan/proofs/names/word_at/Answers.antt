@@ -1,5 +1,5 @@
 use Rattle.std.proofs.Common.{◌+◌}
-use Rattle.m11_base.specs.Mnemonics.{character_at}
+use Rattle.m11_base.specs.NameCharacters.{character_at}
 use Rattle.m11_scan.proofs.TableOfCodes.{same_code}
 use Rattle.m11_scan.proofs.names.word_at.Goals as goal
 

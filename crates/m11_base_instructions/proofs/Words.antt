@@ -4,16 +4,16 @@ use Rattle.std.specs.Prelude.{Bool, ◌↔◌, IsTrue, is_none, Option, Some, No
 use Rattle.std.proofs.lemmas.Bool.{false≢true}
 use Rattle.std.proofs.Math.Facts.{Fits-of_lt, sfits_to_z}
 use Rattle.std.specs.Int.{w8}
-use Rattle.m11_base.specs.declared.instruction.Insn.{Insn}
-use Rattle.m11_base.specs.declared.instruction.Insn.TheVariants as insn
-use Rattle.m11_base.specs.declared.instruction.Op.{Op}
-use Rattle.m11_base.specs.declared.instruction.Op.TheVariants as op
-use Rattle.m11_base.specs.declared.instruction_list.Row.{Row}
-use Rattle.m11_base.specs.Instructions.{row_of, operation_in, meaning, with_fields, instruction_of, HasCode}
-use Rattle.m11_base.specs.Encoding.{code_of, fits, IsHeld}
-use Rattle.m11_base.proofs.Codes.{IsSound, again, code_below}
-use Rattle.m11_base.specs.OperationTables.{operation_by_tables}
-use Rattle.m11_base.proofs.EachWord.{IsChecked, row_checked}
+use Rattle.m11_base_instructions.specs.declared.instruction.Insn.{Insn}
+use Rattle.m11_base_instructions.specs.declared.instruction.Insn.TheVariants as insn
+use Rattle.m11_base_instructions.specs.declared.instruction.Op.{Op}
+use Rattle.m11_base_instructions.specs.declared.instruction.Op.TheVariants as op
+use Rattle.m11_base_instructions.specs.declared.instruction_list.Row.{Row}
+use Rattle.m11_base_instructions.specs.Instructions.{row_of, operation_in, meaning, with_fields, instruction_of, HasCode}
+use Rattle.m11_base_instructions.specs.Encoding.{code_of, fits, IsHeld}
+use Rattle.m11_base_instructions.proofs.Codes.{IsSound, again, code_below}
+use Rattle.m11_base_instructions.specs.OperationTables.{operation_by_tables}
+use Rattle.m11_base_instructions.proofs.EachWord.{IsChecked, row_checked}
 
 -- the fields of a word are those that types hold
 fields_sound : (o : Op) (word : ℕ) → IsSound (with_fields o word)

@@ -1,17 +1,17 @@
 -- What the tables over octal digits give: the operation of a code, digit by digit.
 -- (PDP-11/40 Processor Handbook, "Instruction set".)
 use Rattle.std.specs.Prelude.{ℕ, ◌/◌, ◌%◌, ◌==◌, if◌then◌else◌, List, [], ◌∷◌, Option, Some, None, slice_index_or}
-use Rattle.m11_base.specs.declared.instruction.DoubleOp.TheVariants.{Mov, Cmp, Bit, Bic, Bis, Add, Sub}
-use Rattle.m11_base.specs.declared.instruction.ExtendedOp.TheVariants.{Mul, Div, Ash, Ashc}
-use Rattle.m11_base.specs.declared.instruction.RegisterOp.TheVariants.{Jsr, Xor}
-use Rattle.m11_base.specs.declared.instruction.SingleOp.TheVariants.{Jmp, Swab, Clr, Com, Inc, Dec, Neg, Adc, Sbc, Tst, Ror, Rol, Asr, Asl, Sxt}
-use Rattle.m11_base.specs.declared.instruction.NumberOp.TheVariants.{Mark, Emt, Trap}
-use Rattle.m11_base.specs.declared.instruction.BareOp.TheVariants.{Halt, Wait, Rti, Bpt, Iot, Reset, Rtt}
-use Rattle.m11_base.specs.declared.instruction.ConditionOp.TheVariants.{Clear, Set}
-use Rattle.m11_base.specs.declared.instruction.BranchOp.TheVariants.{Br, Bne, Beq, Bge, Blt, Bgt, Ble, Bpl, Bmi, Bhi, Blos, Bvc, Bvs, Bcc, Bcs}
-use Rattle.m11_base.specs.declared.instruction.Op.{Op}
-use Rattle.m11_base.specs.declared.instruction.Op.TheVariants as op
-use Rattle.m11_base.specs.declared.operand.Size.TheVariants.{Word, Byte}
+use Rattle.m11_base_instructions.specs.declared.instruction.DoubleOp.TheVariants.{Mov, Cmp, Bit, Bic, Bis, Add, Sub}
+use Rattle.m11_base_instructions.specs.declared.instruction.ExtendedOp.TheVariants.{Mul, Div, Ash, Ashc}
+use Rattle.m11_base_instructions.specs.declared.instruction.RegisterOp.TheVariants.{Jsr, Xor}
+use Rattle.m11_base_instructions.specs.declared.instruction.SingleOp.TheVariants.{Jmp, Swab, Clr, Com, Inc, Dec, Neg, Adc, Sbc, Tst, Ror, Rol, Asr, Asl, Sxt}
+use Rattle.m11_base_instructions.specs.declared.instruction.NumberOp.TheVariants.{Mark, Emt, Trap}
+use Rattle.m11_base_instructions.specs.declared.instruction.BareOp.TheVariants.{Halt, Wait, Rti, Bpt, Iot, Reset, Rtt}
+use Rattle.m11_base_instructions.specs.declared.instruction.ConditionOp.TheVariants.{Clear, Set}
+use Rattle.m11_base_instructions.specs.declared.instruction.BranchOp.TheVariants.{Br, Bne, Beq, Bge, Blt, Bgt, Ble, Bpl, Bmi, Bhi, Blos, Bvc, Bvs, Bcc, Bcs}
+use Rattle.m11_base_instructions.specs.declared.instruction.Op.{Op}
+use Rattle.m11_base_instructions.specs.declared.instruction.Op.TheVariants as op
+use Rattle.m11_base_instructions.specs.declared.operand.Size.TheVariants.{Word, Byte}
 
 unfoldable pub doubles : List (Option Op)
 doubles =

@@ -5,8 +5,8 @@ use Rattle.std.specs.List.{list_all}
 use Rattle.std.proofs.lemmas.Bool.{and_parts, eq-eqb, eqb-true, false≢true}
 use Rattle.std.proofs.lemmas.Nat.{and_assoc, and_comm}
 use Rattle.std.proofs.lemmas.List.Sums.{sum_by-cons}
-use Rattle.m11_base.specs.declared.instruction_list.Row.{Row}
-use Rattle.m11_base.specs.Instructions.{rows, is_of}
+use Rattle.m11_base_instructions.specs.declared.instruction_list.Row.{Row}
+use Rattle.m11_base_instructions.specs.Instructions.{rows, is_of}
 
 are_apart : Row → Row → Bool
 are_apart row other = not (eqb (bit_and row.value other.mask) (bit_and other.value row.mask))

@@ -3,24 +3,24 @@
 -- Reference Manual, "Permanent symbol table".)
 use Rattle.std.specs.Prelude.{◌≡◌, ℕ, ◌/◌, ◌%◌, ◌<◌, ◌≤◌, Bool, ◌==◌, List, [], ◌∷◌, codes, find, count_by, bit_and, Option, Some, None}
 use Rattle.std.specs.Int.{cast_signed, w8}
-use Rattle.m11_base.specs.declared.instruction.ConditionCodes.{ConditionCodes}
-use Rattle.m11_base.specs.declared.instruction.DoubleOp.TheVariants.{Mov, Cmp, Bit, Bic, Bis, Add, Sub}
-use Rattle.m11_base.specs.declared.instruction.ExtendedOp.TheVariants.{Mul, Div, Ash, Ashc}
-use Rattle.m11_base.specs.declared.instruction.RegisterOp.TheVariants.{Jsr, Xor}
-use Rattle.m11_base.specs.declared.instruction.SingleOp.TheVariants.{Jmp, Swab, Clr, Com, Inc, Dec, Neg, Adc, Sbc, Tst, Ror, Rol, Asr, Asl, Sxt}
-use Rattle.m11_base.specs.declared.instruction.NumberOp.{NumberOp}
-use Rattle.m11_base.specs.declared.instruction.NumberOp.TheVariants.{Mark, Emt, Trap}
-use Rattle.m11_base.specs.declared.instruction.BareOp.TheVariants.{Halt, Wait, Rti, Bpt, Iot, Reset, Rtt}
-use Rattle.m11_base.specs.declared.instruction.ConditionOp.TheVariants.{Clear, Set}
-use Rattle.m11_base.specs.declared.instruction.BranchOp.TheVariants.{Br, Bne, Beq, Bge, Blt, Bgt, Ble, Bpl, Bmi, Bhi, Blos, Bvc, Bvs, Bcc, Bcs}
-use Rattle.m11_base.specs.declared.instruction.Insn.{Insn}
-use Rattle.m11_base.specs.declared.instruction.Insn.TheVariants as insn
-use Rattle.m11_base.specs.declared.instruction.Op.{Op}
-use Rattle.m11_base.specs.declared.instruction.Op.TheVariants as op
-use Rattle.m11_base.specs.declared.operand.Size.TheVariants.{Word, Byte}
-use Rattle.m11_base.specs.declared.operand.Register.TheVariants.{Pc}
-use Rattle.m11_base.specs.declared.instruction_list.Row.{Row}
-use Rattle.m11_base.specs.Operand.{operand_of, register_of}
+use Rattle.m11_base_instructions.specs.declared.instruction.ConditionCodes.{ConditionCodes}
+use Rattle.m11_base_instructions.specs.declared.instruction.DoubleOp.TheVariants.{Mov, Cmp, Bit, Bic, Bis, Add, Sub}
+use Rattle.m11_base_instructions.specs.declared.instruction.ExtendedOp.TheVariants.{Mul, Div, Ash, Ashc}
+use Rattle.m11_base_instructions.specs.declared.instruction.RegisterOp.TheVariants.{Jsr, Xor}
+use Rattle.m11_base_instructions.specs.declared.instruction.SingleOp.TheVariants.{Jmp, Swab, Clr, Com, Inc, Dec, Neg, Adc, Sbc, Tst, Ror, Rol, Asr, Asl, Sxt}
+use Rattle.m11_base_instructions.specs.declared.instruction.NumberOp.{NumberOp}
+use Rattle.m11_base_instructions.specs.declared.instruction.NumberOp.TheVariants.{Mark, Emt, Trap}
+use Rattle.m11_base_instructions.specs.declared.instruction.BareOp.TheVariants.{Halt, Wait, Rti, Bpt, Iot, Reset, Rtt}
+use Rattle.m11_base_instructions.specs.declared.instruction.ConditionOp.TheVariants.{Clear, Set}
+use Rattle.m11_base_instructions.specs.declared.instruction.BranchOp.TheVariants.{Br, Bne, Beq, Bge, Blt, Bgt, Ble, Bpl, Bmi, Bhi, Blos, Bvc, Bvs, Bcc, Bcs}
+use Rattle.m11_base_instructions.specs.declared.instruction.Insn.{Insn}
+use Rattle.m11_base_instructions.specs.declared.instruction.Insn.TheVariants as insn
+use Rattle.m11_base_instructions.specs.declared.instruction.Op.{Op}
+use Rattle.m11_base_instructions.specs.declared.instruction.Op.TheVariants as op
+use Rattle.m11_base_instructions.specs.declared.operand.Size.TheVariants.{Word, Byte}
+use Rattle.m11_base_instructions.specs.declared.operand.Register.TheVariants.{Pc}
+use Rattle.m11_base_instructions.specs.declared.instruction_list.Row.{Row}
+use Rattle.m11_base_instructions.specs.Operand.{operand_of, register_of}
 
 abbrev row : List ℕ → ℕ → ℕ → Op → Row
 row name mask value operation = record { name = name; mask = mask; value = value; operation = operation }

@@ -1,7 +1,7 @@
 use Rattle.std.proofs.Common.{◌∙◌, ap}
-use Rattle.m11_base.specs.Instructions.{instruction_of}
-use Rattle.m11_base.proofs.Words.{instruction_again}
-use Rattle.m11_base.proofs.encoding.encode.Goals as goal
+use Rattle.m11_base_instructions.specs.Instructions.{instruction_of}
+use Rattle.m11_base_instructions.proofs.Words.{instruction_again}
+use Rattle.m11_base_instructions.proofs.encoding.encode.Goals as goal
 
 pub returns-clause-means : goal.returns-clause-means
 returns-clause-means c =

@@ -2,7 +2,7 @@
 //! Handbook, "Instruction set"; MACRO-11 Language Reference Manual, "Permanent symbol table".)
 
 ghost use Rattle.std.specs.Prelude.{◌≡◌};
-ghost use Rattle.m11_base.specs.Instructions.{rows, other_names};
+ghost use Rattle.m11_base_instructions.specs.Instructions.{rows, other_names};
 
 use crate::instruction::{
     BareOp, BranchOp, ConditionCodes, ConditionOp, DoubleOp, ExtendedOp, NumberOp, Op, RegisterOp,

@@ -3,7 +3,8 @@
 
 ghost use Rattle.std.specs.Prelude.{◌≡◌};
 ghost use Rattle.std.specs.List.{list_all};
-ghost use Rattle.m11_base.specs.Mnemonics.{character_at, is_name_character, named_in, operation_named, six_of};
+ghost use Rattle.m11_base.specs.NameCharacters.{character_at, is_name_character, six_of};
+ghost use Rattle.m11_base_instructions.specs.Mnemonics.{named_in, operation_named};
 
 use crate::instruction::Op;
 use crate::instruction_list::{Row, other_names, rows};

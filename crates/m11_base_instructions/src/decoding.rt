@@ -1,10 +1,10 @@
 //! From words to instructions. (PDP-11/40 Processor Handbook, "Instruction set".)
 
 ghost use Rattle.std.specs.Prelude.{◌≡◌, ◌<◌, IsTrue, ◌/◌, ◌%◌, None, is_none, slice_index_or};
-ghost use Rattle.m11_base.specs.OperationTables.{bare, extended, high, low, operation_by_tables, with_next_digits};
-ghost use Rattle.m11_base.specs.declared.instruction.Op.TheVariants as op;
-ghost use Rattle.m11_base.specs.Encoding.{code_of, fits};
-ghost use Rattle.m11_base.specs.Instructions.{HasOneMeaning, condition_codes_of, instruction_of, meaning, number_in, row_of, with_fields};
+ghost use Rattle.m11_base_instructions.specs.OperationTables.{bare, extended, high, low, operation_by_tables, with_next_digits};
+ghost use Rattle.m11_base_instructions.specs.declared.instruction.Op.TheVariants as op;
+ghost use Rattle.m11_base_instructions.specs.Encoding.{code_of, fits};
+ghost use Rattle.m11_base_instructions.specs.Instructions.{HasOneMeaning, condition_codes_of, instruction_of, meaning, number_in, row_of, with_fields};
 
 use crate::instruction::{
     BranchOp, ConditionCodes, DoubleOp, Insn, NumberOp, Op, RegisterOp, SingleOp,

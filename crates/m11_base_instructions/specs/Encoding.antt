@@ -2,29 +2,29 @@
 -- (PDP-11/40 Processor Handbook, "Instruction set".)
 use Rattle.std.specs.Prelude.{ℕ, ◌+◌, ◌*◌, ◌<◌, Bool, true, false, nat_lt, is_none, FitsSigned, ⊤}
 use Rattle.std.specs.Int.{cast_unsigned, from_bool, w8}
-use Rattle.m11_base.specs.declared.instruction.DoubleOp.{DoubleOp}
-use Rattle.m11_base.specs.declared.instruction.ExtendedOp.{ExtendedOp}
-use Rattle.m11_base.specs.declared.instruction.RegisterOp.{RegisterOp}
-use Rattle.m11_base.specs.declared.instruction.SingleOp.{SingleOp}
-use Rattle.m11_base.specs.declared.instruction.NumberOp.{NumberOp}
-use Rattle.m11_base.specs.declared.instruction.BareOp.{BareOp}
-use Rattle.m11_base.specs.declared.instruction.ConditionOp.{ConditionOp}
-use Rattle.m11_base.specs.declared.instruction.BranchOp.{BranchOp}
-use Rattle.m11_base.specs.declared.instruction.DoubleOp.TheVariants.{Mov, Cmp, Bit, Bic, Bis, Add, Sub}
-use Rattle.m11_base.specs.declared.instruction.ExtendedOp.TheVariants.{Mul, Div, Ash, Ashc}
-use Rattle.m11_base.specs.declared.instruction.RegisterOp.TheVariants.{Jsr, Xor}
-use Rattle.m11_base.specs.declared.instruction.SingleOp.TheVariants.{Jmp, Swab, Clr, Com, Inc, Dec, Neg, Adc, Sbc, Tst, Ror, Rol, Asr, Asl, Sxt}
-use Rattle.m11_base.specs.declared.instruction.NumberOp.TheVariants.{Mark, Emt, Trap}
-use Rattle.m11_base.specs.declared.instruction.BareOp.TheVariants.{Halt, Wait, Rti, Bpt, Iot, Reset, Rtt}
-use Rattle.m11_base.specs.declared.instruction.ConditionOp.TheVariants.{Clear, Set}
-use Rattle.m11_base.specs.declared.instruction.BranchOp.TheVariants.{Br, Bne, Beq, Bge, Blt, Bgt, Ble, Bpl, Bmi, Bhi, Blos, Bvc, Bvs, Bcc, Bcs}
-use Rattle.m11_base.specs.declared.instruction.ConditionCodes.{ConditionCodes}
-use Rattle.m11_base.specs.declared.instruction.Insn.{Insn}
-use Rattle.m11_base.specs.declared.instruction.Insn.TheVariants as insn
-use Rattle.m11_base.specs.declared.operand.Size.{Size}
-use Rattle.m11_base.specs.declared.operand.Size.TheVariants.{Word, Byte}
-use Rattle.m11_base.specs.Instructions.{row_of}
-use Rattle.m11_base.specs.Operand.{operand_code, register_number}
+use Rattle.m11_base_instructions.specs.declared.instruction.DoubleOp.{DoubleOp}
+use Rattle.m11_base_instructions.specs.declared.instruction.ExtendedOp.{ExtendedOp}
+use Rattle.m11_base_instructions.specs.declared.instruction.RegisterOp.{RegisterOp}
+use Rattle.m11_base_instructions.specs.declared.instruction.SingleOp.{SingleOp}
+use Rattle.m11_base_instructions.specs.declared.instruction.NumberOp.{NumberOp}
+use Rattle.m11_base_instructions.specs.declared.instruction.BareOp.{BareOp}
+use Rattle.m11_base_instructions.specs.declared.instruction.ConditionOp.{ConditionOp}
+use Rattle.m11_base_instructions.specs.declared.instruction.BranchOp.{BranchOp}
+use Rattle.m11_base_instructions.specs.declared.instruction.DoubleOp.TheVariants.{Mov, Cmp, Bit, Bic, Bis, Add, Sub}
+use Rattle.m11_base_instructions.specs.declared.instruction.ExtendedOp.TheVariants.{Mul, Div, Ash, Ashc}
+use Rattle.m11_base_instructions.specs.declared.instruction.RegisterOp.TheVariants.{Jsr, Xor}
+use Rattle.m11_base_instructions.specs.declared.instruction.SingleOp.TheVariants.{Jmp, Swab, Clr, Com, Inc, Dec, Neg, Adc, Sbc, Tst, Ror, Rol, Asr, Asl, Sxt}
+use Rattle.m11_base_instructions.specs.declared.instruction.NumberOp.TheVariants.{Mark, Emt, Trap}
+use Rattle.m11_base_instructions.specs.declared.instruction.BareOp.TheVariants.{Halt, Wait, Rti, Bpt, Iot, Reset, Rtt}
+use Rattle.m11_base_instructions.specs.declared.instruction.ConditionOp.TheVariants.{Clear, Set}
+use Rattle.m11_base_instructions.specs.declared.instruction.BranchOp.TheVariants.{Br, Bne, Beq, Bge, Blt, Bgt, Ble, Bpl, Bmi, Bhi, Blos, Bvc, Bvs, Bcc, Bcs}
+use Rattle.m11_base_instructions.specs.declared.instruction.ConditionCodes.{ConditionCodes}
+use Rattle.m11_base_instructions.specs.declared.instruction.Insn.{Insn}
+use Rattle.m11_base_instructions.specs.declared.instruction.Insn.TheVariants as insn
+use Rattle.m11_base_instructions.specs.declared.operand.Size.{Size}
+use Rattle.m11_base_instructions.specs.declared.operand.Size.TheVariants.{Word, Byte}
+use Rattle.m11_base_instructions.specs.Instructions.{row_of}
+use Rattle.m11_base_instructions.specs.Operand.{operand_code, register_number}
 
 -- ---- the bits of the operations on words
 

@@ -1,8 +1,8 @@
 //! From instructions to their codes. (PDP-11/40 Processor Handbook, "Instruction set".)
 
 ghost use Rattle.std.specs.Prelude.{◌≡◌, ◌<◌, ◌↔◌, IsTrue};
-ghost use Rattle.m11_base.specs.Encoding.{IsHeld, code_of, condition_bits, fits, has_double, has_single, number_limit};
-ghost use Rattle.m11_base.specs.Instructions.{HasCode, instruction_of};
+ghost use Rattle.m11_base_instructions.specs.Encoding.{IsHeld, code_of, condition_bits, fits, has_double, has_single, number_limit};
+ghost use Rattle.m11_base_instructions.specs.Instructions.{HasCode, instruction_of};
 
 use crate::decoding::is_reserved;
 use crate::instruction::{ConditionCodes, DoubleOp, Insn, NumberOp, SingleOp};

@@ -1,11 +1,11 @@
 -- Operands: a mode and a register in six bits of an instruction. (PDP-11/40 Processor Handbook,
 -- "Addressing modes".)
 use Rattle.std.specs.Prelude.{ℕ, ◌+◌, ◌*◌, ◌/◌, ◌%◌, List, [], ◌∷◌, slice_index_or}
-use Rattle.m11_base.specs.declared.operand.Mode.{Mode}
-use Rattle.m11_base.specs.declared.operand.Mode.TheVariants as mode
-use Rattle.m11_base.specs.declared.operand.Register.{Register}
-use Rattle.m11_base.specs.declared.operand.Register.TheVariants.{R0, R1, R2, R3, R4, R5, Sp, Pc}
-use Rattle.m11_base.specs.declared.operand.Operand.{Operand}
+use Rattle.m11_base_instructions.specs.declared.operand.Mode.{Mode}
+use Rattle.m11_base_instructions.specs.declared.operand.Mode.TheVariants as mode
+use Rattle.m11_base_instructions.specs.declared.operand.Register.{Register}
+use Rattle.m11_base_instructions.specs.declared.operand.Register.TheVariants.{R0, R1, R2, R3, R4, R5, Sp, Pc}
+use Rattle.m11_base_instructions.specs.declared.operand.Operand.{Operand}
 
 -- the modes, each at the place of its code
 abbrev pub modes : List Mode

@@ -2,7 +2,7 @@
 //! "Addressing modes".)
 
 ghost use Rattle.std.specs.Prelude.{◌≡◌, ◌<◌, ◌%◌};
-ghost use Rattle.m11_base.specs.Operand.{mode_of, register_of, register_number, operand_of, operand_code};
+ghost use Rattle.m11_base_instructions.specs.Operand.{mode_of, register_of, register_number, operand_of, operand_code};
 
 /// What an instruction works on: words or single bytes.
 #[derive(Clone, Copy, Debug, PartialEq, Eq)]

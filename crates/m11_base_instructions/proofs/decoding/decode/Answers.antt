@@ -1,10 +1,10 @@
 use Rattle.std.proofs.Common.{◌≡◌, ◌<◌, ◌∙◌, ℕ, true, ap}
-use Rattle.m11_base.specs.declared.instruction.Insn.{Insn}
-use Rattle.m11_base.specs.Encoding.{code_of, fits}
-use Rattle.m11_base.specs.Instructions.{instruction_of}
-use Rattle.m11_base.proofs.OneRow.{one_row}
-use Rattle.m11_base.proofs.Words.{code_again, instruction_fits, tables_meaning}
-use Rattle.m11_base.proofs.decoding.decode.Goals as goal
+use Rattle.m11_base_instructions.specs.declared.instruction.Insn.{Insn}
+use Rattle.m11_base_instructions.specs.Encoding.{code_of, fits}
+use Rattle.m11_base_instructions.specs.Instructions.{instruction_of}
+use Rattle.m11_base_instructions.proofs.OneRow.{one_row}
+use Rattle.m11_base_instructions.proofs.Words.{code_again, instruction_fits, tables_meaning}
+use Rattle.m11_base_instructions.proofs.decoding.decode.Goals as goal
 
 again : (i : Insn) (word : ℕ) → word < 65536 → i ≡ instruction_of word → (fits i ≡ true) × (code_of i ≡ word)
 again i word h e = (ap fits e ∙ instruction_fits word h, ap code_of e ∙ code_again word h)

@@ -6,38 +6,38 @@ use Rattle.std.specs.Prelude.{⊤, FitsSigned}
 use Rattle.std.proofs.lemmas.Bool.{false≢true, ltb-true}
 use Rattle.std.proofs.lemmas.Int.{to_z-of_z}
 use Rattle.std.proofs.Math.Facts.{Fits-lt-pow, Fits-of_z}
-use Rattle.m11_base.specs.declared.instruction.DoubleOp.{DoubleOp}
-use Rattle.m11_base.specs.declared.instruction.ExtendedOp.{ExtendedOp}
-use Rattle.m11_base.specs.declared.instruction.RegisterOp.{RegisterOp}
-use Rattle.m11_base.specs.declared.instruction.SingleOp.{SingleOp}
-use Rattle.m11_base.specs.declared.instruction.NumberOp.{NumberOp}
-use Rattle.m11_base.specs.declared.instruction.BareOp.{BareOp}
-use Rattle.m11_base.specs.declared.instruction.ConditionOp.{ConditionOp}
-use Rattle.m11_base.specs.declared.instruction.BranchOp.{BranchOp}
-use Rattle.m11_base.specs.declared.instruction.DoubleOp.TheVariants.{Mov, Cmp, Bit, Bic, Bis, Add, Sub}
-use Rattle.m11_base.specs.declared.instruction.ExtendedOp.TheVariants.{Mul, Div, Ash, Ashc}
-use Rattle.m11_base.specs.declared.instruction.RegisterOp.TheVariants.{Jsr, Xor}
-use Rattle.m11_base.specs.declared.instruction.SingleOp.TheVariants.{Jmp, Swab, Clr, Com, Inc, Dec, Neg, Adc, Sbc, Tst, Ror, Rol, Asr, Asl, Sxt}
-use Rattle.m11_base.specs.declared.instruction.NumberOp.TheVariants.{Mark, Emt, Trap}
-use Rattle.m11_base.specs.declared.instruction.BareOp.TheVariants.{Halt, Wait, Rti, Bpt, Iot, Reset, Rtt}
-use Rattle.m11_base.specs.declared.instruction.ConditionOp.TheVariants.{Clear, Set}
-use Rattle.m11_base.specs.declared.instruction.BranchOp.TheVariants.{Br, Bne, Beq, Bge, Blt, Bgt, Ble, Bpl, Bmi, Bhi, Blos, Bvc, Bvs, Bcc, Bcs}
-use Rattle.m11_base.specs.declared.instruction.ConditionCodes.{ConditionCodes}
-use Rattle.m11_base.specs.declared.instruction.Insn.{Insn}
-use Rattle.m11_base.specs.declared.instruction.Insn.TheVariants as insn
-use Rattle.m11_base.specs.declared.operand.Size.{Size}
-use Rattle.m11_base.specs.declared.operand.Size.TheVariants.{Word, Byte}
-use Rattle.m11_base.specs.declared.instruction.Op.{Op}
-use Rattle.m11_base.specs.declared.instruction.Op.TheVariants as op
-use Rattle.m11_base.specs.declared.operand.Mode.{Mode}
-use Rattle.m11_base.specs.declared.operand.Mode.TheVariants as mode
-use Rattle.m11_base.specs.declared.operand.Operand.{Operand}
-use Rattle.m11_base.specs.declared.operand.Register.{Register}
-use Rattle.m11_base.specs.declared.operand.Register.TheVariants.{R0, R1, R2, R3, R4, R5, Sp, Pc}
-use Rattle.m11_base.specs.Operand.{modes, mode_code, operand_code, operand_of, register_number, register_of}
-use Rattle.m11_base.specs.Instructions.{meaning}
-use Rattle.m11_base.specs.Encoding.{double_value, extended_value, register_value, single_value, number_value, bare_value, condition_value, branch_value, size_value, condition_bits, code_of, has_double, has_single, number_limit, fits, IsHeld}
-use Rattle.m11_base.specs.OperationTables.{operation_by_tables, with_first_digits, with_next_digits, doubles, extended, bare, last, low, high}
+use Rattle.m11_base_instructions.specs.declared.instruction.DoubleOp.{DoubleOp}
+use Rattle.m11_base_instructions.specs.declared.instruction.ExtendedOp.{ExtendedOp}
+use Rattle.m11_base_instructions.specs.declared.instruction.RegisterOp.{RegisterOp}
+use Rattle.m11_base_instructions.specs.declared.instruction.SingleOp.{SingleOp}
+use Rattle.m11_base_instructions.specs.declared.instruction.NumberOp.{NumberOp}
+use Rattle.m11_base_instructions.specs.declared.instruction.BareOp.{BareOp}
+use Rattle.m11_base_instructions.specs.declared.instruction.ConditionOp.{ConditionOp}
+use Rattle.m11_base_instructions.specs.declared.instruction.BranchOp.{BranchOp}
+use Rattle.m11_base_instructions.specs.declared.instruction.DoubleOp.TheVariants.{Mov, Cmp, Bit, Bic, Bis, Add, Sub}
+use Rattle.m11_base_instructions.specs.declared.instruction.ExtendedOp.TheVariants.{Mul, Div, Ash, Ashc}
+use Rattle.m11_base_instructions.specs.declared.instruction.RegisterOp.TheVariants.{Jsr, Xor}
+use Rattle.m11_base_instructions.specs.declared.instruction.SingleOp.TheVariants.{Jmp, Swab, Clr, Com, Inc, Dec, Neg, Adc, Sbc, Tst, Ror, Rol, Asr, Asl, Sxt}
+use Rattle.m11_base_instructions.specs.declared.instruction.NumberOp.TheVariants.{Mark, Emt, Trap}
+use Rattle.m11_base_instructions.specs.declared.instruction.BareOp.TheVariants.{Halt, Wait, Rti, Bpt, Iot, Reset, Rtt}
+use Rattle.m11_base_instructions.specs.declared.instruction.ConditionOp.TheVariants.{Clear, Set}
+use Rattle.m11_base_instructions.specs.declared.instruction.BranchOp.TheVariants.{Br, Bne, Beq, Bge, Blt, Bgt, Ble, Bpl, Bmi, Bhi, Blos, Bvc, Bvs, Bcc, Bcs}
+use Rattle.m11_base_instructions.specs.declared.instruction.ConditionCodes.{ConditionCodes}
+use Rattle.m11_base_instructions.specs.declared.instruction.Insn.{Insn}
+use Rattle.m11_base_instructions.specs.declared.instruction.Insn.TheVariants as insn
+use Rattle.m11_base_instructions.specs.declared.operand.Size.{Size}
+use Rattle.m11_base_instructions.specs.declared.operand.Size.TheVariants.{Word, Byte}
+use Rattle.m11_base_instructions.specs.declared.instruction.Op.{Op}
+use Rattle.m11_base_instructions.specs.declared.instruction.Op.TheVariants as op
+use Rattle.m11_base_instructions.specs.declared.operand.Mode.{Mode}
+use Rattle.m11_base_instructions.specs.declared.operand.Mode.TheVariants as mode
+use Rattle.m11_base_instructions.specs.declared.operand.Operand.{Operand}
+use Rattle.m11_base_instructions.specs.declared.operand.Register.{Register}
+use Rattle.m11_base_instructions.specs.declared.operand.Register.TheVariants.{R0, R1, R2, R3, R4, R5, Sp, Pc}
+use Rattle.m11_base_instructions.specs.Operand.{modes, mode_code, operand_code, operand_of, register_number, register_of}
+use Rattle.m11_base_instructions.specs.Instructions.{meaning}
+use Rattle.m11_base_instructions.specs.Encoding.{double_value, extended_value, register_value, single_value, number_value, bare_value, condition_value, branch_value, size_value, condition_bits, code_of, has_double, has_single, number_limit, fits, IsHeld}
+use Rattle.m11_base_instructions.specs.OperationTables.{operation_by_tables, with_first_digits, with_next_digits, doubles, extended, bare, last, low, high}
 
 -- ---- operands
 

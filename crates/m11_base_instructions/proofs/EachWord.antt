@@ -3,11 +3,11 @@ use Rattle.std.proofs.Common.{◌≡◌, ℕ, zero, suc, ◌+◌, ◌^◌, ◌<�
 use Rattle.std.specs.Prelude.{◌&&◌, is_none, Option, Some, None}
 use Rattle.std.proofs.lemmas.Bool.{and_parts, cases_lt, eqb-true, false≢true}
 use Rattle.std.proofs.Math.Nat.{pow-suc}
-use Rattle.m11_base.specs.declared.instruction.Op.{Op}
-use Rattle.m11_base.specs.declared.instruction_list.Row.{Row}
-use Rattle.m11_base.specs.Instructions.{rows, row_of, with_fields}
-use Rattle.m11_base.specs.Encoding.{code_of, fits}
-use Rattle.m11_base.specs.OperationTables.{operation_by_tables, doubles, extended, bare, last, low, high}
+use Rattle.m11_base_instructions.specs.declared.instruction.Op.{Op}
+use Rattle.m11_base_instructions.specs.declared.instruction_list.Row.{Row}
+use Rattle.m11_base_instructions.specs.Instructions.{rows, row_of, with_fields}
+use Rattle.m11_base_instructions.specs.Encoding.{code_of, fits}
+use Rattle.m11_base_instructions.specs.OperationTables.{operation_by_tables, doubles, extended, bare, last, low, high}
 
 -- where it has a row, it is coded again and fits; else the tables have no operation
 check_found : Option Row → ℕ → Bool

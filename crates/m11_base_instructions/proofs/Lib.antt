@@ -1,0 +1,4 @@
+pub mod OneRow
+pub mod EachWord
+pub mod Codes
+pub mod Words

@@ -1,0 +1,5 @@
+pub mod Operand
+pub mod Instructions
+pub mod OperationTables
+pub mod Encoding
+pub mod Mnemonics
