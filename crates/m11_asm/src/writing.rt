@@ -28,13 +28,13 @@ ghost use Rattle.m11_base_writes.specs.Outputs.{Output, optional_output, output_
 
 use crate::done::AsmDone;
 use bitflags::Flags;
+use m11_asm_directives::transfer_flags;
 use m11_asm_directory::{FirstPass, directory_rows};
 use m11_asm_faults::AsmFault;
 use m11_asm_first_pass::Facts;
 use m11_asm_lines::{Action, Pass, UsedSymbols};
 use m11_asm_listing::{Item, SectionEntry, SymbolEntry};
 use m11_asm_listing_writes::{put_listed, put_placed, put_symbol_table};
-use m11_asm_operators::transfer_flags;
 use m11_asm_outputs::{
     flush_files, open_text, put_count, put_flagged, put_head, put_last, put_pieces,
 };

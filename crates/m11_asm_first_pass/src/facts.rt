@@ -2,7 +2,7 @@
 //! directive", ".WEAK directive" and ".END directive".)
 
 ghost use Rattle.std.specs.Prelude.{◌≡◌, ◌≤◌, [], ◌∷◌, IfOk, length, min, option_map};
-ghost use Rattle.m11_asm_operators.specs.Changes.{names_among};
+ghost use Rattle.m11_asm_directives.specs.Changes.{names_among};
 ghost use Rattle.m11_asm_first_pass.specs.Facts.{each_once, no_facts, with_line};
 ghost use Rattle.m11_asm_first_pass.specs.Noted.{with_action, with_directive, with_operator};
 ghost use Rattle.m11_asm_passes.specs.Placed.{IsLive};
@@ -17,8 +17,8 @@ ghost use Rattle.m11_unfold_rules.specs.Unfolding.{Given};
 ghost use Rattle.m11_scan_values.specs.Quantities.{quantity};
 
 use indexmap::IndexSet;
+use m11_asm_directives::{ident, listed_names, title, transfer};
 use m11_asm_lines::Action;
-use m11_asm_operators::{ident, listed_names, title, transfer};
 use m11_asm_passes::LiveLine;
 use m11_asm_rules::{Directive, Operator};
 use m11_asm_table::{Map, Table};

@@ -6,7 +6,7 @@ use Rattle.m11_unfold_arguments.specs.Expressions.{symbols_at, value_at}
 use Rattle.m11_asm_faults.specs.declared.fault.AsmFault.{AsmFault}
 use Rattle.m11_base.specs.Devices.{Bytes}
 use Rattle.m11_base.specs.Rad50.{Name}
-use Rattle.m11_asm_operators.specs.Changes.{names_among}
+use Rattle.m11_asm_directives.specs.Changes.{names_among}
 use Rattle.m11_asm_rules.specs.Assignments.{all_firm, assigned, standing_of}
 use Rattle.m11_asm_rules.specs.Changes.{numbered, with_globals, with_number, with_value}
 use Rattle.m11_asm_rules.specs.Definitions.{is_labelled}

@@ -6,7 +6,7 @@ use Rattle.std.proofs.lemmas.Option.{none-some}
 use Rattle.m11_asm_faults.specs.declared.fault.AsmFault.{AsmFault}
 use Rattle.m11_asm_faults.specs.declared.fault.AsmFault.TheVariants.{TooManySymbols, NoMemory}
 use Rattle.m11_base.specs.Rad50.{Name, is_same_name}
-use Rattle.m11_asm_operators.specs.Changes.{names_among}
+use Rattle.m11_asm_directives.specs.Changes.{names_among}
 use Rattle.m11_asm_rules.specs.Limits.{is_counted, most_names, with_uses, with_symbol}
 use Rattle.m11_asm_rules.specs.SymbolUses.{SymbolUse, defined, symbol_use, named}
 use Rattle.m11_asm_rules.specs.declared.meanings.Context.{Context}

@@ -5,8 +5,8 @@ ghost use Rattle.std.specs.Prelude.{◌≡◌, ◌∷◌, [], ◌<◌, ◌≤◌
 ghost use Rattle.std.specs.Option.{option_to_list};
 ghost use Rattle.m11_asm_faults.specs.declared.fault.AsmFault.TheVariants.{NoMemory};
 ghost use Rattle.m11_asm_operands.specs.Reads.{fields_seen};
-ghost use Rattle.m11_asm_operators.specs.Changes.{change_seen, names_among};
-ghost use Rattle.m11_asm_operators.specs.Reading.{operator_fields};
+ghost use Rattle.m11_asm_directives.specs.Changes.{change_seen, names_among};
+ghost use Rattle.m11_asm_instructions.specs.Reading.{operator_fields};
 ghost use Rattle.m11_asm_rules.specs.Assigning as assigning;
 ghost use Rattle.m11_asm_rules.specs.Changes.{changed, numbered, with_globals, with_number};
 ghost use Rattle.m11_asm_rules.specs.Effects.{operator_change};
@@ -25,12 +25,11 @@ ghost use Rattle.m11_asm_table.specs.Alike as tables;
 use crate::actions::Action;
 use crate::items::number_item;
 use crate::pass::Pass;
+use m11_asm_directives::{Change, Move, counter_change, listed_names};
 use m11_asm_faults::AsmFault;
 use m11_asm_listing::Item;
 use m11_asm_operands::Fields;
-use m11_asm_operators::{
-    Change, Move, counter_change, instruction_steps, listed_names, operator_change,
-};
+use m11_asm_operators::{instruction_steps, operator_change};
 use m11_asm_rules::{Definition, Key, Operator, Standing};
 use m11_asm_table::Map;
 use m11_base::Name;

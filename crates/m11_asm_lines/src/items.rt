@@ -2,13 +2,13 @@
 
 ghost use Rattle.std.specs.Prelude.{◌≡◌, ◌∷◌, ◌++◌, [], IfOk};
 ghost use Rattle.std.specs.Option.{option_to_list};
-ghost use Rattle.m11_asm_operators.specs.Changes.{change_seen};
+ghost use Rattle.m11_asm_directives.specs.Changes.{change_seen};
 ghost use Rattle.m11_asm_rules.specs.Items as spec;
 ghost use Rattle.m11_scan_values.specs.Quantities.{quantity};
 
 use bitflags::Flags;
+use m11_asm_directives::Change;
 use m11_asm_listing::{Item, Mark};
-use m11_asm_operators::Change;
 use m11_asm_rules::Modes;
 use m11_obj_texts::{PieceContent, RelocationKind};
 use m11_scan::ErrorFlags;

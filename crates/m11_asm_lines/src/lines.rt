@@ -11,9 +11,11 @@ ghost use Rattle.m11_asm_rules.specs.Assigning as assigning;
 ghost use Rattle.m11_scan.specs.Views.{bits_of};
 
 use crate::actions::Action;
+use m11_asm_directives::{assignment_flags, counter_flags};
 use m11_asm_operands::Fields;
-use m11_asm_operators::{Put, assignment_flags, counter_flags, put_operator};
+use m11_asm_operators::put_operator;
 use m11_asm_table::{Map, Table};
+use m11_asm_values::Put;
 use m11_scan::{ErrorFlags, Line, Token};
 use m11_scan_statements::{Assignment, Body};
 use m11_unfold_arguments::skip_flags;

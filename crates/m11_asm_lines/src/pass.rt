@@ -3,7 +3,7 @@
 
 ghost use Rattle.std.specs.Prelude.{◌≡◌, ◌<◌, ◌≤◌, ◌+◌, ◌^◌, IfOk, IfErr, false, length, true};
 ghost use Rattle.m11_asm_faults.specs.declared.fault.AsmFault.TheVariants.{NoMemory};
-ghost use Rattle.m11_asm_operators.specs.Changes.{move_seen};
+ghost use Rattle.m11_asm_directives.specs.Changes.{move_seen};
 ghost use Rattle.m11_asm_rules.specs.Changes.{with_move, with_section, with_modes};
 ghost use Rattle.m11_asm_rules.specs.Labels.{new_block, with_block, with_definition, with_doubly_defined, with_global};
 ghost use Rattle.m11_asm_rules.specs.Limits.{has_too_many, most_defined_names, most_local_symbols, most_sections};
@@ -13,8 +13,8 @@ ghost use Rattle.m11_asm_lines.specs.Passes.{Follows, Matches, no_sizes, size_at
 ghost use Rattle.m11_asm_table.specs.Alike as tables;
 ghost use Rattle.m11_asm_rules.specs.declared.definitions.Key.TheVariants.{Named, Numbered};
 
+use m11_asm_directives::Move;
 use m11_asm_faults::AsmFault;
-use m11_asm_operators::Move;
 use m11_asm_rules::{Definition, Key, Modes};
 use m11_asm_table::Table;
 use m11_base::Name;

@@ -2,28 +2,25 @@
 //! directives".)
 
 ghost use Rattle.std.specs.Prelude.{◌≡◌, ◌<◌, ◌≤◌, ℕ, Option, length};
-ghost use Rattle.m11_asm_operators.specs.Changes.{change_seen};
+ghost use Rattle.m11_asm_directives.specs.Changes.{change_seen};
 ghost use Rattle.m11_asm_operands.specs.Reads.{fields_seen};
-ghost use Rattle.m11_asm_operators.specs.Reading.{fields_at, operator_fields};
+ghost use Rattle.m11_asm_instructions.specs.Reading.{fields_at, operator_fields};
 ghost use Rattle.m11_asm_rules.specs.Changes.{Counts};
 ghost use Rattle.m11_asm_rules.specs.Effects as spec;
 ghost use Rattle.m11_asm_rules.specs.Places.{Steps};
 ghost use Rattle.m11_asm_rules.specs.Tables.{firm_table};
 ghost use Rattle.m11_asm_rules.specs.declared.operators.Operator.TheVariants.{Instruction};
 
-use crate::alignment::{gap, place_for, to_even, to_odd};
-use crate::ascii::{ascii_size, asciz_size};
-use crate::changes::{Change, Move};
-use crate::counts::{narg, nchr};
-use crate::exports::global;
-use crate::listing::{list, nlist};
-use crate::psects::{asect, csect, psect};
-use crate::radix_control::radix;
-use crate::radix50::rad50_size;
-use crate::storage::{LIMIT_SIZE, blkb_size, blkw_size, byte_size, word_size};
+use m11_asm_data::{
+    LIMIT_SIZE, ascii_size, asciz_size, blkb_size, blkw_size, byte_size, rad50_size, word_size,
+};
+use m11_asm_directives::{
+    Change, Move, asect, csect, global, list, narg, nchr, nlist, psect, radix,
+};
 use m11_asm_operands::{Fields, instruction_size, is_even};
 use m11_asm_rules::{Directive, Operator};
 use m11_asm_table::Table;
+use m11_asm_values::{gap, place_for, to_even, to_odd};
 use m11_base_instructions::Op;
 use m11_scan::Line;
 

@@ -6,7 +6,7 @@ ghost use Rattle.std.specs.Int.RustNames.{bit_or};
 ghost use Rattle.m11_asm_operands.specs.ListedOperations.{has_listed_operation, is_listed};
 ghost use Rattle.m11_asm_operands.specs.Reads.{fields_seen};
 ghost use Rattle.m11_asm_operands.specs.Terms.{AreTerms};
-ghost use Rattle.m11_asm_operators.specs.Reading.{fields_at, operator_fields};
+ghost use Rattle.m11_asm_instructions.specs.Reading.{fields_at, operator_fields};
 ghost use Rattle.m11_asm_rules.specs.Assigning.{number_flags};
 ghost use Rattle.m11_asm_rules.specs.Contents.{followed_by, nothing};
 ghost use Rattle.m11_asm_rules.specs.Counts as counts;
@@ -18,25 +18,19 @@ ghost use Rattle.m11_asm_rules.specs.Psects as sections;
 ghost use Rattle.m11_asm_rules.specs.Storage as storage;
 ghost use Rattle.m11_scan.specs.Views.{bits_of};
 
-use crate::alignment::{gap_flags, place_for};
-use crate::ascii::{put_ascii, put_asciz};
-use crate::assigning::number_flags;
-use crate::counts::{narg, narg_flags, nchr, nchr_flags};
-use crate::endings::end_flags;
-use crate::exports::globl_flags;
-use crate::idents::ident_flags;
-use crate::instructions::put_instruction;
-use crate::line_context::LineContext;
-use crate::listing::{dsabl_flags, enabl_flags, list_flags, page_flags, sbttl_flags};
-use crate::psects::{asect_flags, csect_flags, psect_flags};
-use crate::puts::Put;
-use crate::radix_control::radix_flags;
-use crate::radix50::put_rad50;
-use crate::storage::{block_flags, put_bytes, put_limits, put_words};
-use crate::titles::title_flags;
+use m11_asm_data::{
+    block_flags, put_ascii, put_asciz, put_bytes, put_limits, put_rad50, put_words,
+};
+use m11_asm_directives::{
+    asect_flags, csect_flags, dsabl_flags, enabl_flags, end_flags, globl_flags, ident_flags,
+    list_flags, narg, narg_flags, nchr, nchr_flags, number_flags, page_flags, psect_flags,
+    radix_flags, sbttl_flags, title_flags,
+};
+use m11_asm_instructions::put_instruction;
 use m11_asm_operands::{Fields, is_even};
 use m11_asm_rules::{Directive, Operator};
 use m11_asm_table::{Map, Table};
+use m11_asm_values::{LineContext, Put, gap_flags, place_for};
 use m11_base_instructions::Op;
 use m11_scan::{ErrorFlags, Line};
 use m11_unfold_arguments::left_over;

@@ -1,5 +1,5 @@
 use Rattle.std.proofs.Common.{◌≡◌, length}
-use Rattle.m11_asm_operators.specs.Changes.{names_among}
+use Rattle.m11_asm_directives.specs.Changes.{names_among}
 use Rattle.m11_asm_first_pass.specs.Facts.{each_once}
 use Rattle.m11_asm_first_pass.proofs.facts.insert_all.Given as goal
 

@@ -1,5 +1,5 @@
 use Rattle.std.proofs.Common.{◌≡◌, ℕ, List, IfOk, subst, ap, ◌∙◌}
-use Rattle.m11_asm_operators.specs.LineContext.{fields_of, line_context_of}
+use Rattle.m11_asm_values.specs.LineContext.{fields_of, line_context_of}
 use Rattle.m11_asm_rules.specs.Contents.{Put, followed_by}
 use Rattle.m11_asm_rules.specs.Fields.{Fields}
 use Rattle.m11_asm_rules.specs.Instructions.{assembled}

@@ -1,11 +1,11 @@
 use Rattle.std.proofs.Common.{◌≡◌, ℕ, Bool, IfOk, subst, sym, ap, ◌∙◌}
-use Rattle.m11_asm_operators.proofs.Joining.{flagged_by}
-use Rattle.m11_asm_operators.specs.LineContext.{Standpoint}
+use Rattle.m11_asm_values.proofs.Joining.{flagged_by}
+use Rattle.m11_asm_values.specs.LineContext.{Standpoint}
 use Rattle.m11_asm_rules.specs.Alignment.{gap_flags, place_for}
 use Rattle.m11_asm_rules.specs.Contents.{Put}
 use Rattle.m11_asm_rules.specs.Effects.{operator_put}
 use Rattle.m11_asm_rules.specs.Operators.{is_even}
-use Rattle.m11_asm_operators.specs.Reading.{fields_at}
+use Rattle.m11_asm_instructions.specs.Reading.{fields_at}
 use Rattle.m11_asm_operators.proofs.operators.put_operator.Goals as goal
 
 pub put_at-requires-clause-fields : goal.put_at-requires-clause-fields

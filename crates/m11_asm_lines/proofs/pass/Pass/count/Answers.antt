@@ -1,4 +1,4 @@
-use Rattle.m11_asm_operators.specs.Changes.{move_seen}
+use Rattle.m11_asm_directives.specs.Changes.{move_seen}
 use Rattle.m11_asm_lines.proofs.Passes.{counter_moved, counter_told, section_stays, section_within}
 use Rattle.m11_asm_lines.proofs.pass.Pass.count.Goals as goal
 

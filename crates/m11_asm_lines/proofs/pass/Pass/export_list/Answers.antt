@@ -1,6 +1,6 @@
 use Rattle.std.proofs.Common.{IfOk, List, Option, subst, ◌∙◌}
 use Rattle.m11_base.specs.Rad50.{Name}
-use Rattle.m11_asm_operators.specs.Changes.{names_among}
+use Rattle.m11_asm_directives.specs.Changes.{names_among}
 use Rattle.m11_asm_rules.specs.Changes.{with_globals}
 use Rattle.m11_asm_lines.proofs.NameLists.{same_list}
 use Rattle.m11_asm_lines.specs.Passes.{Follows}

@@ -1,5 +1,5 @@
 use Rattle.std.proofs.Common.{◌∙◌, ℕ, ap, sym, subst}
-use Rattle.m11_asm_operators.specs.Reading.{operator_fields}
+use Rattle.m11_asm_instructions.specs.Reading.{operator_fields}
 use Rattle.m11_asm_rules.specs.Changes.{Change, changed}
 use Rattle.m11_asm_rules.specs.Effects.{operator_change}
 use Rattle.m11_asm_rules.specs.Tables.{firm_table}

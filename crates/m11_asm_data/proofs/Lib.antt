@@ -1,0 +1,4 @@
+pub mod NextParts
+pub mod Packs
+pub mod Stepping
+pub mod TextSteps

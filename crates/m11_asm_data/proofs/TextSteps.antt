@@ -1,0 +1,26 @@
+-- The parts of a text are put one after the other.
+use Rattle.std.proofs.Common.{◌≡◌, ℕ, List, [], ◌∷◌, map, ap, ◌∙◌}
+use Rattle.m11_asm_values.proofs.Joining.{followed_joins}
+use Rattle.m11_asm_data.proofs.Stepping.{step_on}
+use Rattle.m11_asm_rules.specs.Contents.{Put, fixed_byte, followed_by, further, put}
+use Rattle.m11_asm_rules.specs.Meanings.{Map}
+use Rattle.m11_asm_rules.specs.Strings.{part_bytes, part_size, parts_bytes}
+use Rattle.m11_asm_rules.specs.Tables.{Table}
+use Rattle.m11_scan_statements.specs.declared.parts.Part.{Part}
+
+pub part_on : (known : Map) (table : Table) (line : List ℕ) (done new : Put) (place next : ℕ) (part : Part)
+    → new ≡ followed_by done (part_bytes known table place line part part.kind)
+    → next ≡ further place (part_size line part part.kind) → (parts : List Part)
+    → followed_by new (parts_bytes known table next line parts) ≡ followed_by done (parts_bytes known table place line (part ∷ parts))
+part_on known table line done new place next part adds goes parts =
+    step_on done new (part_bytes known table place line part part.kind) (parts_bytes known table next line parts)
+    (parts_bytes known table (further place (part_size line part part.kind)) line parts) adds
+    (ap (λ (n : ℕ). parts_bytes known table n line parts) goes)
+
+pub character_on : (done new : Put) (character number : ℕ) (text : List ℕ) → number ≡ character
+    → new ≡ followed_by done (put (fixed_byte number ∷ []) 0)
+    → followed_by new (put (map fixed_byte text) 0) ≡ followed_by done (put (map fixed_byte (character ∷ text)) 0)
+character_on done new character number text same adds =
+    ap (λ (p : Put). followed_by p (put (map fixed_byte text) 0))
+    (adds ∙ ap (λ (n : ℕ). followed_by done (put (fixed_byte n ∷ []) 0)) same)
+    ∙ followed_joins done (put (fixed_byte character ∷ []) 0) (put (map fixed_byte text) 0)

@@ -1,0 +1,15 @@
+use Rattle.std.proofs.Common.{◌≡◌, [], ◌∷◌, IfOk, subst, ap, ◌∙◌}
+use Rattle.m11_asm_values.proofs.Joining.{followed_joins}
+use Rattle.m11_asm_rules.specs.Contents.{Put, fixed_byte, followed_by, put}
+use Rattle.m11_asm_rules.specs.Strings.{ascii}
+use Rattle.m11_asm_data.proofs.ascii.put_asciz.Goals as goal
+
+pub returns : goal.returns
+returns c =
+    let here = c.args.line_context.now in
+    let zero_byte = put (fixed_byte 0 ∷ []) 0 in
+    let P : Put → Type 0 = λ p. IfOk c.add_fixed_byte.result (λ x. c.add_fixed_byte.new.self ≡ p) in
+    subst P
+    (ap (λ (p : Put). followed_by p zero_byte) c.in_ok-put_ascii.ensures
+    ∙ followed_joins c.args.put.now (ascii here.map here.table here.place here.line c.args.start) zero_byte)
+    c.add_fixed_byte.ensures

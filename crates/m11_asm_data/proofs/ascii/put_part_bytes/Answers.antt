@@ -1,0 +1,21 @@
+use Rattle.std.proofs.Common.{◌≡◌, IfOk, subst, sym, ap, ◌∙◌}
+use Rattle.m11_unfold_arguments.specs.Expressions.{value_at}
+use Rattle.m11_asm_values.specs.LineContext.{Standpoint, line_context_of}
+use Rattle.m11_asm_rules.specs.Contents.{Put, byte, followed_by}
+use Rattle.m11_asm_rules.specs.Strings.{part_bytes}
+use Rattle.m11_scan_statements.specs.declared.parts.PartKind.{PartKind}
+use Rattle.m11_scan_values.specs.Quantities.{Quantity}
+use Rattle.m11_asm_data.proofs.ascii.put_part_bytes.Goals as goal
+
+pub returns-in-Expression : goal.returns-in-Expression
+returns-in-Expression c =
+    let here = c.args.line_context.now in
+    let done = c.args.put.now in
+    let P : Put → Type 0 = λ p. IfOk c.put_byte.result (λ x. c.put_byte.new.put ≡ p) in
+    subst P
+    (ap (λ (q : Quantity). followed_by done (byte here.table c.args.place q))
+    (c.reference-value.ensures
+    ∙ ap (λ (s : Standpoint). value_at (line_context_of s).refers s.line c.args.part.inside.start) c.at.ensures)
+    ∙ ap (λ (k : PartKind). followed_by done (part_bytes here.map here.table c.args.place here.line c.args.part k))
+    (sym c.in-Expression.is))
+    c.put_byte.ensures

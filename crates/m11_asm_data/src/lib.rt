@@ -1,0 +1,24 @@
+//! What the directives of data put at their places, with sizes and flags: `.WORD`, `.BYTE` and `.LIMIT`, the texts of `.ASCII`, `.ASCIZ`
+//! and `.RAD50`, and the room of `.BLKB` and `.BLKW`. (MACRO-11 Language Reference Manual, "General assembler directives" and "Relocation
+//! and linking".)
+#![tactic(auto)]
+
+// Words, bytes and room.
+mod storage;
+
+// The parts of a text, and their flags.
+mod flags;
+mod parts;
+
+// Texts as bytes, and in words of RADIX-50.
+mod ascii;
+mod packing;
+mod radix50;
+
+pub use ascii::{ascii_size, asciz_size, put_ascii, put_asciz};
+pub use parts::{PART_LIMIT, Parts, parts_at};
+pub use radix50::{put_rad50, rad50_size};
+pub use storage::{
+    LIMIT_SIZE, blkb_size, blkw_size, block_flags, byte_size, put_bytes, put_limits, put_words,
+    word_size,
+};

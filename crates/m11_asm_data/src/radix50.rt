@@ -1,0 +1,96 @@
+//! `.RAD50`. (MACRO-11 Language Reference Manual, ".RAD50 directive".)
+
+ghost use Rattle.std.specs.Prelude.{◌≡◌, ◌≤◌, [], length, IfOk};
+ghost use Rattle.m11_asm_values.specs.LineContext.{line_context_of};
+ghost use Rattle.m11_asm_rules.specs.Contents.{followed_by};
+ghost use Rattle.m11_asm_rules.specs.Strings as spec;
+ghost use Rattle.m11_scan.specs.Views.{bits_of};
+ghost use Rattle.m11_asm_data.specs.Packing.{codes_of, packing};
+ghost use Rattle.m11_scan_values.specs.Quantities.{quantity};
+
+use crate::flags::text_flags;
+use crate::packing::Waiting;
+use crate::parts::{parts_at, text_size};
+use m11_asm_values::{LineContext, Put};
+use m11_scan::{ErrorFlags, Line};
+use m11_scan_statements::{Part, PartKind};
+use m11_scan_values::Value;
+use std::alloc::AllocError;
+
+/// The size of a `.RAD50` in bytes: a word for three characters.
+pub fn rad50_size(line: &Line, start: usize) -> u16
+    requires { start ≤ length line.now.text }
+    ensures { result ≡ spec.rad50_size line.now.text start }
+{
+    (text_size(line, start) + 2) / 3 * 2
+}
+
+/// The words of a `.RAD50`. Blanks fill the last one. Error: memory may be refused.
+pub fn put_rad50(put: &mut Put, line_context: &LineContext, start: usize) -> Result<(), AllocError>
+    requires { start ≤ length line_context.now.line }
+    ensures { IfOk result (λ _. put.new ≡ followed_by put.old
+        (spec.rad50 line_context.now.map line_context.now.table line_context.now.place line_context.now.line start)) }
+{
+    let parts = parts_at(line_context.line(), start);
+    put.add_flags(text_flags(line_context.line(), start, &parts));
+    let waiting = pack_parts(put, line_context, Waiting::Nothing, parts.list.as_slice())?;
+    waiting.end(put)
+}
+
+// The codes of parts, one after the other.
+fn pack_parts(
+    put: &mut Put,
+    line_context: &LineContext,
+    waiting: Waiting,
+    parts: &[Part],
+) -> Result<Waiting, AllocError>
+    ensures { IfOk result (λ after. packing put.new after (codes_of [] 0) ≡ packing put.old waiting
+        (spec.parts_codes (line_context_of line_context.now).known line_context.now.line parts.now)) }
+{
+    let mut waiting = waiting;
+    'parts: for part in parts {
+        waiting = pack_part(put, line_context, waiting, *part)?;
+    }
+    Ok(waiting)
+}
+
+// The codes of a part.
+fn pack_part(
+    put: &mut Put,
+    line_context: &LineContext,
+    waiting: Waiting,
+    part: Part,
+) -> Result<Waiting, AllocError>
+    ensures { IfOk result (λ after. (more : spec.Codes) → packing put.new after more ≡ packing put.old waiting
+        (spec.codes_then (spec.part_codes (line_context_of line_context.now).known line_context.now.line part part.kind) more)) }
+{
+    match part.kind {
+        PartKind::Text => waiting.with_text(part.inside.text(line_context.line()), put),
+        PartKind::Expression => pack_value(put, waiting, line_context.value(part.inside.start)),
+    }
+}
+
+// The code of an expression: the low six bits of its number.
+fn pack_value(put: &mut Put, waiting: Waiting, value: Value) -> Result<Waiting, AllocError>
+    ensures { IfOk result (λ after. (more : spec.Codes)
+        → packing put.new after more ≡ packing put.old waiting (spec.codes_then (spec.value_codes (quantity value)) more)) }
+{
+    let code = value.number % 0o100;
+    put.add_flags(value_flags(value));
+    waiting.with(code, put)
+}
+
+// The flags of an expression: it has to be an absolute number up to 47.
+fn value_flags(value: Value) -> ErrorFlags
+    ensures { bits_of result ≡ (spec.value_codes (quantity value)).flags }
+{
+    let flags = value.flags.with(value.kind.absence());
+    flags.with(code_flags(value.number))
+}
+
+// T for a number that is no code.
+fn code_flags(number: u16) -> ErrorFlags
+    ensures { bits_of result ≡ spec.code_flags number }
+{
+    ErrorFlags::T.when(number > 0o47)
+}

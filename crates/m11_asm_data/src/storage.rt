@@ -1,0 +1,248 @@
+//! Words and bytes that a line lists, the limits of the program, and room without contents. (MACRO-11 Language Reference Manual, ".WORD
+//! directive", ".BYTE directive", ".LIMIT directive" and ".BLKB and .BLKW directives".)
+
+ghost use Rattle.std.specs.Prelude.{◌≡◌, ◌≤◌, ℕ, ◌∷◌, length, List, IfOk};
+ghost use Rattle.m11_unfold_arguments.specs.Expressions.{has_expression, number_flags, value_at};
+ghost use Rattle.m11_asm_rules.specs.Contents.{element_value, followed_by};
+ghost use Rattle.m11_asm_rules.specs.Elements as elements;
+ghost use Rattle.m11_asm_rules.specs.Meanings.{firm_known, known_at};
+ghost use Rattle.m11_asm_rules.specs.Storage as spec;
+ghost use Rattle.m11_asm_rules.specs.declared.meanings.Context.TheVariants.{MayBeGlobal};
+ghost use Rattle.m11_scan.specs.Views.{bits_of};
+ghost use Rattle.m11_scan_values.specs.Quantities.{quantity};
+
+use m11_asm_operands::elements_at;
+use m11_asm_table::{FirmNames, Table};
+use m11_asm_values::{LineContext, Put, further, put_byte, put_word};
+use m11_scan::{ErrorFlags, Line, expression_end};
+use m11_scan_values::Value;
+use m11_unfold_arguments::{has_expression, left_over, skip_flags, value_at};
+use std::alloc::AllocError;
+
+/// The size of a `.LIMIT` in bytes.
+pub const LIMIT_SIZE: u16 = 4;
+
+/// The size of a `.WORD` in bytes.
+pub fn word_size(line: &Line, start: usize) -> u16
+    requires { start ≤ length line.now.text }
+    ensures { result ≡ spec.word_size line.now.text start }
+{
+    element_count(line, start) * 2
+}
+
+/// The size of a `.BYTE` in bytes.
+pub fn byte_size(line: &Line, start: usize) -> u16
+    requires { start ≤ length line.now.text }
+    ensures { result ≡ spec.byte_size line.now.text start }
+{
+    element_count(line, start)
+}
+
+// How many elements a list has.
+fn element_count(line: &Line, start: usize) -> u16
+    requires { start ≤ length line.now.text }
+    ensures count { result ≡ length (elements.elements_at line.now.text start).places }
+    ensures most { result ≤ 133 }
+{
+    elements_at(line, start).places.as_slice().len() as u16
+}
+
+/// The words of a `.WORD`. Error: memory may be refused.
+pub fn put_words(put: &mut Put, line_context: &LineContext, start: usize) -> Result<(), AllocError>
+    requires { start ≤ length line_context.now.line }
+    ensures { IfOk result (λ _. put.new ≡ followed_by put.old
+        (spec.words line_context.now.map line_context.now.table line_context.now.place line_context.now.line start)) }
+{
+    let elements = elements_at(line_context.line(), start);
+    put.add_flags(end_flags(line_context.line(), start, usize::from(elements.end)));
+    put_words_from(
+        put,
+        line_context,
+        line_context.place(),
+        elements.places.as_slice(),
+    )
+}
+
+// Elements as words, one after the other.
+fn put_words_from(
+    put: &mut Put,
+    line_context: &LineContext,
+    place: u16,
+    starts: &[u8],
+) -> Result<(), AllocError>
+    ensures { IfOk result (λ _. put.new ≡ followed_by put.old
+        (spec.words_from line_context.now.map line_context.now.table line_context.now.line place starts.now)) }
+{
+    let mut place = place;
+    'elements: for start in starts {
+        place = put_element_word(put, line_context, place, *start)?;
+    }
+    Ok(())
+}
+
+// An element as a word, and the place after it.
+fn put_element_word(
+    put: &mut Put,
+    line_context: &LineContext,
+    place: u16,
+    start: u8,
+) -> Result<u16, AllocError>
+    ensures { IfOk result (λ next. (starts : List ℕ)
+        → followed_by put.new (spec.words_from line_context.now.map line_context.now.table line_context.now.line next starts)
+        ≡ followed_by put.old (spec.words_from line_context.now.map line_context.now.table line_context.now.line place (start ∷ starts))) }
+{
+    let value = element_value(line_context, place, start);
+    put_word(put, line_context, false, place, value)?;
+    Ok(further(place, 2))
+}
+
+/// The bytes of a `.BYTE`. Error: memory may be refused.
+pub fn put_bytes(put: &mut Put, line_context: &LineContext, start: usize) -> Result<(), AllocError>
+    requires { start ≤ length line_context.now.line }
+    ensures { IfOk result (λ _. put.new ≡ followed_by put.old
+        (spec.bytes line_context.now.map line_context.now.table line_context.now.place line_context.now.line start)) }
+{
+    let elements = elements_at(line_context.line(), start);
+    put.add_flags(end_flags(line_context.line(), start, usize::from(elements.end)));
+    put_bytes_from(
+        put,
+        line_context,
+        line_context.place(),
+        elements.places.as_slice(),
+    )
+}
+
+// Elements as bytes, one after the other.
+fn put_bytes_from(
+    put: &mut Put,
+    line_context: &LineContext,
+    place: u16,
+    starts: &[u8],
+) -> Result<(), AllocError>
+    ensures { IfOk result (λ _. put.new ≡ followed_by put.old
+        (spec.bytes_from line_context.now.map line_context.now.table line_context.now.line place starts.now)) }
+{
+    let mut place = place;
+    'elements: for start in starts {
+        place = put_element_byte(put, line_context, place, *start)?;
+    }
+    Ok(())
+}
+
+// An element as a byte, and the place after it.
+fn put_element_byte(
+    put: &mut Put,
+    line_context: &LineContext,
+    place: u16,
+    start: u8,
+) -> Result<u16, AllocError>
+    ensures { IfOk result (λ next. (starts : List ℕ)
+        → followed_by put.new (spec.bytes_from line_context.now.map line_context.now.table line_context.now.line next starts)
+        ≡ followed_by put.old (spec.bytes_from line_context.now.map line_context.now.table line_context.now.line place (start ∷ starts))) }
+{
+    let value = element_value(line_context, place, start);
+    put_byte(put, line_context, place, value)?;
+    Ok(further(place, 1))
+}
+
+// What an element stands for at its own place, which is `.` in it. An empty one counts as 0.
+fn element_value(line_context: &LineContext, place: u16, start: u8) -> Value
+    ensures { quantity result ≡ element_value
+        (known_at line_context.now.map MayBeGlobal line_context.now.table place) line_context.now.line start }
+{
+    if has_element(line_context.line(), start) {
+        line_context.at(place).reference(start)
+    } else {
+        Value::absolute(0, ErrorFlags::none())
+    }
+}
+
+// Whether some expression stands at a place of a line. After its end there is none, as at its end.
+fn has_element(line: &Line, start: u8) -> bool
+    ensures { result ≡ has_expression line.now.text start }
+{
+    let start = usize::from(start);
+    let end = line.text().len();
+    if start <= end {
+        has_expression(line, start)
+    } else {
+        has_expression(line, end)
+    }
+}
+
+// What is skipped up to the end of arguments, and what is left over after it.
+fn end_flags(line: &Line, start: usize, end: usize) -> ErrorFlags
+    requires { end ≤ length line.now.text }
+    ensures { bits_of result ≡ spec.end_flags line.now.text start end }
+{
+    skip_flags(line, start, end).with(left_over(line, end))
+}
+
+/// The limits of the program, for a `.LIMIT`. Error: memory may be refused.
+pub fn put_limits(put: &mut Put, line_context: &LineContext, start: usize) -> Result<(), AllocError>
+    requires { start ≤ length line_context.now.line }
+    ensures { IfOk result (λ _. put.new ≡ followed_by put.old (spec.limits line_context.now.line start)) }
+{
+    put.add_limits(left_over(line_context.line(), start))
+}
+
+/// The size of a `.BLKB` in bytes.
+pub fn blkb_size(table: &Table, place: u16, line: &Line, start: usize) -> u32
+    requires { start ≤ length line.now.text }
+    ensures size { result ≡ spec.blkb_size table.now place line.now.text start }
+    ensures most { result ≤ 65535 }
+{
+    u32::from(block_count(table, place, line, start))
+}
+
+/// The size of a `.BLKW` in bytes.
+pub fn blkw_size(table: &Table, place: u16, line: &Line, start: usize) -> u32
+    requires { start ≤ length line.now.text }
+    ensures size { result ≡ spec.blkw_size table.now place line.now.text start }
+    ensures most { result ≤ 131070 }
+{
+    u32::from(block_count(table, place, line, start)) * 2
+}
+
+// How many bytes or words a block has: 1 where nothing says it. It is asked of firm names.
+fn block_count(table: &Table, place: u16, line: &Line, start: usize) -> u16
+    requires { start ≤ length line.now.text }
+    ensures { result ≡ spec.block_count table.now place line.now.text start }
+{
+    if has_expression(line, start) {
+        firm_value(table, place, line, start).number
+    } else {
+        1
+    }
+}
+
+fn firm_value(table: &Table, place: u16, line: &Line, start: usize) -> Value
+    requires { start ≤ length line.now.text }
+    ensures { quantity result ≡ value_at (firm_known table.now place) line.now.text start }
+{
+    let names = FirmNames::new(table, place);
+    value_at(line, start, &names)
+}
+
+/// The flags of a `.BLKB` or `.BLKW`: those of its count, and of what is left over.
+pub fn block_flags(table: &Table, place: u16, line: &Line, start: usize) -> ErrorFlags
+    requires { start ≤ length line.now.text }
+    ensures { bits_of result ≡ spec.block_flags table.now place line.now.text start }
+{
+    if has_expression(line, start) {
+        let flags = count_flags(table, place, line, start);
+        flags.with(left_over(line, expression_end(line, start)))
+    } else {
+        left_over(line, start)
+    }
+}
+
+// The flags of a count: it has to be an absolute number.
+fn count_flags(table: &Table, place: u16, line: &Line, start: usize) -> ErrorFlags
+    requires { start ≤ length line.now.text }
+    ensures { bits_of result ≡ number_flags (firm_known table.now place) line.now.text start }
+{
+    let value = firm_value(table, place, line, start);
+    let flags = value.flags.with(value.kind.absence());
+    flags.with(skip_flags(line, start, expression_end(line, start)))
+}

@@ -1,0 +1,6 @@
+mod Among
+mod Asking
+mod Coding
+mod Differing
+mod Named
+mod Rows

@@ -1,0 +1,6 @@
+pub mod Attributes
+pub mod Changes
+pub mod Codes
+pub mod Gathering
+pub mod Numbers
+pub mod SectionNames

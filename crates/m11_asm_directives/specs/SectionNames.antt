@@ -1,0 +1,16 @@
+-- What the definitions see of the name of a section that the code has found.
+use Rattle.std.specs.Prelude.{ℕ, ◌≤◌}
+use Rattle.m11_asm_rules.specs.Psects as sections
+use Rattle.m11_asm_directives.specs.declared.psects.SectionAt.{SectionAt}
+use Rattle.m11_asm_directives.specs.declared.psects.SectionAt.TheVariants.{Unnamed, Named, Bad}
+
+abbrev pub section_seen : SectionAt → sections.SectionAt
+section_seen Unnamed = sections.Unnamed
+section_seen (Named name) = sections.NamedAt name.name name.end
+section_seen Bad = sections.Bad
+
+-- the end of a name is in a line of a size
+abbrev pub IsWithin : ℕ → SectionAt → Type 0
+IsWithin size Unnamed = Unit {0}
+IsWithin size (Named name) = name.end ≤ size
+IsWithin size Bad = Unit {0}

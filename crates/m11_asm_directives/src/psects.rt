@@ -1,0 +1,205 @@
+//! `.ASECT`, `.CSECT` and `.PSECT`. (MACRO-11 Language Reference Manual, "Program section directives".)
+
+ghost use Rattle.std.specs.Prelude.{◌≡◌, ◌≤◌, length};
+ghost use Rattle.std.specs.Int.RustNames.{bit_or};
+ghost use Rattle.m11_scan.specs.Views.{bits_of};
+ghost use Rattle.m11_scan_statements.specs.Listed.{is_comma};
+ghost use Rattle.m11_asm_rules.specs.Elements.{bad_flags, texts_of};
+ghost use Rattle.m11_asm_rules.specs.Psects as spec;
+ghost use Rattle.m11_asm_directives.specs.Changes.{change_seen};
+ghost use Rattle.m11_asm_directives.specs.SectionNames.{IsWithin, section_seen};
+
+use crate::attributes::{differing_flags, with_attributes};
+use crate::changes::Change;
+use crate::exports::bad_flags;
+use arrayvec::ArrayVec;
+use m11_asm_operands::{ListedNames, names_at};
+use m11_asm_rules::Section;
+use m11_asm_table::Table;
+use m11_base::blank_name;
+use m11_scan::{ErrorFlags, Line, Sort, next_token};
+use m11_scan_statements::Span;
+use m11_unfold_arguments::{
+    NameAt, after_comma, flags_before, left_over, name_at, place_in, rest_flags, skip_flags,
+};
+
+// The attributes of sections.
+const OF_ABSOLUTE: u8 = 0o104;
+
+const OF_PROGRAM: u8 = 0o040;
+
+const OF_CONTROL: u8 = 0o144;
+
+/// The name of a section that stands in a line.
+#[derive(Clone, Copy)]
+pub enum SectionAt {
+    /// None.
+    Unnamed,
+    /// A name.
+    Named(NameAt),
+    /// What is no name.
+    Bad,
+}
+
+// The name of a section that stands next. Where none stands it is the blank one.
+fn section_at(line: &Line, start: usize) -> SectionAt
+    requires { start ≤ length line.now.text }
+    ensures section { section_seen result ≡ spec.section_at line.now.text start }
+    ensures within { IsWithin (length line.now.text) result }
+{
+    match next_token(line, start) {
+        None => SectionAt::Unnamed,
+        Some(token) if is_comma(token.sort) => SectionAt::Unnamed,
+        Some(_) => match name_at(line, start) {
+            Some(name) => SectionAt::Named(name),
+            None => SectionAt::Bad,
+        },
+    }
+}
+
+fn is_comma(sort: Sort) -> bool
+    ensures { result ≡ is_comma sort }
+{
+    matches!(sort, Sort::Comma)
+}
+
+// What is no name of a section: nothing more is looked at, but for I.
+fn bad_name_flags(line: &Line, start: usize) -> ErrorFlags
+    requires { start ≤ length line.now.text }
+    ensures { bits_of result ≡ spec.bad_name_flags line.now.text start }
+{
+    ErrorFlags::A.with(rest_flags(line, start))
+}
+
+/// The section that a `.PSECT` selects, with its attributes where it is new. A bad name changes nothing.
+pub fn psect(line: &Line, start: usize) -> Change
+    requires { start ≤ length line.now.text }
+    ensures { change_seen result ≡ spec.psect line.now.text start }
+{
+    match section_at(line, start) {
+        SectionAt::Unnamed => Change::Selects(blank_name(), attributes_of(line, start)),
+        SectionAt::Named(name) => {
+            Change::Selects(name.name, attributes_of(line, usize::from(name.end)))
+        }
+        SectionAt::Bad => Change::Keeps,
+    }
+}
+
+// The attributes that stand after the name.
+fn attributes_of(line: &Line, end: usize) -> u8
+    requires { end ≤ length line.now.text }
+    ensures { result ≡ spec.attributes_of line.now.text end }
+{
+    let names = attributes_at(line, end);
+    with_attributes(OF_PROGRAM, line, names.list.as_slice())
+}
+
+// After a comma attributes stand; without one, nothing more.
+fn attributes_at(line: &Line, end: usize) -> ListedNames
+    requires { end ≤ length line.now.text }
+    ensures list { result.list.items ≡ (spec.attributes_at line.now.text end).list }
+    ensures end { result.end ≡ (spec.attributes_at line.now.text end).end }
+    ensures within { result.end ≤ length line.now.text }
+{
+    match after_comma(line, end) {
+        Some(next) => names_at(line, usize::from(next)),
+        None => ListedNames {
+            list: ArrayVec::new(),
+            end: place_in(line, end),
+        },
+    }
+}
+
+/// The flags of a `.PSECT`: A for a bad name, for what is no attribute, and for one that a known section of its name doesn't have.
+pub fn psect_flags(table: &Table, line: &Line, start: usize) -> ErrorFlags
+    requires { start ≤ length line.now.text }
+    ensures { bits_of result ≡ spec.psect_flags table.now.sections line.now.text start }
+{
+    match section_at(line, start) {
+        SectionAt::Unnamed => unnamed_flags(table, line, start),
+        SectionAt::Named(name) => named_flags(table, line, start, name),
+        SectionAt::Bad => bad_name_flags(line, start),
+    }
+}
+
+// The flags of a `.PSECT` without a name, which is the blank section.
+fn unnamed_flags(table: &Table, line: &Line, start: usize) -> ErrorFlags
+    requires { start ≤ length line.now.text }
+    ensures { bits_of result ≡ spec.psect_flags_of table.now.sections line.now.text start spec.Unnamed }
+{
+    let known = table.section_named(blank_name());
+    attributes_flags(line, &known, start)
+}
+
+// The flags of a `.PSECT` with a name.
+fn named_flags(table: &Table, line: &Line, start: usize, name: NameAt) -> ErrorFlags
+    requires place { start ≤ length line.now.text }
+    requires end { name.end ≤ length line.now.text }
+    ensures { bits_of result
+        ≡ spec.psect_flags_of table.now.sections line.now.text start (spec.NamedAt name.name name.end) }
+{
+    let known = table.section_named(name.name);
+    let flags = attributes_flags(line, &known, usize::from(name.end));
+    flags_before(line, start).with(flags)
+}
+
+fn attributes_flags(line: &Line, known: &Option<Section>, end: usize) -> ErrorFlags
+    requires { end ≤ length line.now.text }
+    ensures { bits_of result
+        ≡ spec.attributes_flags line.now.text known.now end (spec.attributes_at line.now.text end) }
+{
+    let names = attributes_at(line, end);
+    let place = usize::from(names.end);
+    elements_flags(line, known, names.list.as_slice()).with(skip_flags(line, end, place).with(
+        left_over(line, place),
+    ))
+}
+
+// A for an element that is no name, is no attribute or differs.
+fn elements_flags(line: &Line, known: &Option<Section>, names: &[Option<Span>]) -> ErrorFlags
+    ensures { bits_of result ≡ bit_or (bad_flags names.now)
+        (spec.differing_flags known.now (texts_of line.now.text names.now)) }
+{
+    bad_flags(names).with(differing_flags(known, line, names))
+}
+
+/// The section that a `.CSECT` selects: that of its name, or the blank one. A bad name changes nothing.
+pub fn csect(line: &Line, start: usize) -> Change
+    requires { start ≤ length line.now.text }
+    ensures { change_seen result ≡ spec.csect line.now.text start }
+{
+    match section_at(line, start) {
+        SectionAt::Unnamed => Change::Selects(blank_name(), OF_PROGRAM),
+        SectionAt::Named(name) => Change::Selects(name.name, OF_CONTROL),
+        SectionAt::Bad => Change::Keeps,
+    }
+}
+
+/// The flags of a `.CSECT`: A for a bad name.
+pub fn csect_flags(line: &Line, start: usize) -> ErrorFlags
+    requires { start ≤ length line.now.text }
+    ensures { bits_of result ≡ spec.csect_flags line.now.text start }
+{
+    match section_at(line, start) {
+        SectionAt::Unnamed => left_over(line, start),
+        SectionAt::Named(name) => {
+            flags_before(line, start).with(left_over(line, usize::from(name.end)))
+        }
+        SectionAt::Bad => bad_name_flags(line, start),
+    }
+}
+
+/// The section that a `.ASECT` selects.
+pub fn asect() -> Change
+    ensures { change_seen result ≡ spec.asect }
+{
+    Change::Selects(m11_base::absolute_section(), OF_ABSOLUTE)
+}
+
+/// The flags of a `.ASECT`, which takes nothing.
+pub fn asect_flags(line: &Line, start: usize) -> ErrorFlags
+    requires { start ≤ length line.now.text }
+    ensures { bits_of result ≡ spec.asect_flags line.now.text start }
+{
+    left_over(line, start)
+}

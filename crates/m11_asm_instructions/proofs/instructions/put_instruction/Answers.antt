@@ -1,0 +1,19 @@
+use Rattle.std.proofs.Common.{◌≡◌, ℕ, ap, ◌∙◌, subst, IfOk}
+use Rattle.m11_asm_values.specs.LineContext.{line_context_of}
+use Rattle.m11_asm_rules.specs.Codes.{code, words_from}
+use Rattle.m11_asm_rules.specs.Contents.{Put, followed_by, further}
+use Rattle.m11_asm_rules.specs.Fields.{forms_of}
+use Rattle.m11_asm_values.proofs.Joining.{flagged_parts}
+use Rattle.m11_asm_instructions.proofs.instructions.put_instruction.Goals as goal
+
+pub returns : goal.returns
+returns c =
+    let here = line_context_of c.args.line_context.now in
+    let P : Put → Type 0 = λ p. IfOk c.put_words_after.result (λ x. c.put_words_after.new.put ≡ p) in
+    subst P
+    (ap (λ (n : ℕ). followed_by c.put_code.new.put (words_from here n (forms_of c.args.fields.now)))
+    (c.further.ensures ∙ ap (λ (n : ℕ). further n 2) c.place.ensures)
+    ∙ flagged_parts c.args.put.now c.add_flags.new.self c.put_code.new.put (code here c.args.operation c.args.fields.now)
+    (words_from here (further here.place 2) (forms_of c.args.fields.now)) _ _ c.add_flags.ensures
+    (c.line_flags.ensures c.args.fields.now) c.in_ok-put_code.ensures)
+    c.put_words_after.ensures

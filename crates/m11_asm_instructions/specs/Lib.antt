@@ -1,0 +1,2 @@
+pub mod CodeValues
+pub mod Reading

@@ -1,0 +1,148 @@
+//! Instructions: the word of the code, and the words after it, those of the source first. (PDP-11/40 Processor Handbook, "Instruction
+//! set" and "Addressing modes"; MACRO-11 Language Reference Manual, "Operand field".)
+
+ghost use Rattle.std.specs.Prelude.{◌≡◌, ◌≤◌, length, List, IfOk, IfSome, IsTrue};
+ghost use Rattle.m11_asm_operands.specs.ListedOperations.{is_listed};
+ghost use Rattle.m11_asm_operands.specs.Terms.{AreTerms, IsFieldTerm};
+ghost use Rattle.m11_asm_instructions.specs.CodeValues.{value_in};
+ghost use Rattle.m11_asm_values.specs.LineContext.{fields_of, line_context_of};
+ghost use Rattle.m11_asm_rules.specs.Codes as codes;
+ghost use Rattle.m11_asm_rules.specs.Contents.{followed_by};
+ghost use Rattle.m11_asm_rules.specs.Fields.{forms_of, with_form};
+ghost use Rattle.m11_asm_rules.specs.Instructions as spec;
+ghost use Rattle.m11_asm_rules.specs.declared.operands.Form.{Form};
+ghost use Rattle.m11_scan.specs.Views.{bits_of};
+ghost use Rattle.m11_scan_values.specs.Quantities.{quantity};
+
+use crate::code_values::value_in;
+use crate::codes::{flags_in, instruction, others};
+use crate::operands::{put_form, size_of};
+use m11_asm_operands::FieldTerms;
+use m11_asm_rules::Field;
+use m11_asm_values::{LineContext, Put, fixed, further};
+use m11_base_instructions::{Op, encode};
+use m11_scan::{ErrorFlags, Token};
+use m11_scan_values::Value;
+use m11_unfold_arguments::{left_over, skip_flags};
+use std::alloc::AllocError;
+
+// The flags of fields, whose values these are.
+#[tactic(auto, using(crate::proofs::TwoFields::two_flags))]
+fn fields_flags(
+    line_context: &LineContext,
+    operation: Op,
+    fields: &[Field],
+    first: &Value,
+    second: &Value,
+) -> ErrorFlags
+    requires few { length fields.now ≤ 2 }
+    requires first { quantity first.now ≡ value_in (line_context_of line_context.now) fields.now }
+    requires second { quantity second.now ≡ value_in (line_context_of line_context.now) (codes.others fields.now) }
+    ensures { bits_of result ≡ codes.fields_flags (line_context_of line_context.now) operation fields.now }
+{
+    let flags = flags_in(line_context, operation, fields, first);
+    flags.with(flags_in(line_context, operation, others(fields), second))
+}
+
+// The instruction's own word. The value of each field is found once for its bits and for its flags.
+fn put_code(
+    put: &mut Put,
+    line_context: &LineContext,
+    operation: Op,
+    fields: &[Field],
+    terms: &FieldTerms,
+) -> Result<(), AllocError>
+    requires listed { IsTrue (is_listed operation) }
+    requires few { length fields.now ≤ 2 }
+    requires terms { AreTerms line_context.now.line fields.now terms.now }
+    ensures { IfOk result (λ _. put.new ≡ followed_by put.old (codes.code (line_context_of line_context.now) operation fields.now)) }
+{
+    let first = value_in(line_context, fields, terms.first);
+    let second = value_in(line_context, others(fields), terms.second);
+    let code = encode(&instruction(line_context, operation, fields, &first, &second));
+    let flags = fields_flags(line_context, operation, fields, &first, &second);
+    put.add_word(fixed(code), flags)
+}
+
+// The word of a field after the instruction, if it has one, and the place after it. Where the field is found to be one term, this is its
+// token.
+fn put_field(
+    put: &mut Put,
+    line_context: &LineContext,
+    place: u16,
+    field: Field,
+    term: Option<Token>,
+) -> Result<u16, AllocError>
+    requires { IfSome term (λ term. IsFieldTerm line_context.now.line field term) }
+    ensures { IfOk result (λ next. (forms : List Form)
+        → followed_by put.new (codes.words_from (line_context_of line_context.now) next forms)
+        ≡ followed_by put.old (codes.words_from (line_context_of line_context.now) place (with_form field forms))) }
+{
+    match field {
+        Field::Formed(form) => {
+            put_form(put, line_context, place, form, term)?;
+            Ok(further(place, size_of(form)))
+        }
+        _ => Ok(place),
+    }
+}
+
+// The words after the instruction, one after the other.
+fn put_words_after(
+    put: &mut Put,
+    line_context: &LineContext,
+    place: u16,
+    fields: &[Field],
+    terms: &FieldTerms,
+) -> Result<(), AllocError>
+    requires { AreTerms line_context.now.line fields.now terms.now }
+    ensures { IfOk result (λ _. put.new
+        ≡ followed_by put.old (codes.words_from (line_context_of line_context.now) place (forms_of fields.now))) }
+{
+    let mut place = place;
+    let mut terms = *terms;
+    'fields: for field in fields {
+        place = put_field(put, line_context, place, *field, terms.first)?;
+        terms = terms.others();
+    }
+    Ok(())
+}
+
+/// The words of an instruction, from its fields, the place after them, their flags and their terms. Error: memory may be refused.
+pub fn put_instruction(
+    put: &mut Put,
+    line_context: &LineContext,
+    operation: Op,
+    start: usize,
+    fields: &[Field],
+    end: usize,
+    flags: ErrorFlags,
+    terms: &FieldTerms,
+) -> Result<(), AllocError>
+    requires listed { IsTrue (is_listed operation) }
+    requires few { length fields.now ≤ 2 }
+    requires terms { AreTerms line_context.now.line fields.now terms.now }
+    requires within { end ≤ length line_context.now.line }
+    ensures { IfOk result (λ _. put.new ≡ followed_by put.old
+        (spec.assembled (line_context_of line_context.now) start operation (fields_of fields.now end (bits_of flags)))) }
+{
+    put.add_flags(line_flags(line_context, start, end, flags));
+    put_code(put, line_context, operation, fields, terms)?;
+    put_words_after(
+        put,
+        line_context,
+        further(line_context.place(), 2),
+        fields,
+        terms,
+    )
+}
+
+// The flags of the line itself: what is missing, skipped or left over.
+fn line_flags(line_context: &LineContext, start: usize, end: usize, flags: ErrorFlags) -> ErrorFlags
+    requires { end ≤ length line_context.now.line }
+    ensures { (fields : List Field) → bits_of result
+        ≡ spec.line_flags line_context.now.line start (fields_of fields end (bits_of flags)) }
+{
+    let line = line_context.line();
+    flags.with(skip_flags(line, start, end).with(left_over(line, end)))
+}

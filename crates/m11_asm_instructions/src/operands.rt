@@ -1,0 +1,124 @@
+//! What registers and operands become in an instruction's code, and the words after it. (PDP-11/40 Processor Handbook, "Addressing
+//! modes"; MACRO-11 Language Reference Manual, "Diagnostic error message summary", A and R.)
+
+ghost use Rattle.std.specs.Prelude.{◌≡◌, ◌*◌, ◌%◌, IfOk, IfSome};
+ghost use Rattle.m11_unfold_arguments.specs.Expressions.{IsAlone, value_at};
+ghost use Rattle.m11_base_instructions.specs.Operand.{register_of};
+ghost use Rattle.m11_asm_operands.specs.Terms.{IsFormTerm};
+ghost use Rattle.m11_asm_instructions.specs.CodeValues.{form_value};
+ghost use Rattle.m11_asm_values.specs.LineContext.{line_context_of};
+ghost use Rattle.m11_asm_rules.specs.Codes as spec;
+ghost use Rattle.m11_asm_rules.specs.Codes.{LineContext as Place};
+ghost use Rattle.m11_asm_rules.specs.Contents.{followed_by, word};
+ghost use Rattle.m11_asm_rules.specs.Operands.{words_of};
+ghost use Rattle.m11_scan.specs.Views.{bits_of};
+ghost use Rattle.m11_scan_values.specs.Quantities.{quantity};
+
+use m11_asm_rules::Form;
+use m11_asm_values::{LineContext, Put, put_word};
+use m11_base_instructions::{Mode, Operand, Register};
+use m11_scan::{ErrorFlags, Token};
+use m11_scan_values::Value;
+use std::alloc::AllocError;
+
+// The register of a value. A number that is no register counts modulo 8.
+pub(crate) fn register(value: &Value) -> Register
+    ensures { result ≡ register_of (value.now.number % 8) }
+{
+    Register::of_bits(value.number)
+}
+
+// R where no register stands.
+pub(crate) fn as_register_flags(value: &Value) -> ErrorFlags
+    ensures { bits_of result ≡ spec.as_register_flags (quantity value.now) }
+{
+    let flags = value.flags;
+    flags.with(ErrorFlags::R.when(!value.kind.is_register()))
+}
+
+fn operand(mode: Mode, register: Register) -> Operand
+    ensures { result ≡ spec.operand mode register }
+{
+    Operand { mode, register }
+}
+
+// The mode and the register of a form, whose value this is.
+pub(crate) fn operand_of(form: Form, value: &Value) -> Operand
+    ensures { (line_context : Place) → quantity value.now ≡ form_value line_context form → result ≡ spec.operand_of line_context form }
+{
+    match form {
+        Form::Absent => operand(Mode::Register, Register::R0),
+        Form::InRegister(mode, _) => operand(mode, register(value)),
+        Form::Indexed(mode, _, _) => operand(mode, register(value)),
+        Form::Unindexed(_) => operand(Mode::IndexDeferred, register(value)),
+        Form::AfterCounter(mode, _) => operand(mode, Register::Pc),
+    }
+}
+
+// The flags of the register of a form, whose value this is.
+pub(crate) fn form_flags(form: Form, value: &Value) -> ErrorFlags
+    ensures { (line_context : Place) → quantity value.now ≡ form_value line_context form → bits_of result ≡ spec.form_flags line_context form }
+{
+    match form {
+        Form::Absent | Form::AfterCounter(_, _) => ErrorFlags::none(),
+        Form::InRegister(_, _) | Form::Indexed(_, _, _) | Form::Unindexed(_) => {
+            as_register_flags(value)
+        }
+    }
+}
+
+// The modes of PC that find a place by how far it lies.
+fn is_relative(mode: Mode) -> bool
+    ensures { result ≡ spec.is_relative mode }
+{
+    matches!(mode, Mode::Index | Mode::IndexDeferred)
+}
+
+// How many bytes stand after the instruction for a form.
+pub(crate) fn size_of(form: Form) -> u16
+    ensures { result ≡ words_of form * 2 }
+{
+    match form {
+        Form::Absent | Form::InRegister(_, _) => 0,
+        Form::Indexed(_, _, _) | Form::Unindexed(_) | Form::AfterCounter(_, _) => 2,
+    }
+}
+
+// The word after the instruction for a form, whose term this is, at a place of its own; `.` in it is the place of the instruction.
+#[tactic(auto, using(m11_asm_values::proofs::Joining::followed_nothing))]
+pub(crate) fn put_form(
+    put: &mut Put,
+    line_context: &LineContext,
+    place: u16,
+    form: Form,
+    term: Option<Token>,
+) -> Result<(), AllocError>
+    requires { IfSome term (λ term. IsFormTerm line_context.now.line form term) }
+    ensures { IfOk result (λ _. put.new ≡ followed_by put.old (spec.form_words (line_context_of line_context.now) place form)) }
+{
+    match form {
+        Form::Absent | Form::InRegister(_, _) => Ok(()),
+        Form::Indexed(_, _, index) => put_reference(put, line_context, false, place, index, None),
+        Form::Unindexed(_) => put.add_fixed_word(0),
+        Form::AfterCounter(mode, start) => {
+            put_reference(put, line_context, is_relative(mode), place, start, term)
+        }
+    }
+}
+
+// A word for the expression at a place of the line. Where it is found to be one term, this is its token.
+fn put_reference(
+    put: &mut Put,
+    line_context: &LineContext,
+    is_relative: bool,
+    place: u16,
+    start: u8,
+    term: Option<Token>,
+) -> Result<(), AllocError>
+    requires { IfSome term (λ term. IsAlone line_context.now.line start term) }
+    ensures { IfOk result (λ _. put.new ≡ followed_by put.old (word line_context.now.table is_relative
+        place (value_at (line_context_of line_context.now).refers line_context.now.line start))) }
+{
+    let value = line_context.reference_by(start, term);
+    put_word(put, line_context, is_relative, place, value)
+}

@@ -1,0 +1,14 @@
+use Rattle.std.proofs.Common.{ap, ◌∙◌}
+use Rattle.m11_unfold_arguments.specs.Expressions.{value_at}
+use Rattle.m11_asm_values.specs.LineContext.{Standpoint}
+use Rattle.m11_asm_rules.specs.Meanings.{known_at}
+use Rattle.m11_asm_rules.specs.declared.meanings.Context.TheVariants.{MayBeGlobal}
+use Rattle.m11_asm_table.specs.Asking.{Asked}
+use Rattle.m11_asm_values.proofs.line_context.LineContext.reference.Goals as goal
+
+pub returns : goal.returns
+returns c =
+    c.value_from.ensures
+    ∙ ap (λ (a : Asked). value_at (known_at a.map a.context a.table a.place) c.self.inside.line.now.text c.args.start)
+    c.new-names.ensures
+    ∙ ap (λ (s : Standpoint). value_at (known_at s.map MayBeGlobal s.table s.place) s.line c.args.start) c.self.view_is
