@@ -5,8 +5,8 @@ use Rattle.std.specs.Prelude.{OnOk}
 use Rattle.m11_asm_outputs.specs.Object.{AllFit, object_contents}
 use Rattle.m11_asm_faults.specs.declared.fault.AsmFault.{AsmFault}
 use Rattle.m11_asm_outputs.specs.Outputs.{AreFlushed, Gains, Outputs, Write, Writes, assembly}
-use Rattle.m11_asm_first_pass.specs.Facts.{Facts}
-use Rattle.m11_asm_first_pass.specs.First.{Symbols}
+use Rattle.m11_asm.specs.Facts.{Facts}
+use Rattle.m11_asm.specs.First.{Symbols}
 use Rattle.m11_scan_lines.specs.Line.{SourceLine}
 use Rattle.m11_asm_passes.specs.Lines.{Numbered}
 use Rattle.m11_asm_passes.specs.States.{Going, PassState, PassStands}

@@ -5,8 +5,8 @@ use Rattle.m11_asm_faults.specs.Faults.{of_lines}
 use Rattle.m11_asm_faults.specs.declared.fault.AsmFault.{AsmFault}
 use Rattle.m11_asm_faults.specs.declared.fault.AsmFault.TheVariants as fault
 use Rattle.m11_base.specs.Feed.{NoneFailed, Text}
-use Rattle.m11_asm_first_pass.specs.First.{FirstFails, FirstStands, FirstState, FirstTakes, Symbols, symbols_of}
-use Rattle.m11_asm_first_pass.proofs.Counting.{one_longer}
+use Rattle.m11_asm.specs.First.{FirstFails, FirstStands, FirstState, FirstTakes, Symbols, symbols_of}
+use Rattle.m11_asm.proofs.Counting.{one_longer}
 use Rattle.m11_scan_lines.specs.Line.{SourceLine}
 use Rattle.m11_scan_lines.specs.Lines.{most_lines}
 use Rattle.m11_scan_lines.specs.Reader.{LineReading, ReadsNext, place, unread}

@@ -2,7 +2,7 @@
 use Rattle.std.proofs.Common.{◌≤◌, ℕ, List, length, Result, Ok, Err, refl, sym, subst, inr}
 use Rattle.m11_asm_faults.specs.declared.fault.AsmFault.{AsmFault}
 use Rattle.m11_asm_outputs.specs.Outputs.{AreFlushed, Gains, Outputs, Write}
-use Rattle.m11_asm_first_pass.specs.First.{Symbols}
+use Rattle.m11_asm.specs.First.{Symbols}
 use Rattle.m11_asm_passes.specs.Lines.{Numbered, givens}
 use Rattle.m11_asm_rules.specs.Limits.{most_sections}
 use Rattle.m11_asm_rules.specs.Meanings.{empty_map}

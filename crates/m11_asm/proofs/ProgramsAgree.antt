@@ -5,8 +5,8 @@ use Rattle.m11_asm_directory.specs.FirstPass.{DirectoryFacts}
 use Rattle.m11_asm_directory.specs.Laws as directory
 use Rattle.m11_asm_directory.specs.Names.{has_name}
 use Rattle.m11_asm_directory.specs.Rows.{directory_rows}
-use Rattle.m11_asm_first_pass.specs.Facts.{Facts}
-use Rattle.m11_asm_first_pass.specs.First.{FirstState, Taken, symbols_of}
+use Rattle.m11_asm.specs.Facts.{Facts}
+use Rattle.m11_asm.specs.First.{FirstState, Taken, symbols_of}
 use Rattle.m11_scan_lines.specs.Line.{SourceLine}
 use Rattle.m11_asm_pass_laws.proofs.MapsAlike.{maps_same}
 use Rattle.m11_asm_passes.specs.Lines.{Numbered, givens}

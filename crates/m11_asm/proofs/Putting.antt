@@ -12,7 +12,7 @@ use Rattle.m11_asm_outputs.specs.Outputs.{Gains, Outputs, Stops, Write, Writes, 
 use Rattle.m11_base.specs.Devices.{Bytes}
 use Rattle.m11_base.specs.Rad50.{Name}
 use Rattle.m11_asm_directory.specs.Rows.{directory_rows}
-use Rattle.m11_asm_first_pass.specs.Facts.{Facts}
+use Rattle.m11_asm.specs.Facts.{Facts}
 use Rattle.m11_asm_listing_writes.specs.Listed.{all_to_listing, listing_writes}
 use Rattle.m11_asm_listing.specs.Messages.{message_line}
 use Rattle.m11_asm_listing.specs.SymbolTable.{last_lines}

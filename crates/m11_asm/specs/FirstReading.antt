@@ -1,7 +1,7 @@
 -- The first pass over feeds, call by call. (This project's own.)
 use Rattle.std.specs.Prelude.{◌≡◌, Bool, true, false, List, ◌++◌, None, Result, Ok, Err}
 use Rattle.m11_asm_faults.specs.declared.fault.AsmFault.{AsmFault}
-use Rattle.m11_asm_first_pass.specs.First.{FirstStands, FirstState, Symbols, symbols_of}
+use Rattle.m11_asm.specs.First.{FirstStands, FirstState, Symbols, symbols_of}
 use Rattle.m11_scan_lines.specs.Line.{SourceLine}
 use Rattle.m11_asm_rules.specs.Meanings.{empty_map}
 use Rattle.m11_scan_line_laws.specs.Readings.{Reading}

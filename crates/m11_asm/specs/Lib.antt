@@ -1,5 +1,8 @@
 pub mod Extents
+pub mod Facts
+pub mod First
 pub mod FirstReading
+pub mod Noted
 pub mod Outcome
 pub mod Passes
 pub mod Program

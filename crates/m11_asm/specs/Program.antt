@@ -4,8 +4,8 @@ use Rattle.std.specs.Prelude.{List, ◌++◌, Option, slice_index}
 use Rattle.m11_base.specs.Rad50.{Name}
 use Rattle.m11_asm_directory.specs.FirstPass.{DirectoryFacts}
 use Rattle.m11_asm_directory.specs.Rows.{directory_rows}
-use Rattle.m11_asm_first_pass.specs.Facts.{Facts, facts_of}
-use Rattle.m11_asm_first_pass.specs.First.{Symbols}
+use Rattle.m11_asm.specs.Facts.{Facts, facts_of}
+use Rattle.m11_asm.specs.First.{Symbols}
 use Rattle.m11_asm_listing.specs.declared.symbol_table.SectionEntry.{SectionEntry}
 use Rattle.m11_asm_listing.specs.declared.symbol_table.SymbolEntry.{SymbolEntry}
 use Rattle.m11_obj_texts.specs.declared.directory.DirectoryRow.{DirectoryRow}

@@ -3,10 +3,11 @@
 ghost use Rattle.std.specs.Prelude.{[]};
 ghost use Rattle.m11_asm.specs.FirstReading.{GivesSymbols, TakesLines};
 ghost use Rattle.m11_asm.specs.Passes.{pass_of};
-ghost use Rattle.m11_asm_first_pass.specs.First.{FirstStands};
+ghost use Rattle.m11_asm.specs.First.{FirstStands};
 
+use crate::first::First;
+use crate::symbols::Symbols;
 use m11_asm_faults::AsmFault;
-use m11_asm_first_pass::{First, Symbols};
 use m11_base::Feed;
 use m11_scan_lines::LineReader;
 use std::alloc::Global;

@@ -1,21 +1,36 @@
-//! The assembler of MACRO-11: sources become an object module, a listing and messages, in two passes over the sources. Under what the
-//! first pass gave the names, the second one writes the object, as far as its texts are closed, line by line. (MACRO-11 Language
-//! Reference Manual, "Source program format", "Symbols", "Listing control directives" and ".END directive"; RT-11 Volume and File
+//! The assembler of MACRO-11: sources become an object module, a listing and messages, in two passes over the sources. The first pass finds
+//! what the lines give their names, and what they say of their module beside that. Under what it found, the second one writes the object, as
+//! far as its texts are closed, line by line. (MACRO-11 Language Reference Manual, "Source program format", "Symbols and expressions",
+//! ".TITLE directive", ".IDENT directive", ".WEAK directive", "Listing control directives" and ".END directive"; RT-11 Volume and File
 //! Formats Manual, "Object file format".)
 #![tactic(auto)]
 
-mod done;
+// What the first pass finds of the module, and what it hands on.
+mod facts;
+mod symbols;
+
+// The first pass: a line of the source, with its number, and all lines of the feeds.
+mod first;
 mod first_reading;
-mod laws;
-mod lines;
-mod run;
-mod second;
-mod second_reading;
+mod numbers;
+
+// What the second pass writes of its live lines, and after the last one.
 mod writing;
 
+// The second pass: a line of the source, and all lines of the feeds.
+mod second;
+mod second_reading;
+
+// Both passes, one after the other.
+mod done;
+mod laws;
+mod run;
+
 pub use done::AsmDone;
+pub use facts::Facts;
+pub use first::First;
 pub use laws::a_run_writes_the_outcome_of_its_sources;
 pub use m11_asm_faults::{AsmFault, AsmOutput};
-pub use m11_asm_first_pass::{First, Symbols};
 pub use run::asm_run;
 pub use second::Second;
+pub use symbols::Symbols;

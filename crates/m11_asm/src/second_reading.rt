@@ -9,8 +9,8 @@ ghost use Rattle.m11_asm.specs.Second.{SecondStands};
 
 use crate::done::AsmDone;
 use crate::second::Second;
+use crate::symbols::Symbols;
 use m11_asm_faults::AsmFault;
-use m11_asm_first_pass::Symbols;
 use m11_base::{Feed, Sink};
 use m11_scan_lines::LineReader;
 use std::alloc::Global;

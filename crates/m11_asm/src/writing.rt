@@ -27,11 +27,11 @@ ghost use Rattle.m11_scan_values.specs.Quantities.{quantity};
 ghost use Rattle.m11_base_writes.specs.Outputs.{Output, optional_output, output_of};
 
 use crate::done::AsmDone;
+use crate::facts::Facts;
 use bitflags::Flags;
 use m11_asm_directives::transfer_flags;
 use m11_asm_directory::{FirstPass, directory_rows};
 use m11_asm_faults::AsmFault;
-use m11_asm_first_pass::Facts;
 use m11_asm_lines::{Action, Pass, UsedSymbols};
 use m11_asm_listing::{Item, SectionEntry, SymbolEntry};
 use m11_asm_listing_writes::{put_listed, put_placed, put_symbol_table};

@@ -6,7 +6,7 @@ use Rattle.m11_base.specs.Devices.{Bytes}
 use Rattle.m11_base.specs.Rad50.{Name}
 use Rattle.m11_asm.specs.Program.{directory_facts_of, used_in}
 use Rattle.m11_asm_directory.specs.References.{references}
-use Rattle.m11_asm_first_pass.specs.Facts.{facts_of}
+use Rattle.m11_asm.specs.Facts.{facts_of}
 use Rattle.m11_asm_rows.specs.RelocationRows.{named}
 use Rattle.m11_asm_rows.specs.Worked.{plain}
 use Rattle.m11_unfold_rules.specs.Unfolding.{Given}

@@ -1,5 +1,5 @@
 use Rattle.std.proofs.Common.{◌≡◌, [], None}
-use Rattle.m11_asm_first_pass.specs.First.{FirstStands}
+use Rattle.m11_asm.specs.First.{FirstStands}
 use Rattle.m11_asm.proofs.FirstLines.{FirstSoFar}
 use Rattle.m11_asm.proofs.first_reading.take_lines.Given as goal
 

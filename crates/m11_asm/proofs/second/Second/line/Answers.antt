@@ -1,6 +1,6 @@
 use Rattle.std.proofs.Common.{◌∙◌, Ok, ap, subst, refl}
 use Rattle.m11_asm_outputs.specs.Outputs.{Outputs, outputs_of}
-use Rattle.m11_asm_first_pass.proofs.Counting.{keeps_none}
+use Rattle.m11_asm.proofs.Counting.{keeps_none}
 use Rattle.m11_asm_rules.specs.Meanings.{map_of}
 use Rattle.m11_asm.specs.Second.{SecondStands, SecondState, SecondTakes}
 use Rattle.m11_asm.proofs.LineTaken.{between, line_fails, line_refused, line_takes, state_of}

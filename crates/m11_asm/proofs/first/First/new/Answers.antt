@@ -1,0 +1,12 @@
+use Rattle.std.proofs.Common.{ap}
+use Rattle.m11_asm_lines.specs.declared.counting.Counting.TheVariants.{SymbolUses}
+use Rattle.m11_asm.proofs.Taking.{begins, begins_so}
+use Rattle.m11_asm.proofs.first.First.new.Goals as goal
+
+pub invariant_of-result : goal.invariant_of-result
+invariant_of-result c = begins_so c.in_ok-new.field-0 c.new-4.result c.in_ok-new.ensures.begins c.in_ok-new.ensures.goes_on
+
+pub returns : goal.returns
+returns c =
+    begins c.in_ok-new.field-0.going (SymbolUses c.new.result) c.new-3.result c.new-4.result c.in_ok-new.ensures.stands (ap SymbolUses c.new.ensures)
+    c.in_ok-new.ensures.begins c.new-3.ensures c.new-4.ensures

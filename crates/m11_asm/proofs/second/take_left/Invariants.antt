@@ -1,0 +1,24 @@
+use Rattle.std.proofs.Common.{◌≡◌, ◌-◌, List, None, length}
+use Rattle.m11_asm_outputs.specs.Outputs.{Outputs, outputs_of}
+use Rattle.m11_scan_lines.specs.Line.{SourceLine}
+use Rattle.m11_asm_passes.specs.Lines.{Numbered}
+use Rattle.m11_unfold_rules.specs.Limits.{most_lines}
+use Rattle.m11_asm.specs.Program.{Program}
+use Rattle.m11_asm.specs.Second.{Taken}
+use Rattle.m11_asm.proofs.Passing.{SomeTaken}
+use Rattle.m11_asm.proofs.second.take_left.Given as goal
+
+abbrev pub invariant-lines : goal.invariant-lines
+invariant-lines g l = record {
+  goes_on : l.pass.fault ≡ None;
+  takes : (program : Program) (source : List SourceLine) (lines : List Numbered) (first : Outputs)
+      → l.map ≡ program.map → l.number ≡ length source
+      → Taken program source lines first
+      (outputs_of g.S.Sink g.T.Sink g.U.Sink l.initial.object l.initial.listing l.initial.messages)
+      l.initial.pass.going l.initial.writing
+      → SomeTaken program source first (outputs_of g.S.Sink g.T.Sink g.U.Sink l.object l.listing l.messages)
+      l.pass.going l.writing;
+}
+
+abbrev pub decreases-lines : goal.decreases-lines
+decreases-lines g l = most_lines - l.pass.going.unfolder.stage.taken

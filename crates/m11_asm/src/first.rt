@@ -1,0 +1,141 @@
+//! The first pass of a source, line by line. (MACRO-11 Language Reference Manual, "Source program format", "Symbols and expressions" and
+//! ".END directive".)
+
+ghost use Rattle.std.specs.Prelude.{◌≡◌, [], List, None, Some, Err, IfOk, false};
+ghost use Rattle.std.specs.Result.{result_err};
+ghost use Rattle.m11_scan_lines.specs.Line.{SourceLine};
+ghost use Rattle.m11_asm_passes.specs.Lines.{Numbered};
+ghost use Rattle.m11_asm.specs.First.{FirstStands, FirstTakes, Taken, TakesLeft, symbols_of};
+
+use crate::facts::Facts;
+use crate::numbers::number_after;
+use crate::symbols::Symbols;
+use m11_asm_faults::AsmFault;
+use m11_asm_lines::{Counting, UsedSymbols};
+use m11_asm_passes::{LiveLine, SourcePass, Turn, the_calls_place_the_lines_of_a_source};
+use m11_base::Latch;
+use m11_scan::Line;
+use std::alloc::{AllocError, Global};
+use std::marker::Model;
+
+/// The first pass of a source: its lines go in one after the other, up to the one in which `.END` becomes live. After a fault each call
+/// returns it again.
+#[derive(Drop)]
+pub struct First {
+    pass: SourcePass,
+    facts: Facts,
+    // How many lines were read.
+    read: u16,
+    has_ended: bool,
+    fault: Latch<AsmFault>,
+    // Where live lines are put, one after the other.
+    live: LiveLine,
+}
+
+impl Model for First {
+    ghost use Rattle.m11_asm.specs.First.{FirstState, GoesOn};
+
+    ghost Value = { FirstState };
+
+    ghost view = { λ f. record {
+      going = f.pass.going;
+      facts = f.facts;
+      read = f.read;
+      has_ended = f.has_ended;
+      fault = f.fault;
+    } };
+
+    ghost invariant = { λ f. GoesOn f.fault f.has_ended f.pass };
+}
+
+impl First {
+    /// Before the first line. Error: memory may be refused.
+    pub fn new(alloc: Global) -> Result<First, AllocError>
+        ensures { IfOk result (λ first. FirstStands [] first) }
+    {
+        Ok(First {
+            pass: SourcePass::new(alloc, Counting::SymbolUses(UsedSymbols::new(alloc)))?,
+            facts: Facts::new(alloc),
+            read: 0,
+            has_ended: false,
+            fault: Latch::new(),
+            live: LiveLine::new(),
+        })
+    }
+
+    /// The next line of the source. After `.END` became live it is not read.
+    ///
+    /// Errors: `TooMuchSource` at a line past the 65,535th; `Unfold` where a limit of unfolding is passed, `TooManySymbols`,
+    /// `TooManySections`, the first one in the order of the lines, and within a line in that of labels, operator and arguments; and
+    /// `NoMemory`.
+    pub fn line(&mut self, line: &Line) -> Result<(), AsmFault>
+        ensures takes { (source : List SourceLine) → FirstStands source self.old → FirstTakes source line.now self.old self.new result }
+        ensures again { (fault : AsmFault) → self.old.fault ≡ Some fault → (result ≡ Err fault) × (self.new ≡ self.old) }
+        ensures fault { self.new.fault ≡ result_err result }
+    {
+        the_calls_place_the_lines_of_a_source();
+        self.fault.check()?;
+        if self.has_ended {
+            return Ok(());
+        }
+        let read = self.fault.keep(number_after(self.read))?;
+        self.read = read;
+        self.pass.feed(line);
+        let taken = take_left(&mut self.pass, &mut self.facts, &mut self.live);
+        self.has_ended = self.fault.keep(taken)?;
+        Ok(())
+    }
+
+    /// Whether `.END` became live.
+    pub fn has_ended(&self) -> bool
+        ensures { result ≡ self.now.has_ended }
+    {
+        self.has_ended
+    }
+
+    /// What the lines gave, after the last one.
+    ///
+    /// Errors: the fault that came, if one did.
+    pub fn end(self) -> Result<Symbols, AsmFault>
+        ensures symbols { IfOk result (λ symbols. symbols ≡ symbols_of self) }
+        ensures fault { result_err result ≡ self.fault }
+    {
+        match self.fault.check() {
+            Ok(()) => {
+                let (pass, used_symbols) = self.pass.end();
+                Ok(Symbols::new(pass, used_symbols, self.facts))
+            }
+            Err(fault) => {
+                // proof: a value of several maps that goes in place takes minutes to prove
+                drop(self);
+                Err(fault)
+            }
+        }
+    }
+}
+
+// Defines what is left to take, and notes what it says: whether `.END` became live. Its lines are put into `live`.
+fn take_left(
+    pass: &mut SourcePass,
+    facts: &mut Facts,
+    live: &mut LiveLine,
+) -> Result<bool, AsmFault>
+    requires { pass.old.fault ≡ None }
+    ensures takes { (source : List SourceLine) (lines : List Numbered) → Taken source lines pass.old.going facts.old
+        → TakesLeft source pass.new.going facts.new result }
+    ensures goes_on { IfOk result (λ _. pass.new.fault ≡ None) }
+    ensures needs { IfOk result (λ has_ended. has_ended ≡ false → pass.new.going.unfolder.stage.left ≡ []) }
+{
+    the_calls_place_the_lines_of_a_source();
+    'lines: loop {
+        match pass.define(live)? {
+            Turn::NeedLine => return Ok(false),
+            Turn::End => return Ok(true),
+            Turn::Line => facts.note(live, pass.table())?,
+        }
+        // most lines of a source are one live line
+        if pass.needs_line() {
+            return Ok(false);
+        }
+    }
+}

@@ -1,0 +1,54 @@
+//! What the first pass of a source gives. (MACRO-11 Language Reference Manual, "Symbols and expressions" and ".END directive".)
+
+ghost use Rattle.std.specs.Prelude.{◌≡◌, ◌≤◌, length};
+ghost use Rattle.m11_asm_rules.specs.Limits.{most_sections};
+
+use crate::facts::Facts;
+use m11_asm_lines::{Pass, UsedSymbols};
+use std::marker::Model;
+
+/// What the first pass of a source gives: what its lines give their names, which names they use, and what they say of their module.
+#[derive(Drop)]
+pub struct Symbols {
+    pass: Pass,
+    used_symbols: UsedSymbols,
+    facts: Facts,
+}
+
+impl Model for Symbols {
+    ghost use Rattle.m11_asm.specs.First as spec;
+
+    ghost Value = { spec.Symbols };
+
+    ghost view = { λ s. record { kept = s.pass; gathered = s.used_symbols; facts = s.facts } };
+}
+
+impl Symbols {
+    // What a pass gives that took its lines.
+    pub(crate) fn new(pass: Pass, used_symbols: UsedSymbols, facts: Facts) -> Symbols
+        ensures { result ≡ record { kept = pass; gathered = used_symbols; facts = facts } }
+    {
+        Symbols {
+            pass,
+            used_symbols,
+            facts,
+        }
+    }
+
+    /// The limit on sections holds of what each first pass gives. It does nothing.
+    #[inline(always)]
+    pub fn sections_are_within_the_limit(&self)
+        ensures { length self.now.kept.table.sections ≤ most_sections }
+    {
+        self.pass.counts_are_within_the_limits();
+    }
+
+    /// The table after the last line with the sizes of sections, the names that the lines use, and what they say beside that.
+    pub fn into_parts(self) -> (Pass, UsedSymbols, Facts)
+        ensures pass { result.0 ≡ self.kept }
+        ensures used_symbols { result.1 ≡ self.gathered }
+        ensures facts { result.2 ≡ self.facts }
+    {
+        (self.pass, self.used_symbols, self.facts)
+    }
+}

@@ -1,5 +1,0 @@
-pub mod Counting
-mod Naming
-mod Noting
-mod Taking
-mod FactsFound
