@@ -9,10 +9,15 @@
 mod facts;
 mod symbols;
 
+pub use facts::Facts;
+pub use symbols::Symbols;
+
 // The first pass: a line of the source, with its number, and all lines of the feeds.
 mod first;
 mod first_reading;
 mod numbers;
+
+pub use first::First;
 
 // What the second pass writes of its live lines, and after the last one.
 mod writing;
@@ -21,16 +26,14 @@ mod writing;
 mod second;
 mod second_reading;
 
+pub use second::Second;
+
 // Both passes, one after the other.
 mod done;
 mod laws;
 mod run;
 
 pub use done::AsmDone;
-pub use facts::Facts;
-pub use first::First;
 pub use laws::a_run_writes_the_outcome_of_its_sources;
 pub use m11_asm_faults::{AsmFault, AsmOutput};
 pub use run::asm_run;
-pub use second::Second;
-pub use symbols::Symbols;

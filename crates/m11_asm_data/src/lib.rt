@@ -6,9 +6,16 @@
 // Words, bytes and room.
 mod storage;
 
+pub use storage::{
+    LIMIT_SIZE, blkb_size, blkw_size, block_flags, byte_size, put_bytes, put_limits, put_words,
+    word_size,
+};
+
 // The parts of a text, and their flags.
 mod flags;
 mod parts;
+
+pub use parts::{PART_LIMIT, Parts, parts_at};
 
 // Texts as bytes, and in words of RADIX-50.
 mod ascii;
@@ -16,9 +23,4 @@ mod packing;
 mod radix50;
 
 pub use ascii::{ascii_size, asciz_size, put_ascii, put_asciz};
-pub use parts::{PART_LIMIT, Parts, parts_at};
 pub use radix50::{put_rad50, rad50_size};
-pub use storage::{
-    LIMIT_SIZE, blkb_size, blkw_size, block_flags, byte_size, put_bytes, put_limits, put_words,
-    word_size,
-};

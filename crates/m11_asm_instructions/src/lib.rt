@@ -6,6 +6,8 @@
 // The fields as a line writes them.
 mod reading;
 
+pub use reading::{no_fields, operator_fields, single_fields};
+
 // What they become in the code: their values, their operands, and where branches go.
 mod branches;
 mod code_values;
@@ -16,4 +18,3 @@ mod operands;
 mod instructions;
 
 pub use instructions::put_instruction;
-pub use reading::{no_fields, operator_fields, single_fields};

@@ -6,8 +6,9 @@
 // What an operator changes.
 mod effects;
 
+pub use effects::{instruction_steps, operator_change};
+
 // What it puts, with its flags.
 mod operators;
 
-pub use effects::{instruction_steps, operator_change};
 pub use operators::put_operator;

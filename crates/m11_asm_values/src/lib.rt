@@ -7,15 +7,17 @@
 mod alignment;
 mod line_context;
 
+pub use alignment::{gap, gap_flags, place_for, to_even, to_odd};
+pub use line_context::LineContext;
+
 // What a linker does to a value.
 mod relocations;
+
+pub use relocations::{distance, fixed};
 
 // What is put: values as words and as bytes.
 mod puts;
 mod values;
 
-pub use alignment::{gap, gap_flags, place_for, to_even, to_odd};
-pub use line_context::LineContext;
 pub use puts::Put;
-pub use relocations::{distance, fixed};
 pub use values::{further, put_byte, put_word};
