@@ -1,16 +1,13 @@
 //! From words to instructions. (PDP-11/40 Processor Handbook, "Instruction set".)
 
 ghost use Rattle.std.specs.Prelude.{◌≡◌, ◌<◌, IsTrue, ◌/◌, ◌%◌, None, is_none, slice_index_or};
-ghost use Rattle.m11_base_instructions.specs.OperationTables.{bare, extended, high, low, operation_by_tables, with_next_digits};
-ghost use Rattle.m11_base_instructions.specs.declared.instruction.Op.TheVariants as op;
+ghost use Rattle.m11_base_instructions.specs.OperationTables.{bare, operation_by_tables, with_next_digits};
 ghost use Rattle.m11_base_instructions.specs.Encoding.{code_of, fits};
 ghost use Rattle.m11_base_instructions.specs.Instructions.{HasOneMeaning, condition_codes_of, instruction_of, meaning, number_in, row_of, with_fields};
 
-use crate::instruction::{
-    BranchOp, ConditionCodes, DoubleOp, Insn, NumberOp, Op, RegisterOp, SingleOp,
-};
+use crate::instruction::{ConditionCodes, Insn, NumberOp, Op, RegisterOp};
 use crate::instruction_list::{Row, rows};
-use crate::operand::{Operand, Register, Size};
+use crate::operand::{Operand, Register};
 use crate::operation_tables::{BARE, DOUBLES, EXTENDED, HIGH, LAST, LOW};
 
 /// The instruction of a word, by the octal digits of its code.
@@ -20,7 +17,21 @@ pub fn decode(word: u16) -> Insn
     ensures one_row { HasOneMeaning word }
     ensures again { IsTrue (fits result) × (code_of result ≡ word) }
 {
-    by_digits(word)
+    by_tables(word)
+}
+
+/// The operation of a word, by the octal digits of its code. No operation has a code that is reserved.
+#[inline(always)]
+#[tactic(auto, unfolding(crate::specs::OperationTables::doubles, crate::specs::OperationTables::extended, crate::specs::OperationTables::high))]
+pub fn operation(word: u16) -> Option<Op>
+    ensures { result ≡ operation_by_tables word }
+{
+    match word / 0o10000 {
+        0o00 => low_operation(word),
+        0o07 => EXTENDED[usize::from(word / 0o1000 % 0o10)],
+        0o10 => HIGH[usize::from(word / 0o100 % 0o100)],
+        digits => DOUBLES[usize::from(digits)],
+    }
 }
 
 /// The instruction of a word, by a search of the whole list. It is what `decode` is, and slow: it is
@@ -49,184 +60,28 @@ fn row(word: u16) -> Option<Row>
     found.copied()
 }
 
-// The instruction by the octal digits of its code. The common ones are matched digit by digit, so that what is done
-// with the instruction can begin where its operation is known, and no table is read; the tables give the others.
+// The instruction of the operation that the tables give.
 #[inline(always)]
-#[tactic(auto, unfolding(crate::specs::OperationTables::doubles))]
-fn by_digits(word: u16) -> Insn
+fn by_tables(word: u16) -> Insn
     ensures { result ≡ meaning (operation_by_tables word) word }
 {
-    match word / 0o10000 {
-        0o00 => low(word),
-        0o01 => double(DoubleOp::Mov, Size::Word, word),
-        0o02 => double(DoubleOp::Cmp, Size::Word, word),
-        0o03 => double(DoubleOp::Bit, Size::Word, word),
-        0o04 => double(DoubleOp::Bic, Size::Word, word),
-        0o05 => double(DoubleOp::Bis, Size::Word, word),
-        0o06 => double(DoubleOp::Add, Size::Word, word),
-        0o07 => extended(word),
-        0o10 => high(word),
-        0o11 => double(DoubleOp::Mov, Size::Byte, word),
-        0o12 => double(DoubleOp::Cmp, Size::Byte, word),
-        0o13 => double(DoubleOp::Bit, Size::Byte, word),
-        0o14 => double(DoubleOp::Bic, Size::Byte, word),
-        0o15 => double(DoubleOp::Bis, Size::Byte, word),
-        digits => by_table(DOUBLES[usize::from(digits)], word),
-    }
-}
-
-// The instruction of a word 00xxxx.
-#[inline(always)]
-#[tactic(auto, unfolding(crate::specs::OperationTables::low, crate::specs::OperationTables::last))]
-fn low(word: u16) -> Insn
-    requires { word < 0o10000 }
-    ensures { result ≡ meaning (with_next_digits (word / 0o100) word) word }
-{
-    match word / 0o100 {
-        0o00 => by_table(bare_operation(word), word),
-        0o02 => by_table(LAST[usize::from(word / 0o10 % 0o10)], word),
-        0o50 => single(SingleOp::Clr, Size::Word, word),
-        0o51 => single(SingleOp::Com, Size::Word, word),
-        0o52 => single(SingleOp::Inc, Size::Word, word),
-        0o53 => single(SingleOp::Dec, Size::Word, word),
-        0o54 => single(SingleOp::Neg, Size::Word, word),
-        0o55 => single(SingleOp::Adc, Size::Word, word),
-        0o56 => single(SingleOp::Sbc, Size::Word, word),
-        0o57 => single(SingleOp::Tst, Size::Word, word),
-        0o60 => single(SingleOp::Ror, Size::Word, word),
-        0o61 => single(SingleOp::Rol, Size::Word, word),
-        0o62 => single(SingleOp::Asr, Size::Word, word),
-        0o63 => single(SingleOp::Asl, Size::Word, word),
-        _ => low_branch(word),
-    }
-}
-
-// The instruction of a word 00xxxx that is neither 0000xx nor 0002xx, by a branch or by the table.
-#[inline(always)]
-#[tactic(auto, unfolding(crate::specs::OperationTables::low))]
-fn low_branch(word: u16) -> Insn
-    requires { word < 0o10000 }
-    ensures { result ≡ meaning (slice_index_or low (word / 0o100) None) word }
-{
-    match word / 0o100 {
-        0o04 => branch(BranchOp::Br, word),
-        0o05 => branch(BranchOp::Br, word),
-        0o06 => branch(BranchOp::Br, word),
-        0o07 => branch(BranchOp::Br, word),
-        0o10 => branch(BranchOp::Bne, word),
-        0o11 => branch(BranchOp::Bne, word),
-        0o12 => branch(BranchOp::Bne, word),
-        0o13 => branch(BranchOp::Bne, word),
-        0o14 => branch(BranchOp::Beq, word),
-        0o15 => branch(BranchOp::Beq, word),
-        0o16 => branch(BranchOp::Beq, word),
-        0o17 => branch(BranchOp::Beq, word),
-        0o20 => branch(BranchOp::Bge, word),
-        0o21 => branch(BranchOp::Bge, word),
-        0o22 => branch(BranchOp::Bge, word),
-        0o23 => branch(BranchOp::Bge, word),
-        0o24 => branch(BranchOp::Blt, word),
-        0o25 => branch(BranchOp::Blt, word),
-        0o26 => branch(BranchOp::Blt, word),
-        0o27 => branch(BranchOp::Blt, word),
-        0o30 => branch(BranchOp::Bgt, word),
-        0o31 => branch(BranchOp::Bgt, word),
-        0o32 => branch(BranchOp::Bgt, word),
-        0o33 => branch(BranchOp::Bgt, word),
-        0o34 => branch(BranchOp::Ble, word),
-        0o35 => branch(BranchOp::Ble, word),
-        0o36 => branch(BranchOp::Ble, word),
-        0o37 => branch(BranchOp::Ble, word),
-        digits => by_table(LOW[usize::from(digits)], word),
-    }
-}
-
-// The instruction of a word 07xxxx.
-#[inline(always)]
-#[tactic(auto, unfolding(crate::specs::OperationTables::extended))]
-fn extended(word: u16) -> Insn
-    ensures { result ≡ meaning (slice_index_or extended (word / 0o1000 % 0o10) None) word }
-{
-    match word / 0o1000 % 0o10 {
-        7 => Insn::Sob(Register::of_bits(word / 0o100), (word % 0o100) as u8),
-        digit => by_table(EXTENDED[usize::from(digit)], word),
-    }
-}
-
-// The instruction of a word 10xxxx.
-#[inline(always)]
-#[tactic(auto, unfolding(crate::specs::OperationTables::high))]
-fn high(word: u16) -> Insn
-    ensures { result ≡ meaning (slice_index_or high (word / 0o100 % 0o100) None) word }
-{
-    match word / 0o100 % 0o100 {
-        0o50 => single(SingleOp::Clr, Size::Byte, word),
-        0o51 => single(SingleOp::Com, Size::Byte, word),
-        0o52 => single(SingleOp::Inc, Size::Byte, word),
-        0o53 => single(SingleOp::Dec, Size::Byte, word),
-        0o54 => single(SingleOp::Neg, Size::Byte, word),
-        0o55 => single(SingleOp::Adc, Size::Byte, word),
-        0o56 => single(SingleOp::Sbc, Size::Byte, word),
-        0o57 => single(SingleOp::Tst, Size::Byte, word),
-        0o60 => single(SingleOp::Ror, Size::Byte, word),
-        0o61 => single(SingleOp::Rol, Size::Byte, word),
-        0o62 => single(SingleOp::Asr, Size::Byte, word),
-        0o63 => single(SingleOp::Asl, Size::Byte, word),
-        _ => high_branch(word),
-    }
-}
-
-// The same, by a branch or by the table.
-#[inline(always)]
-#[tactic(auto, unfolding(crate::specs::OperationTables::high))]
-fn high_branch(word: u16) -> Insn
-    ensures { result ≡ meaning (slice_index_or high (word / 0o100 % 0o100) None) word }
-{
-    match word / 0o100 % 0o100 {
-        0o00 => branch(BranchOp::Bpl, word),
-        0o01 => branch(BranchOp::Bpl, word),
-        0o02 => branch(BranchOp::Bpl, word),
-        0o03 => branch(BranchOp::Bpl, word),
-        0o04 => branch(BranchOp::Bmi, word),
-        0o05 => branch(BranchOp::Bmi, word),
-        0o06 => branch(BranchOp::Bmi, word),
-        0o07 => branch(BranchOp::Bmi, word),
-        0o10 => branch(BranchOp::Bhi, word),
-        0o11 => branch(BranchOp::Bhi, word),
-        0o12 => branch(BranchOp::Bhi, word),
-        0o13 => branch(BranchOp::Bhi, word),
-        0o14 => branch(BranchOp::Blos, word),
-        0o15 => branch(BranchOp::Blos, word),
-        0o16 => branch(BranchOp::Blos, word),
-        0o17 => branch(BranchOp::Blos, word),
-        0o20 => branch(BranchOp::Bvc, word),
-        0o21 => branch(BranchOp::Bvc, word),
-        0o22 => branch(BranchOp::Bvc, word),
-        0o23 => branch(BranchOp::Bvc, word),
-        0o24 => branch(BranchOp::Bvs, word),
-        0o25 => branch(BranchOp::Bvs, word),
-        0o26 => branch(BranchOp::Bvs, word),
-        0o27 => branch(BranchOp::Bvs, word),
-        0o30 => branch(BranchOp::Bcc, word),
-        0o31 => branch(BranchOp::Bcc, word),
-        0o32 => branch(BranchOp::Bcc, word),
-        0o33 => branch(BranchOp::Bcc, word),
-        0o34 => branch(BranchOp::Bcs, word),
-        0o35 => branch(BranchOp::Bcs, word),
-        0o36 => branch(BranchOp::Bcs, word),
-        0o37 => branch(BranchOp::Bcs, word),
-        digits => by_table(HIGH[usize::from(digits)], word),
-    }
-}
-
-// The instruction of the operation that a table gives.
-#[inline(always)]
-fn by_table(operation: Option<Op>, word: u16) -> Insn
-    ensures { result ≡ meaning operation word }
-{
-    match operation {
+    match operation(word) {
         Some(operation) => with_fields(operation, word),
         None => Insn::Reserved(word),
+    }
+}
+
+// The operation of a word 00xxxx.
+#[inline(always)]
+#[tactic(auto, unfolding(crate::specs::OperationTables::low, crate::specs::OperationTables::last))]
+fn low_operation(word: u16) -> Option<Op>
+    requires { word < 0o10000 }
+    ensures { result ≡ with_next_digits (word / 0o100) word }
+{
+    match word / 0o100 {
+        0o00 => bare_operation(word),
+        0o02 => LAST[usize::from(word / 0o10 % 0o10)],
+        digits => LOW[usize::from(digits)],
     }
 }
 
@@ -243,35 +98,6 @@ fn bare_operation(word: u16) -> Option<Op>
     }
 }
 
-// An instruction with a source and a destination.
-#[inline(always)]
-fn double(operation: DoubleOp, size: Size, word: u16) -> Insn
-    ensures { result ≡ with_fields (op.Double operation size) word }
-{
-    Insn::Double(
-        operation,
-        size,
-        Operand::of_bits(word / 0o100),
-        Operand::of_bits(word),
-    )
-}
-
-// An instruction with a destination.
-#[inline(always)]
-fn single(operation: SingleOp, size: Size, word: u16) -> Insn
-    ensures { result ≡ with_fields (op.Single operation size) word }
-{
-    Insn::Single(operation, size, Operand::of_bits(word))
-}
-
-// A branch.
-#[inline(always)]
-fn branch(operation: BranchOp, word: u16) -> Insn
-    ensures { result ≡ with_fields (op.Branch operation) word }
-{
-    Insn::Branch(operation, ((word % 0o400) as u8).cast_signed())
-}
-
 // The instruction of an operation, with the fields of a word.
 #[inline(always)]
 fn with_fields(operation: Op, word: u16) -> Insn
@@ -280,7 +106,9 @@ fn with_fields(operation: Op, word: u16) -> Insn
     let register = Register::of_bits(word / 0o100);
     let operand = Operand::of_bits(word);
     match operation {
-        Op::Double(operation, size) => double(operation, size, word),
+        Op::Double(operation, size) => {
+            Insn::Double(operation, size, Operand::of_bits(word / 0o100), operand)
+        }
         Op::Extended(operation) => Insn::Extended(operation, register, operand),
         Op::Register(operation) => Insn::Register(operation, register, operand),
         Op::Sob => Insn::Sob(register, (word % 0o100) as u8),
@@ -289,7 +117,7 @@ fn with_fields(operation: Op, word: u16) -> Insn
         Op::Number(operation) => Insn::Number(operation, number(operation, word)),
         Op::Bare(operation) => Insn::Bare(operation),
         Op::Condition(operation) => Insn::Condition(operation, condition_codes(word)),
-        Op::Branch(operation) => branch(operation, word),
+        Op::Branch(operation) => Insn::Branch(operation, ((word % 0o400) as u8).cast_signed()),
         Op::Call => Insn::Register(RegisterOp::Jsr, Register::Pc, operand),
         Op::Return => Insn::Rts(Register::Pc),
         Op::Codes(operation, codes) => Insn::Condition(operation, codes),

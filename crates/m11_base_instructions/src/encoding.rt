@@ -5,7 +5,7 @@ ghost use Rattle.m11_base_instructions.specs.Encoding.{IsHeld, code_of, conditio
 ghost use Rattle.m11_base_instructions.specs.Instructions.{HasCode, instruction_of};
 
 use crate::decoding::is_reserved;
-use crate::instruction::{ConditionCodes, DoubleOp, Insn, NumberOp, SingleOp};
+use crate::instruction::{ConditionCodes, DoubleOp, Insn, NumberOp, RTS, SOB, SingleOp};
 use crate::operand::Size;
 
 impl Insn {
@@ -65,11 +65,11 @@ fn code(instruction: &Insn) -> u16
         Insn::Register(operation, register, destination) => {
             operation as u16 + register.number() * 0o100 + destination.bits()
         }
-        Insn::Sob(register, count) => 0o077000 + register.number() * 0o100 + u16::from(count),
+        Insn::Sob(register, count) => SOB + register.number() * 0o100 + u16::from(count),
         Insn::Single(operation, size, operand) => {
             operation as u16 + size as u16 + operand.bits()
         }
-        Insn::Rts(register) => 0o000200 + register.number(),
+        Insn::Rts(register) => RTS + register.number(),
         Insn::Number(operation, number) => operation as u16 + u16::from(number),
         Insn::Bare(operation) => operation as u16,
         Insn::Condition(operation, codes) => operation as u16 + condition_bits(codes),

@@ -101,6 +101,12 @@ pub enum BranchOp {
     Bcs = 0o103400,
 }
 
+/// The bits of SOB, above those of its register and its count.
+pub(crate) const SOB: u16 = 0o077000;
+
+/// The bits of RTS, above those of its register.
+pub(crate) const RTS: u16 = 0o000200;
+
 /// The condition codes that an operation on them names.
 #[derive(Clone, Copy, Debug, PartialEq, Eq)]
 pub struct ConditionCodes {
@@ -114,54 +120,25 @@ pub struct ConditionCodes {
     pub carry: bool,
 }
 
+#[rattlefmt::skip]
 impl ConditionCodes {
     /// No condition code.
-    pub const NONE: ConditionCodes = ConditionCodes {
-        negative: false,
-        zero: false,
-        overflow: false,
-        carry: false,
-    };
+    pub const NONE: ConditionCodes = ConditionCodes { negative: false, zero: false, overflow: false, carry: false };
 
     /// C alone.
-    pub const CARRY: ConditionCodes = ConditionCodes {
-        negative: false,
-        zero: false,
-        overflow: false,
-        carry: true,
-    };
+    pub const CARRY: ConditionCodes = ConditionCodes { negative: false, zero: false, overflow: false, carry: true };
 
     /// V alone.
-    pub const OVERFLOW: ConditionCodes = ConditionCodes {
-        negative: false,
-        zero: false,
-        overflow: true,
-        carry: false,
-    };
+    pub const OVERFLOW: ConditionCodes = ConditionCodes { negative: false, zero: false, overflow: true, carry: false };
 
     /// Z alone.
-    pub const ZERO: ConditionCodes = ConditionCodes {
-        negative: false,
-        zero: true,
-        overflow: false,
-        carry: false,
-    };
+    pub const ZERO: ConditionCodes = ConditionCodes { negative: false, zero: true, overflow: false, carry: false };
 
     /// N alone.
-    pub const NEGATIVE: ConditionCodes = ConditionCodes {
-        negative: true,
-        zero: false,
-        overflow: false,
-        carry: false,
-    };
+    pub const NEGATIVE: ConditionCodes = ConditionCodes { negative: true, zero: false, overflow: false, carry: false };
 
     /// N, Z, V and C.
-    pub const ALL: ConditionCodes = ConditionCodes {
-        negative: true,
-        zero: true,
-        overflow: true,
-        carry: true,
-    };
+    pub const ALL: ConditionCodes = ConditionCodes { negative: true, zero: true, overflow: true, carry: true };
 }
 
 /// An instruction, without the words after its code.
@@ -221,3 +198,48 @@ pub enum Op {
     /// No operand: condition codes of its own.
     Codes(ConditionOp, ConditionCodes),
 }
+
+// An operation, with the form of its operands.
+macro_rules! op {
+    (Double $operation:ident $size:ident) => {
+        Op::Double(DoubleOp::$operation, Size::$size)
+    };
+    (Extended $operation:ident) => {
+        Op::Extended(ExtendedOp::$operation)
+    };
+    (Register $operation:ident) => {
+        Op::Register(RegisterOp::$operation)
+    };
+    (Sob) => {
+        Op::Sob
+    };
+    (Single $operation:ident $size:ident) => {
+        Op::Single(SingleOp::$operation, Size::$size)
+    };
+    (Rts) => {
+        Op::Rts
+    };
+    (Number $operation:ident) => {
+        Op::Number(NumberOp::$operation)
+    };
+    (Bare $operation:ident) => {
+        Op::Bare(BareOp::$operation)
+    };
+    (Condition $operation:ident) => {
+        Op::Condition(ConditionOp::$operation)
+    };
+    (Branch $operation:ident) => {
+        Op::Branch(BranchOp::$operation)
+    };
+    (Call) => {
+        Op::Call
+    };
+    (Return) => {
+        Op::Return
+    };
+    (Codes $operation:ident $bits:literal $codes:ident) => {
+        Op::Codes(ConditionOp::$operation, ConditionCodes::$codes)
+    };
+}
+
+pub(crate) use op;

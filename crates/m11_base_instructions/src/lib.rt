@@ -23,7 +23,7 @@ mod decoding;
 mod encoding;
 mod operation_tables;
 
-pub use decoding::{decode, decode_by_list};
+pub use decoding::{decode, decode_by_list, operation};
 pub use encoding::encode;
 
 // From names in a source to operations.

@@ -2,84 +2,64 @@
 //! "Instruction set".)
 
 use crate::instruction::{
-    BareOp, BranchOp, ConditionOp, DoubleOp, ExtendedOp, NumberOp, Op, RegisterOp, SingleOp,
+    BareOp, BranchOp, ConditionOp, DoubleOp, ExtendedOp, NumberOp, Op, RegisterOp, SingleOp, op,
 };
 use crate::operand::Size;
 
-macro_rules! op {
-    (Double $operation:ident $size:ident) => {
-        Some(Op::Double(DoubleOp::$operation, Size::$size))
-    };
-    (Single $operation:ident $size:ident) => {
-        Some(Op::Single(SingleOp::$operation, Size::$size))
-    };
-    (Extended $operation:ident) => {
-        Some(Op::Extended(ExtendedOp::$operation))
-    };
-    (Register $operation:ident) => {
-        Some(Op::Register(RegisterOp::$operation))
-    };
-    (Number $operation:ident) => {
-        Some(Op::Number(NumberOp::$operation))
-    };
-    (Bare $operation:ident) => {
-        Some(Op::Bare(BareOp::$operation))
-    };
-    (Condition $operation:ident) => {
-        Some(Op::Condition(ConditionOp::$operation))
-    };
-    (Branch $operation:ident) => {
-        Some(Op::Branch(BranchOp::$operation))
+// An entry that has an operation.
+macro_rules! entry {
+    ($($operation:ident)+) => {
+        Some(op!($($operation)+))
     };
 }
 
 // By the upper four bits.
 #[rattlefmt::skip]
 pub(crate) static DOUBLES: [Option<Op>; 16] = [
-    None, op!(Double Mov Word), op!(Double Cmp Word), op!(Double Bit Word),
-    op!(Double Bic Word), op!(Double Bis Word), op!(Double Add Word), None,
-    None, op!(Double Mov Byte), op!(Double Cmp Byte), op!(Double Bit Byte),
-    op!(Double Bic Byte), op!(Double Bis Byte), op!(Double Sub Word), None,
+    None, entry!(Double Mov Word), entry!(Double Cmp Word), entry!(Double Bit Word),
+    entry!(Double Bic Word), entry!(Double Bis Word), entry!(Double Add Word), None,
+    None, entry!(Double Mov Byte), entry!(Double Cmp Byte), entry!(Double Bit Byte),
+    entry!(Double Bic Byte), entry!(Double Bis Byte), entry!(Double Sub Word), None,
 ];
 
 // Words 07xxxx, by the next octal digit.
 #[rattlefmt::skip]
 pub(crate) static EXTENDED: [Option<Op>; 8] = [
-    op!(Extended Mul), op!(Extended Div), op!(Extended Ash), op!(Extended Ashc),
-    op!(Register Xor), None, None, Some(Op::Sob),
+    entry!(Extended Mul), entry!(Extended Div), entry!(Extended Ash), entry!(Extended Ashc),
+    entry!(Register Xor), None, None, entry!(Sob),
 ];
 
 // Words 000000 to 000007.
 #[rattlefmt::skip]
 pub(crate) static BARE: [Option<Op>; 8] = [
-    op!(Bare Halt), op!(Bare Wait), op!(Bare Rti), op!(Bare Bpt),
-    op!(Bare Iot), op!(Bare Reset), op!(Bare Rtt), None,
+    entry!(Bare Halt), entry!(Bare Wait), entry!(Bare Rti), entry!(Bare Bpt),
+    entry!(Bare Iot), entry!(Bare Reset), entry!(Bare Rtt), None,
 ];
 
 // Words 0002xx, by the next octal digit.
 #[rattlefmt::skip]
 pub(crate) static LAST: [Option<Op>; 8] = [
-    Some(Op::Rts), None, None, None,
-    op!(Condition Clear), op!(Condition Clear), op!(Condition Set), op!(Condition Set),
+    entry!(Rts), None, None, None,
+    entry!(Condition Clear), entry!(Condition Clear), entry!(Condition Set), entry!(Condition Set),
 ];
 
 // Other words 00xxxx, by the next two octal digits.
 #[rattlefmt::skip]
 pub(crate) static LOW: [Option<Op>; 64] = [
-    None, op!(Single Jmp Word), None, op!(Single Swab Word),
-    op!(Branch Br), op!(Branch Br), op!(Branch Br), op!(Branch Br),
-    op!(Branch Bne), op!(Branch Bne), op!(Branch Bne), op!(Branch Bne),
-    op!(Branch Beq), op!(Branch Beq), op!(Branch Beq), op!(Branch Beq),
-    op!(Branch Bge), op!(Branch Bge), op!(Branch Bge), op!(Branch Bge),
-    op!(Branch Blt), op!(Branch Blt), op!(Branch Blt), op!(Branch Blt),
-    op!(Branch Bgt), op!(Branch Bgt), op!(Branch Bgt), op!(Branch Bgt),
-    op!(Branch Ble), op!(Branch Ble), op!(Branch Ble), op!(Branch Ble),
-    op!(Register Jsr), op!(Register Jsr), op!(Register Jsr), op!(Register Jsr),
-    op!(Register Jsr), op!(Register Jsr), op!(Register Jsr), op!(Register Jsr),
-    op!(Single Clr Word), op!(Single Com Word), op!(Single Inc Word), op!(Single Dec Word),
-    op!(Single Neg Word), op!(Single Adc Word), op!(Single Sbc Word), op!(Single Tst Word),
-    op!(Single Ror Word), op!(Single Rol Word), op!(Single Asr Word), op!(Single Asl Word),
-    op!(Number Mark), None, None, op!(Single Sxt Word),
+    None, entry!(Single Jmp Word), None, entry!(Single Swab Word),
+    entry!(Branch Br), entry!(Branch Br), entry!(Branch Br), entry!(Branch Br),
+    entry!(Branch Bne), entry!(Branch Bne), entry!(Branch Bne), entry!(Branch Bne),
+    entry!(Branch Beq), entry!(Branch Beq), entry!(Branch Beq), entry!(Branch Beq),
+    entry!(Branch Bge), entry!(Branch Bge), entry!(Branch Bge), entry!(Branch Bge),
+    entry!(Branch Blt), entry!(Branch Blt), entry!(Branch Blt), entry!(Branch Blt),
+    entry!(Branch Bgt), entry!(Branch Bgt), entry!(Branch Bgt), entry!(Branch Bgt),
+    entry!(Branch Ble), entry!(Branch Ble), entry!(Branch Ble), entry!(Branch Ble),
+    entry!(Register Jsr), entry!(Register Jsr), entry!(Register Jsr), entry!(Register Jsr),
+    entry!(Register Jsr), entry!(Register Jsr), entry!(Register Jsr), entry!(Register Jsr),
+    entry!(Single Clr Word), entry!(Single Com Word), entry!(Single Inc Word), entry!(Single Dec Word),
+    entry!(Single Neg Word), entry!(Single Adc Word), entry!(Single Sbc Word), entry!(Single Tst Word),
+    entry!(Single Ror Word), entry!(Single Rol Word), entry!(Single Asr Word), entry!(Single Asl Word),
+    entry!(Number Mark), None, None, entry!(Single Sxt Word),
     None, None, None, None,
     None, None, None, None,
 ];
@@ -87,19 +67,19 @@ pub(crate) static LOW: [Option<Op>; 64] = [
 // Words 10xxxx, by the next two octal digits.
 #[rattlefmt::skip]
 pub(crate) static HIGH: [Option<Op>; 64] = [
-    op!(Branch Bpl), op!(Branch Bpl), op!(Branch Bpl), op!(Branch Bpl),
-    op!(Branch Bmi), op!(Branch Bmi), op!(Branch Bmi), op!(Branch Bmi),
-    op!(Branch Bhi), op!(Branch Bhi), op!(Branch Bhi), op!(Branch Bhi),
-    op!(Branch Blos), op!(Branch Blos), op!(Branch Blos), op!(Branch Blos),
-    op!(Branch Bvc), op!(Branch Bvc), op!(Branch Bvc), op!(Branch Bvc),
-    op!(Branch Bvs), op!(Branch Bvs), op!(Branch Bvs), op!(Branch Bvs),
-    op!(Branch Bcc), op!(Branch Bcc), op!(Branch Bcc), op!(Branch Bcc),
-    op!(Branch Bcs), op!(Branch Bcs), op!(Branch Bcs), op!(Branch Bcs),
-    op!(Number Emt), op!(Number Emt), op!(Number Emt), op!(Number Emt),
-    op!(Number Trap), op!(Number Trap), op!(Number Trap), op!(Number Trap),
-    op!(Single Clr Byte), op!(Single Com Byte), op!(Single Inc Byte), op!(Single Dec Byte),
-    op!(Single Neg Byte), op!(Single Adc Byte), op!(Single Sbc Byte), op!(Single Tst Byte),
-    op!(Single Ror Byte), op!(Single Rol Byte), op!(Single Asr Byte), op!(Single Asl Byte),
+    entry!(Branch Bpl), entry!(Branch Bpl), entry!(Branch Bpl), entry!(Branch Bpl),
+    entry!(Branch Bmi), entry!(Branch Bmi), entry!(Branch Bmi), entry!(Branch Bmi),
+    entry!(Branch Bhi), entry!(Branch Bhi), entry!(Branch Bhi), entry!(Branch Bhi),
+    entry!(Branch Blos), entry!(Branch Blos), entry!(Branch Blos), entry!(Branch Blos),
+    entry!(Branch Bvc), entry!(Branch Bvc), entry!(Branch Bvc), entry!(Branch Bvc),
+    entry!(Branch Bvs), entry!(Branch Bvs), entry!(Branch Bvs), entry!(Branch Bvs),
+    entry!(Branch Bcc), entry!(Branch Bcc), entry!(Branch Bcc), entry!(Branch Bcc),
+    entry!(Branch Bcs), entry!(Branch Bcs), entry!(Branch Bcs), entry!(Branch Bcs),
+    entry!(Number Emt), entry!(Number Emt), entry!(Number Emt), entry!(Number Emt),
+    entry!(Number Trap), entry!(Number Trap), entry!(Number Trap), entry!(Number Trap),
+    entry!(Single Clr Byte), entry!(Single Com Byte), entry!(Single Inc Byte), entry!(Single Dec Byte),
+    entry!(Single Neg Byte), entry!(Single Adc Byte), entry!(Single Sbc Byte), entry!(Single Tst Byte),
+    entry!(Single Ror Byte), entry!(Single Rol Byte), entry!(Single Asr Byte), entry!(Single Asl Byte),
     None, None, None, None,
     None, None, None, None,
     None, None, None, None,

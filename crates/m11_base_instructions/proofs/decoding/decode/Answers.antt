@@ -10,10 +10,10 @@ again : (i : Insn) (word : ℕ) → word < 65536 → i ≡ instruction_of word �
 again i word h e = (ap fits e ∙ instruction_fits word h, ap code_of e ∙ code_again word h)
 
 pub returns-clause-instruction : goal.returns-clause-instruction
-returns-clause-instruction c = c.by_digits.ensures ∙ tables_meaning c.args.word c.ranges.word.fits
+returns-clause-instruction c = c.by_tables.ensures ∙ tables_meaning c.args.word c.ranges.word.fits
 
 pub returns-clause-one_row : goal.returns-clause-one_row
 returns-clause-one_row c = one_row c.args.word
 
 pub returns-clause-again : goal.returns-clause-again
-returns-clause-again c = again c.by_digits.result c.args.word c.ranges.word.fits (c.by_digits.ensures ∙ tables_meaning c.args.word c.ranges.word.fits)
+returns-clause-again c = again c.by_tables.result c.args.word c.ranges.word.fits (c.by_tables.ensures ∙ tables_meaning c.args.word c.ranges.word.fits)
