@@ -8,7 +8,9 @@ use crate::abort::{Abort, Vector};
 use crate::machine::Machine;
 use crate::status::ProcessorStatus;
 use m11_base::{Feed, Sink};
-use m11_base_instructions::{BareOp, ConditionCodes, ConditionOp, Insn, NumberOp, Operand, Register, RegisterOp};
+use m11_base_instructions::{
+    BareOp, ConditionCodes, ConditionOp, Insn, NumberOp, Operand, Register, RegisterOp,
+};
 
 /// How an instruction ends.
 #[derive(Clone, Copy)]

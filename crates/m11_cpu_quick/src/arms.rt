@@ -24,7 +24,9 @@ use crate::singles::single;
 use m11_base_instructions::DoubleOp::{Add, Bic, Bis, Cmp, Mov, Sub};
 use m11_base_instructions::SingleOp::{Adc, Asl, Asr, Clr, Com, Dec, Inc, Neg, Rol, Ror, Sbc, Tst};
 use m11_base_instructions::Size::{Byte, Word};
-use m11_base_instructions::{BranchOp, ConditionCodes, ConditionOp, DoubleOp, Insn, Operand, SingleOp, Size, decode};
+use m11_base_instructions::{
+    BranchOp, ConditionCodes, ConditionOp, DoubleOp, Insn, Operand, SingleOp, Size, decode,
+};
 use m11_cpu_machine::Machine;
 
 /// The word of an instruction, and the program counter after it.
