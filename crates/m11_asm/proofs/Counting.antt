@@ -1,5 +1,5 @@
 -- One line more of a source is counted.
-use Rattle.std.proofs.Common.{◌≡◌, ◌∙◌, ℕ, ◌+◌, List, [], ◌∷◌, ◌++◌, length, Option, None, Result, Ok, ap, sym, length-append}
+use Rattle.std.proofs.Common.{◌≡◌, ◌∙◌, ◌+◌, List, [], ◌∷◌, ◌++◌, length, Option, None, Result, Ok, ap, sym, length-append}
 use Rattle.std.specs.Option.{option_or}
 use Rattle.std.specs.Result.{result_err}
 use Rattle.m11_asm_faults.specs.declared.fault.AsmFault.{AsmFault}
@@ -9,8 +9,8 @@ pub one_longer : (source : List SourceLine) (line : SourceLine) → length (sour
 one_longer source line = length-append source (line ∷ [])
 
 -- a latch keeps no fault of a call that was Ok
-pub keeps_none : (kept old : Option AsmFault) (numbers : Result ℕ AsmFault) (number : ℕ) → kept ≡ option_or old (result_err numbers)
-    → old ≡ None → Ok number ≡ numbers → kept ≡ None
-keeps_none kept old numbers number kept_is none same =
-    kept_is ∙ ap (λ (f : Option AsmFault). option_or f (result_err numbers)) none
-    ∙ ap (λ (r : Result ℕ AsmFault). result_err r) (sym same)
+pub keeps_none : {A : Type 0} (kept old : Option AsmFault) (came : Result A AsmFault) (value : A) → kept ≡ option_or old (result_err came)
+    → old ≡ None → Ok value ≡ came → kept ≡ None
+keeps_none {A} kept old came value kept_is none same =
+    kept_is ∙ ap (λ (f : Option AsmFault). option_or f (result_err came)) none
+    ∙ ap (λ (r : Result A AsmFault). result_err r) (sym same)

@@ -9,7 +9,7 @@ use Rattle.m11_asm.specs.Facts.{Facts}
 use Rattle.m11_asm.specs.First.{Symbols}
 use Rattle.m11_scan_lines.specs.Line.{SourceLine}
 use Rattle.m11_asm_passes.specs.Lines.{Numbered}
-use Rattle.m11_asm_passes.specs.States.{Going, PassState, PassStands}
+use Rattle.m11_asm_passes.specs.States.{Going, PassStands}
 use Rattle.m11_asm_pass_laws.proofs.Counting.{at_most}
 use Rattle.m11_asm_rules.specs.Meanings.{Map, map_of}
 use Rattle.m11_asm_rules.specs.Places.{place_in}
@@ -19,24 +19,18 @@ use Rattle.m11_asm_lines.specs.UsedSymbols.{Gathered}
 use Rattle.m11_asm_lines.specs.Passes.{Kept}
 use Rattle.m11_asm_table.specs.Alike.{Alike}
 use Rattle.m11_unfold_rules.specs.Limits.{most_lines}
-use Rattle.m11_unfold_rules.specs.Stages.{Stage, start}
+use Rattle.m11_unfold_rules.specs.Stages.{start}
 use Rattle.m11_base_writes.proofs.Writing.{writes_then}
 use Rattle.m11_asm.specs.Program.{Program, program_in, program_kept}
-use Rattle.m11_asm.specs.Second.{GoesOn, SecondEnds, SecondStands, SecondState, ended_with}
+use Rattle.m11_asm.specs.Second.{SecondEnds, SecondStands, SecondState, Wrote, ended_with}
 use Rattle.m11_asm.specs.Writing.{Writing, WritingStands, most_counted}
 use Rattle.m11_asm.specs.Written.{flagged_count, flagged_in, is_flagged, last_place, last_writes, flags_after, pieces_in, written}
 use Rattle.m11_asm.specs.declared.done.AsmDone.{AsmDone}
 use Rattle.m11_asm.proofs.LinesWritten.{nothing_written}
+use Rattle.m11_asm.proofs.Taking.{stands_first}
 use Rattle.m11_asm_lines.specs.declared.counting.Counting.TheVariants.{Definitions}
 
 -- ---- before the first line
-
-pub begins_so : (pass : PassState) (fault : Option AsmFault) → pass.going.unfolder.stage ≡ start [] → pass.fault ≡ None
-    → GoesOn fault false pass
-begins_so pass fault first goes = record {
-  goes_on = λ none. goes;
-  needs = λ none is. ap (λ (s : Stage). s.left) first;
-}
 
 module _ (kept : Kept) (gathered : Gathered) (facts : Facts) (going : Going) (writing : Writing) (fault : Option AsmFault)
     (stands : (map : Map) → PassStands map Definitions [] [] going) (first_stage : going.unfolder.stage ≡ start [])
@@ -48,17 +42,11 @@ module _ (kept : Kept) (gathered : Gathered) (facts : Facts) (going : Going) (wr
   begun first now gains =
       let program = program_in (record { kept = kept; gathered = gathered; facts = facts }) in
       record {
-        lines = [];
         map_is = refl;
-        taken = record {
-          stands = stands (map_of kept.table);
+        stands = stands_first program.map Definitions (Wrote program first now writing) going fault (stands (map_of kept.table)) (record {
           keeps = keeps;
           gains = subst (λ (ws : List Write). Gains first now ws) (sym (nothing_written program)) gains;
-        };
-        read = refl;
-        ended = sym (ap (λ (s : Stage). s.has_ended) first_stage);
-        needs = λ is. ap (λ (s : Stage). s.left) first_stage;
-        goes_on = goes;
+        }) first_stage goes;
       }
 
   pub second_begins : (symbols : Symbols) → kept ≡ symbols.kept → gathered ≡ symbols.gathered → facts ≡ symbols.facts
@@ -100,27 +88,27 @@ place_same one other alike =
 
 module _ (program : Program) (source : List SourceLine) (first now : Outputs) (state : SecondState)
     (stands : SecondStands program source first now state) where
-  pub place_is : place state.going.kept.table ≡ last_place program stands.lines
-  place_is = place_same _ _ stands.taken.stands.matches.alike
+  pub place_is : place state.going.kept.table ≡ last_place program stands.stands.lines
+  place_is = place_same _ _ stands.stands.taken.stands.matches.alike
 
-  pub few_flagged : flagged_count program stands.lines state.has_ended ≤ most_counted
+  pub few_flagged : flagged_count program stands.stands.lines state.has_ended ≤ most_counted
   few_flagged =
-      count_few program stands.lines state.has_ended
-      (at_most program.map Definitions source stands.lines state.going.unfolder.stage stands.taken.stands.lines_are)
+      count_few program stands.stands.lines state.has_ended
+      (at_most program.map Definitions source stands.stands.lines state.going.unfolder.stage stands.stands.taken.stands.lines_are)
 
-  pub second_finishes : (new : Outputs) (result : Result AsmDone AsmFault) → Writes now new (last_writes program stands.lines (ended_with state)) result
-      → IfOk result (λ done. done.flagged ≡ flagged_count program stands.lines state.has_ended)
-      → OnOk result (AllFit (object_contents program.rows (pieces_in program.map stands.lines)))
+  pub second_finishes : (new : Outputs) (result : Result AsmDone AsmFault) → Writes now new (last_writes program stands.stands.lines (ended_with state)) result
+      → IfOk result (λ done. done.flagged ≡ flagged_count program stands.stands.lines state.has_ended)
+      → OnOk result (AllFit (object_contents program.rows (pieces_in program.map stands.stands.lines)))
       → OnOk result (AreFlushed new) → SecondEnds program source first new state result
   second_finishes new result writes count fit flushed = record {
-    lines = stands.lines;
+    lines = stands.stands.lines;
     stage = state.going.unfolder.stage;
-    live = stands.taken.stands.lines_are;
-    read = stands.read;
-    ended = stands.ended;
-    needs = stands.needs;
-    writes = writes_then assembly first now new (written program stands.lines) (last_writes program stands.lines (ended_with state)) result
-        stands.taken.gains writes;
+    live = stands.stands.taken.stands.lines_are;
+    read = stands.stands.read;
+    ended = stands.stands.ended;
+    needs = stands.stands.needs;
+    writes = writes_then assembly first now new (written program stands.stands.lines) (last_writes program stands.stands.lines (ended_with state)) result
+        stands.stands.taken.done.gains writes;
     count = count;
     fit = fit;
     flushed = flushed;

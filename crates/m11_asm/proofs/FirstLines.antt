@@ -1,11 +1,11 @@
 -- The first pass over feeds, from line to line.
-use Rattle.std.proofs.Common.{◌≡◌, ◌∙◌, Bool, true, false, List, [], ◌∷◌, ◌++◌, ℕ, length, Option, Some, None, Result, Ok, Err, IfOk, IsErrAnd, refl, sym, ap, subst, inl, inr, arith}
+use Rattle.std.proofs.Common.{◌≡◌, ◌∙◌, true, false, List, [], ◌∷◌, ◌++◌, ℕ, length, Option, Some, None, Result, Ok, Err, IfOk, IsErrAnd, refl, sym, subst, inl, inr, arith}
 use Rattle.std.specs.Result.{result_err}
 use Rattle.m11_asm_faults.specs.Faults.{of_lines}
 use Rattle.m11_asm_faults.specs.declared.fault.AsmFault.{AsmFault}
 use Rattle.m11_asm_faults.specs.declared.fault.AsmFault.TheVariants as fault
 use Rattle.m11_base.specs.Feed.{NoneFailed, Text}
-use Rattle.m11_asm.specs.First.{FirstFails, FirstStands, FirstState, FirstTakes, Symbols, symbols_of}
+use Rattle.m11_asm.specs.First.{AreFactsOf, FirstFails, FirstStands, FirstState, FirstTakes, Symbols, line_state, symbols_of}
 use Rattle.m11_asm.proofs.Counting.{one_longer}
 use Rattle.m11_scan_lines.specs.Line.{SourceLine}
 use Rattle.m11_scan_lines.specs.Lines.{most_lines}
@@ -16,106 +16,52 @@ use Rattle.m11_asm_passes.specs.Lines as lines
 use Rattle.m11_asm_passes.specs.Lines.{with_line}
 use Rattle.m11_asm_rules.specs.Meanings.{empty_map}
 use Rattle.m11_scan_line_laws.specs.Extents.{GaveLines}
-use Rattle.m11_scan_line_laws.specs.Readings.{Reading}
 use Rattle.m11_unfold_rules.specs.Stages.{start}
-use Rattle.m11_asm.specs.Written.{Ended}
 use Rattle.m11_asm.specs.Extents as extents
-use Rattle.m11_asm.specs.Extents.{GivesToEnd, GivesToFault, HaveGiven}
-use Rattle.m11_asm.specs.FirstReading.{FirstStops, FirstTaken, GivesSymbols, IsTakenUp, TakesLines}
+use Rattle.m11_asm.specs.Extents.{GivesToEnd}
+use Rattle.m11_asm.specs.FirstReading.{FirstStops, FirstTaken, GivesSymbols, TakesLines}
 use Rattle.m11_asm.specs.Outcome as outcome
-use Rattle.m11_asm.specs.Outcome.{Ends, Refuses, Unended}
+use Rattle.m11_asm.specs.Outcome.{Unended}
 use Rattle.m11_asm.specs.Passes.{Pass, ReadsFirst, pass_of}
-use Rattle.m11_asm.proofs.LinesRead.{Begun, SoFar, all_read, begun, failed, few_read, one_more, too_many, too_much, given_all, given_till, lines_given, past_bytes, past_lines, reader_begins}
+use Rattle.m11_asm.proofs.LinesRead.{Begun, SoFar, begun, failed, few_read, lines_given, one_more, reader_begins, too_many, too_much}
+use Rattle.m11_asm.proofs.LinesTaken.{StandsSoFar, ends_by, given_to_end, given_to_fault, taken_to_end, taken_wholly, unended_so}
 use Rattle.m11_asm_lines.specs.Counting.{none_used}
 
--- where `.END` isn't live, nothing is left of the lines
-pub first_unended : (source : List SourceLine) (first : FirstState) → (stands : FirstStands source first) → first.has_ended ≡ false
-    → Unended empty_map none_used source stands.lines
-first_unended source first stands goes = record {
-  stage = first.going.unfolder.stage;
-  live = stands.taken.stands.lines_are;
-  left = stands.needs goes;
-  goes_on = sym stands.ended ∙ goes;
-}
-
 -- the pass stands after the lines that the reader returned
-pub record FirstSoFar {F : Type 0} (text : F → Option Text) (faults : F → ℕ) (initial here : List F) (reader : LineReading)
-    (first : FirstState) : Type 0 where
-  pub source : List SourceLine
-  pub read : SoFar text faults initial here reader source
-  pub stands : FirstStands source first
+abbrev pub FirstSoFar : {F : Type 0} → (F → Option Text) → (F → ℕ) → List F → List F → LineReading → FirstState → Type 0
+FirstSoFar text faults initial here reader first =
+    StandsSoFar text faults initial here reader (λ source. FirstStands source first)
 
 module _ {F : Type 0} (text : F → Option Text) (faults : F → ℕ) (initial here : List F) (reader : LineReading) (first : FirstState)
     (so : FirstSoFar text faults initial here reader first) where
   -- `.END` is live
   pub first_ended : first.has_ended ≡ true → FirstTaken (pass_of text faults initial here) first
-  first_ended ends =
-      let b = begun text faults initial here reader so.source so.read in
-      let P : Bool → Type 0 = λ e. IsTakenUp b.reading so.source e in
-      let Q : Bool → Type 0 = λ e. HaveGiven (pass_of text faults initial here) so.source e in
-      record {
-        reading = b.reading;
-        reads = b.reads;
-        source = so.source;
-        stands = so.stands;
-        taken_up = subst P (sym ends) (b.more, b.are);
-        given = subst Q (sym ends) (lines_given text faults initial here reader so.source so.read);
-      }
+  first_ended ends = taken_to_end text faults initial here reader (λ source. FirstStands source first) first.has_ended so ends
 
   module _ (goes : first.has_ended ≡ false) (later : List F) (reader' : LineReading) where
     unended : Unended empty_map none_used so.source so.stands.lines
-    unended = first_unended so.source first so.stands goes
+    unended = unended_so empty_map none_used (AreFactsOf first.facts) so.source (line_state first) so.stands goes
 
     pub first_read : ReadsNext (place text faults here reader) (place text faults later reader') (Ok None)
         → FirstTaken (pass_of text faults initial later) first
     first_read next =
-        let reading : Reading = record { lines = so.source; fault = None } in
-        let P : Bool → Type 0 = λ e. IsTakenUp reading so.source e in
-        let Q : Bool → Type 0 = λ e. HaveGiven (pass_of text faults initial later) so.source e in
-        record {
-          reading = reading;
-          reads = all_read text faults initial here reader so.source so.read later reader' next;
-          source = so.source;
-          stands = so.stands;
-          taken_up = subst P (sym goes) (refl, refl);
-          given = subst Q (sym goes) (given_all text faults initial here reader so.source so.read later reader' next);
-        }
+        taken_wholly text faults initial here reader (λ source. FirstStands source first) first.has_ended so goes later reader' next
 
-    stops_so : (fault : LineFault) → ReadsNext (place text faults here reader) (place text faults later reader') (Err fault)
-        → FirstStops (pass_of text faults initial later) (of_lines fault)
-    stops_so Read next = (
-      (so.source, failed text faults initial here reader so.source so.read later reader' next, so.stands.lines, unended),
-      (so.source, so.stands.lines, unended, given_till text faults initial here reader so.source so.read later reader' next),
+    reads_so : (fault : LineFault) → ReadsNext (place text faults here reader) (place text faults later reader') (Err fault)
+        → ReadsFirst (pass_of text faults initial later) (Err (of_lines fault))
+    reads_so Read next =
+        (so.source, failed text faults initial here reader so.source so.read later reader' next, so.stands.lines, unended)
+    reads_so TooMuchSource next = (
+      record { lines = so.source; fault = Some TooMuchSource },
+      too_much text faults initial here reader so.source so.read later reader' next,
+      so.stands.lines,
+      outcome.Refuses.AtReading TooMuchSource refl refl unended,
     )
-    stops_so TooMuchSource next = (
-      (
-        record { lines = so.source; fault = Some TooMuchSource },
-        too_much text faults initial here reader so.source so.read later reader' next,
-        so.stands.lines,
-        outcome.Refuses.AtReading TooMuchSource refl refl unended,
-      ),
-      (
-        so.source,
-        so.stands.lines,
-        unended,
-        TooMuchSource,
-        past_bytes text faults initial here reader so.source so.read later reader' next,
-      ),
-    )
-    stops_so TooManyLines next = (
-      (
-        record { lines = so.source; fault = Some TooManyLines },
-        too_many text faults initial here reader so.source so.read later reader' next,
-        so.stands.lines,
-        outcome.Refuses.AtReading TooManyLines refl refl unended,
-      ),
-      (
-        so.source,
-        so.stands.lines,
-        unended,
-        TooManyLines,
-        past_lines text faults initial here reader so.source so.read later reader' next,
-      ),
+    reads_so TooManyLines next = (
+      record { lines = so.source; fault = Some TooManyLines },
+      too_many text faults initial here reader so.source so.read later reader' next,
+      so.stands.lines,
+      outcome.Refuses.AtReading TooManyLines refl refl unended,
     )
 
     pub first_stops : (came : LineFault) (stopped : AsmFault) → stopped ≡ of_lines came
@@ -123,7 +69,11 @@ module _ {F : Type 0} (text : F → Option Text) (faults : F → ℕ) (initial h
         → FirstStops (pass_of text faults initial later) stopped
     first_stops came stopped is next =
         let P : AsmFault → Type 0 = λ f. FirstStops (pass_of text faults initial later) f in
-        subst P (sym is) (stops_so came next)
+        subst P (sym is) (
+          reads_so came next,
+          given_to_fault text faults initial here reader empty_map none_used so.source so.stands.lines so.read unended later reader'
+              came next,
+        )
 
     module _ (line : SourceLine) (next : ReadsNext (place text faults here reader) (place text faults later reader') (Ok (Some line)))
         (sound : reader'.fault ≡ None) where
@@ -209,36 +159,18 @@ pub all_given : {F : Type 0} (pass : Pass F) (first : FirstState) → FirstTaken
 all_given pass first taken (Ok symbols) is ends = (first, taken, is)
 all_given pass first taken (Err stopped) is ends = absurd (no_fault first stopped taken.stands.goes_on (sym ends))
 
-abbrev ended_at : List SourceLine → Ended
-ended_at source = record { read = length source; has_end = false }
-
 -- the live lines of the source
 module _ {F : Type 0} (pass : Pass F) (first : FirstState) (taken : FirstTaken pass first) where
-  ends_by : (has_ended : Bool) → first.has_ended ≡ has_ended → IsTakenUp taken.reading taken.source has_ended
-      → Ends empty_map none_used taken.reading taken.stands.lines (record { read = length taken.source; has_end = has_ended })
-  ends_by true is up =
-      outcome.Ends.AtEnd taken.source up.0 first.going.unfolder.stage up.1 taken.stands.taken.stands.lines_are
-      (sym taken.stands.ended ∙ is) refl
-  ends_by false is up =
-      let P : List SourceLine → Type 0 = λ s. Unended empty_map none_used s taken.stands.lines in
-      outcome.Ends.WithoutEnd (subst P (sym up.0) (first_unended taken.source first taken.stands is)) up.1
-      (ap ended_at (sym up.0))
-
   pub first_reads : ReadsFirst pass (Ok taken.stands.lines)
   first_reads = (
     taken.reading,
     taken.reads,
     record { read = length taken.source; has_end = first.has_ended },
-    ends_by first.has_ended refl taken.taken_up,
+    ends_by empty_map none_used taken.source taken.stands.lines first.going.unfolder.stage taken.stands.taken.stands.lines_are
+        first.has_ended taken.stands.ended taken.stands.needs taken.reading first.has_ended refl taken.taken_up,
   )
 
-  given_by : (has_ended : Bool) → first.has_ended ≡ has_ended → HaveGiven pass taken.source has_ended
-      → GivesToEnd pass empty_map none_used taken.stands.lines
-  given_by true is given =
-      extents.GivesToEnd.AtEnd taken.source first.going.unfolder.stage taken.stands.taken.stands.lines_are
-      (sym taken.stands.ended ∙ is) given
-  given_by false is given =
-      extents.GivesToEnd.WithoutEnd taken.source (first_unended taken.source first taken.stands is) given
-
   pub first_gives : GivesToEnd pass empty_map none_used taken.stands.lines
-  first_gives = given_by first.has_ended refl taken.given
+  first_gives =
+      given_to_end empty_map none_used taken.source taken.stands.lines first.going.unfolder.stage taken.stands.taken.stands.lines_are
+      first.has_ended taken.stands.ended taken.stands.needs pass first.has_ended refl taken.given

@@ -2,16 +2,18 @@ mod Counting
 mod FactsFound
 mod Finishing
 mod FirstLines
+mod FirstTaking
 mod Joined
-mod LineTaken
 mod LinesRead
+mod LinesTaken
 pub mod LinesWritten
 mod Naming
 mod Noting
-mod Passing
 mod ProgramsAgree
 mod ProgramsAlike
 mod Putting
 mod SameFacts
+mod SecondLine
 mod SecondLines
+mod SecondTaking
 mod Taking

@@ -6,12 +6,14 @@ use Rattle.m11_asm_directory.specs.Laws as directory
 use Rattle.m11_asm_directory.specs.Names.{has_name}
 use Rattle.m11_asm_directory.specs.Rows.{directory_rows}
 use Rattle.m11_asm.specs.Facts.{Facts}
-use Rattle.m11_asm.specs.First.{FirstState, Taken, symbols_of}
+use Rattle.m11_asm.specs.First.{AreFactsOf, FirstState, symbols_of}
+use Rattle.m11_asm.specs.Standing.{Taken}
 use Rattle.m11_scan_lines.specs.Line.{SourceLine}
 use Rattle.m11_asm_pass_laws.proofs.MapsAlike.{maps_same}
 use Rattle.m11_asm_passes.specs.Lines.{Numbered, givens}
 use Rattle.m11_asm_rules.specs.Limits.{most_sections}
-use Rattle.m11_asm_lines.specs.Counting.{gathered_in}
+use Rattle.m11_asm_lines.specs.Counting.{gathered_in, none_used}
+use Rattle.m11_asm_rules.specs.Meanings.{empty_map}
 use Rattle.m11_asm_lines.specs.UsedSymbols.{Gathered}
 use Rattle.m11_asm.specs.Program.{all_names, used_in, program_in, program_kept, program_of, directory_facts_in, directory_facts_of}
 use Rattle.m11_asm_symbol_list.specs.Sections.{section_entries}
@@ -25,7 +27,7 @@ pub record LawsOfFirstPasses : Type 0 where
       → symbol_entries one names ≡ symbol_entries other others
   pub sections : (one other : DirectoryFacts) → directory.FirstPassesAgree one other → section_entries one ≡ section_entries other
 
-module _ (source : List SourceLine) (lines : List Numbered) (first : FirstState) (taken : Taken source lines first.going first.facts)
+module _ (source : List SourceLine) (lines : List Numbered) (first : FirstState) (taken : Taken empty_map none_used (AreFactsOf first.facts) source lines first.going)
     (few : length first.going.kept.table.sections ≤ most_sections) (laws : LawsOfFirstPasses) where
   referred_same : gathered_in first.going.counting ≡ used_in (givens lines)
   referred_same = ap gathered_in taken.stands.counting
@@ -35,10 +37,10 @@ module _ (source : List SourceLine) (lines : List Numbered) (first : FirstState)
     tables = taken.stands.matches.alike;
     sizes = λ number within. taken.stands.matches.sizes number (omega (arith, within, few));
     referred = λ name. ap (λ (g : Gathered). has_name name g.referred) referred_same;
-    weak = λ name. ap (λ (f : Facts). has_name name f.weak) taken.facts_are;
-    title = ap (λ (f : Facts). f.title) taken.facts_are;
-    identification = ap (λ (f : Facts). f.identification) taken.facts_are;
-    transfer = ap (λ (f : Facts). f.transfer) taken.facts_are;
+    weak = λ name. ap (λ (f : Facts). has_name name f.weak) taken.done;
+    title = ap (λ (f : Facts). f.title) taken.done;
+    identification = ap (λ (f : Facts). f.identification) taken.done;
+    transfer = ap (λ (f : Facts). f.transfer) taken.done;
   }
 
   names_same : directory.HaveTheSame (all_names (gathered_in first.going.counting)) (all_names (used_in (givens lines)))
@@ -52,5 +54,5 @@ module _ (source : List SourceLine) (lines : List Numbered) (first : FirstState)
     rows = laws.rows _ _ told_same;
     symbols = laws.symbols _ _ _ _ told_same names_same;
     sections = laws.sections _ _ told_same;
-    transfer = ap (λ (f : Facts). f.transfer) taken.facts_are;
+    transfer = ap (λ (f : Facts). f.transfer) taken.done;
   }

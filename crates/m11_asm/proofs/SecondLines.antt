@@ -14,41 +14,29 @@ use Rattle.m11_scan_lines.specs.declared.fault.LineFault.{LineFault}
 use Rattle.m11_scan_lines.specs.declared.fault.LineFault.TheVariants.{Read, TooMuchSource, TooManyLines}
 use Rattle.m11_asm_passes.specs.Lines as lines
 use Rattle.m11_scan_line_laws.specs.Extents.{GaveLines}
-use Rattle.m11_scan_line_laws.specs.Readings.{Reading}
 use Rattle.m11_asm.specs.Program.{Program}
-use Rattle.m11_asm.specs.Second.{SecondEnds, SecondFails, SecondStands, SecondState, SecondTakes, StopsAmong, ended_with}
+use Rattle.m11_asm.specs.Second.{SecondEnds, SecondFails, SecondStands, SecondState, SecondTakes, StopsAmong, Wrote, ended_with, line_state}
 use Rattle.m11_asm.specs.Written.{Ended, flagged_count, pieces_in, program_writes, written}
 use Rattle.m11_asm.specs.declared.done.AsmDone.{AsmDone}
 use Rattle.m11_unfold_rules.specs.Stages.{start}
 use Rattle.m11_base_writes.proofs.Writing.{refused_between}
 use Rattle.m11_asm.specs.Extents as extents
-use Rattle.m11_asm.specs.Extents.{GivesToEnd, GivesToStop, HaveGiven, SecondGives}
-use Rattle.m11_asm.specs.FirstReading.{IsTakenUp}
+use Rattle.m11_asm.specs.Extents.{GivesToEnd, GivesToStop, HaveGiven}
 use Rattle.m11_asm.specs.Outcome as outcome
 use Rattle.m11_asm.specs.Outcome.{Ends, Unended}
 use Rattle.m11_asm.specs.Passes as passes
-use Rattle.m11_asm.specs.Passes.{Pass, StopsAmongWrites, pass_of}
+use Rattle.m11_asm.specs.Passes.{Pass, ReadsSecond, StopsAmongWrites, pass_of}
 use Rattle.m11_asm.specs.SecondReading.{PutsAll, SecondTaken}
-use Rattle.m11_asm.proofs.LinesRead.{Begun, SoFar, all_read, begun, failed, few_read, given_all, given_till, lines_given, one_more, past_bytes, past_lines, reader_begins, too_many, too_much}
+use Rattle.m11_asm.proofs.LinesRead.{Begun, SoFar, begun, failed, few_read, lines_given, one_more, reader_begins, too_many, too_much}
+use Rattle.m11_asm.proofs.LinesTaken.{StandsSoFar, ends_by, given_to_end, given_to_fault, taken_to_end, taken_wholly, unended_at, unended_so}
+use Rattle.m11_asm.specs.Standing.{Stands}
 use Rattle.m11_asm_lines.specs.declared.counting.Counting.TheVariants.{Definitions}
 
--- where `.END` isn't live, nothing is left of the lines
-second_unended : (program : Program) (source : List SourceLine) (old now : Outputs) (second : SecondState)
-    → (stands : SecondStands program source old now second) → second.has_ended ≡ false
-    → Unended program.map Definitions source stands.lines
-second_unended program source old now second stands goes = record {
-  stage = second.going.unfolder.stage;
-  live = stands.taken.stands.lines_are;
-  left = stands.needs goes;
-  goes_on = sym stands.ended ∙ goes;
-}
-
 -- the pass stands after the lines that the reader returned
-pub record SecondSoFar {F : Type 0} (text : F → Option Text) (faults : F → ℕ) (initial here : List F) (reader : LineReading)
-    (program : Program) (old now : Outputs) (second : SecondState) : Type 0 where
-  pub source : List SourceLine
-  pub read : SoFar text faults initial here reader source
-  pub stands : SecondStands program source old now second
+abbrev pub SecondSoFar : {F : Type 0} → (F → Option Text) → (F → ℕ) → List F → List F → LineReading
+    → Program → Outputs → Outputs → SecondState → Type 0
+SecondSoFar text faults initial here reader program old now second =
+    StandsSoFar text faults initial here reader (λ source. SecondStands program source old now second)
 
 module _ {F : Type 0} (text : F → Option Text) (faults : F → ℕ) (program : Program) (old : Outputs) where
   -- memory was refused before the first line
@@ -80,81 +68,45 @@ module _ {F : Type 0} (text : F → Option Text) (faults : F → ℕ) (program :
     -- `.END` is live
     pub second_ended : second.has_ended ≡ true → SecondTaken (pass_of text faults initial here) program old now second
     second_ended ends =
-        let b = begun text faults initial here reader so.source so.read in
-        let P : Bool → Type 0 = λ e. IsTakenUp b.reading so.source e in
-        let Q : Bool → Type 0 = λ e. HaveGiven (pass_of text faults initial here) so.source e in
-        record {
-          reading = b.reading;
-          reads = b.reads;
-          source = so.source;
-          stands = so.stands;
-          taken_up = subst P (sym ends) (b.more, b.are);
-          given = subst Q (sym ends) (lines_given text faults initial here reader so.source so.read);
-        }
+        taken_to_end text faults initial here reader (λ source. SecondStands program source old now second) second.has_ended so ends
 
     module _ (goes : second.has_ended ≡ false) (later : List F) (reader' : LineReading) where
-      unended : Unended program.map Definitions so.source so.stands.lines
-      unended = second_unended program so.source old now second so.stands goes
+      abbrev stands : Stands program.map Definitions (Wrote program old now second.writing) so.source (line_state second)
+      stands = so.stands.stands
+
+      unended : Unended program.map Definitions so.source stands.lines
+      unended =
+          unended_so program.map Definitions (Wrote program old now second.writing) so.source (line_state second) stands goes
 
       pub second_read : ReadsNext (place text faults here reader) (place text faults later reader') (Ok None)
           → SecondTaken (pass_of text faults initial later) program old now second
       second_read next =
-          let reading : Reading = record { lines = so.source; fault = None } in
-          let P : Bool → Type 0 = λ e. IsTakenUp reading so.source e in
-          let Q : Bool → Type 0 = λ e. HaveGiven (pass_of text faults initial later) so.source e in
-          record {
-            reading = reading;
-            reads = all_read text faults initial here reader so.source so.read later reader' next;
-            source = so.source;
-            stands = so.stands;
-            taken_up = subst P (sym goes) (refl, refl);
-            given = subst Q (sym goes) (given_all text faults initial here reader so.source so.read later reader' next);
-          }
+          taken_wholly text faults initial here reader (λ source. SecondStands program source old now second) second.has_ended so goes
+          later reader' next
 
-      stops_so : (stopped : LineFault)
-          → ReadsNext (place text faults here reader) (place text faults later reader') (Err stopped)
-          → PutsAll (pass_of text faults initial later) program old now (Err (of_lines stopped))
-      stops_so Read next = (
-        (
-          so.source,
-          failed text faults initial here reader so.source so.read later reader' next,
-          so.stands.lines,
-          unended,
-          so.stands.taken.gains,
-        ),
-        (so.source, so.stands.lines, unended, given_till text faults initial here reader so.source so.read later reader' next),
+      reads_so : (came : LineFault)
+          → ReadsNext (place text faults here reader) (place text faults later reader') (Err came)
+          → ReadsSecond (pass_of text faults initial later) program old now (Err (of_lines came))
+      reads_so Read next = (
+        so.source,
+        failed text faults initial here reader so.source so.read later reader' next,
+        stands.lines,
+        unended,
+        stands.taken.done.gains,
       )
-      stops_so TooMuchSource next = (
-        (
-          record { lines = so.source; fault = Some TooMuchSource },
-          too_much text faults initial here reader so.source so.read later reader' next,
-          so.stands.lines,
-          outcome.Refuses.AtReading TooMuchSource refl refl unended,
-          so.stands.taken.gains,
-        ),
-        (
-          so.source,
-          so.stands.lines,
-          unended,
-          TooMuchSource,
-          past_bytes text faults initial here reader so.source so.read later reader' next,
-        ),
+      reads_so TooMuchSource next = (
+        record { lines = so.source; fault = Some TooMuchSource },
+        too_much text faults initial here reader so.source so.read later reader' next,
+        stands.lines,
+        outcome.Refuses.AtReading TooMuchSource refl refl unended,
+        stands.taken.done.gains,
       )
-      stops_so TooManyLines next = (
-        (
-          record { lines = so.source; fault = Some TooManyLines },
-          too_many text faults initial here reader so.source so.read later reader' next,
-          so.stands.lines,
-          outcome.Refuses.AtReading TooManyLines refl refl unended,
-          so.stands.taken.gains,
-        ),
-        (
-          so.source,
-          so.stands.lines,
-          unended,
-          TooManyLines,
-          past_lines text faults initial here reader so.source so.read later reader' next,
-        ),
+      reads_so TooManyLines next = (
+        record { lines = so.source; fault = Some TooManyLines },
+        too_many text faults initial here reader so.source so.read later reader' next,
+        stands.lines,
+        outcome.Refuses.AtReading TooManyLines refl refl unended,
+        stands.taken.done.gains,
       )
 
       pub second_stops : (came : LineFault) (stopped : AsmFault) → stopped ≡ of_lines came
@@ -162,7 +114,11 @@ module _ {F : Type 0} (text : F → Option Text) (faults : F → ℕ) (program :
           → PutsAll (pass_of text faults initial later) program old now (Err stopped)
       second_stops came stopped is next =
           let P : AsmFault → Type 0 = λ f. PutsAll (pass_of text faults initial later) program old now (Err f) in
-          subst P (sym is) (stops_so came next)
+          subst P (sym is) (
+            reads_so came next,
+            given_to_fault text faults initial here reader program.map Definitions so.source stands.lines so.read unended later reader'
+                came next,
+          )
 
       module _ (line : SourceLine) (next : ReadsNext (place text faults here reader) (place text faults later reader') (Ok (Some line)))
           (sound : reader'.fault ≡ None) (new : Outputs) (second' : SecondState) where
@@ -229,25 +185,13 @@ module _ {F : Type 0} (text : F → Option Text) (faults : F → ℕ) (program :
 
   module _ (pass : Pass F) (now new : Outputs) (second : SecondState) (taken : SecondTaken pass program old now second)
       (result : Result AsmDone AsmFault) (ends : SecondEnds program taken.source old new second result) where
-    unended_so : second.has_ended ≡ false → Unended program.map Definitions taken.source ends.lines
-    unended_so is =
-        record { stage = ends.stage; live = ends.live; left = ends.needs is; goes_on = sym ends.ended ∙ is }
-
-    ended_so : (has_ended : Bool) → second.has_ended ≡ has_ended → IsTakenUp taken.reading taken.source has_ended
-        → Ends program.map Definitions taken.reading ends.lines (ended_with second)
-    ended_so true is up =
-        let at : ℕ → Bool → Ended = λ n b. record { read = n; has_end = b } in
-        outcome.Ends.AtEnd taken.source up.0 ends.stage up.1 ends.live (sym ends.ended ∙ is)
-        (ap (λ (n : ℕ). at n second.has_ended) ends.read ∙ ap (at (length taken.source)) is)
-    ended_so false is up =
-        let at : ℕ → Bool → Ended = λ n b. record { read = n; has_end = b } in
-        let P : List SourceLine → Type 0 = λ s. Unended program.map Definitions s ends.lines in
-        outcome.Ends.WithoutEnd (subst P (sym up.0) (unended_so is)) up.1
-        (ap (λ (n : ℕ). at n second.has_ended) ends.read ∙ ap (at (length taken.source)) is
-        ∙ ap (λ (s : List SourceLine). at (length s) false) (sym up.0))
-
     all_ends : Ends program.map Definitions taken.reading ends.lines (ended_with second)
-    all_ends = ended_so second.has_ended refl taken.taken_up
+    all_ends =
+        let at : ℕ → Ended = λ n. record { read = n; has_end = second.has_ended } in
+        let P : Ended → Type 0 = λ e. Ends program.map Definitions taken.reading ends.lines e in
+        subst P (sym (ap at ends.read))
+        (ends_by program.map Definitions taken.source ends.lines ends.stage ends.live second.has_ended ends.ended ends.needs
+        taken.reading second.has_ended refl taken.taken_up)
 
     among_all : (Stop : List Write → Type 0) → Stop (program_writes program ends.lines (ended_with second))
         → StopsAmongWrites Stop program taken.reading
@@ -257,17 +201,17 @@ module _ {F : Type 0} (text : F → Option Text) (faults : F → ℕ) (program :
       stops = s;
     }
 
-    gives_to_end : (has_ended : Bool) → second.has_ended ≡ has_ended → HaveGiven pass taken.source has_ended
-        → GivesToEnd pass program.map Definitions ends.lines
-    gives_to_end true is given =
-        extents.GivesToEnd.AtEnd taken.source ends.stage ends.live (sym ends.ended ∙ is) given
-    gives_to_end false is given = extents.GivesToEnd.WithoutEnd taken.source (unended_so is) given
+    gives_to_end : GivesToEnd pass program.map Definitions ends.lines
+    gives_to_end =
+        given_to_end program.map Definitions taken.source ends.lines ends.stage ends.live second.has_ended ends.ended ends.needs pass
+        second.has_ended refl taken.given
 
     -- an output or memory failed at the end
     gives_to_stop : (has_ended : Bool) → second.has_ended ≡ has_ended → HaveGiven pass taken.source has_ended
         → GivesToStop pass program.map Definitions
     gives_to_stop true is given = extents.GivesToStop.InLine taken.source ends.lines ends.stage ends.live given
-    gives_to_stop false is given = extents.GivesToStop.AfterAll taken.source ends.lines (unended_so is) given
+    gives_to_stop false is given = extents.GivesToStop.AfterAll taken.source ends.lines
+        (unended_at program.map Definitions taken.source ends.lines ends.stage ends.live second.has_ended ends.ended ends.needs is) given
 
     ends_so : (result : Result AsmDone AsmFault) → Writes old new (program_writes program ends.lines (ended_with second)) result
         → IfOk result (λ done. done.flagged ≡ flagged_count program ends.lines second.has_ended)
@@ -287,7 +231,7 @@ module _ {F : Type 0} (text : F → Option Text) (faults : F → ℕ) (program :
           fit = fit;
         },
       ),
-      (ends.lines, gives_to_end second.has_ended refl taken.given),
+      (ends.lines, gives_to_end),
     )
     ends_so (Err (fault.Write output)) stops count fit flushed = (
       (taken.reading, taken.reads, among_all (StopsIn output old new) stops),

@@ -1,35 +1,21 @@
--- What follows from a line of the source is taken: live lines, and what they say.
-use Rattle.std.proofs.Common.{◌≡◌, ◌∙◌, ◌<◌, ℕ, ◌+◌, Bool, true, false, List, [], ◌∷◌, ◌++◌, length, Option, None, Result, Ok, Err, IfOk, IfErr, IsErrAnd, refl, sym, ap, subst, inr}
-use Rattle.std.proofs.lemmas.List.{map-append}
+-- What follows from a line of the source is taken, whatever a pass does with live lines.
+use Rattle.std.proofs.Common.{◌≡◌, ◌∙◌, ℕ, ◌+◌, Bool, true, false, List, [], ◌∷◌, ◌++◌, length, Option, None, Result, Ok, Err, IfOk, refl, sym, ap, subst}
 use Rattle.std.specs.Option.{option_or}
 use Rattle.std.specs.Result.{result_err}
 use Rattle.m11_asm_faults.specs.declared.fault.AsmFault.{AsmFault}
-use Rattle.m11_asm_faults.specs.declared.fault.AsmFault.TheVariants.{TooMuchSource}
 use Rattle.m11_scan_lines.specs.Line.{SourceLine}
-use Rattle.m11_scan_lines.specs.Lines.{most_lines}
 use Rattle.m11_unfold_rules.specs.Stages.{Stage, start}
-use Rattle.m11_unfold_rules.specs.Unfolding.{Given}
-use Rattle.m11_asm_rules.specs.Lines.{after_line}
-use Rattle.m11_asm_rules.specs.Meanings.{Map, empty_map}
-use Rattle.m11_asm_rules.specs.Placements.{after_lines, table_after}
-use Rattle.m11_asm_rules.specs.Tables.{Table, first_table}
-use Rattle.m11_asm_lines.specs.Counting.{none_used}
+use Rattle.m11_unfold_rules.specs.Taking.{Live}
+use Rattle.m11_asm_rules.specs.Meanings.{Map}
 use Rattle.m11_asm_lines.specs.declared.counting.Counting.{Counting}
-use Rattle.m11_asm_table.specs.Alike.{Alike}
-use Rattle.m11_asm_passes.specs.Lines as lines
-use Rattle.m11_asm_passes.specs.Lines.{Numbered, givens, numbered, table_at}
-use Rattle.m11_asm_passes.specs.Placed.{IsLive, live_in}
+use Rattle.m11_asm_passes.specs.Lines.{Numbered}
 use Rattle.m11_asm_passes.specs.Reaching.{PlacesLine, Reaches, Refused}
-use Rattle.m11_asm_passes.specs.Refusals.{given_by}
 use Rattle.m11_asm_passes.specs.States.{Going, PassState, PassStands, fed}
-use Rattle.m11_asm_passes.specs.Turns.{SaysLive, Turns}
-use Rattle.m11_asm_passes.specs.declared.placed.LiveLine.{LiveLine}
+use Rattle.m11_asm_passes.specs.Turns.{Said, Turns}
 use Rattle.m11_asm_passes.specs.declared.turns.Turn.{Turn}
 use Rattle.m11_asm_passes.specs.declared.turns.Turn.TheVariants.{NeedLine, End, Line}
-use Rattle.m11_asm.specs.Facts.{Facts, facts_of, no_facts, with_line}
-use Rattle.m11_asm.specs.First.{FirstFails, FirstStands, FirstState, FirstTakes, GoesOn, HasRoom, Taken, TakesAll, TakesLeft}
-use Rattle.m11_asm.proofs.Counting.{one_longer}
-use Rattle.m11_asm.proofs.FactsFound.{finds_more}
+use Rattle.m11_asm.specs.Standing.{GoesOn, LineState, Stands, Taken, TakesAll}
+use Rattle.m11_asm.proofs.Counting.{keeps_none, one_longer}
 
 -- the law of the calls of a pass
 abbrev pub Feeds : Type 0
@@ -37,102 +23,11 @@ Feeds = (map : Map) (before : Counting) (source : List SourceLine) (lines : List
     → PassStands map before source lines going → going.unfolder.stage.left ≡ [] → going.unfolder.stage.has_ended ≡ false
     → PassStands map before (source ++ line ∷ []) lines (fed line going)
 
-abbrev pub TurnsSo : Type 0
-TurnsSo = (before : Counting) (source : List SourceLine) (lines : List Numbered) (old new : Going)
-    (live : LiveLine) (result : Result Turn AsmFault) → PassStands empty_map before source lines old
-    → Turns empty_map old new (live_in live) (SaysLive live) result
-    → Reaches empty_map before source lines new (live_in live) (SaysLive live) result
-
--- ---- one line more
-
-givens_more : (all : List Numbered) (one : Numbered) → givens (all ++ one ∷ []) ≡ givens all ++ one.given ∷ []
-givens_more all one = map-append lines.given_in all (one ∷ [])
-
-tables_more : (table : Table) (all : List Given) (one : Given)
-    → after_lines empty_map table (all ++ one ∷ []) ≡ after_line empty_map (after_lines empty_map table all) one
-tables_more table [] one = refl
-tables_more table (given ∷ all) one = tables_more (after_line empty_map table given) all one
-
-table_more : (all : List Numbered) (one : Numbered)
-    → table_at empty_map (all ++ one ∷ []) ≡ after_line empty_map (table_at empty_map all) one.given
-table_more all one = ap (table_after empty_map) (givens_more all one) ∙ tables_more first_table (givens all) one.given
-
-facts_more : (all : List Numbered) (one : Numbered)
-    → facts_of (givens (all ++ one ∷ [])) ≡ with_line (table_at empty_map all) one.given (facts_of (givens all))
-facts_more all one = ap facts_of (givens_more all one) ∙ finds_more (givens all) one.given
-
--- ---- one call
-
 -- some lines were taken, whichever
-abbrev pub SomeTaken : List SourceLine → Going → Facts → Type 0
-SomeTaken source going facts = (lines : List Numbered) × Taken source lines going facts
+abbrev pub SomeTaken : Map → Counting → (List Numbered → Type 0) → List SourceLine → Going → Type 0
+SomeTaken map_ counting Done source going = (lines : List Numbered) × Taken map_ counting Done source lines going
 
-module _ (turn : TurnsSo) (source : List SourceLine) (old new : Going) (live : LiveLine) (facts : Facts) (some : SomeTaken source old facts)
-  where
-    module _ (came : Turn) (turned : Turns empty_map old new (live_in live) (SaysLive live) (Ok came)) where
-      reached : Reaches empty_map none_used source some.0 new (live_in live) (SaysLive live) (Ok came)
-      reached = turn none_used source some.0 old new live (Ok came) some.1.stands turned
-
-      -- what is noted of a live line is what it says
-      pub placed_more : came ≡ Line → (later : Facts) (table : Table) → table ≡ new.kept.table
-          → ((before : Table) (given : Given) → IsLive given live
-          → Alike table (after_line empty_map before given) → later ≡ with_line before given facts)
-          → SomeTaken source new later
-      placed_more is later table table_is notes =
-          let P : Turn → Type 0 = λ t. Reaches empty_map none_used source some.0 new (live_in live) (SaysLive live) (Ok t) in
-          let here : PlacesLine empty_map none_used source some.0 new (live_in live) (SaysLive live) = subst P is reached in
-          let one = numbered (length source) (given_by (table_at empty_map some.0) (live_in live) here.stage) in
-          let A : Table → Type 0 = λ t. Alike new.kept.table t in
-          let B : Table → Type 0 = λ t. Alike t (after_line empty_map (table_at empty_map some.0) one.given) in (
-            some.0 ++ one ∷ [],
-            record {
-              stands = here.stands;
-              facts_are = notes (table_at empty_map some.0) one.given here.is_said
-                  (subst B (sym table_is) (subst A (table_more some.0 one) here.stands.matches.alike))
-                  ∙ ap (with_line (table_at empty_map some.0) one.given) some.1.facts_are
-                  ∙ sym (facts_more some.0 one);
-            },
-          )
-
-      pub rests_all : came ≡ NeedLine → TakesAll source new facts false
-      rests_all is =
-          let P : Turn → Type 0 = λ t. Reaches empty_map none_used source some.0 new (live_in live) (SaysLive live) (Ok t) in
-          let here : Reaches empty_map none_used source some.0 new (live_in live) (SaysLive live) (Ok NeedLine) = subst P is reached in
-          record { lines = some.0; taken = record { stands = here.0; facts_are = some.1.facts_are }; ended = sym here.2 }
-
-      pub ends_all : came ≡ End → TakesAll source new facts true
-      ends_all is =
-          let P : Turn → Type 0 = λ t. Reaches empty_map none_used source some.0 new (live_in live) (SaysLive live) (Ok t) in
-          let here : Reaches empty_map none_used source some.0 new (live_in live) (SaysLive live) (Ok End) = subst P is reached in
-          record { lines = some.0; taken = record { stands = here.0; facts_are = some.1.facts_are }; ended = sym here.1 }
-
-    -- a fault of the pass, which is handed on
-    pub fails_all : (fault : AsmFault) (later : Facts) (result : Result Bool AsmFault) → Turns empty_map old new (live_in live) (SaysLive live) (Err fault)
-        → IsErrAnd result (λ f. f ≡ fault) → TakesLeft source new later result
-    fails_all fault later (Ok ended) turned is = absurd is
-    fails_all fault later (Err other) turned is =
-        let P : AsmFault → Type 0 = λ f. Refused empty_map none_used source some.0 f in (
-          some.0,
-          subst P (sym is) (turn none_used source some.0 old new live (Err fault) some.1.stands turned),
-        )
-
--- ---- a line of the source
-
--- before the first one
-pub begins : (going : Going) (counting : Counting) (facts : Facts) (fault : Option AsmFault)
-    → ((map : Map) → PassStands map counting [] [] going) → counting ≡ none_used → going.unfolder.stage ≡ start []
-    → facts ≡ no_facts → fault ≡ None
-    → FirstStands [] (record { going = going; facts = facts; read = 0; has_ended = false; fault = fault })
-begins going counting facts fault stands none first untold goes =
-    let P : Counting → Type 0 = λ g. PassStands empty_map g [] [] going in
-    record {
-      lines = [];
-      taken = record { stands = subst P none (stands empty_map); facts_are = untold };
-      read = refl;
-      ended = sym (ap (λ (s : Stage). s.has_ended) first);
-      needs = λ is. ap (λ (s : Stage). s.left) first;
-      goes_on = goes;
-    }
+-- ---- before the first line
 
 pub begins_so : (pass : PassState) (fault : Option AsmFault) → pass.going.unfolder.stage ≡ start [] → pass.fault ≡ None
     → GoesOn fault false pass
@@ -141,83 +36,80 @@ begins_so pass fault first goes = record {
   needs = λ none is. ap (λ (s : Stage). s.left) first;
 }
 
-module _ (source : List SourceLine) (line : SourceLine) (pass : PassState) (facts : Facts) (read : ℕ) (has_ended : Bool)
-    (fault : Option AsmFault) (old : FirstState)
-    (view_is : record { going = pass.going; facts = facts; read = read; has_ended = has_ended; fault = fault } ≡ old)
-    (goes : has_ended ≡ false) (numbers : Result ℕ AsmFault) where
-  goes_so : old.has_ended ≡ false
-  goes_so = sym (ap (λ (s : FirstState). s.has_ended) view_is) ∙ goes
+pub stands_first : (map_ : Map) (counting : Counting) (Done : List Numbered → Type 0) (going : Going) (fault : Option AsmFault)
+    → PassStands map_ counting [] [] going → Done [] → going.unfolder.stage ≡ start [] → fault ≡ None
+    → Stands map_ counting Done [] (record { going = going; read = 0; has_ended = false; fault = fault })
+stands_first map_ counting Done going fault stands done first goes = record {
+  lines = [];
+  taken = record { stands = stands; done = done };
+  read = refl;
+  ended = sym (ap (λ (s : Stage). s.has_ended) first);
+  needs = λ is. ap (λ (s : Stage). s.left) first;
+  goes_on = goes;
+}
 
-  -- there are too many lines
-  pub line_refused : (came : AsmFault) (new : FirstState) (result : Result (Unit {0}) AsmFault)
-      → IfErr numbers (λ f. (f ≡ TooMuchSource) × (read ≡ most_lines)) → Err came ≡ numbers → IsErrAnd result (λ f. f ≡ came)
-      → FirstTakes source line old new result
-  line_refused came new (Ok done) refuses same is = absurd is
-  line_refused came new (Err other) refuses same is =
-      let R : Result ℕ AsmFault → Type 0 = λ r. IfErr r (λ f. (f ≡ TooMuchSource) × (read ≡ most_lines)) in
-      let full : (came ≡ TooMuchSource) × (read ≡ most_lines) = subst R (sym same) refuses in
-      let P : AsmFault → Type 0 = λ f. FirstFails (source ++ line ∷ []) old f in
-      subst P (sym (is ∙ full.0)) (goes_so, sym (ap (λ (s : FirstState). s.read) view_is) ∙ full.1)
+-- ---- one call, of which the law is known
 
-  module _ (feeds : Feeds) (fed_pass : PassState) (fed_is : fed_pass ≡ record { going = fed line pass.going; fault = pass.fault })
-      (number : ℕ) (counts : IfOk numbers (λ n. n ≡ read + 1)) (fits : IfOk numbers (λ n. read < most_lines))
-      (number_is : Ok number ≡ numbers) (outcome : Result Bool AsmFault) (new_going : Going) (new_facts : Facts)
-      (takes : (source : List SourceLine) (lines : List Numbered) → Taken source lines fed_pass.going facts
-      → TakesLeft source new_going new_facts outcome)
-      (stands : FirstStands source old) where
-    number_so : number ≡ read + 1
-    number_so =
-        let R : Result ℕ AsmFault → Type 0 = λ r. IfOk r (λ n. n ≡ read + 1) in subst R (sym number_is) counts
+module _ (map_ : Map) (counting : Counting) (source : List SourceLine) (old new : Going) (live : Live) (said : Said)
+    (turn : (lines : List Numbered) (result : Result Turn AsmFault) → PassStands map_ counting source lines old
+    → Turns map_ old new live said result → Reaches map_ counting source lines new live said result)
+    (Done : List Numbered → Type 0) (some : SomeTaken map_ counting Done source old) where
+  module _ (came : Turn) (turned : Turns map_ old new live said (Ok came)) where
+    reached : Reaches map_ counting source some.0 new live said (Ok came)
+    reached = turn some.0 (Ok came) some.1.stands turned
 
-    has_room : HasRoom old
-    has_room =
-        let R : Result ℕ AsmFault → Type 0 = λ r. IfOk r (λ n. read < most_lines) in
-        let N : ℕ → Type 0 = λ n. n < most_lines in
-        (goes_so, subst N (ap (λ (s : FirstState). s.read) view_is) (subst R (sym number_is) fits))
+    pub rests_all : came ≡ NeedLine → TakesAll map_ counting Done source new false
+    rests_all is =
+        let P : Turn → Type 0 = λ t. Reaches map_ counting source some.0 new live said (Ok t) in
+        let here : Reaches map_ counting source some.0 new live said (Ok NeedLine) = subst P is reached in
+        record { lines = some.0; taken = record { stands = here.0; done = some.1.done }; ended = sym here.2 }
 
-    here : FirstStands source (record { going = pass.going; facts = facts; read = read; has_ended = has_ended; fault = fault })
-    here = let S : FirstState → Type 0 = λ s. FirstStands source s in subst S (sym view_is) stands
+    pub ends_all : came ≡ End → TakesAll map_ counting Done source new true
+    ends_all is =
+        let P : Turn → Type 0 = λ t. Reaches map_ counting source some.0 new live said (Ok t) in
+        let here : Reaches map_ counting source some.0 new live said (Ok End) = subst P is reached in
+        record { lines = some.0; taken = record { stands = here.0; done = some.1.done }; ended = sym here.1 }
 
-    left : TakesLeft (source ++ line ∷ []) new_going new_facts outcome
-    left =
-        let G : Going → Type 0 = λ g. Taken (source ++ line ∷ []) here.lines g facts in
-        takes (source ++ line ∷ []) here.lines (subst G (sym (ap (λ (p : PassState). p.going) fed_is)) (record {
-          stands = feeds empty_map none_used source here.lines line pass.going here.taken.stands (here.needs goes)
-              (sym here.ended ∙ goes);
-          facts_are = here.taken.facts_are;
-        }))
+    pub places_line : came ≡ Line → PlacesLine map_ counting source some.0 new live said
+    places_line is =
+        let P : Turn → Type 0 = λ t. Reaches map_ counting source some.0 new live said (Ok t) in subst P is reached
 
-    fails_so : (stopped : AsmFault) → TakesLeft (source ++ line ∷ []) new_going new_facts (Err stopped)
-        → FirstFails (source ++ line ∷ []) old stopped
-    fails_so TooMuchSource fails = absurd fails.1
-    fails_so other fails = (has_room, fails.0, fails.1)
+  pub refused_after : (fault : AsmFault) → Turns map_ old new live said (Err fault) → Refused map_ counting source some.0 fault
+  refused_after fault turned = turn some.0 (Err fault) some.1.stands turned
 
-    pub line_fails : (came : AsmFault) (new : FirstState) (result : Result (Unit {0}) AsmFault) → Err came ≡ outcome
-        → IsErrAnd result (λ f. f ≡ came) → FirstTakes source line old new result
-    line_fails came new (Ok done) same is = absurd is
-    line_fails came new (Err other) same is =
-        let P : Result Bool AsmFault → Type 0 = λ r. TakesLeft (source ++ line ∷ []) new_going new_facts r in
-        let Q : AsmFault → Type 0 = λ f. FirstFails (source ++ line ∷ []) old f in
-        subst Q (sym is) (fails_so came (subst P (sym same) left))
+-- ---- a line of the source
 
-    pub line_takes : (ended : Bool) (kept before_fault : Option AsmFault) → Ok ended ≡ outcome
-        → IfOk outcome (λ e. e ≡ false → new_going.unfolder.stage.left ≡ [])
-        → kept ≡ option_or before_fault (result_err outcome) → before_fault ≡ None
-        → FirstTakes source line old
-        (record { going = new_going; facts = new_facts; read = number; has_ended = ended; fault = kept }) (Ok tt)
-    line_takes ended kept before_fault same needs kept_is none =
-        let P : Result Bool AsmFault → Type 0 = λ r. TakesLeft (source ++ line ∷ []) new_going new_facts r in
-        let N : Result Bool AsmFault → Type 0 = λ r. IfOk r (λ e. e ≡ false → new_going.unfolder.stage.left ≡ []) in
-        let all : TakesAll (source ++ line ∷ []) new_going new_facts ended = subst P (sym same) left in
-        inr (
-          has_room,
-          record {
-            lines = all.lines;
-            taken = all.taken;
-            read = number_so ∙ ap (λ (n : ℕ). n + 1) here.read ∙ sym (one_longer source line);
-            ended = all.ended;
-            needs = subst N (sym same) needs;
-            goes_on = kept_is ∙ ap (λ (f : Option AsmFault). option_or f (result_err outcome)) none
-                ∙ ap (λ (r : Result Bool AsmFault). result_err r) (sym same);
-          },
-        )
+module _ (map_ : Map) (counting : Counting) (Done : List Numbered → Type 0) (source : List SourceLine) (line : SourceLine)
+    (state : LineState) (stands : Stands map_ counting Done source state) where
+  pub number_so : (numbers : Result ℕ AsmFault) (number : ℕ) → IfOk numbers (λ n. n ≡ state.read + 1) → Ok number ≡ numbers
+      → number ≡ length (source ++ line ∷ [])
+  number_so numbers number counts number_is =
+      let R : Result ℕ AsmFault → Type 0 = λ r. IfOk r (λ n. n ≡ state.read + 1) in
+      subst R (sym number_is) counts ∙ ap (λ (n : ℕ). n + 1) stands.read ∙ sym (one_longer source line)
+
+  -- it is read
+  pub read_more : Feeds → state.has_ended ≡ false
+      → Taken map_ counting Done (source ++ line ∷ []) stands.lines (fed line state.going)
+  read_more feeds goes = record {
+    stands = feeds map_ counting source stands.lines line state.going stands.taken.stands (stands.needs goes)
+        (sym stands.ended ∙ goes);
+    done = stands.taken.done;
+  }
+
+  -- what follows from it is taken
+  pub stands_more : (Done' : List Numbered → Type 0) (going : Going) (number : ℕ) (ended : Bool) (outcome : Result Bool AsmFault)
+      (kept before_fault : Option AsmFault) → number ≡ length (source ++ line ∷ []) → Ok ended ≡ outcome
+      → TakesAll map_ counting Done' (source ++ line ∷ []) going ended
+      → IfOk outcome (λ e. e ≡ false → going.unfolder.stage.left ≡ []) → kept ≡ option_or before_fault (result_err outcome)
+      → before_fault ≡ None
+      → Stands map_ counting Done' (source ++ line ∷ []) (record { going = going; read = number; has_ended = ended; fault = kept })
+  stands_more Done' going number ended outcome kept before_fault number_is same all needs kept_is none =
+      let N : Result Bool AsmFault → Type 0 = λ r. IfOk r (λ e. e ≡ false → going.unfolder.stage.left ≡ []) in
+      record {
+        lines = all.lines;
+        taken = all.taken;
+        read = number_is;
+        ended = all.ended;
+        needs = subst N (sym same) needs;
+        goes_on = keeps_none kept before_fault outcome ended kept_is none same;
+      }

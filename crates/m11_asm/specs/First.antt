@@ -1,6 +1,6 @@
 -- Where the first pass of a source stands between two of its lines, and what it gives in the end. (MACRO-11 Language Reference Manual,
 -- "Source program format", "Symbols and expressions" and ".END directive". That lines past the 65,535th are refused is this project's own.)
-use Rattle.std.specs.Prelude.{◌≡◌, ◌<◌, ◌⊎◌, ℕ, Bool, true, false, List, [], ◌∷◌, ◌++◌, length, Option, None, Result, Ok, Err}
+use Rattle.std.specs.Prelude.{◌≡◌, ◌<◌, ◌⊎◌, ℕ, Bool, true, false, List, [], ◌∷◌, ◌++◌, Option, Result, Ok, Err}
 use Rattle.m11_asm_faults.specs.declared.fault.AsmFault.{AsmFault}
 use Rattle.m11_asm_faults.specs.declared.fault.AsmFault.TheVariants.{TooMuchSource}
 use Rattle.m11_scan_lines.specs.Line.{SourceLine}
@@ -11,8 +11,9 @@ use Rattle.m11_asm_lines.specs.UsedSymbols.{Gathered}
 use Rattle.m11_asm_lines.specs.Passes.{Kept}
 use Rattle.m11_asm_passes.specs.Lines.{Numbered, givens}
 use Rattle.m11_asm_passes.specs.Reaching.{Refused}
-use Rattle.m11_asm_passes.specs.States.{Going, PassState, PassStands}
+use Rattle.m11_asm_passes.specs.States.{Going}
 use Rattle.m11_asm.specs.Facts.{Facts, facts_of}
+use Rattle.m11_asm.specs.Standing.{LineState, Stands, TakesAll}
 
 -- the pass, what the lines said beside names and places, how many were read, whether `.END` became live, and the fault that ended the
 -- pass, if one did
@@ -23,24 +24,16 @@ pub record FirstState : Type 0 where
   pub has_ended : Bool
   pub fault : Option AsmFault
 
--- the pass goes on where no fault came, and where `.END` didn't come nothing is left to take
-pub record GoesOn (fault : Option AsmFault) (has_ended : Bool) (pass : PassState) : Type 0 where
-  pub goes_on : fault ≡ None → pass.fault ≡ None
-  pub needs : fault ≡ None → has_ended ≡ false → pass.going.unfolder.stage.left ≡ []
+-- this is what live lines say beside names and places, as it is noted
+abbrev pub AreFactsOf : Facts → List Numbered → Type 0
+AreFactsOf facts lines = facts ≡ facts_of (givens lines)
 
--- these are the live lines of a source, and what they say
-pub record Taken (source : List SourceLine) (lines : List Numbered) (going : Going) (facts : Facts) : Type 0 where
-  pub stands : PassStands empty_map none_used source lines going
-  pub facts_are : facts ≡ facts_of (givens lines)
+abbrev pub line_state : FirstState → LineState
+line_state state = record { going = state.going; read = state.read; has_ended = state.has_ended; fault = state.fault }
 
 -- all that follows from lines of the source is done
-pub record FirstStands (source : List SourceLine) (state : FirstState) : Type 0 where
-  pub lines : List Numbered
-  pub taken : Taken source lines state.going state.facts
-  pub read : state.read ≡ length source
-  pub ended : state.has_ended ≡ state.going.unfolder.stage.has_ended
-  pub needs : state.has_ended ≡ false → state.going.unfolder.stage.left ≡ []
-  pub goes_on : state.fault ≡ None
+abbrev pub FirstStands : List SourceLine → FirstState → Type 0
+FirstStands source state = Stands empty_map none_used (AreFactsOf state.facts) source (line_state state)
 
 -- one more line is read: `.END` isn't live, and the limit on lines leaves room
 abbrev pub HasRoom : FirstState → Type 0
@@ -63,14 +56,9 @@ FirstTakes source line old new (Err fault) = FirstFails (source ++ line ∷ []) 
 
 -- ---- between the live lines of one line of the source
 
--- up to the end of what is left
-pub record TakesAll (source : List SourceLine) (new : Going) (facts : Facts) (has_ended : Bool) : Type 0 where
-  pub lines : List Numbered
-  pub taken : Taken source lines new facts
-  pub ended : has_ended ≡ new.unfolder.stage.has_ended
-
+-- up to the end of what is left; or the source passes a limit
 abbrev pub TakesLeft : List SourceLine → Going → Facts → Result Bool AsmFault → Type 0
-TakesLeft source new facts (Ok has_ended) = TakesAll source new facts has_ended
+TakesLeft source new facts (Ok has_ended) = TakesAll empty_map none_used (AreFactsOf facts) source new has_ended
 TakesLeft source new facts (Err fault) = (lines : List Numbered) × Refused empty_map none_used source lines fault
 
 -- ---- what the pass gives

@@ -9,5 +9,7 @@ pub mod Program
 pub mod Run
 pub mod Second
 pub mod SecondReading
+pub mod SourceTaken
+pub mod Standing
 pub mod Writing
 pub mod Written

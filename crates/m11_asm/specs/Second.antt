@@ -1,6 +1,6 @@
 -- The second pass of a source, call by call: what stands after its lines so far, what is written, and how it stops. (MACRO-11 Language
 -- Reference Manual, "Source program format" and ".END directive". That lines past the 65,535th are refused is this project's own.)
-use Rattle.std.specs.Prelude.{◌≡◌, ◌⊎◌, ℕ, ◌+◌, Bool, true, false, List, [], ◌∷◌, ◌++◌, length, Option, None, Result, Ok, Err, IfOk, OnOk}
+use Rattle.std.specs.Prelude.{◌≡◌, ◌⊎◌, ℕ, ◌+◌, Bool, true, false, List, [], ◌∷◌, ◌++◌, length, Option, Result, Ok, Err, IfOk, OnOk}
 use Rattle.m11_asm_faults.specs.declared.fault.AsmFault.{AsmFault}
 use Rattle.m11_asm_faults.specs.declared.fault.AsmFault.TheVariants as fault
 use Rattle.m11_scan_lines.specs.Line.{SourceLine}
@@ -9,11 +9,12 @@ use Rattle.m11_unfold_rules.specs.Stages.{Stage}
 use Rattle.m11_asm_rules.specs.Meanings.{Map}
 use Rattle.m11_asm_passes.specs.Lines.{Numbered, PassLines}
 use Rattle.m11_asm_passes.specs.Reaching.{Exceeds}
-use Rattle.m11_asm_passes.specs.States.{Going, PassState, PassStands}
+use Rattle.m11_asm_passes.specs.States.{Going}
 use Rattle.m11_asm_lines.specs.declared.counting.Counting.TheVariants.{Definitions}
 use Rattle.m11_asm_outputs.specs.Object.{AllFit, object_contents}
 use Rattle.m11_asm_outputs.specs.Outputs.{AreFlushed, Gains, Outputs, StopsBetween, StopsIn, Write, Writes}
 use Rattle.m11_asm.specs.Program.{Program}
+use Rattle.m11_asm.specs.Standing.{LineState, Stands, TakesAll}
 use Rattle.m11_asm.specs.Written.{Ended, flagged_count, pieces_in, program_writes, written}
 use Rattle.m11_asm.specs.Writing.{Writing, WritingStands}
 use Rattle.m11_asm.specs.declared.done.AsmDone.{AsmDone}
@@ -27,27 +28,18 @@ pub record SecondState : Type 0 where
   pub has_ended : Bool
   pub fault : Option AsmFault
 
--- the pass goes on where no fault came, and where `.END` didn't come nothing is left to take
-pub record GoesOn (fault : Option AsmFault) (has_ended : Bool) (pass : PassState) : Type 0 where
-  pub goes_on : fault ≡ None → pass.fault ≡ None
-  pub needs : fault ≡ None → has_ended ≡ false → pass.going.unfolder.stage.left ≡ []
-
--- these are the live lines of a source, and exactly what they write was written, on outputs that were the first ones
-pub record Taken (program : Program) (source : List SourceLine) (lines : List Numbered) (first now : Outputs) (going : Going)
-    (writing : Writing) : Type 0 where
-  pub stands : PassStands program.map Definitions source lines going
+-- exactly what live lines write was written, on outputs that were the first ones, and what is kept is what was written of them
+pub record Wrote (program : Program) (first now : Outputs) (writing : Writing) (lines : List Numbered) : Type 0 where
   pub keeps : WritingStands program lines writing
   pub gains : Gains first now (written program lines)
 
+abbrev pub line_state : SecondState → LineState
+line_state state = record { going = state.going; read = state.read; has_ended = state.has_ended; fault = state.fault }
+
 -- all that follows from lines of the source is done
 pub record SecondStands (program : Program) (source : List SourceLine) (first now : Outputs) (state : SecondState) : Type 0 where
-  pub lines : List Numbered
   pub map_is : state.map ≡ program.map
-  pub taken : Taken program source lines first now state.going state.writing
-  pub read : state.read ≡ length source
-  pub ended : state.has_ended ≡ state.going.unfolder.stage.has_ended
-  pub needs : state.has_ended ≡ false → state.going.unfolder.stage.left ≡ []
-  pub goes_on : state.fault ≡ None
+  pub stands : Stands program.map Definitions (Wrote program first now state.writing) source (line_state state)
 
 -- ---- where it stops
 
@@ -99,15 +91,10 @@ SecondTakes program source line first call (Err stopped) =
 
 -- ---- between the live lines of one line of the source
 
--- up to the end of what is left
-pub record TakesAll (program : Program) (source : List SourceLine) (first now : Outputs) (going : Going) (writing : Writing)
-    (has_ended : Bool) : Type 0 where
-  pub lines : List Numbered
-  pub taken : Taken program source lines first now going writing
-  pub ended : has_ended ≡ going.unfolder.stage.has_ended
-
+-- up to the end of what is left; or it stops
 abbrev pub TakesLeft : Program → List SourceLine → Outputs → Outputs → Going → Writing → Result Bool AsmFault → Type 0
-TakesLeft program source first now going writing (Ok has_ended) = TakesAll program source first now going writing has_ended
+TakesLeft program source first now going writing (Ok has_ended) =
+    TakesAll program.map Definitions (Wrote program first now writing) source going has_ended
 TakesLeft program source first now going writing (Err stopped) = SecondFails program source first now stopped
 
 -- ---- the end

@@ -5,7 +5,10 @@ ghost use Rattle.std.specs.Prelude.{◌≡◌, [], List, None, Some, Err, IfOk, 
 ghost use Rattle.std.specs.Result.{result_err};
 ghost use Rattle.m11_scan_lines.specs.Line.{SourceLine};
 ghost use Rattle.m11_asm_passes.specs.Lines.{Numbered};
-ghost use Rattle.m11_asm.specs.First.{FirstStands, FirstTakes, Taken, TakesLeft, symbols_of};
+ghost use Rattle.m11_asm.specs.First.{AreFactsOf, FirstStands, FirstTakes, TakesLeft, symbols_of};
+ghost use Rattle.m11_asm.specs.Standing.{Taken};
+ghost use Rattle.m11_asm_lines.specs.Counting.{none_used};
+ghost use Rattle.m11_asm_rules.specs.Meanings.{empty_map};
 
 use crate::facts::Facts;
 use crate::numbers::number_after;
@@ -33,7 +36,8 @@ pub struct First {
 }
 
 impl Model for First {
-    ghost use Rattle.m11_asm.specs.First.{FirstState, GoesOn};
+    ghost use Rattle.m11_asm.specs.First.{FirstState};
+    ghost use Rattle.m11_asm.specs.Standing.{GoesOn};
 
     ghost Value = { FirstState };
 
@@ -121,7 +125,8 @@ fn take_left(
     live: &mut LiveLine,
 ) -> Result<bool, AsmFault>
     requires { pass.old.fault ≡ None }
-    ensures takes { (source : List SourceLine) (lines : List Numbered) → Taken source lines pass.old.going facts.old
+    ensures takes { (source : List SourceLine) (lines : List Numbered)
+        → Taken empty_map none_used (AreFactsOf facts.old) source lines pass.old.going
         → TakesLeft source pass.new.going facts.new result }
     ensures goes_on { IfOk result (λ _. pass.new.fault ≡ None) }
     ensures needs { IfOk result (λ has_ended. has_ended ≡ false → pass.new.going.unfolder.stage.left ≡ []) }

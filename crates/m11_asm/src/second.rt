@@ -6,7 +6,9 @@ ghost use Rattle.m11_asm_outputs.specs.Outputs.{Gains, Outputs, outputs_of};
 ghost use Rattle.m11_scan_lines.specs.Line.{SourceLine};
 ghost use Rattle.m11_asm_passes.specs.Lines.{Numbered};
 ghost use Rattle.m11_asm.specs.Program.{Program, program_in};
-ghost use Rattle.m11_asm.specs.Second.{SecondEnds, SecondStands, SecondTakes, Taken, TakesLeft};
+ghost use Rattle.m11_asm.specs.Second.{SecondEnds, SecondStands, SecondTakes, TakesLeft, Wrote};
+ghost use Rattle.m11_asm.specs.Standing.{Taken};
+ghost use Rattle.m11_asm_lines.specs.declared.counting.Counting.TheVariants.{Definitions};
 
 use crate::done::AsmDone;
 use crate::numbers::number_after;
@@ -40,7 +42,8 @@ pub struct Second {
 
 impl Model for Second {
     ghost use Rattle.m11_asm_rules.specs.Meanings.{map_of};
-    ghost use Rattle.m11_asm.specs.Second.{GoesOn, SecondState};
+    ghost use Rattle.m11_asm.specs.Second.{SecondState};
+    ghost use Rattle.m11_asm.specs.Standing.{GoesOn};
 
     ghost Value = { SecondState };
 
@@ -203,8 +206,9 @@ fn take_left<S: Sink, T: Sink, U: Sink>(
     requires { pass.old.fault ≡ None }
     ensures takes { (program : Program) (source : List SourceLine) (lines : List Numbered) (first : Outputs)
         → map.now ≡ program.map → number ≡ length source
-        → Taken program source lines first (outputs_of S.Sink T.Sink U.Sink object.old listing.old messages.old)
-        pass.old.going writing.old
+        → Taken program.map Definitions
+        (Wrote program first (outputs_of S.Sink T.Sink U.Sink object.old listing.old messages.old) writing.old) source lines
+        pass.old.going
         → TakesLeft program source first (outputs_of S.Sink T.Sink U.Sink object.new listing.new messages.new)
         pass.new.going writing.new result }
     ensures goes_on { IfOk result (λ _. pass.new.fault ≡ None) }

@@ -4,7 +4,7 @@ use Rattle.m11_asm_passes.proofs.Resting.{turns_nowhere}
 use Rattle.m11_asm_passes.specs.Placed.{live_in}
 use Rattle.m11_asm_passes.specs.Turns.{SaysLive}
 use Rattle.m11_asm_passes.specs.declared.turns.Turn.TheVariants.{NeedLine}
-use Rattle.m11_asm.proofs.Taking.{ends_all, fails_all, placed_more, rests_all}
+use Rattle.m11_asm.proofs.FirstTaking.{fails_all, left_ends, left_rests, placed_more}
 use Rattle.m11_asm.proofs.first.take_left.Goals as goal
 
 pub lines-preserved : goal.lines-preserved
@@ -19,13 +19,13 @@ lines-preserved c = record {
 
 pub returns-in-NeedLine-clause-takes : goal.returns-in-NeedLine-clause-takes
 returns-in-NeedLine-clause-takes c = λ source lines taken.
-    rests_all c.the_calls_place_the_lines_of_a_source.ensures.defines source c.lines.pass.going c.define.new.self.going c.define.new.live
+    left_rests c.the_calls_place_the_lines_of_a_source.ensures.defines source c.lines.pass.going c.define.new.self.going c.define.new.live
     c.lines.facts (c.lines.invariant.takes source lines taken) c.in_ok-define.field-0
     (c.in_ok-define.ensures.turns c.lines.invariant.goes_on) c.in-NeedLine.is
 
 pub returns-in-End-clause-takes : goal.returns-in-End-clause-takes
 returns-in-End-clause-takes c = λ source lines taken.
-    ends_all c.the_calls_place_the_lines_of_a_source.ensures.defines source c.lines.pass.going c.define.new.self.going c.define.new.live
+    left_ends c.the_calls_place_the_lines_of_a_source.ensures.defines source c.lines.pass.going c.define.new.self.going c.define.new.live
     c.lines.facts (c.lines.invariant.takes source lines taken) c.in_ok-define.field-0
     (c.in_ok-define.ensures.turns c.lines.invariant.goes_on) c.in-End.is
 
@@ -42,7 +42,7 @@ returns-then-needs_line-clause-takes c = λ source lines taken.
     c.define.new.live c.lines.facts (c.lines.invariant.takes source lines taken) c.in_ok-define.field-0
     (c.in_ok-define.ensures.turns c.lines.invariant.goes_on) c.in-Line.is c.note.new.self c.table.result.now
     c.table.ensures c.in_ok-note-in-Line.ensures in
-    rests_all c.the_calls_place_the_lines_of_a_source.ensures.defines source c.define.new.self.going c.define.new.self.going
+    left_rests c.the_calls_place_the_lines_of_a_source.ensures.defines source c.define.new.self.going c.define.new.self.going
     c.define.new.live c.note.new.self some NeedLine
     (turns_nowhere empty_map c.define.new.self.going (live_in c.define.new.live) (SaysLive c.define.new.live)
     (sym c.needs_line.ensures ∙ c.if-needs_line.true)) refl

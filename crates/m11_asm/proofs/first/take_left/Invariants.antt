@@ -2,15 +2,18 @@ use Rattle.std.proofs.Common.{◌≡◌, ◌-◌, List, None}
 use Rattle.m11_scan_lines.specs.Line.{SourceLine}
 use Rattle.m11_unfold_rules.specs.Limits.{most_lines}
 use Rattle.m11_asm_passes.specs.Lines.{Numbered}
-use Rattle.m11_asm.specs.First.{Taken}
+use Rattle.m11_asm_lines.specs.Counting.{none_used}
+use Rattle.m11_asm_rules.specs.Meanings.{empty_map}
+use Rattle.m11_asm.specs.First.{AreFactsOf}
+use Rattle.m11_asm.specs.Standing.{Taken}
 use Rattle.m11_asm.proofs.Taking.{SomeTaken}
 use Rattle.m11_asm.proofs.first.take_left.Given as goal
 
 abbrev pub invariant-lines : goal.invariant-lines
 invariant-lines l = record {
   goes_on : l.pass.fault ≡ None;
-  takes : (source : List SourceLine) (lines : List Numbered) → Taken source lines l.initial.pass.going l.initial.facts
-      → SomeTaken source l.pass.going l.facts;
+  takes : (source : List SourceLine) (lines : List Numbered) → Taken empty_map none_used (AreFactsOf l.initial.facts) source lines l.initial.pass.going
+      → SomeTaken empty_map none_used (AreFactsOf l.facts) source l.pass.going;
 }
 
 abbrev pub decreases-lines : goal.decreases-lines

@@ -3,7 +3,7 @@ use Rattle.m11_asm_passes.proofs.Resting.{turns_nowhere}
 use Rattle.m11_asm_passes.specs.Placed.{live_in}
 use Rattle.m11_asm_passes.specs.Turns.{SaysPlaced}
 use Rattle.m11_asm_passes.specs.declared.turns.Turn.TheVariants.{NeedLine}
-use Rattle.m11_asm.proofs.Passing.{ends_all, fails_all, placed_more, rests_all, stops_there}
+use Rattle.m11_asm.proofs.SecondTaking.{fails_all, left_ends, left_rests, placed_more, stops_there}
 use Rattle.m11_asm.proofs.second.take_left.Goals as goal
 
 pub lines-preserved : goal.lines-preserved
@@ -20,13 +20,13 @@ lines-preserved g c = record {
 
 pub returns-in-NeedLine-clause-takes : goal.returns-in-NeedLine-clause-takes
 returns-in-NeedLine-clause-takes g c = λ program source lines first same number taken.
-    rests_all c.the_calls_place_the_lines_of_a_source.ensures.turns program source first _ c.lines.pass.going c.next.new.self.going c.next.new.placed
+    left_rests c.the_calls_place_the_lines_of_a_source.ensures.turns program source first _ c.lines.pass.going c.next.new.self.going c.next.new.placed
     c.lines.writing (c.lines.invariant.takes program source lines first same number taken) c.args.map.now same
     c.in_ok-next.field-0 (c.in_ok-next.ensures.turns c.lines.invariant.goes_on) c.in-NeedLine.is
 
 pub returns-in-End-clause-takes : goal.returns-in-End-clause-takes
 returns-in-End-clause-takes g c = λ program source lines first same number taken.
-    ends_all c.the_calls_place_the_lines_of_a_source.ensures.turns program source first _ c.lines.pass.going c.next.new.self.going c.next.new.placed
+    left_ends c.the_calls_place_the_lines_of_a_source.ensures.turns program source first _ c.lines.pass.going c.next.new.self.going c.next.new.placed
     c.lines.writing (c.lines.invariant.takes program source lines first same number taken) c.args.map.now same
     c.in_ok-next.field-0 (c.in_ok-next.ensures.turns c.lines.invariant.goes_on) c.in-End.is
 
@@ -56,7 +56,7 @@ returns-then-needs_line-clause-takes g c = λ program source lines first same nu
     c.in-Line.is c.args.number number c.contents.result.now c.contents.ensures _ c.put_line.new.self
     (λ one put stands is same number. c.in_ok-put_line-in-Line.ensures.writes program some.0 one put stands is same number)
     (λ one put stands is same number. c.in_ok-put_line-in-Line.ensures.stands program some.0 one put stands is same number) in
-    rests_all c.the_calls_place_the_lines_of_a_source.ensures.turns program source first _ c.next.new.self.going
+    left_rests c.the_calls_place_the_lines_of_a_source.ensures.turns program source first _ c.next.new.self.going
     c.next.new.self.going c.next.new.placed
     c.put_line.new.self more c.args.map.now same NeedLine
     (turns_nowhere c.args.map.now c.next.new.self.going (live_in c.next.new.placed.live)

@@ -4,8 +4,10 @@ use Rattle.m11_scan_lines.specs.Line.{SourceLine}
 use Rattle.m11_asm_passes.specs.Lines.{Numbered}
 use Rattle.m11_unfold_rules.specs.Limits.{most_lines}
 use Rattle.m11_asm.specs.Program.{Program}
-use Rattle.m11_asm.specs.Second.{Taken}
-use Rattle.m11_asm.proofs.Passing.{SomeTaken}
+use Rattle.m11_asm_lines.specs.declared.counting.Counting.TheVariants.{Definitions}
+use Rattle.m11_asm.specs.Second.{Wrote}
+use Rattle.m11_asm.specs.Standing.{Taken}
+use Rattle.m11_asm.proofs.Taking.{SomeTaken}
 use Rattle.m11_asm.proofs.second.take_left.Given as goal
 
 abbrev pub invariant-lines : goal.invariant-lines
@@ -13,11 +15,11 @@ invariant-lines g l = record {
   goes_on : l.pass.fault ≡ None;
   takes : (program : Program) (source : List SourceLine) (lines : List Numbered) (first : Outputs)
       → l.map ≡ program.map → l.number ≡ length source
-      → Taken program source lines first
-      (outputs_of g.S.Sink g.T.Sink g.U.Sink l.initial.object l.initial.listing l.initial.messages)
-      l.initial.pass.going l.initial.writing
-      → SomeTaken program source first (outputs_of g.S.Sink g.T.Sink g.U.Sink l.object l.listing l.messages)
-      l.pass.going l.writing;
+      → Taken program.map Definitions
+      (Wrote program first (outputs_of g.S.Sink g.T.Sink g.U.Sink l.initial.object l.initial.listing l.initial.messages)
+      l.initial.writing) source lines l.initial.pass.going
+      → SomeTaken program.map Definitions
+      (Wrote program first (outputs_of g.S.Sink g.T.Sink g.U.Sink l.object l.listing l.messages) l.writing) source l.pass.going;
 }
 
 abbrev pub decreases-lines : goal.decreases-lines

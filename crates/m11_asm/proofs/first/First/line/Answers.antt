@@ -1,5 +1,5 @@
 use Rattle.m11_asm.proofs.Counting.{keeps_none}
-use Rattle.m11_asm.proofs.Taking.{line_fails, line_refused, line_takes}
+use Rattle.m11_asm.proofs.FirstTaking.{line_fails, line_refused, line_takes}
 use Rattle.m11_asm.proofs.first.First.line.Goals as goal
 
 pub returns-in_err-read-clause-takes : goal.returns-in_err-read-clause-takes

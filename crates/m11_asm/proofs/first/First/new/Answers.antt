@@ -1,6 +1,7 @@
 use Rattle.std.proofs.Common.{ap}
 use Rattle.m11_asm_lines.specs.declared.counting.Counting.TheVariants.{SymbolUses}
-use Rattle.m11_asm.proofs.Taking.{begins, begins_so}
+use Rattle.m11_asm.proofs.FirstTaking.{begins}
+use Rattle.m11_asm.proofs.Taking.{begins_so}
 use Rattle.m11_asm.proofs.first.First.new.Goals as goal
 
 pub invariant_of-result : goal.invariant_of-result

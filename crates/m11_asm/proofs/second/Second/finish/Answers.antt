@@ -12,8 +12,8 @@ returns-clause-ends g c = λ program source first.
     let P : SecondState → Type 0 = λ s. SecondStands program source first before s → SecondEnds program source first now s c.end.result in
     subst P c.self.view_is (λ stands.
     second_finishes program source first before _ stands now c.end.result
-    (c.end.ensures.writes program stands.lines stands.taken.keeps
+    (c.end.ensures.writes program stands.stands.lines stands.stands.taken.done.keeps
     (c.place-place.ensures ∙ ap (λ (t : Table). place t) c.table.ensures ∙ place_is program source first before _ stands)
     (few_flagged program source first before _ stands))
-    (c.end.ensures.counts program stands.lines stands.taken.keeps (few_flagged program source first before _ stands))
-    (c.end.ensures.fit program stands.lines stands.taken.keeps) c.end.ensures.flushed)
+    (c.end.ensures.counts program stands.stands.lines stands.stands.taken.done.keeps (few_flagged program source first before _ stands))
+    (c.end.ensures.fit program stands.stands.lines stands.stands.taken.done.keeps) c.end.ensures.flushed)

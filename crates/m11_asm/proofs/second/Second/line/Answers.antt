@@ -3,7 +3,7 @@ use Rattle.m11_asm_outputs.specs.Outputs.{Outputs, outputs_of}
 use Rattle.m11_asm.proofs.Counting.{keeps_none}
 use Rattle.m11_asm_rules.specs.Meanings.{map_of}
 use Rattle.m11_asm.specs.Second.{SecondStands, SecondState, SecondTakes}
-use Rattle.m11_asm.proofs.LineTaken.{between, line_fails, line_refused, line_takes, state_of}
+use Rattle.m11_asm.proofs.SecondLine.{between, line_fails, line_refused, line_takes, state_of}
 use Rattle.m11_asm.proofs.second.Second.line.Goals as goal
 
 pub returns-in_err-read-clause-takes : goal.returns-in_err-read-clause-takes

@@ -1,4 +1,5 @@
-use Rattle.m11_asm.proofs.Finishing.{begins_so, second_begins}
+use Rattle.m11_asm.proofs.Finishing.{second_begins}
+use Rattle.m11_asm.proofs.Taking.{begins_so}
 use Rattle.m11_asm.proofs.second.Second.new.Goals as goal
 
 pub invariant_of-result : goal.invariant_of-result

@@ -1,4 +1,4 @@
--- What follows from a line of the source is placed and written, live line by live line.
+-- The second pass takes what follows from a line of the source: it is placed and written, live line by live line.
 use Rattle.std.proofs.Common.{◌≡◌, ℕ, Bool, true, false, List, [], ◌∷◌, ◌++◌, length, Result, Ok, Err, IsErrAnd, sym, subst, append-nil}
 use Rattle.m11_asm_faults.specs.declared.fault.AsmFault.{AsmFault}
 use Rattle.m11_asm_faults.specs.declared.fault.AsmFault.TheVariants as fault
@@ -19,63 +19,59 @@ use Rattle.m11_asm_rules.specs.Meanings.{Map}
 use Rattle.m11_asm_lines.specs.declared.counting.Counting.{Counting}
 use Rattle.m11_base_writes.proofs.Writing.{gains_then, stops_after}
 use Rattle.m11_asm.specs.Program.{Program}
-use Rattle.m11_asm.specs.Second.{SecondFails, Taken, TakesAll, TakesLeft}
+use Rattle.m11_asm.specs.Second.{SecondFails, TakesLeft, Wrote}
+use Rattle.m11_asm.specs.Standing.{TakesAll}
 use Rattle.m11_asm.specs.Writing.{Writing, WritingStands}
 use Rattle.m11_asm.specs.Written.{head_before, line_writes, written}
 use Rattle.m11_asm.proofs.LinesWritten.{next_writes, written_more}
+use Rattle.m11_asm.proofs.Taking.{SomeTaken, ends_all, places_line, refused_after, rests_all}
 use Rattle.m11_asm_lines.specs.declared.counting.Counting.TheVariants.{Definitions}
 
--- the law of the calls of a pass
+-- the law of the calls of a second pass
 abbrev pub TurnsSo : Type 0
 TurnsSo = (map : Map) (before : Counting) (source : List SourceLine) (lines : List Numbered) (old new : Going)
     (placed : PlacedLine) (result : Result Turn AsmFault) → PassStands map before source lines old
     → Turns map old new (live_in placed.live) (SaysPlaced map placed new.put) result
     → Reaches map before source lines new (live_in placed.live) (SaysPlaced map placed new.put) result
 
--- some lines were taken and written, whichever
-abbrev pub SomeTaken : Program → List SourceLine → Outputs → Outputs → Going → Writing → Type 0
-SomeTaken program source first now going writing = (lines : List Numbered) × Taken program source lines first now going writing
-
 module _ (turn : TurnsSo) (program : Program) (source : List SourceLine) (first now : Outputs) (old new : Going) (placed : PlacedLine)
-    (writing : Writing) (some : SomeTaken program source first now old writing) (map_ : Map) (same : map_ ≡ program.map) where
+    (writing : Writing) (some : SomeTaken program.map Definitions (Wrote program first now writing) source old) (map_ : Map)
+    (same : map_ ≡ program.map) where
+  law : (lines : List Numbered) (result : Result Turn AsmFault) → PassStands program.map Definitions source lines old
+      → Turns program.map old new (live_in placed.live) (SaysPlaced program.map placed new.put) result
+      → Reaches program.map Definitions source lines new (live_in placed.live) (SaysPlaced program.map placed new.put) result
+  law lines result stands turned = turn program.map Definitions source lines old new placed result stands turned
+
+  turned_so : (result : Result Turn AsmFault) → Turns map_ old new (live_in placed.live) (SaysPlaced map_ placed new.put) result
+      → Turns program.map old new (live_in placed.live) (SaysPlaced program.map placed new.put) result
+  turned_so result turned =
+      let P : Map → Type 0 = λ m. Turns m old new (live_in placed.live) (SaysPlaced m placed new.put) result in subst P same turned
+
   -- nothing is stopped among the writes of the lines so far: memory was refused before the next one
   all_between : StopsBetween first now (written program some.0)
   all_between = record {
     done = written program some.0;
     more = [];
     split = sym (append-nil (written program some.0));
-    gains = some.1.gains;
+    gains = some.1.done.gains;
   }
 
   module _ (came : Turn) (turned : Turns map_ old new (live_in placed.live) (SaysPlaced map_ placed new.put) (Ok came)) where
-    reached : Reaches program.map Definitions source some.0 new (live_in placed.live) (SaysPlaced program.map placed new.put) (Ok came)
-    reached =
-        let P : Map → Type 0 = λ m. Turns m old new (live_in placed.live) (SaysPlaced m placed new.put) (Ok came) in
-        turn program.map Definitions source some.0 old new placed (Ok came) some.1.stands (subst P same turned)
+    pub left_rests : came ≡ NeedLine → TakesAll program.map Definitions (Wrote program first now writing) source new false
+    left_rests is =
+        rests_all program.map Definitions source old new (live_in placed.live) (SaysPlaced program.map placed new.put) law
+        (Wrote program first now writing) some came (turned_so (Ok came) turned) is
 
-    pub rests_all : came ≡ NeedLine → TakesAll program source first now new writing false
-    rests_all is =
-        let P : Turn → Type 0 = λ t. Reaches program.map Definitions source some.0 new (live_in placed.live) (SaysPlaced program.map placed new.put) (Ok t) in
-        let here : Reaches program.map Definitions source some.0 new (live_in placed.live) (SaysPlaced program.map placed new.put) (Ok NeedLine) = subst P is reached in
-        record {
-          lines = some.0;
-          taken = record { stands = here.0; keeps = some.1.keeps; gains = some.1.gains };
-          ended = sym here.2;
-        }
-
-    pub ends_all : came ≡ End → TakesAll program source first now new writing true
-    ends_all is =
-        let P : Turn → Type 0 = λ t. Reaches program.map Definitions source some.0 new (live_in placed.live) (SaysPlaced program.map placed new.put) (Ok t) in
-        let here : Reaches program.map Definitions source some.0 new (live_in placed.live) (SaysPlaced program.map placed new.put) (Ok End) = subst P is reached in
-        record {
-          lines = some.0;
-          taken = record { stands = here.0; keeps = some.1.keeps; gains = some.1.gains };
-          ended = sym here.1;
-        }
+    pub left_ends : came ≡ End → TakesAll program.map Definitions (Wrote program first now writing) source new true
+    left_ends is =
+        ends_all program.map Definitions source old new (live_in placed.live) (SaysPlaced program.map placed new.put) law
+        (Wrote program first now writing) some came (turned_so (Ok came) turned) is
 
     module _ (is : came ≡ Line) where
       here : PlacesLine program.map Definitions source some.0 new (live_in placed.live) (SaysPlaced program.map placed new.put)
-      here = let P : Turn → Type 0 = λ t. Reaches program.map Definitions source some.0 new (live_in placed.live) (SaysPlaced program.map placed new.put) (Ok t) in subst P is reached
+      here =
+          places_line program.map Definitions source old new (live_in placed.live) (SaysPlaced program.map placed new.put) law
+          (Wrote program first now writing) some came (turned_so (Ok came) turned) is
 
       one : Numbered
       one = numbered (length source) (given_by (table_at program.map some.0) (live_in placed.live) here.stage)
@@ -89,16 +85,18 @@ module _ (turn : TurnsSo) (program : Program) (source : List SourceLine) (first 
             → ((one : Numbered) (put : Put)
             → WritingStands program some.0 writing → IsPlaced program.map (table_at program.map some.0) one.given placed put
             → put.contents ≡ contents → number ≡ one.number → WritingStands program (some.0 ++ one ∷ []) writing')
-            → SomeTaken program source first later new writing'
+            → SomeTaken program.map Definitions (Wrote program first later writing') source new
         unfolding here one
         placed_more writes keeps = (
           some.0 ++ one ∷ [],
           record {
             stands = here.stands;
-            keeps = keeps one new.put some.1.keeps here.is_said (sym contents_are) number_is;
-            gains = subst (λ (ws : List Write). Gains first later ws) (sym (written_more program some.0 one))
-                (gains_then assembly first now later (written program some.0) (next_writes program some.0 one) some.1.gains
-                (writes one new.put some.1.keeps here.is_said (sym contents_are) number_is));
+            done = record {
+              keeps = keeps one new.put some.1.done.keeps here.is_said (sym contents_are) number_is;
+              gains = subst (λ (ws : List Write). Gains first later ws) (sym (written_more program some.0 one))
+                  (gains_then assembly first now later (written program some.0) (next_writes program some.0 one) some.1.done.gains
+                  (writes one new.put some.1.done.keeps here.is_said (sym contents_are) number_is));
+            };
           },
         )
 
@@ -107,7 +105,7 @@ module _ (turn : TurnsSo) (program : Program) (source : List SourceLine) (first 
             → Stops first later (written program (some.0 ++ one ∷ [])) stopped
         stops_more stopped stops =
             subst (λ (ws : List Write). Stops first later ws stopped) (sym (written_more program some.0 one))
-            (stops_after assembly first now later (written program some.0) (next_writes program some.0 one) stopped some.1.gains stops)
+            (stops_after assembly first now later (written program some.0) (next_writes program some.0 one) stopped some.1.done.gains stops)
 
         stops_so : (stopped : AsmFault) → Stops first later (written program (some.0 ++ one ∷ [])) stopped
             → SecondFails program source first later stopped
@@ -129,14 +127,14 @@ module _ (turn : TurnsSo) (program : Program) (source : List SourceLine) (first 
         stops_there stopped (Err other) writes is =
             let P : AsmFault → Type 0 = λ f. SecondFails program source first later f in
             subst P (sym is)
-            (stops_so stopped (stops_more stopped (writes one new.put some.1.keeps here.is_said (sym contents_are) number_is)))
+            (stops_so stopped (stops_more stopped (writes one new.put some.1.done.keeps here.is_said (sym contents_are) number_is)))
 
   -- the pass passes a limit, or memory is refused
   module _ (limit : AsmFault) (turned : Turns map_ old new (live_in placed.live) (SaysPlaced map_ placed new.put) (Err limit)) where
     refused : Refused program.map Definitions source some.0 limit
     refused =
-        let P : Map → Type 0 = λ m. Turns m old new (live_in placed.live) (SaysPlaced m placed new.put) (Err limit) in
-        turn program.map Definitions source some.0 old new placed (Err limit) some.1.stands (subst P same turned)
+        refused_after program.map Definitions source old new (live_in placed.live) (SaysPlaced program.map placed new.put) law
+        (Wrote program first now writing) some limit (turned_so (Err limit) turned)
 
     fails_so : (stopped : AsmFault) → Refused program.map Definitions source some.0 stopped
         → SecondFails program source first now stopped
@@ -145,7 +143,7 @@ module _ (turn : TurnsSo) (program : Program) (source : List SourceLine) (first 
     fails_so fault.Read r = absurd r
     fails_so (fault.Write output) r = absurd r
     fails_so fault.TooMuchSource r = absurd r
-    fails_so other r = record { lines = some.0; exceeds = r; gains = some.1.gains }
+    fails_so other r = record { lines = some.0; exceeds = r; gains = some.1.done.gains }
 
     -- which is handed on
     pub fails_all : (later : Writing) (result : Result Bool AsmFault) → IsErrAnd result (λ f. f ≡ limit)

@@ -1,4 +1,4 @@
--- One line more of the source: it is read, and what follows from it is taken.
+-- The second pass reads one line more of the source, and takes what follows from it.
 use Rattle.std.proofs.Common.{◌≡◌, ◌∙◌, ℕ, ◌+◌, Bool, false, List, [], ◌∷◌, ◌++◌, length, Option, None, Result, Ok, Err, IfOk, IfErr, IsErrAnd, sym, ap, subst, inr}
 use Rattle.std.specs.Option.{option_or}
 use Rattle.std.specs.Result.{result_err}
@@ -10,19 +10,14 @@ use Rattle.m11_scan_lines.specs.Line.{SourceLine}
 use Rattle.m11_scan_lines.specs.Lines.{most_lines}
 use Rattle.m11_asm_passes.specs.Lines as lines
 use Rattle.m11_asm_passes.specs.Lines.{Numbered, with_line}
-use Rattle.m11_asm_passes.specs.States.{Going, PassState, PassStands, fed}
+use Rattle.m11_asm_passes.specs.States.{Going, PassState, fed}
 use Rattle.m11_asm_rules.specs.Meanings.{Map}
-use Rattle.m11_asm_lines.specs.declared.counting.Counting.{Counting}
 use Rattle.m11_asm.specs.Program.{Program}
-use Rattle.m11_asm.specs.Second.{LineCall, SecondFails, SecondStands, SecondState, SecondTakes, Taken, TakesAll, TakesLeft}
+use Rattle.m11_asm.specs.Second.{LineCall, SecondFails, SecondStands, SecondState, SecondTakes, TakesLeft, Wrote, line_state}
+use Rattle.m11_asm.specs.Standing.{Taken}
+use Rattle.m11_asm.proofs.Taking.{Feeds, number_so, read_more, stands_more}
 use Rattle.m11_asm.specs.Writing.{Writing}
 use Rattle.m11_asm_lines.specs.declared.counting.Counting.TheVariants.{Definitions}
-
--- the law of the calls of a pass
-abbrev pub Feeds : Type 0
-Feeds = (map : Map) (before : Counting) (source : List SourceLine) (lines : List Numbered) (line : SourceLine) (going : Going)
-    → PassStands map before source lines going → going.unfolder.stage.left ≡ [] → going.unfolder.stage.has_ended ≡ false
-    → PassStands map before (source ++ line ∷ []) lines (fed line going)
 
 abbrev pub state_of : Map → Going → Writing → ℕ → Bool → Option AsmFault → SecondState
 state_of map going writing read has_ended fault =
@@ -34,19 +29,22 @@ between before now old new = record { before = before; now = now; old = old; new
 module _ (program : Program) (source : List SourceLine) (line : SourceLine) (first before : Outputs) (map_ : Map) (going : Going)
     (writing : Writing) (read : ℕ) (has_ended : Bool) (stopped : Option AsmFault) (goes : has_ended ≡ false)
     (stands : SecondStands program source first before (state_of map_ going writing read has_ended stopped)) where
-  live_more : lines.PassLines program.map Definitions (source ++ line ∷ []) stands.lines (with_line line going.unfolder.stage)
+  abbrev state : SecondState
+  state = state_of map_ going writing read has_ended stopped
+
+  live_more : lines.PassLines program.map Definitions (source ++ line ∷ []) stands.stands.lines (with_line line going.unfolder.stage)
   live_more =
-      lines.PassLines.Reading source stands.lines going.unfolder.stage line stands.taken.stands.lines_are (stands.needs goes)
-      (sym stands.ended ∙ goes)
+      lines.PassLines.Reading source stands.stands.lines going.unfolder.stage line stands.stands.taken.stands.lines_are
+      (stands.stands.needs goes) (sym stands.stands.ended ∙ goes)
 
   too_long : read ≡ most_lines → SecondFails program (source ++ line ∷ []) first before fault.TooMuchSource
   too_long full = record {
-    too_many = one_longer source line ∙ ap (λ (n : ℕ). n + 1) (sym stands.read ∙ full);
+    too_many = one_longer source line ∙ ap (λ (n : ℕ). n + 1) (sym stands.stands.read ∙ full);
     among = record {
-      lines = stands.lines;
+      lines = stands.stands.lines;
       stage = with_line line going.unfolder.stage;
       live = live_more;
-      stops = stands.taken.gains;
+      stops = stands.stands.taken.done.gains;
     };
   }
 
@@ -66,26 +64,21 @@ module _ (program : Program) (source : List SourceLine) (line : SourceLine) (fir
       (counts : IfOk numbers (λ n. n ≡ read + 1)) (number_is : Ok number ≡ numbers) (map' : Map) (map_is : map' ≡ map_)
       (now : Outputs) (outcome : Result Bool AsmFault) (new_going : Going) (new_writing : Writing)
       (takes : (program : Program) (source : List SourceLine) (lines : List Numbered) (first : Outputs) → map' ≡ program.map
-      → number ≡ length source → Taken program source lines first before fed_pass.going writing
+      → number ≡ length source → Taken program.map Definitions (Wrote program first before writing) source lines fed_pass.going
       → TakesLeft program source first now new_going new_writing outcome) where
-    number_so : number ≡ read + 1
-    number_so =
-        let R : Result ℕ AsmFault → Type 0 = λ r. IfOk r (λ n. n ≡ read + 1) in subst R (sym number_is) counts
-
     left : TakesLeft program (source ++ line ∷ []) first now new_going new_writing outcome
     left =
         let all : List SourceLine = source ++ line ∷ [] in
-        let G : Going → Type 0 = λ g. PassStands program.map Definitions all stands.lines g in
+        let G : Going → Type 0 =
+        λ g. Taken program.map Definitions (Wrote program first before writing) all stands.stands.lines g in
         let fed_so : fed line going ≡ fed_pass.going =
         ap (fed line) (sym going_is) ∙ sym (ap (λ (p : PassState). p.going) fed_is) in
-        takes program all stands.lines first (map_is ∙ stands.map_is)
-        (number_so ∙ ap (λ (n : ℕ). n + 1) stands.read ∙ sym (one_longer source line)) (record {
-          stands = subst G fed_so
-              (feeds program.map Definitions source stands.lines line going stands.taken.stands (stands.needs goes)
-              (sym stands.ended ∙ goes));
-          keeps = stands.taken.keeps;
-          gains = stands.taken.gains;
-        })
+        takes program all stands.stands.lines first (map_is ∙ stands.map_is)
+        (number_so program.map Definitions (Wrote program first before writing) source line (line_state state) stands.stands numbers
+        number counts number_is)
+        (subst G fed_so
+        (read_more program.map Definitions (Wrote program first before writing) source line (line_state state) stands.stands feeds
+        goes))
 
     pub line_fails : (came : AsmFault) (new : SecondState) (result : Result (Unit {0}) AsmFault) → Err came ≡ outcome
         → IsErrAnd result (λ f. f ≡ came)
@@ -104,20 +97,14 @@ module _ (program : Program) (source : List SourceLine) (line : SourceLine) (fir
         → SecondTakes program source line first (between before now (state_of map_ going writing read has_ended stopped)
         (state_of map_ new_going new_writing number ended kept)) (Ok tt)
     line_takes ended kept before_fault same needs kept_is none =
-        let all : List SourceLine = source ++ line ∷ [] in
-        let P : Result Bool AsmFault → Type 0 = λ r. TakesLeft program all first now new_going new_writing r in
-        let N : Result Bool AsmFault → Type 0 = λ r. IfOk r (λ e. e ≡ false → new_going.unfolder.stage.left ≡ []) in
-        let here : TakesAll program all first now new_going new_writing ended = subst P (sym same) left in
+        let P : Result Bool AsmFault → Type 0 = λ r. TakesLeft program (source ++ line ∷ []) first now new_going new_writing r in
         inr (
           goes,
           record {
-            lines = here.lines;
             map_is = stands.map_is;
-            taken = here.taken;
-            read = number_so ∙ ap (λ (n : ℕ). n + 1) stands.read ∙ sym (one_longer source line);
-            ended = here.ended;
-            needs = subst N (sym same) needs;
-            goes_on = kept_is ∙ ap (λ (f : Option AsmFault). option_or f (result_err outcome)) none
-                ∙ ap (λ (r : Result Bool AsmFault). result_err r) (sym same);
+            stands = stands_more program.map Definitions (Wrote program first before writing) source line (line_state state)
+                stands.stands (Wrote program first now new_writing) new_going number ended outcome kept before_fault
+                (number_so program.map Definitions (Wrote program first before writing) source line (line_state state)
+                stands.stands numbers number counts number_is) same (subst P (sym same) left) needs kept_is none;
           },
         )

@@ -1,0 +1,188 @@
+-- The first pass takes what follows from a line of the source: live lines, and what they say.
+use Rattle.std.proofs.Common.{◌≡◌, ◌∙◌, ◌<◌, ℕ, ◌+◌, Bool, true, false, List, [], ◌∷◌, ◌++◌, length, Option, None, Result, Ok, Err, IfOk, IfErr, IsErrAnd, refl, sym, ap, subst, inr}
+use Rattle.std.proofs.lemmas.List.{map-append}
+use Rattle.std.specs.Option.{option_or}
+use Rattle.std.specs.Result.{result_err}
+use Rattle.m11_asm_faults.specs.declared.fault.AsmFault.{AsmFault}
+use Rattle.m11_asm_faults.specs.declared.fault.AsmFault.TheVariants.{TooMuchSource}
+use Rattle.m11_scan_lines.specs.Line.{SourceLine}
+use Rattle.m11_scan_lines.specs.Lines.{most_lines}
+use Rattle.m11_unfold_rules.specs.Stages.{start}
+use Rattle.m11_unfold_rules.specs.Unfolding.{Given}
+use Rattle.m11_asm_rules.specs.Lines.{after_line}
+use Rattle.m11_asm_rules.specs.Meanings.{Map, empty_map}
+use Rattle.m11_asm_rules.specs.Placements.{after_lines, table_after}
+use Rattle.m11_asm_rules.specs.Tables.{Table, first_table}
+use Rattle.m11_asm_lines.specs.Counting.{none_used}
+use Rattle.m11_asm_lines.specs.declared.counting.Counting.{Counting}
+use Rattle.m11_asm_table.specs.Alike.{Alike}
+use Rattle.m11_asm_passes.specs.Lines as lines
+use Rattle.m11_asm_passes.specs.Lines.{Numbered, givens, numbered, table_at}
+use Rattle.m11_asm_passes.specs.Placed.{IsLive, live_in}
+use Rattle.m11_asm_passes.specs.Reaching.{PlacesLine, Reaches, Refused}
+use Rattle.m11_asm_passes.specs.Refusals.{given_by}
+use Rattle.m11_asm_passes.specs.States.{Going, PassState, PassStands, fed}
+use Rattle.m11_asm_passes.specs.Turns.{SaysLive, Turns}
+use Rattle.m11_asm_passes.specs.declared.placed.LiveLine.{LiveLine}
+use Rattle.m11_asm_passes.specs.declared.turns.Turn.{Turn}
+use Rattle.m11_asm_passes.specs.declared.turns.Turn.TheVariants.{NeedLine, End, Line}
+use Rattle.m11_asm.specs.Facts.{Facts, facts_of, no_facts, with_line}
+use Rattle.m11_asm.specs.First.{AreFactsOf, FirstFails, FirstStands, FirstState, FirstTakes, HasRoom, TakesLeft, line_state}
+use Rattle.m11_asm.specs.Standing.{Taken, TakesAll}
+use Rattle.m11_asm.proofs.FactsFound.{finds_more}
+use Rattle.m11_asm.proofs.Taking.{Feeds, SomeTaken, ends_all, number_so, places_line, read_more, refused_after, rests_all, stands_first, stands_more}
+
+-- the law of the calls of a first pass
+abbrev pub TurnsSo : Type 0
+TurnsSo = (before : Counting) (source : List SourceLine) (lines : List Numbered) (old new : Going)
+    (live : LiveLine) (result : Result Turn AsmFault) → PassStands empty_map before source lines old
+    → Turns empty_map old new (live_in live) (SaysLive live) result
+    → Reaches empty_map before source lines new (live_in live) (SaysLive live) result
+
+-- ---- one line more
+
+givens_more : (all : List Numbered) (one : Numbered) → givens (all ++ one ∷ []) ≡ givens all ++ one.given ∷ []
+givens_more all one = map-append lines.given_in all (one ∷ [])
+
+tables_more : (table : Table) (all : List Given) (one : Given)
+    → after_lines empty_map table (all ++ one ∷ []) ≡ after_line empty_map (after_lines empty_map table all) one
+tables_more table [] one = refl
+tables_more table (given ∷ all) one = tables_more (after_line empty_map table given) all one
+
+table_more : (all : List Numbered) (one : Numbered)
+    → table_at empty_map (all ++ one ∷ []) ≡ after_line empty_map (table_at empty_map all) one.given
+table_more all one = ap (table_after empty_map) (givens_more all one) ∙ tables_more first_table (givens all) one.given
+
+facts_more : (all : List Numbered) (one : Numbered)
+    → facts_of (givens (all ++ one ∷ [])) ≡ with_line (table_at empty_map all) one.given (facts_of (givens all))
+facts_more all one = ap facts_of (givens_more all one) ∙ finds_more (givens all) one.given
+
+-- ---- one call
+
+module _ (turn : TurnsSo) (source : List SourceLine) (old new : Going) (live : LiveLine) (facts : Facts)
+    (some : SomeTaken empty_map none_used (AreFactsOf facts) source old) where
+  law : (lines : List Numbered) (result : Result Turn AsmFault) → PassStands empty_map none_used source lines old
+      → Turns empty_map old new (live_in live) (SaysLive live) result
+      → Reaches empty_map none_used source lines new (live_in live) (SaysLive live) result
+  law lines result stands turned = turn none_used source lines old new live result stands turned
+
+  module _ (came : Turn) (turned : Turns empty_map old new (live_in live) (SaysLive live) (Ok came)) where
+    -- what is noted of a live line is what it says
+    pub placed_more : came ≡ Line → (later : Facts) (table : Table) → table ≡ new.kept.table
+        → ((before : Table) (given : Given) → IsLive given live
+        → Alike table (after_line empty_map before given) → later ≡ with_line before given facts)
+        → SomeTaken empty_map none_used (AreFactsOf later) source new
+    placed_more is later table table_is notes =
+        let here : PlacesLine empty_map none_used source some.0 new (live_in live) (SaysLive live) =
+        places_line empty_map none_used source old new (live_in live) (SaysLive live) law (AreFactsOf facts) some came turned is in
+        let one = numbered (length source) (given_by (table_at empty_map some.0) (live_in live) here.stage) in
+        let A : Table → Type 0 = λ t. Alike new.kept.table t in
+        let B : Table → Type 0 = λ t. Alike t (after_line empty_map (table_at empty_map some.0) one.given) in (
+          some.0 ++ one ∷ [],
+          record {
+            stands = here.stands;
+            done = notes (table_at empty_map some.0) one.given here.is_said
+                (subst B (sym table_is) (subst A (table_more some.0 one) here.stands.matches.alike))
+                ∙ ap (with_line (table_at empty_map some.0) one.given) some.1.done
+                ∙ sym (facts_more some.0 one);
+          },
+        )
+
+    pub left_rests : came ≡ NeedLine → TakesAll empty_map none_used (AreFactsOf facts) source new false
+    left_rests is =
+        rests_all empty_map none_used source old new (live_in live) (SaysLive live) law (AreFactsOf facts) some came turned is
+
+    pub left_ends : came ≡ End → TakesAll empty_map none_used (AreFactsOf facts) source new true
+    left_ends is = ends_all empty_map none_used source old new (live_in live) (SaysLive live) law (AreFactsOf facts) some came turned is
+
+  -- a fault of the pass, which is handed on
+  pub fails_all : (fault : AsmFault) (later : Facts) (result : Result Bool AsmFault) → Turns empty_map old new (live_in live) (SaysLive live) (Err fault)
+      → IsErrAnd result (λ f. f ≡ fault) → TakesLeft source new later result
+  fails_all fault later (Ok ended) turned is = absurd is
+  fails_all fault later (Err other) turned is =
+      let P : AsmFault → Type 0 = λ f. Refused empty_map none_used source some.0 f in (
+        some.0,
+        subst P (sym is)
+            (refused_after empty_map none_used source old new (live_in live) (SaysLive live) law (AreFactsOf facts) some fault turned),
+      )
+
+-- ---- a line of the source
+
+-- before the first one
+pub begins : (going : Going) (counting : Counting) (facts : Facts) (fault : Option AsmFault)
+    → ((map : Map) → PassStands map counting [] [] going) → counting ≡ none_used → going.unfolder.stage ≡ start []
+    → facts ≡ no_facts → fault ≡ None
+    → FirstStands [] (record { going = going; facts = facts; read = 0; has_ended = false; fault = fault })
+begins going counting facts fault stands none first untold goes =
+    let P : Counting → Type 0 = λ g. PassStands empty_map g [] [] going in
+    stands_first empty_map none_used (AreFactsOf facts) going fault (subst P none (stands empty_map)) untold first goes
+
+module _ (source : List SourceLine) (line : SourceLine) (pass : PassState) (facts : Facts) (read : ℕ) (has_ended : Bool)
+    (fault : Option AsmFault) (old : FirstState)
+    (view_is : record { going = pass.going; facts = facts; read = read; has_ended = has_ended; fault = fault } ≡ old)
+    (goes : has_ended ≡ false) (numbers : Result ℕ AsmFault) where
+  goes_so : old.has_ended ≡ false
+  goes_so = sym (ap (λ (s : FirstState). s.has_ended) view_is) ∙ goes
+
+  -- there are too many lines
+  pub line_refused : (came : AsmFault) (new : FirstState) (result : Result (Unit {0}) AsmFault)
+      → IfErr numbers (λ f. (f ≡ TooMuchSource) × (read ≡ most_lines)) → Err came ≡ numbers → IsErrAnd result (λ f. f ≡ came)
+      → FirstTakes source line old new result
+  line_refused came new (Ok done) refuses same is = absurd is
+  line_refused came new (Err other) refuses same is =
+      let R : Result ℕ AsmFault → Type 0 = λ r. IfErr r (λ f. (f ≡ TooMuchSource) × (read ≡ most_lines)) in
+      let full : (came ≡ TooMuchSource) × (read ≡ most_lines) = subst R (sym same) refuses in
+      let P : AsmFault → Type 0 = λ f. FirstFails (source ++ line ∷ []) old f in
+      subst P (sym (is ∙ full.0)) (goes_so, sym (ap (λ (s : FirstState). s.read) view_is) ∙ full.1)
+
+  module _ (feeds : Feeds) (fed_pass : PassState) (fed_is : fed_pass ≡ record { going = fed line pass.going; fault = pass.fault })
+      (number : ℕ) (counts : IfOk numbers (λ n. n ≡ read + 1)) (fits : IfOk numbers (λ n. read < most_lines))
+      (number_is : Ok number ≡ numbers) (outcome : Result Bool AsmFault) (new_going : Going) (new_facts : Facts)
+      (takes : (source : List SourceLine) (lines : List Numbered) → Taken empty_map none_used (AreFactsOf facts) source lines fed_pass.going
+      → TakesLeft source new_going new_facts outcome)
+      (stands : FirstStands source old) where
+    has_room : HasRoom old
+    has_room =
+        let R : Result ℕ AsmFault → Type 0 = λ r. IfOk r (λ n. read < most_lines) in
+        let N : ℕ → Type 0 = λ n. n < most_lines in
+        (goes_so, subst N (ap (λ (s : FirstState). s.read) view_is) (subst R (sym number_is) fits))
+
+    abbrev state : FirstState
+    state = record { going = pass.going; facts = facts; read = read; has_ended = has_ended; fault = fault }
+
+    here : FirstStands source state
+    here = let S : FirstState → Type 0 = λ s. FirstStands source s in subst S (sym view_is) stands
+
+    left : TakesLeft (source ++ line ∷ []) new_going new_facts outcome
+    left =
+        let G : Going → Type 0 = λ g. Taken empty_map none_used (AreFactsOf facts) (source ++ line ∷ []) here.lines g in
+        takes (source ++ line ∷ []) here.lines (subst G (sym (ap (λ (p : PassState). p.going) fed_is))
+        (read_more empty_map none_used (AreFactsOf facts) source line (line_state state) here feeds goes))
+
+    fails_so : (stopped : AsmFault) → TakesLeft (source ++ line ∷ []) new_going new_facts (Err stopped)
+        → FirstFails (source ++ line ∷ []) old stopped
+    fails_so TooMuchSource fails = absurd fails.1
+    fails_so other fails = (has_room, fails.0, fails.1)
+
+    pub line_fails : (came : AsmFault) (new : FirstState) (result : Result (Unit {0}) AsmFault) → Err came ≡ outcome
+        → IsErrAnd result (λ f. f ≡ came) → FirstTakes source line old new result
+    line_fails came new (Ok done) same is = absurd is
+    line_fails came new (Err other) same is =
+        let P : Result Bool AsmFault → Type 0 = λ r. TakesLeft (source ++ line ∷ []) new_going new_facts r in
+        let Q : AsmFault → Type 0 = λ f. FirstFails (source ++ line ∷ []) old f in
+        subst Q (sym is) (fails_so came (subst P (sym same) left))
+
+    pub line_takes : (ended : Bool) (kept before_fault : Option AsmFault) → Ok ended ≡ outcome
+        → IfOk outcome (λ e. e ≡ false → new_going.unfolder.stage.left ≡ [])
+        → kept ≡ option_or before_fault (result_err outcome) → before_fault ≡ None
+        → FirstTakes source line old
+        (record { going = new_going; facts = new_facts; read = number; has_ended = ended; fault = kept }) (Ok tt)
+    line_takes ended kept before_fault same needs kept_is none =
+        let P : Result Bool AsmFault → Type 0 = λ r. TakesLeft (source ++ line ∷ []) new_going new_facts r in
+        inr (
+          has_room,
+          stands_more empty_map none_used (AreFactsOf facts) source line (line_state state) here (AreFactsOf new_facts) new_going number ended
+              outcome kept before_fault
+              (number_so empty_map none_used (AreFactsOf facts) source line (line_state state) here numbers number counts number_is) same
+              (subst P (sym same) left) needs kept_is none,
+        )

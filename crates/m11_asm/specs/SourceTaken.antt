@@ -1,0 +1,21 @@
+-- What a pass over feeds has taken of them where it ends without a fault. Both passes do so. (MACRO-11 Language Reference Manual, ".END
+-- directive".)
+use Rattle.std.specs.Prelude.{◌≡◌, Bool, true, false, List, ◌++◌, None}
+use Rattle.m11_scan_lines.specs.Line.{SourceLine}
+use Rattle.m11_scan_line_laws.specs.Readings.{Reading}
+use Rattle.m11_asm.specs.Extents.{HaveGiven}
+use Rattle.m11_asm.specs.Passes.{Pass, Reads}
+
+-- these lines of a reading were taken: up to that in which `.END` became live, or all of them
+abbrev pub IsTakenUp : Reading → List SourceLine → Bool → Type 0
+IsTakenUp reading source true = (more : List SourceLine) × (reading.lines ≡ source ++ more)
+IsTakenUp reading source false = (reading.lines ≡ source) × (reading.fault ≡ None)
+
+-- the pass stands after all lines that it takes of what the feeds give
+pub record SourceTaken {F : Type 0} (pass : Pass F) (StandsAfter : List SourceLine → Type 0) (has_ended : Bool) : Type 0 where
+  pub reading : Reading
+  pub reads : Reads pass reading
+  pub source : List SourceLine
+  pub stands : StandsAfter source
+  pub taken_up : IsTakenUp reading source has_ended
+  pub given : HaveGiven pass source has_ended
