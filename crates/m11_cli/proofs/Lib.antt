@@ -1,5 +1,4 @@
 pub mod Assembled
-pub mod Decimals
+pub mod Carried
 pub mod Linked
 pub mod Sources
-pub mod Reporting

@@ -1,18 +1,16 @@
 -- What a command line makes of the three streams of its process, and of the files of its task. (This project's own.)
-use Rattle.std.specs.Prelude.{◌≡◌, ◌⊎◌, ℕ, List, [], Option, Result, Ok, Err}
-use Rattle.std.specs.Io.KnownBytes.{Appends}
+use Rattle.std.specs.Prelude.{◌≡◌, ◌⊎◌, List, [], Option, Result, Ok, Err}
 use Rattle.clap.specs.Words.{Text}
 use Rattle.m11_asm_faults.specs.declared.fault.AsmFault.{AsmFault}
 use Rattle.m11_asm_faults.specs.declared.fault.AsmFault.TheVariants as asm-fault
 use Rattle.m11_base.specs.Devices.{Bytes, Rises}
-use Rattle.m11_base.specs.Feed as feed
-use Rattle.m11_base.specs.Sink.{AppendsBeginning, handed_on}
+use Rattle.m11_base.specs.Sink.{handed_on}
 use Rattle.m11_base.specs.declared.sink.Sink.{Ghosts}
 use Rattle.m11_asm.specs.Passes as assembling
 use Rattle.m11_asm.specs.Run.{AsmRuns}
 use Rattle.m11_asm_outputs.specs.Outputs as assembled
-use Rattle.m11_cpu_machine.specs.Dialogue.{Input, Output, both, input_of, output_of}
-use Rattle.m11_cpu.specs.Simulation.{Simulates, request_of, run_devices}
+use Rattle.m11_cpu_machine.specs.Dialogue.{Input}
+use Rattle.m11_cpu.specs.Simulation.{Simulates, request_of}
 use Rattle.m11_cpu.specs.declared.fault.SimFault.{SimFault}
 use Rattle.m11_cpu.specs.declared.fault.SimFault.TheVariants as sim-fault
 use Rattle.m11_cpu.specs.declared.simulation.SimDone.{SimDone}
@@ -22,8 +20,12 @@ use Rattle.m11_link.specs.SecondPass as linking
 use Rattle.m11_link.specs.Outputs.{Outputs, outputs_of}
 use Rattle.m11_link.specs.declared.emit.LinkDone.{LinkDone}
 use Rattle.m11_asm.specs.declared.done.AsmDone.{AsmDone}
-use Rattle.m11_cli.specs.FaultLines.{line_of, open_line}
-use Rattle.m11_base_files.specs.Opens.{Files, AreFiles, Holds, IsEmptied, IsEmptiedSome, creating, keeping, keeping_some}
+use Rattle.m11_cli.specs.FaultLines.{line_of}
+use Rattle.m11_cli_reports.specs.Lines.{open_line}
+use Rattle.m11_cli_reports.specs.Reports.{Explains, Reports}
+use Rattle.m11_cli_reports.specs.Streams.{Store, Streams, devices_of}
+use Rattle.m11_base_writes.specs.Outputs.{Output}
+use Rattle.m11_base_files.specs.Opens.{AreFiles, Holds, IsEmptied, IsEmptiedSome, creating, keeping, keeping_some}
 use Rattle.m11_cli_tasks.specs.Opened.{CreatesSome, StopsAt, asm_inputs, asm_outputs, link_inputs, link_outputs, sim_inputs}
 use Rattle.m11_cli_tasks.specs.Tasks.{Plans}
 use Rattle.m11_cli.specs.declared.outcome.Outcome.{Outcome}
@@ -33,50 +35,7 @@ use Rattle.m11_cli_tasks.specs.declared.tasks.LinkTask.{LinkTask}
 use Rattle.m11_cli_tasks.specs.declared.tasks.SimTask.{SimTask}
 use Rattle.m11_cli_tasks.specs.declared.tasks.Task.{Task}
 use Rattle.m11_cli_tasks.specs.declared.tasks.Task.TheVariants as task
-use Rattle.m11_cli_tasks.specs.declared.usage.UsageFault.{UsageFault}
-use Rattle.m11_cli_tasks.specs.declared.usage.UsageFault.TheVariants.{Help, Words}
 use Rattle.m11_link.specs.FirstPass.{pass_of}
-use Rattle.m11_base_writes.specs.Outputs as written
-
--- ---- what a process has
-
--- what it reads, what it prints, and what it says of itself
-pub record Streams : Type 0 where
-  pub input : Input
-  pub printed : Output
-  pub reported : Output
-
-abbrev pub streams : Option feed.Text → ℕ → Option Bytes → ℕ → Option Bytes → ℕ → Streams
-streams input input_faults printed printed_faults reported reported_faults = record {
-  input = input_of input input_faults;
-  printed = output_of printed printed_faults;
-  reported = output_of reported reported_faults;
-}
-
--- the files of a command, where they are known, and how often one was refused
-pub record Store : Type 0 where
-  pub files : Option Files
-  pub refusals : ℕ
-
-abbrev pub store : Option Files → ℕ → Store
-store files refusals = record { files = files; refusals = refusals }
-
--- ---- what is reported
-
--- a text was reported whole; or the device failed, after a beginning of it
-abbrev pub Reports : Bytes → Output → Output → Type 0
-Reports text old new = (Appends old.text new.text text × (new.faults ≡ old.faults))
-    ⊎ (AppendsBeginning old.text new.text text × Rises old.faults new.faults)
-
--- a text in words of the parser's own was reported: none, where memory was refused for it
-abbrev pub ReportsSome : Output → Output → Type 0
-ReportsSome old new = (text : Bytes) × Reports text old new
-
--- what the parser has to say is printed, where it is help, or reported, where it is a refusal
-abbrev pub Explains : UsageFault → Output → Output → Output → Output → Type 0
-Explains (Help error) printed printed' reported reported' = ReportsSome printed printed' × (reported' ≡ reported)
-Explains (Words error) printed printed' reported reported' = (printed' ≡ printed) × ReportsSome reported reported'
-Explains fault printed printed' reported reported' = (printed' ≡ printed) × (reported' ≡ reported)
 
 -- ---- files that are not all open
 
@@ -93,19 +52,15 @@ RefusesFile inputs outputs old new reported reported' = Rises old.refusals new.r
 -- ---- an assembly
 
 -- an output, as the sink that an assembly or a link takes it for
-abbrev pub known : Ghosts written.Output
+abbrev pub known : Ghosts Output
 known = record { text = λ output. output.text; faults = λ output. output.faults; held = λ output. output.held }
 
--- what is reported, of which it isn't said how much is held back
-abbrev pub holding : ℕ → Output → written.Output
-holding held output = record { text = output.text; faults = output.faults; held = held }
-
 -- what a file has got
-abbrev pub got : written.Output → Option Bytes
+abbrev pub got : Output → Option Bytes
 got output = handed_on output.text output.held
 
 -- the object, the listing if there is one, and the messages of an assembly
-abbrev pub asm_outputs_of : written.Output → Option written.Output → written.Output → assembled.Outputs
+abbrev pub asm_outputs_of : Output → Option Output → Output → assembled.Outputs
 asm_outputs_of object listing reported = assembled.outputs_of known known known object listing reported
 
 -- the sources are the files of their paths, in both passes. By their texts the object and the listing, which are empty at
@@ -117,19 +72,17 @@ pub record Assembles (asm : AsmTask) (old new : Store) (reported reported' : Out
   pub first' : List Input
   pub second : List Input
   pub second' : List Input
-  pub object : written.Output
-  pub object' : written.Output
-  pub listing : Option written.Output
-  pub listing' : Option written.Output
-  pub held : ℕ
-  pub held' : ℕ
+  pub object : Output
+  pub object' : Output
+  pub listing : Option Output
+  pub listing' : Option Output
   pub read : AreFiles (λ s. s.text) old.files (asm_inputs asm) first
   pub read-again : AreFiles (λ s. s.text) old.files (asm_inputs asm) second
   pub emptied : IsEmptied old.files object.text
   pub emptied-listing : IsEmptiedSome (λ l. l.text) old.files asm.listing listing
   pub runs : AsmRuns (assembling.pass_of (λ s. s.text) (λ s. s.faults) first first')
       (assembling.pass_of (λ s. s.text) (λ s. s.faults) second second')
-      (asm_outputs_of object listing (holding held reported)) (asm_outputs_of object' listing' (holding held' reported')) result
+      (asm_outputs_of object listing reported) (asm_outputs_of object' listing' reported') result
   pub kept : new.files ≡ keeping_some got asm.listing listing'
       (keeping asm.object.now (got object') (creating (asm_outputs asm) old.files))
   pub opened : new.refusals ≡ old.refusals
@@ -141,7 +94,7 @@ MayAssemble asm old new reported reported' result = Assembles asm old new report
 -- ---- a link
 
 -- the tape, the map if there is one, and the messages of a link
-abbrev pub outputs : written.Output → Option written.Output → written.Output → Outputs
+abbrev pub outputs : Output → Option Output → Output → Outputs
 outputs tape map reported = outputs_of known known known tape map reported
 
 -- the objects are the files of their paths, in both passes. By their texts the tape and the map, which are empty at
@@ -153,19 +106,17 @@ pub record Links (task : LinkTask) (old new : Store) (reported reported' : Outpu
   pub first' : List Input
   pub second : List Input
   pub second' : List Input
-  pub tape : written.Output
-  pub tape' : written.Output
-  pub map : Option written.Output
-  pub map' : Option written.Output
-  pub held : ℕ
-  pub held' : ℕ
+  pub tape : Output
+  pub tape' : Output
+  pub map : Option Output
+  pub map' : Option Output
   pub read : AreFiles (λ s. s.text) old.files (link_inputs task) first
   pub read-again : AreFiles (λ s. s.text) old.files (link_inputs task) second
   pub emptied : IsEmptied old.files tape.text
   pub emptied-map : IsEmptiedSome (λ m. m.text) old.files task.map map
   pub runs : linking.LinkRuns (pass_of (λ s. s.text) (λ s. s.faults) first first')
       (pass_of (λ s. s.text) (λ s. s.faults) second second') task.bottom
-      (outputs tape map (holding held reported)) (outputs tape' map' (holding held' reported')) result
+      (outputs tape map reported) (outputs tape' map' reported') result
   pub kept : new.files ≡ keeping_some got task.map map'
       (keeping task.tape.now (got tape') (creating (link_outputs task) old.files))
   pub opened : new.refusals ≡ old.refusals
@@ -183,9 +134,7 @@ pub record RunsTape (sim : SimTask) (old new : Store) (before after : Streams) (
   pub tape' : Input
   pub read : Holds old.files sim.tape.now tape.text
   pub runs : Simulates (request_of sim.start sim.words sim.limit)
-      (run_devices tape (both before.input.text before.input.faults before.printed.text before.printed.faults) before.reported)
-      (run_devices tape' (both after.input.text after.input.faults after.printed.text after.printed.faults) after.reported)
-      result
+      (devices_of tape before) (devices_of tape' after) result
   pub kept : new ≡ old
 
 abbrev pub MayRun : SimTask → Store → Store → Streams → Streams → Result SimDone SimFault → Type 0

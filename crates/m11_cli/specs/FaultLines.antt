@@ -1,16 +1,10 @@
--- The line that is printed for a fault. (This project's own.) Its words, with a blank between each
--- two, are `?M11`, the command, the fault's number in decimal, the fault's name and what the fault
--- has to add; a line feed ends it. As `?M11 ASM 2 Write OBJECT`.
-use Rattle.std.specs.Prelude.{List, [], ◌∷◌, ◌++◌, ℕ, Ok, Err, codes}
-use Rattle.std.specs.List.{join_with_byte}
+-- The line that is printed for a fault, by its command. (This project's own.)
+use Rattle.std.specs.Prelude.{List, [], ◌∷◌, Ok, Err, codes}
 use Rattle.std.specs.Fmt.{decimal}
 use Rattle.m11_asm_faults.specs.Faults.{name_of, number_of, output_name}
 use Rattle.m11_asm_faults.specs.declared.fault.AsmFault.{AsmFault}
 use Rattle.m11_asm_faults.specs.declared.fault.AsmFault.TheVariants as asm
 use Rattle.m11_base.specs.Devices.{Bytes}
-use Rattle.m11_cpu.specs.Fault.{sim_fault_name, sim_fault_number}
-use Rattle.m11_cpu.specs.declared.fault.SimFault.{SimFault}
-use Rattle.m11_cpu.specs.declared.fault.SimFault.TheVariants as sim
 use Rattle.m11_link_layout.specs.Fault.{link_fault_name, link_fault_number}
 use Rattle.m11_link_layout.specs.declared.fault.LinkFault.{LinkFault}
 use Rattle.m11_link_layout.specs.declared.fault.LinkFault.TheVariants as link
@@ -18,21 +12,12 @@ use Rattle.m11_link_layout.specs.declared.fault.LinkOutput.{LinkOutput}
 use Rattle.m11_link_layout.specs.declared.fault.LinkOutput.TheVariants.{Tape, Map, Messages}
 use Rattle.m11_obj_blocks.specs.Blocks.{block_fault_name, block_fault_number}
 use Rattle.m11_obj.specs.Fault.{record_fault_name, record_fault_number}
-use Rattle.m11_cli_tasks.specs.Usage.{usage_name, usage_number}
+use Rattle.m11_cli_reports.specs.Lines.{line_for}
+use Rattle.m11_cli_reports.specs.Runs.{sim_line}
+use Rattle.m11_cli_reports.specs.Usage.{usage_line}
 use Rattle.m11_cli.specs.declared.outcome.Outcome.{Outcome}
 use Rattle.m11_cli.specs.declared.outcome.Outcome.TheVariants.{Usage, Asm, Link, Sim, NotOpened}
-use Rattle.m11_cli_tasks.specs.declared.usage.UsageFault.{UsageFault}
-use Rattle.m11_cli_tasks.specs.declared.usage.UsageFault.TheVariants.{Help, Words}
 use Rattle.m11_unfold_rules.specs.Fault as unfolded
-
--- a line of words: a blank is 040, a line feed 012
-abbrev pub line : List Bytes → Bytes
-line words = join_with_byte 0o40 words ++ 0o12 ∷ []
-
--- the line of a fault
-abbrev pub line_for : Bytes → ℕ → Bytes → List Bytes → Bytes
-line_for command number name more =
-    line (codes "?M11" ∷ command ∷ decimal number ∷ name ∷ more)
 
 -- what a fault of an assembly adds: the output that could not be written, or the number and the name
 -- of the limit of unfolding that was passed
@@ -79,23 +64,6 @@ abbrev pub link_line : LinkFault → Bytes
 link_line fault =
     line_for (codes "LINK") (link_fault_number fault) (link_fault_name fault) (link_added fault)
 
--- what a fault of a run adds: the messages, where they could not be written
-abbrev pub sim_added : SimFault → List Bytes
-sim_added (sim.Load fault) = []
-sim_added sim.Write = codes "MESSAGES" ∷ []
-sim_added sim.NoMemory = []
-
--- the line of a fault of a run
-abbrev pub sim_line : SimFault → Bytes
-sim_line fault =
-    line_for (codes "SIM") (sim_fault_number fault) (sim_fault_name fault) (sim_added fault)
-
--- the line of a fault of the words; the parser's own text stands for a line where it has one
-abbrev pub usage_line : UsageFault → Bytes
-usage_line (Help error) = []
-usage_line (Words error) = []
-usage_line fault = line_for (codes "USAGE") (usage_number fault) (usage_name fault) []
-
 -- the line of what a command yielded; none where there is no fault, and none where the words or the
 -- path that was refused have been reported with a text of their own
 abbrev pub line_of : Outcome → Bytes
@@ -107,7 +75,3 @@ line_of (Link (Err fault)) = link_line fault
 line_of (Sim (Ok done)) = []
 line_of (Sim (Err fault)) = sim_line fault
 line_of NotOpened = []
-
--- the line for a file that could not be opened
-abbrev pub open_line : Bytes → Bytes
-open_line path = line (codes "?M11" ∷ codes "OPEN" ∷ path ∷ [])

@@ -1,4 +1,3 @@
-pub mod Arguments
 pub mod Driver
 pub mod FaultLines
 pub mod Outcome

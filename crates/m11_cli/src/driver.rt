@@ -1,28 +1,32 @@
 //! All of the program's work, over whatever opens files, feeds and takes bytes.
 
 ghost use Rattle.std.specs.Prelude.{◌≡◌, map};
-ghost use Rattle.m11_cpu_machine.specs.Dialogue.{Input, Output, both, input_of, output_of};
-ghost use Rattle.m11_cpu.specs.Simulation.{Simulates, request_of, run_devices};
-ghost use Rattle.m11_cli.specs.Driver.{Assembles, Carries, HasOutcome, Explains, Links, Obeys, Store, Reports, ReportsSome, store, streams};
-ghost use Rattle.m11_cli.specs.FaultLines.{line_of, open_line};
+ghost use Rattle.m11_cpu_machine.specs.Dialogue.{Input, input_of};
+ghost use Rattle.m11_cpu.specs.Simulation.{Simulates, request_of};
+ghost use Rattle.m11_cli_reports.specs.Lines.{open_line};
+ghost use Rattle.m11_cli_reports.specs.Reports.{Reports};
+ghost use Rattle.m11_cli_reports.specs.Streams.{Store, devices_of, store, streams};
+ghost use Rattle.m11_cli.specs.Driver.{Assembles, Carries, HasOutcome, Links, Obeys};
+ghost use Rattle.m11_cli.specs.FaultLines.{line_of};
 ghost use Rattle.m11_base.specs.Sink.{handed_on};
+ghost use Rattle.m11_base_writes.specs.Outputs.{Output, output_of};
 ghost use Rattle.m11_base_files.specs.Opens.{AreFiles, IsEmptied, IsEmptiedSome, creating, keeping_some};
 ghost use Rattle.m11_cli_tasks.specs.Opened.{asm_inputs, asm_outputs, link_inputs, link_outputs};
 ghost use Rattle.m11_cli.specs.Outcome.{LeavesConsole, status_of};
 ghost use Rattle.m11_cli_tasks.specs.Tasks.{IsDoable};
-ghost use Rattle.m11_cli.specs.Arguments.{ReportsOfWords, words_status};
 ghost use Rattle.m11_cli.specs.declared.outcome.Outcome.{Outcome};
 ghost use Rattle.m11_cli.specs.declared.outcome.Outcome.TheVariants.{NotOpened};
 ghost use Rattle.m11_cli_tasks.specs.declared.tasks.Task.TheVariants.{Asm, Link, Sim};
 
-use crate::fault_lines::{fault_line, not_opened_line};
+use crate::fault_lines::fault_line;
 use crate::outcome::{Outcome, status};
 use m11_asm::{AsmDone, AsmFault, asm_run};
-use m11_base::{Feed, Sink, put_all};
+use m11_base::{Feed, Sink};
 use m11_base_files::Opens;
+use m11_cli_reports::{explain, report_not_opened};
 use m11_cli_tasks::{
-    AsmFiles, AsmTask, LinkFiles, LinkTask, OpenFault, SimTask, Task, UsageFault, WordsFault,
-    open_asm_files, open_link_files, open_sim_file, plan, refusal_line,
+    AsmFiles, AsmTask, LinkFiles, LinkTask, OpenFault, SimTask, Task, open_asm_files,
+    open_link_files, open_sim_file, plan,
 };
 use m11_cpu::{SimDone, SimFault, sim_run};
 use m11_link::{LinkDone, LinkFault, link_run};
@@ -54,49 +58,28 @@ where
     S: AsStr,
     ensures { (outcome : Outcome) × Obeys (map S.text words.entry.now) outcome
         (store (F.files files.old) (F.refusals files.old)) (store (F.files files.new) (F.refusals files.new))
-        (streams (I.text input.old) (I.faults input.old)
-        (O.text out.old) (O.faults out.old) (E.text err.old) (E.faults err.old))
-        (streams (I.text input.new) (I.faults input.new)
-        (O.text out.new) (O.faults out.new) (E.text err.new) (E.faults err.new))
+        (streams I.Feed O.Sink E.Sink input.old out.old err.old)
+        (streams I.Feed O.Sink E.Sink input.new out.new err.new)
         × (result ≡ status_of outcome) × LeavesConsole outcome input.old input.new }
 {
     let outcome = outcome_of(alloc, files, input, out, err, words);
     finish(&outcome, err)
 }
 
-/// Stands for `command` where the system did not give the words: reports on `err` why, and returns
-/// the status, that of want of memory or that of refused words.
-#[tactic(auto, using(crate::proofs::Reporting::reports))]
-pub fn command_without_words<E: Sink>(alloc: Global, fault: WordsFault, err: &mut E) -> u8
-    ensures status { result ≡ words_status fault }
-    ensures reported { ReportsOfWords fault
-        (output_of (E.text err.old) (E.faults err.old)) (output_of (E.text err.new) (E.faults err.new)) }
-{
-    match fault {
-        WordsFault::NoMemory => finish(&Outcome::Usage(UsageFault::NoMemory), err),
-        WordsFault::NotText(number) => {
-            if let Ok(line) = refusal_line(alloc, number) {
-                let _ = put_all(err, line.as_bytes());
-            }
-            2
-        }
-    }
-}
-
 // Reports the line of the outcome's fault, and gives the status. Where the line cannot be reported,
 // the status still reports the fault.
-#[tactic(auto, using(crate::proofs::Reporting::reports))]
+#[tactic(auto, using(m11_cli_reports::proofs::Reporting::reports))]
 fn finish<E: Sink>(outcome: &Outcome, err: &mut E) -> u8
     ensures status { result ≡ status_of outcome.now }
     ensures line { Reports (line_of outcome.now)
-        (output_of (E.text err.old) (E.faults err.old)) (output_of (E.text err.new) (E.faults err.new)) }
+        (output_of E.Sink err.old) (output_of E.Sink err.new) }
 {
     let _ = fault_line(outcome, err);
     status(outcome)
 }
 
 // What the words yield. A refusal is reported where it is found.
-#[tactic(auto, using(crate::proofs::Reporting::carried))]
+#[tactic(auto, using(crate::proofs::Carried::carried))]
 fn outcome_of<'a, F, I, O, E, S>(
     alloc: Global,
     files: &mut F,
@@ -113,10 +96,8 @@ where
     S: AsStr,
     ensures outcome { HasOutcome (map S.text words.entry.now) result
         (store (F.files files.old) (F.refusals files.old)) (store (F.files files.new) (F.refusals files.new))
-        (streams (I.text input.old) (I.faults input.old)
-        (O.text out.old) (O.faults out.old) (E.text err.old) (E.faults err.old))
-        (streams (I.text input.new) (I.faults input.new)
-        (O.text out.new) (O.faults out.new) (E.text err.new) (E.faults err.new)) }
+        (streams I.Feed O.Sink E.Sink input.old out.old err.old)
+        (streams I.Feed O.Sink E.Sink input.new out.new err.new) }
     ensures console { LeavesConsole result input.old input.new }
 {
     match plan(alloc, words) {
@@ -130,41 +111,13 @@ where
     }
 }
 
-// The parser's text: help goes to `out`, and a refusal to `err`.
-fn explain<O: Sink, E: Sink>(alloc: Global, fault: &UsageFault, out: &mut O, err: &mut E)
-    ensures { Explains fault.now
-        (output_of (O.text out.old) (O.faults out.old)) (output_of (O.text out.new) (O.faults out.new))
-        (output_of (E.text err.old) (E.faults err.old)) (output_of (E.text err.new) (E.faults err.new)) }
-{
-    match fault {
-        UsageFault::Help(error) => report(alloc, error, out),
-        UsageFault::Words(error) => report(alloc, error, err),
-        UsageFault::BadOctal
-        | UsageFault::OddAddress
-        | UsageFault::BadAddress
-        | UsageFault::NoMemory => {}
-    }
-}
-
-// The text of an error, put at once. Where memory is refused for it, nothing is.
-#[tactic(auto, using(crate::proofs::Reporting::reports_some, crate::proofs::Reporting::reports_none))]
-fn report<S: Sink>(alloc: Global, error: &clap::Error, sink: &mut S)
-    ensures { ReportsSome (output_of (S.text sink.old) (S.faults sink.old))
-        (output_of (S.text sink.new) (S.faults sink.new)) }
-{
-    if let Ok(text) = error.to_string(alloc) {
-        let _ = put_all(sink, text.as_bytes());
-    }
-}
-
 // Reports that the file of a path does not open.
-#[tactic(auto, using(crate::proofs::Reporting::reports))]
 fn not_opened<E: Sink>(err: &mut E, path: &str) -> Outcome
     ensures outcome { result ≡ NotOpened }
     ensures line { Reports (open_line path.now)
-        (output_of (E.text err.old) (E.faults err.old)) (output_of (E.text err.new) (E.faults err.new)) }
+        (output_of E.Sink err.old) (output_of E.Sink err.new) }
 {
-    let _ = not_opened_line(path, err);
+    report_not_opened(path, err);
     Outcome::NotOpened
 }
 
@@ -177,8 +130,8 @@ fn assemble<F: Opens, E: Sink>(
 ) -> Outcome
     ensures { (input : Input) → (printed : Output) → Carries (Asm task.now) result
         (store (F.files files.old) (F.refusals files.old)) (store (F.files files.new) (F.refusals files.new))
-        (record { input = input; printed = printed; reported = output_of (E.text err.old) (E.faults err.old) })
-        (record { input = input; printed = printed; reported = output_of (E.text err.new) (E.faults err.new) }) }
+        (record { input = input; printed = printed; reported = output_of E.Sink err.old })
+        (record { input = input; printed = printed; reported = output_of E.Sink err.new }) }
 {
     match open_asm_files(alloc, files, task) {
         Ok(opened) => Outcome::Asm(run_asm(alloc, files, opened, err, task)),
@@ -201,7 +154,7 @@ fn run_asm<F: Opens, E: Sink>(
         → IsEmptiedSome F.Output.text before.files task.now.listing opened.listing
         → F.files files.old ≡ creating (asm_outputs task.now) before.files → F.refusals files.old ≡ before.refusals
         → Assembles task.now before (store (F.files files.new) (F.refusals files.new))
-        (output_of (E.text err.old) (E.faults err.old)) (output_of (E.text err.new) (E.faults err.new)) result }
+        (output_of E.Sink err.old) (output_of E.Sink err.new) result }
 {
     let AsmFiles {
         mut sources,
@@ -230,8 +183,8 @@ fn link<F: Opens, E: Sink>(
 ) -> Outcome
     ensures { (input : Input) → (printed : Output) → Carries (Link task.now) result
         (store (F.files files.old) (F.refusals files.old)) (store (F.files files.new) (F.refusals files.new))
-        (record { input = input; printed = printed; reported = output_of (E.text err.old) (E.faults err.old) })
-        (record { input = input; printed = printed; reported = output_of (E.text err.new) (E.faults err.new) }) }
+        (record { input = input; printed = printed; reported = output_of E.Sink err.old })
+        (record { input = input; printed = printed; reported = output_of E.Sink err.new }) }
 {
     match open_link_files(alloc, files, task) {
         Ok(opened) => Outcome::Link(run_link(alloc, files, opened, err, task)),
@@ -254,7 +207,7 @@ fn run_link<F: Opens, E: Sink>(
         → IsEmptiedSome F.Output.text before.files task.now.map opened.map
         → F.files files.old ≡ creating (link_outputs task.now) before.files → F.refusals files.old ≡ before.refusals
         → Links task.now before (store (F.files files.new) (F.refusals files.new))
-        (output_of (E.text err.old) (E.faults err.old)) (output_of (E.text err.new) (E.faults err.new)) result }
+        (output_of E.Sink err.old) (output_of E.Sink err.new) result }
 {
     let LinkFiles {
         mut objects,
@@ -303,10 +256,8 @@ where
     requires { IsDoable (Sim task.now) }
     ensures outcome { Carries (Sim task.now) result
         (store (F.files files.old) (F.refusals files.old)) (store (F.files files.new) (F.refusals files.new))
-        (streams (I.text input.old) (I.faults input.old)
-        (O.text out.old) (O.faults out.old) (E.text err.old) (E.faults err.old))
-        (streams (I.text input.new) (I.faults input.new)
-        (O.text out.new) (O.faults out.new) (E.text err.new) (E.faults err.new)) }
+        (streams I.Feed O.Sink E.Sink input.old out.old err.old)
+        (streams I.Feed O.Sink E.Sink input.new out.new err.new) }
     ensures console { LeavesConsole result input.old input.new }
 {
     match open_sim_file(files, task) {
@@ -328,12 +279,8 @@ fn run_sim<T: Feed + Drop, I: Feed, O: Sink, E: Sink>(
 ) -> Result<SimDone, SimFault>
     requires { IsDoable (Sim task.now) }
     ensures { (tape' : Input) × Simulates (request_of task.now.start task.now.words task.now.limit)
-        (run_devices (input_of (T.text tape) (T.faults tape))
-        (both (I.text input.old) (I.faults input.old) (O.text out.old) (O.faults out.old))
-        (output_of (E.text err.old) (E.faults err.old)))
-        (run_devices tape'
-        (both (I.text input.new) (I.faults input.new) (O.text out.new) (O.faults out.new))
-        (output_of (E.text err.new) (E.faults err.new))) result }
+        (devices_of (input_of (T.text tape) (T.faults tape)) (streams I.Feed O.Sink E.Sink input.old out.old err.old))
+        (devices_of tape' (streams I.Feed O.Sink E.Sink input.new out.new err.new)) result }
 {
     let mut tape = tape;
     sim_run(

@@ -5,18 +5,15 @@ ghost use Rattle.std.specs.Io.KnownBytes.{Appends};
 ghost use Rattle.m11_asm_faults.specs.declared.fault.AsmFault.TheVariants.{Unfold};
 ghost use Rattle.m11_base.specs.Devices.{Rises};
 ghost use Rattle.m11_base.specs.Sink.{AppendsBeginning};
-ghost use Rattle.m11_cpu.specs.declared.fault.LoadFault.TheVariants.{Tape};
-ghost use Rattle.m11_cpu.specs.declared.fault.SimFault.TheVariants.{Load};
 ghost use Rattle.m11_link_layout.specs.declared.fault.LinkFault.TheVariants.{Block, Record};
-ghost use Rattle.m11_cli.specs.FaultLines.{asm_line, line_of, link_line, open_line, sim_line, usage_line};
+ghost use Rattle.m11_cli.specs.FaultLines.{asm_line, line_of, link_line};
 
 use crate::outcome::Outcome;
 use m11_asm::{AsmFault, AsmOutput};
 use m11_base::{PutFault, Sink, put_all};
-use m11_cli_tasks::UsageFault;
-use m11_cpu::{LoadFault, SimFault};
+use m11_cli_reports::{sim_line, usage_line};
 use m11_link::{LinkFault, LinkOutput};
-use m11_obj::{BlockFault, RecordFault, TapeFault};
+use m11_obj::{BlockFault, RecordFault};
 use m11_unfold_rules::UnfoldFault;
 
 /// Puts the line of the outcome's fault: `?M11`, the command, the fault's number and its name, and
@@ -36,51 +33,22 @@ pub fn fault_line<S: Sink>(outcome: &Outcome, sink: &mut S) -> Result<(), PutFau
     put_all(sink, fault_text(outcome).as_bytes())
 }
 
-/// Puts the line for a file that could not be opened: `?M11 OPEN` and the path as it was given.
-///
-/// `Device` where the sink fails; it has then taken a beginning of the line. No memory is taken.
-pub(crate) fn not_opened_line<S: Sink>(path: &str, sink: &mut S) -> Result<(), PutFault>
-    ensures whole { OnOk result (Appends (S.text sink.old) (S.text sink.new) (open_line path.now)) }
-    ensures sound { OnOk result (S.faults sink.new ≡ S.faults sink.old) }
-    ensures beginning { OnErr result
-        (AppendsBeginning (S.text sink.old) (S.text sink.new) (open_line path.now)) }
-    ensures fault { OnErr result (Rises (S.faults sink.old) (S.faults sink.new)) }
-{
-    put_all(sink, b"?M11 OPEN ")?;
-    put_all(sink, path.as_bytes())?;
-    put_all(sink, b"\n")
-}
-
 // The line, or the empty text.
-#[tactic(auto, unfolding(crate::proofs::Decimals::decimals))]
+#[tactic(auto, unfolding(m11_cli_reports::proofs::Decimals::decimals))]
 fn fault_text(outcome: &Outcome) -> &'static str
     ensures { result.now ≡ line_of outcome.now }
 {
     match outcome {
-        Outcome::Usage(fault) => usage_text(fault),
+        Outcome::Usage(fault) => usage_line(fault),
         Outcome::Asm(Err(fault)) => asm_text(*fault),
         Outcome::Link(Err(fault)) => link_text(*fault),
-        Outcome::Sim(Err(fault)) => sim_text(*fault),
+        Outcome::Sim(Err(fault)) => sim_line(*fault),
         Outcome::Asm(Ok(_)) | Outcome::Link(Ok(_)) | Outcome::Sim(Ok(_)) | Outcome::NotOpened => "",
     }
 }
 
-// The line of a fault of the words.
-#[tactic(auto, unfolding(crate::proofs::Decimals::decimals))]
-fn usage_text(fault: &UsageFault) -> &'static str
-    ensures { result.now ≡ usage_line fault.now }
-{
-    match fault {
-        UsageFault::Help(_) | UsageFault::Words(_) => "",
-        UsageFault::BadOctal => "?M11 USAGE 3 BadOctal\n",
-        UsageFault::OddAddress => "?M11 USAGE 4 OddAddress\n",
-        UsageFault::BadAddress => "?M11 USAGE 5 BadAddress\n",
-        UsageFault::NoMemory => "?M11 USAGE 90 NoMemory\n",
-    }
-}
-
 // The line of a fault of an assembly.
-#[tactic(auto, unfolding(crate::proofs::Decimals::decimals))]
+#[tactic(auto, unfolding(m11_cli_reports::proofs::Decimals::decimals))]
 fn asm_text(fault: AsmFault) -> &'static str
     ensures { result.now ≡ asm_line fault }
 {
@@ -98,7 +66,7 @@ fn asm_text(fault: AsmFault) -> &'static str
 }
 
 // The line of a fault of an unfolding.
-#[tactic(auto, unfolding(crate::proofs::Decimals::decimals))]
+#[tactic(auto, unfolding(m11_cli_reports::proofs::Decimals::decimals))]
 fn unfold_text(fault: UnfoldFault) -> &'static str
     ensures { result.now ≡ asm_line (Unfold fault) }
 {
@@ -112,7 +80,7 @@ fn unfold_text(fault: UnfoldFault) -> &'static str
 }
 
 // The line of a fault of a link.
-#[tactic(auto, unfolding(crate::proofs::Decimals::decimals))]
+#[tactic(auto, unfolding(m11_cli_reports::proofs::Decimals::decimals))]
 fn link_text(fault: LinkFault) -> &'static str
     ensures { result.now ≡ link_line fault }
 {
@@ -138,7 +106,7 @@ fn link_text(fault: LinkFault) -> &'static str
 }
 
 // The line of a fault of an object's block.
-#[tactic(auto, unfolding(crate::proofs::Decimals::decimals))]
+#[tactic(auto, unfolding(m11_cli_reports::proofs::Decimals::decimals))]
 fn block_text(fault: BlockFault) -> &'static str
     ensures { result.now ≡ link_line (Block fault) }
 {
@@ -155,7 +123,7 @@ fn block_text(fault: BlockFault) -> &'static str
 }
 
 // The line of a fault of an object's record.
-#[tactic(auto, unfolding(crate::proofs::Decimals::decimals))]
+#[tactic(auto, unfolding(m11_cli_reports::proofs::Decimals::decimals))]
 fn record_text(fault: RecordFault) -> &'static str
     ensures { result.now ≡ link_line (Record fault) }
 {
@@ -167,35 +135,5 @@ fn record_text(fault: RecordFault) -> &'static str
         RecordFault::Complex => "?M11 LINK 4 Record 5 Complex\n",
         RecordFault::UnknownRelocation => "?M11 LINK 4 Record 6 UnknownRelocation\n",
         RecordFault::BadName => "?M11 LINK 4 Record 7 BadName\n",
-    }
-}
-
-// The line of a fault of a run.
-#[tactic(auto, unfolding(crate::proofs::Decimals::decimals))]
-fn sim_text(fault: SimFault) -> &'static str
-    ensures { result.now ≡ sim_line fault }
-{
-    match fault {
-        SimFault::Load(LoadFault::Tape(fault)) => tape_text(fault),
-        SimFault::Load(LoadFault::OutsideMemory) => "?M11 SIM 10 OutsideMemory\n",
-        SimFault::Write => "?M11 SIM 11 Write MESSAGES\n",
-        SimFault::NoMemory => "?M11 SIM 90 NoMemory\n",
-    }
-}
-
-// The line of a fault of the tape.
-#[tactic(auto, unfolding(crate::proofs::Decimals::decimals))]
-fn tape_text(fault: TapeFault) -> &'static str
-    ensures { result.now ≡ sim_line (Load (Tape fault)) }
-{
-    match fault {
-        TapeFault::Device => "?M11 SIM 1 Device\n",
-        TapeFault::Truncated => "?M11 SIM 2 Truncated\n",
-        TapeFault::BadSum => "?M11 SIM 3 BadSum\n",
-        TapeFault::BadStart => "?M11 SIM 5 BadStart\n",
-        TapeFault::TooShort => "?M11 SIM 6 TooShort\n",
-        TapeFault::Failed => "?M11 SIM 7 Failed\n",
-        TapeFault::NoTransfer => "?M11 SIM 8 NoTransfer\n",
-        TapeFault::TooMuch => "?M11 SIM 9 TooMuch\n",
     }
 }

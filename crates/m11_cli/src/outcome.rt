@@ -1,13 +1,13 @@
 //! The outcome of a command, and the status that it leaves.
 
 ghost use Rattle.std.specs.Prelude.{◌≡◌};
-ghost use Rattle.m11_cli.specs.Outcome.{asm_status, link_status, sim_status, status_of, stop_status};
+ghost use Rattle.m11_cli.specs.Outcome.{asm_status, status_of};
 
 use m11_asm::{AsmDone, AsmFault};
+use m11_cli_reports::{link_status, sim_status, stop_status, usage_status};
 use m11_cli_tasks::UsageFault;
-use m11_cpu::{LoadFault, SimDone, SimFault, Stop};
+use m11_cpu::{SimDone, SimFault};
 use m11_link::{LinkDone, LinkFault};
-use m11_obj::TapeFault;
 
 /// The outcome of a command.
 #[derive(Debug, Drop)]
@@ -31,14 +31,7 @@ pub fn status(outcome: &Outcome) -> u8
     ensures { result ≡ status_of outcome.now }
 {
     match outcome {
-        Outcome::Usage(UsageFault::Help(_)) => 0,
-        Outcome::Usage(
-            UsageFault::Words(_)
-            | UsageFault::BadOctal
-            | UsageFault::OddAddress
-            | UsageFault::BadAddress,
-        ) => 2,
-        Outcome::Usage(UsageFault::NoMemory) => 5,
+        Outcome::Usage(fault) => usage_status(fault),
         Outcome::Asm(Ok(done)) if done.flagged == 0 => 0,
         Outcome::Asm(Ok(_)) => 1,
         Outcome::Asm(Err(fault)) => asm_status(*fault),
@@ -62,50 +55,5 @@ fn asm_status(fault: AsmFault) -> u8
         | AsmFault::TooManySections
         | AsmFault::Unfold(_)
         | AsmFault::TooMuchSource => 6,
-    }
-}
-
-// The status of a link that ended early.
-fn link_status(fault: LinkFault) -> u8
-    ensures { result ≡ link_status fault }
-{
-    match fault {
-        LinkFault::Read | LinkFault::Write(_) => 3,
-        LinkFault::Block(_)
-        | LinkFault::Record(_)
-        | LinkFault::BadOrder
-        | LinkFault::NoText
-        | LinkFault::BadDisplacement
-        | LinkFault::UnknownSection
-        | LinkFault::TextOutside => 4,
-        LinkFault::NoMemory => 5,
-        LinkFault::TooLarge
-        | LinkFault::TooManyGlobals
-        | LinkFault::TooManySections
-        | LinkFault::TooManyModules
-        | LinkFault::TooMuch => 6,
-    }
-}
-
-// The status of a run that stopped.
-fn stop_status(stop: Stop) -> u8
-    ensures { result ≡ stop_status stop }
-{
-    match stop {
-        Stop::Halt => 0,
-        Stop::Limit | Stop::Wait | Stop::StackFault | Stop::NoStart => 1,
-        Stop::InputFault | Stop::OutputFault => 3,
-    }
-}
-
-// The status of a run that gave no stop.
-fn sim_status(fault: SimFault) -> u8
-    ensures { result ≡ sim_status fault }
-{
-    match fault {
-        SimFault::Load(LoadFault::Tape(TapeFault::Device)) | SimFault::Write => 3,
-        SimFault::Load(LoadFault::Tape(TapeFault::TooMuch)) => 6,
-        SimFault::Load(_) => 4,
-        SimFault::NoMemory => 5,
     }
 }

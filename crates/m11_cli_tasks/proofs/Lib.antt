@@ -4,3 +4,4 @@ pub mod Entered
 pub mod Entries
 pub mod Numbers
 pub mod Opening
+pub mod Planned

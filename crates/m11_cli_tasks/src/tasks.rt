@@ -140,9 +140,9 @@ fn link_task<'a>(alloc: Global, entries: &ArgMatches<'a>) -> Result<LinkTask<'a>
     })
 }
 
-// Where relocatable sections begin: where the entries say, else at the default.
+/// Where relocatable sections begin: where the entries say, else at the default. The faults of an address.
 #[tactic(auto, using(crate::proofs::Entries::first_given))]
-fn bottom_given(entries: &ArgMatches<'_>) -> Result<u16, UsageFault>
+pub fn bottom_given(entries: &ArgMatches<'_>) -> Result<u16, UsageFault>
     ensures { result ≡ bottom_of (first_of (codes "bottom") (rows_of (found_of entries.now))) }
 {
     match entries.get_str("bottom") {
@@ -181,7 +181,14 @@ fn start_given(entries: &ArgMatches<'_>) -> Result<Option<u16>, UsageFault>
 pub fn address(text: &str) -> Result<u16, UsageFault>
     ensures { result ≡ address_of text.now }
 {
-    let word = read_octal(text.as_bytes())?;
+    address_of_digits(text.as_bytes())
+}
+
+/// The address that digits spell, with the faults of `address`.
+pub fn address_of_digits(digits: &[u8]) -> Result<u16, UsageFault>
+    ensures { result ≡ address_of digits.now }
+{
+    let word = read_octal(digits)?;
     if word % 2 == 1 {
         return Err(UsageFault::OddAddress);
     }

@@ -1,2 +1,1 @@
-pub mod Planned
 pub mod Shown

@@ -1,16 +1,12 @@
 -- Files that are shown one after another.
-use Rattle.std.proofs.Common.{◌≡◌, ℕ, List, ◌∷◌, Option, Result, Ok, Err, inl, inr, refl, sym, subst, ◌∙◌}
-use Rattle.std.specs.Prelude.{IsErrAnd, OnErr, OnOk}
-use Rattle.std.specs.Io.KnownBytes.{Appends}
-use Rattle.m11_base.specs.Devices.{Rises}
+use Rattle.std.proofs.Common.{◌≡◌, ℕ, List, ◌∷◌, Option, Result, Ok, Err, inr, inl, sym, subst, ◌∙◌}
+use Rattle.std.specs.Prelude.{IsErrAnd}
 use Rattle.m11_base.specs.Feed.{Text}
-use Rattle.m11_base.specs.Sink.{AppendsBeginning}
 use Rattle.m11_base_files.specs.Opens.{Files, Holds}
 use Rattle.m11_base_writes.specs.Outputs.{Output}
 use Rattle.m11_dumper.specs.Showing.{Fails, IsOfKind, ShowsAll, ShowsFile, ShowsInput}
 use Rattle.m11_dumper.specs.Lines.{head_line}
 use Rattle.m11_dump.specs.declared.kind.Kind.{Kind}
-use Rattle.m11_dumper.specs.Outcome.{Reports}
 use Rattle.m11_dumper.specs.declared.stop.Stop.{Stop}
 use Rattle.m11_dumper.specs.declared.stop.Stop.TheVariants.{NotOpened, InFile, InMap, Write, NoMemory}
 use Rattle.m11_dump.specs.declared.view.View.{View}
@@ -37,19 +33,6 @@ more_shown view files path paths out middle out' done (Err stop) h s = inr (midd
 pub not_shown : (view : View) (files : Option Files) (path : List ℕ) (paths : List (List ℕ)) (out out' : Output) (stop : Stop)
     → ShowsFile view files path out out' (Err stop) → ShowsAll view files (path ∷ paths) out out' (Err stop)
 not_shown view files path paths out out' stop h = inl h
-
--- ---- what is reported
-
--- a put that returned success or failure
-pub reports : {X E : Type 0} (r : Result X E) (text : List ℕ) (old new : Output)
-    → OnOk r (Appends old.text new.text text) → OnOk r (new.faults ≡ old.faults)
-    → OnErr r (AppendsBeginning old.text new.text text) → OnErr r (Rises old.faults new.faults)
-    → Reports text old new
-reports (Ok x) text old new whole sound beginning fault = inl (whole, sound)
-reports (Err e) text old new whole sound beginning fault = inr (inl (beginning, fault))
-
-pub reports_none : (text : List ℕ) (output : Output) → Reports text output output
-reports_none text output = inr (inr refl)
 
 -- ---- the head of a file
 

@@ -1,4 +1,4 @@
--- The lines of the program about load maps and their bottoms: why there is none. (This project's own.)
+-- The lines of the program about load maps: why there is none. (This project's own.)
 use Rattle.std.specs.Prelude.{[], ◌∷◌, ◌++◌, codes}
 use Rattle.m11_base.specs.Devices.{Bytes}
 use Rattle.m11_obj_blocks.specs.Blocks.{block_fault_name, block_fault_number}
@@ -7,8 +7,6 @@ use Rattle.m11_link_layout.specs.Fault.{link_fault_name, link_fault_number}
 use Rattle.m11_link_layout.specs.declared.fault.LinkFault.{LinkFault}
 use Rattle.m11_link_layout.specs.declared.fault.LinkFault.TheVariants as fault
 use Rattle.m11_obj.specs.Fault.{record_fault_name, record_fault_number}
-use Rattle.m11_cli_tasks.specs.declared.usage.UsageFault.{UsageFault}
-use Rattle.m11_cli_tasks.specs.declared.usage.UsageFault.TheVariants.{BadOctal, OddAddress, BadAddress}
 
 -- the number and the name of a fault, as a link has them, and what is wrong with a block or a record
 abbrev pub map_fault_text : LinkFault → Bytes
@@ -19,10 +17,3 @@ map_fault_text inner = numbered [] (link_fault_number inner) (link_fault_name in
 -- why objects have no load map
 abbrev pub map_line : LinkFault → Bytes
 map_line inner = (codes "?M11 DUMP " ++ map_fault_text inner) ++ 10 ∷ []
-
--- what is wrong with a bottom; of other refusals the parser has a text of its own
-abbrev pub usage_line : UsageFault → Bytes
-usage_line BadOctal = codes "?M11 USAGE 3 BadOctal\n"
-usage_line OddAddress = codes "?M11 USAGE 4 OddAddress\n"
-usage_line BadAddress = codes "?M11 USAGE 5 BadAddress\n"
-usage_line other = []

@@ -1,20 +1,19 @@
 -- What the words of a command line ask for: the paths of files, and what is to be shown of them; or why they are refused. (This
 -- project's own.)
-use Rattle.std.specs.Prelude.{◌≡◌, ◌≢◌, ◌⊎◌, ℕ, Bool, false, if◌then◌else◌, List, [], Option, Some, None, Result, Ok, Err, codes, unwrap_or, ⊤}
-use Rattle.std.specs.Borrow.{Bor}
-use Rattle.clap.specs.Words.{IsAmong, Row, Text, all_of, fault_of, first_of, kind_of, matches_of}
-use Rattle.clap.specs.declared.error.kind.ErrorKind.TheVariants as kind
+use Rattle.std.specs.Prelude.{◌≡◌, ◌⊎◌, ℕ, Bool, false, if◌then◌else◌, List, [], Option, Some, None, Result, Ok, Err, codes, unwrap_or}
+use Rattle.clap.specs.Words.{Row, Text, all_of, first_of}
 use Rattle.std.specs.Str.{bytes_eq}
-use Rattle.m11_base.specs.Devices.{Bytes}
 use Rattle.m11_dump.specs.declared.view.View.{View}
 use Rattle.m11_dump.specs.declared.view.View.TheVariants.{Octal, Instructions}
 use Rattle.m11_dumper.specs.Application.{application}
+use Rattle.m11_dumper.specs.declared.paths.Request.{Request}
 use Rattle.m11_dumper.specs.declared.paths.Show.{Show}
 use Rattle.m11_dumper.specs.declared.paths.Show.TheVariants.{Contents, Map}
 use Rattle.m11_cli_tasks.specs.Opened.{texts}
+use Rattle.m11_cli_tasks.specs.Plans as tasks
 use Rattle.m11_cli_tasks.specs.Tasks.{bottom_of}
 use Rattle.m11_cli_tasks.specs.declared.usage.UsageFault.{UsageFault}
-use Rattle.m11_cli_tasks.specs.declared.usage.UsageFault.TheVariants.{Help, Words, BadOctal, OddAddress, BadAddress, NoMemory}
+use Rattle.m11_cli_tasks.specs.declared.usage.UsageFault.TheVariants.{NoMemory}
 
 -- whether an option is set, by its value: that is `true` where it is given
 abbrev pub is_set : Option Text → Bool
@@ -35,28 +34,12 @@ show_by rows (Err fault) = Err fault
 abbrev pub show_of : List Row → Result Show UsageFault
 show_of rows = show_by rows (bottom_of (first_of (codes "bottom") rows))
 
--- entries ask for these files to be shown so
-abbrev pub AsksFor : List Row → Show → List (Bor Bytes) → Type 0
-AsksFor rows show paths = (show_of rows ≡ Ok show) × (texts paths ≡ unwrap_or (all_of (codes "files") rows) [])
+-- entries ask for files to be shown so; or for nothing: the bottom has a fault, or memory was refused
+abbrev pub EntriesGive : List Row → Result Request UsageFault → Type 0
+EntriesGive rows (Ok request) = (show_of rows ≡ Ok request.show)
+    × (texts request.paths.items ≡ unwrap_or (all_of (codes "files") rows) [])
+EntriesGive rows (Err fault) = (fault ≡ NoMemory) ⊎ (show_of rows ≡ Err fault)
 
--- why entries that the parser takes ask for nothing: the bottom has this fault; or memory was refused
-abbrev pub IsRefused : List Row → UsageFault → Type 0
-IsRefused rows fault = (fault ≡ NoMemory) ⊎ (show_of rows ≡ Err fault)
-
--- the parser refuses the words; memory may run out at any words
-abbrev pub ParserRefuses : List Text → UsageFault → Type 0
-ParserRefuses words (Help error) =
-    (kind_of error ≡ kind.DisplayHelp) × IsAmong kind.DisplayHelp (fault_of application words)
-ParserRefuses words (Words error) =
-    (kind_of error ≢ kind.DisplayHelp) × IsAmong (kind_of error) (fault_of application words)
-ParserRefuses words BadOctal = ⊥
-ParserRefuses words OddAddress = ⊥
-ParserRefuses words BadAddress = ⊥
-ParserRefuses words NoMemory = ⊤
-
--- words that aren't refused yield what is to be shown and their paths; others one of the refusals that they have, those of the
--- parser first
-abbrev pub Plans : List Text → Result (Show × List (Bor Bytes)) UsageFault → Type 0
-Plans words (Ok (show, paths)) = (fault_of application words ≡ []) × AsksFor (matches_of application words) show paths
-Plans words (Err fault) =
-    ParserRefuses words fault ⊎ ((fault_of application words ≡ []) × IsRefused (matches_of application words) fault)
+-- what the words yield; memory may run out at any words
+abbrev pub Plans : List Text → Result Request UsageFault → Type 0
+Plans words result = tasks.Plans application EntriesGive words result

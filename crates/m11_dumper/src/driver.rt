@@ -1,20 +1,21 @@
 //! All of the program's work, over whatever opens files and takes bytes.
 
 ghost use Rattle.std.specs.Prelude.{◌≡◌, map};
-ghost use Rattle.m11_dumper.specs.Outcome.{Explains, ReportsOfWords, ReportsSome, Says, Shows, Yields, status_of, words_status};
+ghost use Rattle.m11_dumper.specs.Outcome.{Refuses, RefusesWords, Says, Shows, Yields, status_of};
 ghost use Rattle.m11_dumper.specs.declared.stop.Outcome.{Outcome};
+ghost use Rattle.m11_cli_reports.specs.Reports.{words_status};
 ghost use Rattle.m11_cli_tasks.specs.Opened.{texts};
 ghost use Rattle.m11_base_writes.specs.Outputs.{output_of};
 
 use crate::lines::stop_line;
-use crate::map_lines::usage_text;
 use crate::mapping::show_map;
 use crate::paths::{Show, plan};
 use crate::showing::show_all;
 use crate::stop::{Outcome, Stop, status};
-use m11_base::{Sink, put_all};
+use m11_base::Sink;
 use m11_base_files::Opens;
-use m11_cli_tasks::{UsageFault, WordsFault, refusal_line};
+use m11_cli_reports::{explain, report, usage_line};
+use m11_cli_tasks::{UsageFault, WordsFault};
 use std::alloc::Global;
 use std::convert::AsStr;
 
@@ -45,19 +46,13 @@ where
 
 /// Stands for `command` where the system did not give the words: reports a word that is no text, and returns the status, that of
 /// want of memory or that of refused words.
-#[tactic(auto, using(crate::proofs::Shown::reports, crate::proofs::Shown::reports_none))]
 pub(crate) fn command_without_words<E: Sink>(alloc: Global, fault: WordsFault, err: &mut E) -> u8
     ensures status { result ≡ words_status fault }
-    ensures reported { ReportsOfWords fault (output_of E.Sink err.old) (output_of E.Sink err.new) }
+    ensures reported { RefusesWords fault (output_of E.Sink err.old) (output_of E.Sink err.new) }
 {
     match fault {
         WordsFault::NoMemory => 5,
-        WordsFault::NotText(number) => {
-            if let Ok(line) = refusal_line(alloc, number) {
-                let _ = put_all(err, line.as_bytes());
-            }
-            2
-        }
+        WordsFault::NotText(_) => m11_cli_reports::command_without_words(alloc, fault, err),
     }
 }
 
@@ -85,7 +80,7 @@ where
             Outcome::Shown(shown)
         }
         Err(fault) => {
-            explain(alloc, &fault, out, err);
+            refuse(alloc, &fault, out, err);
             Outcome::Usage(fault)
         }
     }
@@ -110,39 +105,27 @@ fn show<'a, F: Opens, O: Sink>(
 }
 
 // Reports why not all files were shown.
-#[tactic(auto, using(crate::proofs::Shown::reports, crate::proofs::Shown::reports_none))]
 fn say<E: Sink>(alloc: Global, shown: &Result<(), Stop<'_>>, err: &mut E)
     ensures { Says shown.now (output_of E.Sink err.old) (output_of E.Sink err.new) }
 {
     if let Err(stop) = shown
         && let Ok(line) = stop_line(alloc, stop)
     {
-        let _ = put_all(err, &line);
+        report(&line, err);
     }
 }
 
 // The parser's text: help goes to `out`, and a refusal to `err`. What is wrong with a bottom goes to `err`.
-#[tactic(auto, using(crate::proofs::Shown::reports, crate::proofs::Shown::reports_none))]
-fn explain<O: Sink, E: Sink>(alloc: Global, fault: &UsageFault, out: &mut O, err: &mut E)
-    ensures { Explains fault.now (output_of O.Sink out.old) (output_of O.Sink out.new)
+fn refuse<O: Sink, E: Sink>(alloc: Global, fault: &UsageFault, out: &mut O, err: &mut E)
+    ensures { Refuses fault.now (output_of O.Sink out.old) (output_of O.Sink out.new)
         (output_of E.Sink err.old) (output_of E.Sink err.new) }
 {
     match fault {
-        UsageFault::Help(error) => report(alloc, error, out),
-        UsageFault::Words(error) => report(alloc, error, err),
         UsageFault::BadOctal | UsageFault::OddAddress | UsageFault::BadAddress => {
-            let _ = put_all(err, usage_text(fault).as_bytes());
+            report(usage_line(fault).as_bytes(), err);
         }
-        UsageFault::NoMemory => {}
-    }
-}
-
-// The text of an error, put at once. Where memory is refused for it, nothing is.
-#[tactic(auto, using(crate::proofs::Shown::reports, crate::proofs::Shown::reports_none))]
-fn report<S: Sink>(alloc: Global, error: &clap::Error, sink: &mut S)
-    ensures { ReportsSome (output_of S.Sink sink.old) (output_of S.Sink sink.new) }
-{
-    if let Ok(text) = error.to_string(alloc) {
-        let _ = put_all(sink, text.as_bytes());
+        UsageFault::Help(_) | UsageFault::Words(_) | UsageFault::NoMemory => {
+            explain(alloc, fault, out, err);
+        }
     }
 }

@@ -1,10 +1,9 @@
-//! The lines of the program about load maps and their bottoms.
+//! The lines of the program about load maps.
 
 ghost use Rattle.std.specs.Prelude.{◌≡◌, ◌++◌, IfOk, OnOk};
-ghost use Rattle.m11_dumper.specs.MapLines.{map_fault_text, map_line, usage_line};
+ghost use Rattle.m11_dumper.specs.MapLines.{map_fault_text, map_line};
 
 use crate::lines::put_numbered;
-use m11_cli_tasks::UsageFault;
 use m11_link_layout::LinkFault;
 use std::alloc::{AllocError, Global};
 
@@ -32,16 +31,4 @@ pub(crate) fn map_line(alloc: Global, fault: LinkFault) -> Result<Vec<u8>, Alloc
     put_map_fault(&mut line, alloc, fault)?;
     line.push(b'\n')?;
     Ok(line)
-}
-
-/// The line that says what is wrong with a bottom; nothing for other refusals of words.
-pub(crate) fn usage_text(fault: &UsageFault) -> &'static str
-    ensures { result.now ≡ usage_line fault.now }
-{
-    match fault {
-        UsageFault::BadOctal => "?M11 USAGE 3 BadOctal\n",
-        UsageFault::OddAddress => "?M11 USAGE 4 OddAddress\n",
-        UsageFault::BadAddress => "?M11 USAGE 5 BadAddress\n",
-        UsageFault::Help(_) | UsageFault::Words(_) | UsageFault::NoMemory => "",
-    }
 }

@@ -1,16 +1,14 @@
 //! The paths that the words name, and what is to be shown of their files.
 
-ghost use Rattle.std.specs.Prelude.{◌≡◌, [], Ok, Err, IfOk, MatchResult, codes, map, unwrap_or};
-ghost use Rattle.clap.specs.Words.{all_of, first_of, found_of, rows_of};
-ghost use Rattle.m11_dumper.specs.Paths.{AsksFor, IsRefused, Plans, is_set, show_of, view_by};
-ghost use Rattle.m11_cli_tasks.specs.Opened.{texts};
-ghost use Rattle.m11_cli_tasks.specs.Tasks.{bottom_of};
+ghost use Rattle.std.specs.Prelude.{◌≡◌, codes, map};
+ghost use Rattle.clap.specs.Words.{first_of, found_of, rows_of};
+ghost use Rattle.m11_dumper.specs.Paths.{EntriesGive, Plans, is_set, show_of, view_by};
 
 use crate::application::application_command;
 use clap::ArgMatches;
-use m11_cli_tasks::{UsageFault, address};
+use m11_cli_tasks::{UsageFault, all_texts, bottom_given};
 use m11_dump::View;
-use std::alloc::{AllocError, Global};
+use std::alloc::Global;
 use std::convert::AsStr;
 
 /// What is to be shown of files.
@@ -31,17 +29,12 @@ pub(crate) struct Request<'a> {
     pub(crate) paths: Vec<&'a str>,
 }
 
-/// Where relocatable sections begin where the words do not say.
-const DEFAULT_BOTTOM: u16 = 0o1000;
-
 /// Reads a command line, whose first word is the program's name: the files to show, and what of them.
 ///
 /// `Help` where help is asked for and `Words` where the parser refuses the words; where it takes them, `BadOctal`, `OddAddress` and
 /// `BadAddress` for a bottom, in this order, whether or not there is to be a map; and `NoMemory`.
 pub(crate) fn plan<'a, S: AsStr>(alloc: Global, words: &'a [S]) -> Result<Request<'a>, UsageFault>
-    ensures { MatchResult result (λ request. Plans (map S.text words.entry.now)
-        (Ok (request.show, request.paths.items)))
-        (λ fault. Plans (map S.text words.entry.now) (Err fault)) }
+    ensures { Plans (map S.text words.entry.now) result }
 {
     let command = application_command(alloc)?;
     let matches = command.try_get_matches_from(words)?;
@@ -52,12 +45,10 @@ pub(crate) fn plan<'a, S: AsStr>(alloc: Global, words: &'a [S]) -> Result<Reques
 
 // What the entries ask for, or the fault of the bottom, or want of memory.
 fn request_given<'a>(alloc: Global, matches: &ArgMatches<'a>) -> Result<Request<'a>, UsageFault>
-    ensures { MatchResult result
-        (λ request. AsksFor (rows_of (found_of matches.now)) request.show request.paths.items)
-        (λ fault. IsRefused (rows_of (found_of matches.now)) fault) }
+    ensures { EntriesGive (rows_of (found_of matches.now)) result }
 {
     match show_given(matches) {
-        Ok(show) => match paths_given(alloc, matches) {
+        Ok(show) => match all_texts(alloc, matches, "files") {
             Ok(paths) => Ok(Request { show, paths }),
             Err(_) => Err(UsageFault::NoMemory),
         },
@@ -74,17 +65,6 @@ fn show_given(matches: &ArgMatches<'_>) -> Result<Show, UsageFault>
         Ok(Show::Map(bottom))
     } else {
         Ok(Show::Contents(view_given(matches)))
-    }
-}
-
-// Where relocatable sections begin: where `-b` says, else at the default.
-#[tactic(auto, using(m11_cli_tasks::proofs::Entries::first_given))]
-fn bottom_given(matches: &ArgMatches<'_>) -> Result<u16, UsageFault>
-    ensures { result ≡ bottom_of (first_of (codes "bottom") (rows_of (found_of matches.now))) }
-{
-    match matches.get_str("bottom") {
-        Some(text) => address(text),
-        None => Ok(DEFAULT_BOTTOM),
     }
 }
 
@@ -107,16 +87,5 @@ fn is_given(matches: &ArgMatches<'_>, id: &str) -> bool
     match matches.get_str(id) {
         Some(text) => text == "true",
         None => false,
-    }
-}
-
-// The values of `FILE...`, in order; none where it isn't there.
-fn paths_given<'a>(alloc: Global, matches: &ArgMatches<'a>) -> Result<Vec<&'a str>, AllocError>
-    ensures { IfOk result (λ paths. texts paths.items
-        ≡ unwrap_or (all_of (codes "files") (rows_of (found_of matches.now))) []) }
-{
-    match matches.get_strs("files") {
-        Some(paths) => paths.to_vec(alloc),
-        None => Ok(Vec::new(alloc)),
     }
 }

@@ -1,15 +1,14 @@
 //! What a command line yields: files that were shown, or why not all of them were.
 
 ghost use Rattle.std.specs.Prelude.{◌≡◌};
-ghost use Rattle.m11_dump.specs.declared.fault.DumpFault.TheVariants.{Rule};
-ghost use Rattle.m11_dumper.specs.Outcome.{fault_status, map_status, status_of, stop_status, usage_status};
+ghost use Rattle.m11_dumper.specs.Outcome.{fault_status, status_of, stop_status};
 ghost use Rattle.m11_dumper.specs.declared.stop.Stop.TheVariants.{NoMemory};
 
+use m11_cli_reports::{link_status, tape_status, usage_status};
 use m11_cli_tasks::UsageFault;
 use m11_dump::{DumpFault, Placed};
 use m11_link_layout::LinkFault;
-use m11_link_modules::ModuleFault;
-use m11_obj::{BlockFault, TapeFault};
+use m11_obj::BlockFault;
 use std::alloc::AllocError;
 
 /// Why not all files were shown.
@@ -44,50 +43,17 @@ pub(crate) enum Outcome<'a> {
     Shown(Result<(), Stop<'a>>),
 }
 
-// The status of a fault of the rules of modules, as a link has it.
-fn rule_status(fault: ModuleFault) -> u8
-    ensures { result ≡ fault_status (Rule fault) }
-{
-    match fault {
-        ModuleFault::TooManyGlobals | ModuleFault::TooManySections | ModuleFault::TooManyModules =>
-            6,
-        ModuleFault::NoMemory => 5,
-        _ => 4,
-    }
-}
-
+// The status of a fault in a file, as a link or a run has it.
 fn fault_status(fault: DumpFault) -> u8
     ensures { result ≡ fault_status fault }
 {
     match fault {
-        DumpFault::Block(BlockFault::Device)
-        | DumpFault::Tape(TapeFault::Device)
-        | DumpFault::Write => 3,
-        DumpFault::Block(BlockFault::TooMuch) | DumpFault::Tape(TapeFault::TooMuch) => 6,
-        DumpFault::Block(_) | DumpFault::Record(_) | DumpFault::Tape(_) => 4,
-        DumpFault::Rule(inner) => rule_status(inner),
+        DumpFault::Block(BlockFault::Device) | DumpFault::Write => 3,
+        DumpFault::Block(BlockFault::TooMuch) => 6,
+        DumpFault::Block(_) | DumpFault::Record(_) => 4,
+        DumpFault::Tape(inner) => tape_status(inner),
+        DumpFault::Rule(inner) => link_status(LinkFault::from(inner)),
         DumpFault::NoMemory => 5,
-    }
-}
-
-fn map_status(fault: LinkFault) -> u8
-    ensures { result ≡ map_status fault }
-{
-    match fault {
-        LinkFault::Read | LinkFault::Write(_) => 3,
-        LinkFault::Block(_)
-        | LinkFault::Record(_)
-        | LinkFault::BadOrder
-        | LinkFault::NoText
-        | LinkFault::BadDisplacement
-        | LinkFault::UnknownSection
-        | LinkFault::TextOutside => 4,
-        LinkFault::NoMemory => 5,
-        LinkFault::TooLarge
-        | LinkFault::TooManyGlobals
-        | LinkFault::TooManySections
-        | LinkFault::TooManyModules
-        | LinkFault::TooMuch => 6,
     }
 }
 
@@ -97,21 +63,8 @@ fn stop_status(stop: &Stop<'_>) -> u8
     match stop {
         Stop::NotOpened(_) | Stop::Write => 3,
         Stop::InFile(_, placed) => fault_status(placed.fault),
-        Stop::InMap(fault) => map_status(*fault),
+        Stop::InMap(fault) => link_status(*fault),
         Stop::NoMemory => 5,
-    }
-}
-
-fn usage_status(fault: &UsageFault) -> u8
-    ensures { result ≡ usage_status fault.now }
-{
-    match fault {
-        UsageFault::Help(_) => 0,
-        UsageFault::NoMemory => 5,
-        UsageFault::Words(_)
-        | UsageFault::BadOctal
-        | UsageFault::OddAddress
-        | UsageFault::BadAddress => 2,
     }
 }
 

@@ -2,7 +2,7 @@
 use Rattle.std.proofs.Common.{List, Ok}
 use Rattle.clap.specs.Words.{Text}
 use Rattle.m11_tracer.specs.Driver.{Carries, HasOutcome}
-use Rattle.m11_tracer.specs.Reports.{Store, Streams}
+use Rattle.m11_cli_reports.specs.Streams.{Store, Streams}
 use Rattle.m11_tracer.specs.Task.{Plans}
 use Rattle.m11_tracer.specs.declared.outcome.Outcome.{Outcome}
 use Rattle.m11_tracer.specs.declared.outcome.Outcome.TheVariants.{Usage, NotOpened, Ran}

@@ -1,4 +1,2 @@
 pub mod Carried
 pub mod Places
-pub mod Reporting
-pub mod Planned

@@ -2,15 +2,18 @@
 use Rattle.std.specs.Prelude.{◌≡◌, ◌⊎◌, List, Result, Ok, Err}
 use Rattle.clap.specs.Words.{Text}
 use Rattle.m11_base.specs.Devices.{Rises}
-use Rattle.m11_cpu.specs.Simulation.{request_of, run_devices}
+use Rattle.m11_cpu.specs.Simulation.{request_of}
 use Rattle.m11_cpu.specs.declared.fault.SimFault.{SimFault}
 use Rattle.m11_cpu.specs.declared.fault.SimFault.TheVariants.{NoMemory}
 use Rattle.m11_base_files.specs.Opens.{Holds, Lacks}
-use Rattle.m11_cpu_machine.specs.Dialogue.{Input, Output, both}
+use Rattle.m11_base_writes.specs.Outputs.{Output}
+use Rattle.m11_cpu_machine.specs.Dialogue.{Input}
 use Rattle.m11_trace.specs.Tracing.{Traces}
 use Rattle.m11_trace.specs.declared.ending.Ending.{Ending}
 use Rattle.m11_tracer.specs.Outcome.{line_of}
-use Rattle.m11_tracer.specs.Reports.{Explains, Reports, Store, Streams, open_line}
+use Rattle.m11_cli_reports.specs.Lines.{open_line}
+use Rattle.m11_cli_reports.specs.Reports.{Explains, Reports}
+use Rattle.m11_cli_reports.specs.Streams.{Store, Streams, devices_of}
 use Rattle.m11_tracer.specs.Task.{Plans}
 use Rattle.m11_tracer.specs.declared.outcome.Outcome.{Outcome}
 use Rattle.m11_tracer.specs.declared.outcome.Outcome.TheVariants.{Usage, NotOpened, Ran}
@@ -20,9 +23,7 @@ use Rattle.m11_tracer.specs.declared.task.TraceTask.{TraceTask}
 abbrev pub RunsOpen : TraceTask → Input → Streams → Streams → Result Ending SimFault → Type 0
 RunsOpen task tape before after result = (tape' : Input)
     × Traces (request_of task.sim.start task.sim.words task.sim.limit) task.from task.places.items task.ranges.items
-    (run_devices tape (both before.input.text before.input.faults before.printed.text before.printed.faults) before.reported)
-    (run_devices tape' (both after.input.text after.input.faults after.printed.text after.printed.faults) after.reported)
-    result
+    (devices_of tape before) (devices_of tape' after) result
 
 -- the tape is the file of its path
 abbrev pub RunsTape : TraceTask → Store → Store → Streams → Streams → Result Ending SimFault → Type 0

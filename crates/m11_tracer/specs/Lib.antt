@@ -1,5 +1,4 @@
 pub mod Application
 pub mod Task
 pub mod Outcome
-pub mod Reports
 pub mod Driver

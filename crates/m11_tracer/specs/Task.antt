@@ -1,11 +1,11 @@
 -- What the words of a command line ask for. (This project's own.)
-use Rattle.std.specs.Prelude.{◌≡◌, ◌≢◌, ◌⊎◌, ◌+◌, ◌==◌, if◌then◌else◌, take, drop, ℕ, suc, List, [], ◌∷◌, ◌++◌, Result, Ok, Err, codes, unwrap_or, ⊤}
-use Rattle.clap.specs.Words.{IsAmong, Row, Text, all_of, fault_of, first_of, kind_of, matches_of, one_of}
-use Rattle.clap.specs.declared.error.kind.ErrorKind.TheVariants as kind
+use Rattle.std.specs.Prelude.{◌≡◌, ◌⊎◌, ◌+◌, ◌==◌, if◌then◌else◌, take, drop, ℕ, suc, List, [], ◌∷◌, ◌++◌, Result, Ok, Err, codes, unwrap_or}
+use Rattle.clap.specs.Words.{Row, Text, all_of, first_of, one_of}
 use Rattle.m11_cli_tasks.specs.Commands.{most_steps}
+use Rattle.m11_cli_tasks.specs.Plans as tasks
 use Rattle.m11_cli_tasks.specs.Tasks.{IsSimTask, address_of, number_or, start_of}
 use Rattle.m11_cli_tasks.specs.declared.usage.UsageFault.{UsageFault}
-use Rattle.m11_cli_tasks.specs.declared.usage.UsageFault.TheVariants.{Help, Words, BadOctal, OddAddress, BadAddress, NoMemory}
+use Rattle.m11_cli_tasks.specs.declared.usage.UsageFault.TheVariants.{NoMemory}
 use Rattle.m11_trace.specs.declared.ranges.Range.{Range}
 use Rattle.m11_tracer.specs.Application.{application}
 use Rattle.m11_tracer.specs.declared.task.TraceTask.{TraceTask}
@@ -70,22 +70,9 @@ abbrev pub EntriesGive : List Row → Result TraceTask UsageFault → Type 0
 EntriesGive rows (Ok task) = IsTraceTask rows task
 EntriesGive rows (Err fault) = IsRefused rows fault
 
--- the parser refuses the words
-abbrev pub ParserRefuses : List Text → UsageFault → Type 0
-ParserRefuses words (Help error) =
-    (kind_of error ≡ kind.DisplayHelp) × IsAmong kind.DisplayHelp (fault_of application words)
-ParserRefuses words (Words error) =
-    (kind_of error ≢ kind.DisplayHelp) × IsAmong (kind_of error) (fault_of application words)
-ParserRefuses words BadOctal = ⊥
-ParserRefuses words OddAddress = ⊥
-ParserRefuses words BadAddress = ⊥
-ParserRefuses words NoMemory = ⊤
-
--- words that aren't refused yield their task; others one of the refusals that they have; memory may run out at any words
+-- what the words yield; memory may run out at any words
 abbrev pub Plans : List Text → Result TraceTask UsageFault → Type 0
-Plans words (Ok task) = (fault_of application words ≡ []) × IsTraceTask (matches_of application words) task
-Plans words (Err fault) =
-    ParserRefuses words fault ⊎ ((fault_of application words ≡ []) × IsRefused (matches_of application words) fault)
+Plans words result = tasks.Plans application EntriesGive words result
 
 -- ---- parts of it
 

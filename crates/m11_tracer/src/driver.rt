@@ -1,20 +1,21 @@
 //! All of the program's work, over whatever opens files, feeds and takes bytes.
 
 ghost use Rattle.std.specs.Prelude.{◌≡◌, map};
-ghost use Rattle.m11_cpu_machine.specs.Dialogue.{input_of, output_of};
+ghost use Rattle.m11_base_writes.specs.Outputs.{output_of};
+ghost use Rattle.m11_cpu_machine.specs.Dialogue.{input_of};
+ghost use Rattle.m11_cli_reports.specs.Reports.{Reports};
+ghost use Rattle.m11_cli_reports.specs.Streams.{store, streams};
 ghost use Rattle.m11_cli_tasks.specs.Tasks.{IsDoable};
 ghost use Rattle.m11_cli_tasks.specs.declared.tasks.Task.TheVariants.{Sim};
 ghost use Rattle.m11_tracer.specs.Driver.{Carries, HasOutcome, Obeys, RunsOpen};
 ghost use Rattle.m11_tracer.specs.Outcome.{line_of, status_of};
-ghost use Rattle.m11_tracer.specs.Reports.{Reports, ReportsOfWords, store, streams, words_status};
 ghost use Rattle.m11_tracer.specs.declared.outcome.Outcome.{Outcome};
 
 use crate::outcome::{Outcome, line, status};
-use crate::reports::{explain, not_opened_line};
 use crate::task::{TraceTask, plan};
-use m11_base::{Feed, Sink, put_all};
+use m11_base::{Feed, Sink};
 use m11_base_files::{OpenRefusal, Opens};
-use m11_cli_tasks::{UsageFault, WordsFault, refusal_line};
+use m11_cli_reports::{explain, report, report_not_opened};
 use m11_cpu::SimFault;
 use m11_trace::{Ending, trace_run};
 use std::alloc::Global;
@@ -40,43 +41,21 @@ where
     S: AsStr,
     ensures { (outcome : Outcome) × Obeys (map S.text words.entry.now) outcome
         (store (F.files files.old) (F.refusals files.old)) (store (F.files files.new) (F.refusals files.new))
-        (streams (I.text input.old) (I.faults input.old)
-        (O.text out.old) (O.faults out.old) (E.text err.old) (E.faults err.old))
-        (streams (I.text input.new) (I.faults input.new)
-        (O.text out.new) (O.faults out.new) (E.text err.new) (E.faults err.new))
+        (streams I.Feed O.Sink E.Sink input.old out.old err.old)
+        (streams I.Feed O.Sink E.Sink input.new out.new err.new)
         × (result ≡ status_of outcome) }
 {
     let outcome = outcome_of(alloc, files, input, out, err, words);
     finish(&outcome, err)
 }
 
-/// Stands for `command` where the system did not give the words: reports on `err` why, and returns the status, that of want of memory or
-/// that of refused words.
-#[tactic(auto, using(crate::proofs::Reporting::reports))]
-pub(crate) fn command_without_words<E: Sink>(alloc: Global, fault: WordsFault, err: &mut E) -> u8
-    ensures status { result ≡ words_status fault }
-    ensures reported { ReportsOfWords fault
-        (output_of (E.text err.old) (E.faults err.old)) (output_of (E.text err.new) (E.faults err.new)) }
-{
-    match fault {
-        WordsFault::NoMemory => finish(&Outcome::Usage(UsageFault::NoMemory), err),
-        WordsFault::NotText(number) => {
-            if let Ok(line) = refusal_line(alloc, number) {
-                let _ = put_all(err, line.as_bytes());
-            }
-            2
-        }
-    }
-}
-
 // Reports the line of the outcome's fault, and gives the status. Where the line cannot be reported, the status still reports the fault.
-#[tactic(auto, using(crate::proofs::Reporting::reports))]
 fn finish<E: Sink>(outcome: &Outcome, err: &mut E) -> u8
     ensures status { result ≡ status_of outcome.now }
     ensures line { Reports (line_of outcome.now)
-        (output_of (E.text err.old) (E.faults err.old)) (output_of (E.text err.new) (E.faults err.new)) }
+        (output_of E.Sink err.old) (output_of E.Sink err.new) }
 {
-    let _ = put_all(err, line(outcome).as_bytes());
+    report(line(outcome).as_bytes(), err);
     status(outcome)
 }
 
@@ -98,10 +77,8 @@ where
     S: AsStr,
     ensures { HasOutcome (map S.text words.entry.now) result
         (store (F.files files.old) (F.refusals files.old)) (store (F.files files.new) (F.refusals files.new))
-        (streams (I.text input.old) (I.faults input.old)
-        (O.text out.old) (O.faults out.old) (E.text err.old) (E.faults err.old))
-        (streams (I.text input.new) (I.faults input.new)
-        (O.text out.new) (O.faults out.new) (E.text err.new) (E.faults err.new)) }
+        (streams I.Feed O.Sink E.Sink input.old out.old err.old)
+        (streams I.Feed O.Sink E.Sink input.new out.new err.new) }
 {
     match plan(alloc, words) {
         Ok(task) => carry_out(alloc, files, input, out, err, &task),
@@ -129,15 +106,13 @@ where
     requires { IsDoable (Sim task.now.sim) }
     ensures { Carries task.now result
         (store (F.files files.old) (F.refusals files.old)) (store (F.files files.new) (F.refusals files.new))
-        (streams (I.text input.old) (I.faults input.old)
-        (O.text out.old) (O.faults out.old) (E.text err.old) (E.faults err.old))
-        (streams (I.text input.new) (I.faults input.new)
-        (O.text out.new) (O.faults out.new) (E.text err.new) (E.faults err.new)) }
+        (streams I.Feed O.Sink E.Sink input.old out.old err.old)
+        (streams I.Feed O.Sink E.Sink input.new out.new err.new) }
 {
     match files.open(task.sim.tape) {
         Ok(tape) => Outcome::Ran(run_tape(alloc, tape, input, out, err, task)),
         Err(OpenRefusal::NotOpened) => {
-            let _ = not_opened_line(task.sim.tape, err);
+            report_not_opened(task.sim.tape, err);
             Outcome::NotOpened
         }
         Err(OpenRefusal::NoMemory) => Outcome::Ran(Err(SimFault::NoMemory)),
@@ -155,10 +130,8 @@ fn run_tape<T: Feed + Drop, I: Feed, O: Sink, E: Sink>(
 ) -> Result<Ending, SimFault>
     requires { IsDoable (Sim task.now.sim) }
     ensures { RunsOpen task.now (input_of (T.text tape) (T.faults tape))
-        (streams (I.text input.old) (I.faults input.old)
-        (O.text out.old) (O.faults out.old) (E.text err.old) (E.faults err.old))
-        (streams (I.text input.new) (I.faults input.new)
-        (O.text out.new) (O.faults out.new) (E.text err.new) (E.faults err.new)) result }
+        (streams I.Feed O.Sink E.Sink input.old out.old err.old)
+        (streams I.Feed O.Sink E.Sink input.new out.new err.new) result }
 {
     let mut tape = tape;
     let sim = &task.sim;

@@ -8,14 +8,14 @@ mod task;
 
 // What is said of words and of a tape, and the status.
 mod outcome;
-mod reports;
 
 // All of the program's work.
 mod driver;
 
-use crate::driver::{command, command_without_words};
+use crate::driver::command;
 use m11_base::{ReaderFeed, WriterSink};
 use m11_base_files::SystemFiles;
+use m11_cli_reports::command_without_words;
 use m11_cli_tasks::words;
 use std::process::ExitCode;
 

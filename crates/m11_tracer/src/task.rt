@@ -3,14 +3,15 @@
 ghost use Rattle.std.specs.Prelude.{◌≡◌, ◌≤◌, ◌+◌, IfOk, drop, length, map};
 ghost use Rattle.clap.specs.Words.{found_of, rows_of};
 ghost use Rattle.m11_cli_tasks.specs.Opened.{texts};
-ghost use Rattle.m11_cli_tasks.specs.Tasks.{IsDoable, address_of};
+ghost use Rattle.m11_cli_tasks.specs.Tasks.{IsDoable};
 ghost use Rattle.m11_cli_tasks.specs.declared.tasks.Task.TheVariants.{Sim};
 ghost use Rattle.m11_tracer.specs.Task.{AddsPlaces, AddsRanges, EntriesGive, Plans, colon_in, range_of};
 
 use crate::application::application_command;
 use clap::ArgMatches;
-use m11_base::read_octal;
-use m11_cli_tasks::{SimTask, UsageFault, address, all_texts, number_given, sim_task};
+use m11_cli_tasks::{
+    SimTask, UsageFault, address, address_of_digits, all_texts, number_given, sim_task,
+};
 use m11_trace::Range;
 use std::alloc::Global;
 use std::convert::AsStr;
@@ -99,8 +100,8 @@ fn range_of(text: &str) -> Result<Range, UsageFault>
     let bytes = text.as_bytes();
     let colon = colon_in(bytes);
     Ok(Range {
-        first: address_of(&bytes[..colon])?,
-        last: address_of(after(bytes, colon))?,
+        first: address_of_digits(&bytes[..colon])?,
+        last: address_of_digits(after(bytes, colon))?,
     })
 }
 
@@ -125,18 +126,4 @@ fn after(text: &[u8], index: usize) -> &[u8]
     } else {
         &[]
     }
-}
-
-// The address that bytes spell, as `address` has it.
-fn address_of(text: &[u8]) -> Result<u16, UsageFault>
-    ensures { result ≡ address_of text.now }
-{
-    let word = read_octal(text)?;
-    if word % 2 == 1 {
-        return Err(UsageFault::OddAddress);
-    }
-    if word > 0o157776 {
-        return Err(UsageFault::BadAddress);
-    }
-    Ok(word)
 }

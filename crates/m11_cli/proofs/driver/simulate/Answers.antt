@@ -1,8 +1,11 @@
 use Rattle.std.proofs.Common.{inl, ap₂, refl, subst, sym, rules, []}
 use Rattle.m11_base.specs.Devices.{Rises}
-use Rattle.m11_cpu_machine.specs.Dialogue.{input_of, output_of}
-use Rattle.m11_cli.specs.Driver.{Carries, Reports, store}
-use Rattle.m11_cli.specs.FaultLines.{open_line}
+use Rattle.m11_base_writes.specs.Outputs.{output_of}
+use Rattle.m11_cpu_machine.specs.Dialogue.{input_of}
+use Rattle.m11_cli_reports.specs.Lines.{open_line}
+use Rattle.m11_cli_reports.specs.Reports.{Reports}
+use Rattle.m11_cli_reports.specs.Streams.{store}
+use Rattle.m11_cli.specs.Driver.{Carries}
 use Rattle.m11_cli_tasks.specs.Opened.{StopsAt, sim_inputs}
 use Rattle.m11_cli.specs.declared.outcome.Outcome.{Outcome}
 use Rattle.m11_cli_tasks.specs.declared.tasks.Task.TheVariants.{Sim}
@@ -23,9 +26,9 @@ returns-in-Err-NotOpened-clause-outcome g c =
     let old = store (g.F.Opens.files c.args.files.now) (g.F.Opens.refusals c.args.files.now) in
     let new = store (g.F.Opens.files c.open_sim_file.new.files) (g.F.Opens.refusals c.open_sim_file.new.files) in
     let input = input_of (g.I.Feed.text c.args.input.now) (g.I.Feed.faults c.args.input.now) in
-    let printed = output_of (g.O.Sink.text c.args.out.now) (g.O.Sink.faults c.args.out.now) in
-    let reported = output_of (g.E.Sink.text c.args.err.now) (g.E.Sink.faults c.args.err.now) in
-    let reported' = output_of (g.E.Sink.text c.not_opened.new.err) (g.E.Sink.faults c.not_opened.new.err) in
+    let printed = output_of g.O.Sink c.args.out.now in
+    let reported = output_of g.E.Sink c.args.err.now in
+    let reported' = output_of g.E.Sink c.not_opened.new.err in
     let path = c.in-Err-NotOpened.path.now in
     let stopped = c.in-Err-NotOpened.ensures in
     let rises : Rises old.refusals new.refusals = search rules in

@@ -1,12 +1,13 @@
 -- What is reported, whole or in part.
-use Rattle.std.proofs.Common.{◌≡◌, ◌∙◌, ◌++◌, List, [], ℕ, inl, inr, sym, ap, refl, append_assoc, Option, Some, None, Result, Ok, Err}
-use Rattle.std.proofs.lemmas.List.{append-nil}
+use Rattle.std.proofs.Common.{◌≡◌, ◌∙◌, ◌++◌, List, [], ℕ, inl, inr, sym, ap, refl, append_assoc, Option, Result, Ok, Err}
 use Rattle.std.specs.Prelude.{OnErr, OnOk}
 use Rattle.std.specs.Io.KnownBytes.{Appends}
+use Rattle.m11_base.proofs.Known.{Appends-Appends}
 use Rattle.m11_base.specs.Devices.{Rises}
 use Rattle.m11_base.specs.Sink.{AppendsBeginning}
-use Rattle.m11_cpu_machine.specs.Dialogue.{Output}
-use Rattle.m11_tracer.specs.Reports.{Reports, ReportsSome}
+use Rattle.m11_base_writes.proofs.Writing.{keeps}
+use Rattle.m11_base_writes.specs.Outputs.{Output}
+use Rattle.m11_cli_reports.specs.Reports.{Reports, ReportsSome}
 
 -- a put that returned success or failure
 pub reports : {X E : Type 0} (r : Result X E) (text : List ℕ) (old new : Output)
@@ -25,32 +26,17 @@ pub then_at_error : {X E : Type 0} (r : Result X E) (P Q : Type 0) → (P → Q)
 then_at_error (Ok x) P Q f p = tt
 then_at_error (Err e) P Q f p = f p
 
--- the same of a text of which nothing else is known, and where nothing was put
-pub reports_some : {X E : Type 0} (r : Result X E) (text : List ℕ) (old new : Output)
-    → OnOk r (Appends old.text new.text text) → OnOk r (new.faults ≡ old.faults)
-    → OnErr r (AppendsBeginning old.text new.text text) → OnErr r (Rises old.faults new.faults)
-    → ReportsSome old new
-reports_some r text old new whole sound beginning fault = (text, reports r text old new whole sound beginning fault)
-
-gains_none : (text : Option (List ℕ)) → Appends text text []
-gains_none None = tt
-gains_none (Some text) = sym (append-nil text)
+-- a text of which nothing else is known, and where nothing was put
+pub reports_some : (text : List ℕ) (old new : Output) → Reports text old new → ReportsSome old new
+reports_some text old new h = (text, h)
 
 pub reports_none : (output : Output) → ReportsSome output output
-reports_none output = ([], inl (gains_none output.text, refl))
+reports_none output = ([], inl (keeps output.text, refl))
 
 -- a beginning of a text is one of a longer text, also after a text that was written whole
 pub begins : (old new : Option (List ℕ)) (text more : List ℕ) → AppendsBeginning old new text
     → AppendsBeginning old new (text ++ more)
 begins old new text more h = (h.0, h.1 ++ more, ap (λ t. t ++ more) h.2 ∙ append_assoc h.0 h.1 more, h.3)
-
-gains : (old middle new : Option (List ℕ)) (first second : List ℕ) → Appends old middle first
-    → Appends middle new second
-    → Appends old new (first ++ second)
-gains None middle new first second a b = tt
-gains (Some x) None new first second a b = absurd a
-gains (Some x) (Some y) None first second a b = absurd b
-gains (Some x) (Some y) (Some z) first second a b = b ∙ ap (λ t. t ++ second) a ∙ append_assoc x first second
 
 pub begins_after : (old middle new : Option (List ℕ)) (first text : List ℕ) → Appends old middle first
     → AppendsBeginning middle new text → AppendsBeginning old new (first ++ text)
@@ -58,5 +44,5 @@ begins_after old middle new first text a h = (
   first ++ h.0,
   h.1,
   ap (λ t. first ++ t) h.2 ∙ sym (append_assoc first h.0 h.1),
-  gains old middle new first h.0 a h.3,
+  Appends-Appends old middle new first h.0 a h.3,
 )

@@ -1,6 +1,6 @@
 use Rattle.std.proofs.Common.{◌++◌, [], ◌∷◌, codes}
-use Rattle.m11_tracer.proofs.Reporting.{at_error, begins, begins_after, then_at_error}
-use Rattle.m11_tracer.proofs.reports.not_opened_line.Goals as goal
+use Rattle.m11_cli_reports.proofs.Reporting.{at_error, begins, begins_after, then_at_error}
+use Rattle.m11_cli_reports.proofs.reports.put_not_opened.Goals as goal
 
 pub returns-in_err-put_all-clause-beginning : goal.returns-in_err-put_all-clause-beginning
 returns-in_err-put_all-clause-beginning g c =

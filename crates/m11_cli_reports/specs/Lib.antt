@@ -1,0 +1,6 @@
+pub mod Lines
+pub mod Links
+pub mod Reports
+pub mod Runs
+pub mod Streams
+pub mod Usage

@@ -1,0 +1,20 @@
+-- The lines that a program prints for faults. (This project's own.) Their words, with a blank between each two, are `?M11`, the
+-- command, the fault's number in decimal, the fault's name and what the fault has to add; a line feed ends each. As
+-- `?M11 ASM 2 Write OBJECT`.
+use Rattle.std.specs.Prelude.{List, [], ◌∷◌, ◌++◌, ℕ, codes}
+use Rattle.std.specs.List.{join_with_byte}
+use Rattle.std.specs.Fmt.{decimal}
+use Rattle.m11_base.specs.Devices.{Bytes}
+
+-- a line of words: a blank is 040, a line feed 012
+abbrev pub line : List Bytes → Bytes
+line words = join_with_byte 0o40 words ++ 0o12 ∷ []
+
+-- the line of a fault
+abbrev pub line_for : Bytes → ℕ → Bytes → List Bytes → Bytes
+line_for command number name more =
+    line (codes "?M11" ∷ command ∷ decimal number ∷ name ∷ more)
+
+-- the line for a file that could not be opened
+abbrev pub open_line : Bytes → Bytes
+open_line path = line (codes "?M11" ∷ codes "OPEN" ∷ path ∷ [])

@@ -1,0 +1,22 @@
+-- The line and the status of words that are refused. (This project's own.)
+use Rattle.std.specs.Prelude.{[], ℕ, codes}
+use Rattle.m11_base.specs.Devices.{Bytes}
+use Rattle.m11_cli_tasks.specs.Usage.{usage_name, usage_number}
+use Rattle.m11_cli_tasks.specs.declared.usage.UsageFault.{UsageFault}
+use Rattle.m11_cli_tasks.specs.declared.usage.UsageFault.TheVariants.{Help, Words, BadOctal, OddAddress, BadAddress, NoMemory}
+use Rattle.m11_cli_reports.specs.Lines.{line_for}
+
+-- the status of a command line that gave no task
+abbrev pub usage_status : UsageFault → ℕ
+usage_status (Help error) = 0
+usage_status (Words error) = 2
+usage_status BadOctal = 2
+usage_status OddAddress = 2
+usage_status BadAddress = 2
+usage_status NoMemory = 5
+
+-- the line of a fault of the words; the parser's own text stands for a line where it has one
+abbrev pub usage_line : UsageFault → Bytes
+usage_line (Help error) = []
+usage_line (Words error) = []
+usage_line fault = line_for (codes "USAGE") (usage_number fault) (usage_name fault) []

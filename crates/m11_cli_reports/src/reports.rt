@@ -1,0 +1,89 @@
+//! What is reported of words that are refused, and of files that do not open. A report that the device refuses is lost, and the
+//! status still tells of the fault.
+
+ghost use Rattle.std.specs.Prelude.{◌≡◌, OnErr, OnOk};
+ghost use Rattle.std.specs.Io.KnownBytes.{Appends};
+ghost use Rattle.m11_base.specs.Devices.{Rises};
+ghost use Rattle.m11_base.specs.Sink.{AppendsBeginning};
+ghost use Rattle.m11_base_writes.specs.Outputs.{output_of};
+ghost use Rattle.m11_cli_reports.specs.Lines.{open_line};
+ghost use Rattle.m11_cli_reports.specs.Reports.{Explains, Reports, ReportsOfWords, ReportsSome, words_status};
+
+use crate::usage::usage_line;
+use m11_base::{PutFault, Sink, put_all};
+use m11_cli_tasks::{UsageFault, WordsFault, refusal_line};
+use std::alloc::Global;
+
+/// Reports a text.
+#[tactic(auto, using(crate::proofs::Reporting::reports))]
+pub fn report<S: Sink>(text: &[u8], sink: &mut S)
+    ensures { Reports text.now (output_of S.Sink sink.old) (output_of S.Sink sink.new) }
+{
+    let _ = put_all(sink, text);
+}
+
+/// Reports the parser's text: help goes to `out`, and a refusal to `err`. Other faults have a line, and none is reported here.
+pub fn explain<O: Sink, E: Sink>(alloc: Global, fault: &UsageFault, out: &mut O, err: &mut E)
+    ensures { Explains fault.now (output_of O.Sink out.old) (output_of O.Sink out.new)
+        (output_of E.Sink err.old) (output_of E.Sink err.new) }
+{
+    match fault {
+        UsageFault::Help(error) => report_error(alloc, error, out),
+        UsageFault::Words(error) => report_error(alloc, error, err),
+        UsageFault::BadOctal
+        | UsageFault::OddAddress
+        | UsageFault::BadAddress
+        | UsageFault::NoMemory => {}
+    }
+}
+
+// The text of an error, put at once. Where memory is refused for it, nothing is.
+#[tactic(auto, using(crate::proofs::Reporting::reports_some, crate::proofs::Reporting::reports_none))]
+fn report_error<S: Sink>(alloc: Global, error: &clap::Error, sink: &mut S)
+    ensures { ReportsSome (output_of S.Sink sink.old) (output_of S.Sink sink.new) }
+{
+    if let Ok(text) = error.to_string(alloc) {
+        report(text.as_bytes(), sink);
+    }
+}
+
+/// Reports that the file of a path does not open: `?M11 OPEN` and the path as it was given. No memory is taken.
+#[tactic(auto, using(crate::proofs::Reporting::reports))]
+pub fn report_not_opened<S: Sink>(path: &str, sink: &mut S)
+    ensures { Reports (open_line path.now) (output_of S.Sink sink.old) (output_of S.Sink sink.new) }
+{
+    let _ = put_not_opened(path, sink);
+}
+
+// Puts the line for a file that does not open. `Device`: the sink failed after a beginning of it.
+fn put_not_opened<S: Sink>(path: &str, sink: &mut S) -> Result<(), PutFault>
+    ensures whole { OnOk result (Appends (S.text sink.old) (S.text sink.new) (open_line path.now)) }
+    ensures sound { OnOk result (S.faults sink.new ≡ S.faults sink.old) }
+    ensures beginning { OnErr result
+        (AppendsBeginning (S.text sink.old) (S.text sink.new) (open_line path.now)) }
+    ensures fault { OnErr result (Rises (S.faults sink.old) (S.faults sink.new)) }
+{
+    put_all(sink, b"?M11 OPEN ")?;
+    put_all(sink, path.as_bytes())?;
+    put_all(sink, b"\n")
+}
+
+/// Stands for the work of a program where the system did not give the words: reports why, and returns the status, that of want of
+/// memory or that of refused words.
+pub fn command_without_words<E: Sink>(alloc: Global, fault: WordsFault, err: &mut E) -> u8
+    ensures status { result ≡ words_status fault }
+    ensures reported { ReportsOfWords fault (output_of E.Sink err.old) (output_of E.Sink err.new) }
+{
+    match fault {
+        WordsFault::NoMemory => {
+            report(usage_line(&UsageFault::NoMemory).as_bytes(), err);
+            5
+        }
+        WordsFault::NotText(number) => {
+            if let Ok(line) = refusal_line(alloc, number) {
+                report(line.as_bytes(), err);
+            }
+            2
+        }
+    }
+}
