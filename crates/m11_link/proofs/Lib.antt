@@ -4,6 +4,7 @@ pub mod Looping
 pub mod Entering
 pub mod WritesAfter
 pub mod Emitted
+pub mod LastText
 pub mod Ended
 pub mod Steady
 pub mod ItemsTaken

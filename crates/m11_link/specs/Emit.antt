@@ -1,6 +1,6 @@
 -- The second pass of a link, call by call: what stands after the parts so far, and what is written. (This project's
 -- own. That it yields what Written.antt says is proved.)
-use Rattle.std.specs.Prelude.{◌≡◌, ◌⊎◌, ℕ, Bool, true, false, List, [], ◌∷◌, ◌++◌, map, ⊤, Option, Some, None, Result, Ok, Err, if◌then◌else◌}
+use Rattle.std.specs.Prelude.{◌≡◌, ◌⊎◌, ℕ, Bool, true, false, List, [], ◌∷◌, ◌++◌, length, map, ⊤, Option, Some, None, Result, Ok, Err, if◌then◌else◌}
 use Rattle.indexmap.specs.IndexSet.{insert_key}
 use Rattle.m11_base.specs.Devices.{Bytes}
 use Rattle.m11_base.specs.Rad50.{Name, is_same_name}
@@ -68,6 +68,11 @@ held_after found before held (part ∷ parts) =
 
 unfoldable pub held_text : Findings → List Part → Option PlacedText
 held_text found parts = held_after found [] None parts
+
+-- a text that is held is as long as the last text, of which relocations are judged by its length
+abbrev pub IsAsLong : Option ℕ → Option PlacedText → Type 0
+IsAsLong text_length None = ⊤
+IsAsLong text_length (Some held) = text_length ≡ Some (length held.bytes)
 
 -- ---- entries
 
@@ -150,6 +155,10 @@ pub record Emitting : Type 0 where
   pub reporting : Reporting
   pub has_begun : Bool
   pub fault : Option LinkFault
+
+-- the rules and what is held speak of the same text
+abbrev pub HoldsLastText : Emitting → Type 0
+HoldsLastText state = IsAsLong state.known.text state.reporting.held
 
 -- the messages on undefined globals and the map, where they were not written before
 abbrev pub begin_writes : Emitting → List Write

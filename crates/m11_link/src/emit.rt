@@ -11,7 +11,7 @@ ghost use Rattle.m11_link_modules.specs.Parts.{Part, EndOfDirectory, EndOfFile, 
 ghost use Rattle.m11_link_modules.specs.Steps.{RulesTake, TakesOne};
 ghost use Rattle.m11_link_layout.specs.Plan.{Planned};
 ghost use Rattle.m11_link_layout.specs.declared.fault.LinkFault.{LinkFault};
-ghost use Rattle.m11_link.specs.Emit.{EmitEnds, EmitStands, FailsAgain, Goes, TakesBlock, TakesParts, begin_writes, begun_reporting, call_of, directory_writes, held_with, held_with_all, held_writes, relocated_parts, with_directory, with_held, with_reporting, with_text};
+ghost use Rattle.m11_link.specs.Emit.{EmitEnds, EmitStands, FailsAgain, Goes, HoldsLastText, TakesBlock, TakesParts, begin_writes, begun_reporting, call_of, directory_writes, held_with, held_with_all, held_writes, relocated_parts, with_directory, with_held, with_reporting, with_text};
 ghost use Rattle.m11_link_text.specs.Findings.{planned};
 ghost use Rattle.m11_base_writes.specs.Outputs.{Output, optional_output, output_of};
 ghost use Rattle.m11_link.specs.Outputs.{Finishes, Writes, outputs, outputs_of, to_tape};
@@ -333,7 +333,7 @@ impl Emit {
         ensures read { checked result ≡ checked (relocations_of unread.old) }
         ensures judged { IfOk result (λ judged. RulesTake self.old.known self.new.known
             (Relocations ∷ relocated_parts (relocations_left unread.old)) judged) }
-        ensures stored { IfOk result (λ judged. IfOk judged (λ _. self.new.reporting
+        ensures stored { IfOk result (λ judged. IfOk judged (λ _. HoldsLastText self.old → self.new.reporting
             ≡ with_held (held_with_all (planned self.old.reporting.plan) self.old.reporting.held
             (relocations_left unread.old)) self.old.reporting)) }
         ensures begun { self.new.has_begun ≡ self.old.has_begun }
@@ -353,7 +353,7 @@ impl Emit {
         ensures read { checked result ≡ checked (relocations_of unread.old) }
         ensures judged { IfOk result (λ judged. RulesTake self.old.known self.new.known
             (relocated_parts (relocations_left unread.old)) judged) }
-        ensures stored { IfOk result (λ judged. IfOk judged (λ _. self.new.reporting
+        ensures stored { IfOk result (λ judged. IfOk judged (λ _. HoldsLastText self.old → self.new.reporting
             ≡ with_held (held_with_all (planned self.old.reporting.plan) self.old.reporting.held
             (relocations_left unread.old)) self.old.reporting)) }
         ensures begun { self.new.has_begun ≡ self.old.has_begun }
@@ -375,13 +375,14 @@ impl Emit {
     #[tactic(auto, unfolding(m11_link_modules::specs::Steps::TakesOne))]
     fn store_relocation(&mut self, relocation: Relocation) -> Result<(), ModuleFault>
         ensures judged { TakesOne self.old.known self.new.known (Relocated relocation) result }
-        ensures stored { IfOk result (λ _. self.new.reporting ≡ with_held
+        ensures stored { IfOk result (λ _. HoldsLastText self.old → self.new.reporting ≡ with_held
             (held_with (planned self.old.reporting.plan) self.old.reporting.held relocation) self.old.reporting) }
         ensures begun { self.new.has_begun ≡ self.old.has_begun }
         ensures kept { self.new.fault ≡ self.old.fault }
     {
-        self.rules.relocation(relocation)?;
-        self.reporter.relocate(&relocation);
+        if let Some(stored) = self.rules.relocation(relocation)? {
+            self.reporter.relocate(&stored);
+        }
         Ok(())
     }
 

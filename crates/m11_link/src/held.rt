@@ -7,11 +7,11 @@ ghost use Rattle.m11_link.specs.Outputs.{Writes, outputs};
 ghost use Rattle.m11_link.specs.Written.{placed_text, text_writes, with_relocation};
 
 use crate::outputs::put_tape;
-use arrayvec::ArrayVec;
 use m11_base::{Name, Sink};
 use m11_link_layout::{LinkFault, Plan};
+use m11_link_modules::TextRelocation;
 use m11_link_text::relocate;
-use m11_obj::{Relocation, tape_block};
+use m11_obj::tape_block;
 use std::alloc::Global;
 use std::marker::Model;
 
@@ -28,10 +28,13 @@ pub(crate) struct HeldText {
     module_index: usize,
     base: u16,
     address: u16,
-    bytes: ArrayVec<u8, 512>,
+    // The text, and after its end what longer texts left.
+    room: [u8; 512],
+    length: usize,
 }
 
 impl Model for HeldText {
+    ghost use Rattle.std.specs.Prelude.{◌≤◌, take};
     ghost use Rattle.m11_link.specs.Written.{PlacedText};
 
     ghost Value = { PlacedText };
@@ -40,8 +43,10 @@ impl Model for HeldText {
       module_index = t.module_index;
       base = t.base;
       address = t.address;
-      bytes = t.bytes.items;
+      bytes = take t.length t.room;
     } };
+
+    ghost invariant = { λ t. t.length ≤ 512 };
 }
 
 impl HeldText {
@@ -51,7 +56,8 @@ impl HeldText {
             module_index: 0,
             base: 0,
             address: 0,
-            bytes: ArrayVec::new(),
+            room: [0; 512],
+            length: 0,
         }
     }
 
@@ -64,14 +70,14 @@ impl HeldText {
         self.module_index = location.module_index;
         self.base = base;
         self.address = base.wrapping_add(address);
-        self.bytes.clear();
-        self.bytes.try_extend_from_slice(bytes).unwrap();
+        self.room[..bytes.len()].copy_from_slice(bytes);
+        self.length = bytes.len();
     }
 
-    /// Stores one more relocation: the bytes at its place are replaced. One that doesn't lie within the text, which the
-    /// rules of modules refuse before, changes nothing.
-    pub(crate) fn relocate(&mut self, plan: &Plan, relocation: &Relocation)
-        ensures { self.new ≡ with_relocation (planned plan.now) self.old relocation.now }
+    /// Stores one more relocation: the bytes at its place are replaced. It was judged by the length of this text.
+    pub(crate) fn relocate(&mut self, plan: &Plan, relocation: &TextRelocation)
+        ensures { relocation.now.text_length ≡ length self.old.bytes
+            → self.new ≡ with_relocation (planned plan.now) self.old relocation.now.relocation }
     {
         relocate(
             plan,
@@ -79,7 +85,7 @@ impl HeldText {
             self.base,
             self.address,
             relocation,
-            self.bytes.as_mut_slice(),
+            &mut self.room,
         );
     }
 
@@ -89,10 +95,11 @@ impl HeldText {
             (outputs (output_of S.Sink tape.old) map messages)
             (outputs (output_of S.Sink tape.new) map messages) (text_writes self.now) result }
     {
-        if self.bytes.is_empty() {
+        let bytes = &self.room[..self.length];
+        if bytes.is_empty() {
             return Ok(());
         }
-        let block = tape_block(alloc, self.address, self.bytes.as_slice())?;
+        let block = tape_block(alloc, self.address, bytes)?;
         put_tape(tape, block.as_slice())
     }
 }

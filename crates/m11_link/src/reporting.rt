@@ -6,7 +6,7 @@ ghost use Rattle.m11_obj_blocks.specs.Tapes.{tape_block};
 ghost use Rattle.m11_link_modules.specs.Names.{is_among};
 ghost use Rattle.m11_link_modules.specs.Rules.{defines};
 ghost use Rattle.m11_link_layout.specs.Sections.{attributes_by};
-ghost use Rattle.m11_link.specs.Emit.{Goes, EmitKeeps, directory_writes, entries_writes, held_with, held_writes, with_count, with_directory, with_entries, with_entry, with_held, with_name, with_symbol, with_text};
+ghost use Rattle.m11_link.specs.Emit.{Goes, EmitKeeps, IsAsLong, directory_writes, entries_writes, held_with, held_writes, with_count, with_directory, with_entries, with_entry, with_held, with_name, with_symbol, with_text};
 ghost use Rattle.m11_link_text.specs.Findings.{planned};
 ghost use Rattle.m11_link.specs.Front.{front_writes};
 ghost use Rattle.m11_base_writes.specs.Outputs.{Output, optional_output, output_of};
@@ -20,8 +20,9 @@ use bitflags::Flags;
 use indexmap::IndexSet;
 use m11_base::{Name, Sink};
 use m11_link_layout::{LinkFault, Plan, section_attributes};
+use m11_link_modules::TextRelocation;
 use m11_link_text::{Line, different_line, multiple_line};
-use m11_obj::{GsdEntry, GsdKind, Relocation, SectionFlags, SymbolFlags, tape_transfer};
+use m11_obj::{GsdEntry, GsdKind, SectionFlags, SymbolFlags, tape_transfer};
 use std::alloc::Global;
 use std::marker::Model;
 
@@ -183,13 +184,13 @@ impl Reporter {
         self.is_held = true;
     }
 
-    /// Stores a relocation in the text that is held.
-    pub(crate) fn relocate(&mut self, relocation: &Relocation)
-        ensures { self.new ≡ with_held (held_with (planned self.old.plan) self.old.held relocation.now) self.old }
+    /// Stores a relocation in the text that is held, by whose length it was judged. Where none is held, it goes to room
+    /// that is free.
+    pub(crate) fn relocate(&mut self, relocation: &TextRelocation)
+        ensures { IsAsLong (Some relocation.now.text_length) self.old.held → self.new
+            ≡ with_held (held_with (planned self.old.plan) self.old.held relocation.now.relocation) self.old }
     {
-        if self.is_held {
-            self.text.relocate(&self.plan, relocation);
-        }
+        self.text.relocate(&self.plan, relocation);
     }
 
     // Notes the entries of a directory record in their order, in which their messages come.

@@ -3,12 +3,12 @@ use Rattle.std.proofs.Common.{◌≡◌, ℕ, ◌+◌, ◌-◌, ◌<◌, ◌≤�
 use Rattle.std.proofs.lemmas.Bool.Decides.{nat_tests}
 use Rattle.std.proofs.lemmas.List.{get_or-append_right, get_or_append_left, length-take-le}
 use Rattle.m11_obj.specs.declared.relocations.Relocation.{Relocation}
-use Rattle.m11_obj.specs.declared.relocations.Target.{Target}
 use Rattle.m11_obj.specs.declared.relocations.Target.TheVariants as target
 use Rattle.m11_link_modules.specs.Parts.{Part}
 use Rattle.m11_link_modules.specs.Rules.{lies_within, width_of}
 use Rattle.m11_link_text.specs.Findings.{Findings, findings_of}
-use Rattle.m11_link_text.specs.Relocation.{modulo, replaced, stored_bytes, value_bytes, value_of}
+use Rattle.m11_link_text.specs.Relocation.{modulo, replaced, stored_bytes}
+use Rattle.m11_link_text.proofs.Stored.{stored_width}
 use Rattle.m11_link.specs.Written.{PlacedText, placed_text, with_relocation, with_relocations}
 use Rattle.m11_link_laws.specs.Moving.{byte_stays, bytes_moved, covers, moves, relocation_moved, relocations_moved, target_stays, text_place}
 use Rattle.m11_link_laws.proofs.MovingLaws.{text_content}
@@ -111,54 +111,6 @@ outside index displacement width count one other l h n =
     by false true e f =
         absurd (true≢false (sym n ∙ ap not (uncovered index displacement width count l h e f)))
     by false false e f = refl
-
--- ---- no more bytes than the width of a relocation
-
-value_width : (width : Bool → ℕ) → width true ≡ 1 → width false ≡ 2 → (is_byte : Bool) (value : ℕ)
-    → length (value_bytes is_byte value) ≤ width is_byte
-value_width width e f true value = subst (λ n. 1 ≤ n) (sym e) (omega arith)
-value_width width e f false value = subst (λ n. 2 ≤ n) (sym f) (omega arith)
-
-nothing_within : (width : ℕ) → 0 ≤ width
-nothing_within width = omega arith
-
-pub stored_width : (near : Findings) (index own location : ℕ) (is_byte : Bool) (t : Target)
-    → length (stored_bytes near index own location is_byte t) ≤ width_of is_byte t
-stored_width near index own location is_byte target.ProgramLimits = omega arith
-stored_width near index own location is_byte (target.LocationCounterDefinition name constant) =
-    nothing_within (width_of is_byte (target.LocationCounterDefinition name constant))
-stored_width near index own location is_byte (target.LocationCounterModification constant) =
-    nothing_within (width_of is_byte (target.LocationCounterModification constant))
-stored_width near index own location is_byte (target.Internal constant) =
-    value_width (λ b. width_of b (target.Internal constant)) refl refl is_byte
-    (value_of near index own location (target.Internal constant))
-stored_width near index own location is_byte (target.Global name) =
-    value_width (λ b. width_of b (target.Global name)) refl refl is_byte
-    (value_of near index own location (target.Global name))
-stored_width near index own location is_byte (target.InternalDisplaced constant) =
-    value_width (λ b. width_of b (target.InternalDisplaced constant)) refl refl is_byte
-    (value_of near index own location (target.InternalDisplaced constant))
-stored_width near index own location is_byte (target.GlobalDisplaced name) =
-    value_width (λ b. width_of b (target.GlobalDisplaced name)) refl refl is_byte
-    (value_of near index own location (target.GlobalDisplaced name))
-stored_width near index own location is_byte (target.GlobalAdditive name constant) =
-    value_width (λ b. width_of b (target.GlobalAdditive name constant)) refl refl is_byte
-    (value_of near index own location (target.GlobalAdditive name constant))
-stored_width near index own location is_byte (target.GlobalAdditiveDisplaced name constant) =
-    value_width (λ b. width_of b (target.GlobalAdditiveDisplaced name constant)) refl refl is_byte
-    (value_of near index own location (target.GlobalAdditiveDisplaced name constant))
-stored_width near index own location is_byte (target.Section name) =
-    value_width (λ b. width_of b (target.Section name)) refl refl is_byte
-    (value_of near index own location (target.Section name))
-stored_width near index own location is_byte (target.SectionDisplaced name) =
-    value_width (λ b. width_of b (target.SectionDisplaced name)) refl refl is_byte
-    (value_of near index own location (target.SectionDisplaced name))
-stored_width near index own location is_byte (target.SectionAdditive name constant) =
-    value_width (λ b. width_of b (target.SectionAdditive name constant)) refl refl is_byte
-    (value_of near index own location (target.SectionAdditive name constant))
-stored_width near index own location is_byte (target.SectionAdditiveDisplaced name constant) =
-    value_width (λ b. width_of b (target.SectionAdditiveDisplaced name constant)) refl refl is_byte
-    (value_of near index own location (target.SectionAdditiveDisplaced name constant))
 
 -- ---- one relocation of two texts that have a byte in common
 

@@ -1,5 +1,5 @@
 -- The writes of parts go to the same outputs, in the same order and as long, from both bottoms on.
-use Rattle.std.proofs.Common.{◌≡◌, ℕ, ◌+◌, ◌-◌, min, Bool, true, false, if◌then◌else◌, List, [], ◌∷◌, ◌++◌, length, map, refl, sym, ap, ap₂, ◌∙◌, arith, length-append, length-drop, length-take}
+use Rattle.std.proofs.Common.{◌≡◌, ℕ, ◌+◌, ◌-◌, min, Bool, true, false, if◌then◌else◌, List, [], ◌∷◌, ◌++◌, length, map, refl, sym, ap, ap₂, ◌∙◌, arith, length-append}
 use Rattle.std.proofs.lemmas.List.{map-append}
 use Rattle.m11_obj_blocks.specs.Frames.{with_sum}
 use Rattle.m11_obj_blocks.specs.Tapes.{tape_block, tape_header}
@@ -13,6 +13,7 @@ use Rattle.m11_link_layout.specs.declared.fault.LinkOutput.{LinkOutput}
 use Rattle.m11_link_layout.specs.declared.fault.LinkOutput.TheVariants.{Tape}
 use Rattle.m11_link_text.specs.Findings.{Findings, findings_of}
 use Rattle.m11_link_text.specs.Relocation.{modulo, replaced, stored_bytes, value_bytes}
+use Rattle.m11_link_text.proofs.Stored.{replaced_is}
 use Rattle.m11_link.specs.Written.{PlacedText, block_at, has_ended, parts_writes, placed_text, relocations_after, text_writes, with_relocation, with_relocations, writes_at, writes_after}
 use Rattle.m11_link_laws.specs.Moving.{bytes_moved, moved_after, moves, part_moved, relocation_moved, relocations_moved, shape_of, text_moved, text_place}
 use Rattle.m11_link_laws.proofs.MovingLaws.{parts_move}
@@ -47,11 +48,6 @@ stored_length : (is_byte : Bool) (value other : ℕ)
     → length (value_bytes is_byte value) ≡ length (value_bytes is_byte other)
 stored_length true value other = refl
 stored_length false value other = refl
-
-pub replaced_is : (text bytes : List ℕ) (index : ℕ)
-    → length (replaced text index bytes)
-    ≡ min index (length text) + length bytes + (length text - (index + length bytes))
-replaced_is text bytes index = simp (length-append, length-take, length-drop) refl
 
 replaced_length : (text other bytes others : List ℕ) (index : ℕ) → length text ≡ length other
     → length bytes ≡ length others → length (replaced text index bytes) ≡ length (replaced other index others)

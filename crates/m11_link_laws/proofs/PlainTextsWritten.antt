@@ -1,5 +1,5 @@
 -- Texts that no relocation changes are the blocks of the tape.
-use Rattle.std.proofs.Common.{◌≡◌, ℕ, ◌+◌, ◌-◌, Bool, true, false, ◌&&◌, not, if◌then◌else◌, List, [], ◌∷◌, ◌++◌, map, take, drop, take-append-drop, length, flat_map, append-nil, Option, Some, None, refl, sym, ap, ap₂, ◌∙◌, arith}
+use Rattle.std.proofs.Common.{◌≡◌, ℕ, ◌+◌, ◌-◌, Bool, true, false, ◌&&◌, not, if◌then◌else◌, List, [], ◌∷◌, ◌++◌, map, flat_map, append-nil, Option, Some, None, refl, sym, ap, ap₂, ◌∙◌}
 use Rattle.std.specs.List.{list_any}
 use Rattle.m11_obj_blocks.specs.Tapes.{tape_block}
 use Rattle.m11_obj.specs.declared.gsd.GsdEntry.{GsdEntry}
@@ -16,7 +16,7 @@ use Rattle.m11_link_modules.specs.declared.stage.Stage.TheVariants.{Between, InD
 use Rattle.m11_link_modules.specs.Names.{is_among}
 use Rattle.m11_link_modules.specs.Parts.{Part, Directory, Entry, EndOfDirectory, Text, Relocations, Relocated, EndOfModule, EndOfFile}
 use Rattle.m11_link_modules.specs.Places.{current_section, known_of, modules_in, stage_after, stage_from, this_module}
-use Rattle.m11_link_modules.specs.Rules.{defines, fault_known, fault_of, first_fault, lies_within, may_stand}
+use Rattle.m11_link_modules.specs.Rules.{defines, fault_known, fault_of, first_fault, may_stand}
 use Rattle.m11_link_layout.specs.Modules.{reported_after}
 use Rattle.m11_link_layout.specs.Sections.{attributes_by}
 use Rattle.m11_link_layout.specs.declared.fault.LinkOutput.TheVariants.{Tape}
@@ -24,7 +24,8 @@ use Rattle.m11_link_layout.proofs.Finding.{neither}
 use Rattle.m11_link_layout.proofs.Walking.{head_none, rest_none}
 use Rattle.m11_link_text.specs.Findings.{Findings}
 use Rattle.m11_link.specs.Front.{front_writes, global_write, global_writes, last_writes, map_writes, name_write, name_writes, section_write, section_writes, undefined_names, undefined_write, undefined_writes, weak_writes}
-use Rattle.m11_link_text.specs.Relocation.{modulo, relocated, replaced, stored_bytes}
+use Rattle.m11_link_text.specs.Relocation.{modulo, stored_bytes}
+use Rattle.m11_link_text.proofs.Stored.{none_relocated}
 use Rattle.m11_base_writes.specs.Writes.{gained, gained_by}
 use Rattle.m11_base_writes.proofs.Writing.{gained-append}
 use Rattle.m11_link.specs.Outputs.{Write, link, to_tape}
@@ -130,37 +131,18 @@ entry_elsewhere kind.Identification found module_index defined entry =
 
 -- ---- texts that no relocation changes
 
-add_zero : (n : ℕ) → n + 0 ≡ n
-add_zero n = omega arith
-
-none_replaced : (text : List ℕ) (index : ℕ) → replaced text index [] ≡ text
-none_replaced text index =
-    ap (λ n. (take index text ++ []) ++ drop n text) (add_zero index)
-    ∙ ap (λ xs. xs ++ drop index text) (append-nil (take index text))
-    ∙ take-append-drop index text
-
-same_either : (b : Bool) (one other : List ℕ) → one ≡ other → (if b then one else other) ≡ other
-same_either true one other e = e
-same_either false one other e = refl
-
 bytes_stored : (found : Findings) (module_index own location : ℕ) (is_byte : Bool) (t : Target)
     → not (only_selects t) ≡ false → stored_bytes found module_index own location is_byte t ≡ []
 bytes_stored found module_index own location is_byte (target.LocationCounterDefinition name constant) e = refl
 bytes_stored found module_index own location is_byte (target.LocationCounterModification constant) e = refl
 bytes_stored found module_index own location is_byte other e = absurd cc
 
-same_bytes : (found : Findings) (module_index own address : ℕ) (relocation : Relocation) (text : List ℕ)
-    → not (only_selects relocation.target) ≡ false → relocated found module_index own address relocation text ≡ text
-same_bytes found module_index own address relocation text e =
-    let index = relocation.displacement - 4 in
-    ap (λ bytes. if lies_within relocation (length text) then replaced text index bytes else text)
-    (bytes_stored found module_index own (modulo (address + index)) relocation.is_byte relocation.target e)
-    ∙ same_either (lies_within relocation (length text)) (replaced text index []) text (none_replaced text index)
-
 pub same_text : (found : Findings) (text : PlacedText) (relocation : Relocation)
     → not (only_selects relocation.target) ≡ false → with_relocation found text relocation ≡ text
 same_text found text relocation e = ap (λ bytes. let t : PlacedText = record text { bytes = bytes } in t)
-    (same_bytes found text.module_index text.base text.address relocation text.bytes e)
+    (none_relocated found text.module_index text.base text.address relocation text.bytes
+    (bytes_stored found text.module_index text.base (modulo (text.address + (relocation.displacement - 4)))
+    relocation.is_byte relocation.target e))
 
 unchanged : (found : Findings) (text : PlacedText) (parts : List Part) → list_any stores parts ≡ false
     → with_relocations found text (relocations_after parts) ≡ text

@@ -1,19 +1,18 @@
 -- The tape of objects is one that is read as their texts.
-use Rattle.std.proofs.Common.{◌≡◌, ◌∙◌, ℕ, ◌+◌, ◌-◌, ◌<◌, ◌≤◌, Bool, true, false, ◌&&◌, if◌then◌else◌, List, [], ◌∷◌, ◌++◌, length, map, flat_map, append_assoc, append-nil, Option, Some, Ok, refl, sym, ap, subst, arith}
-use Rattle.std.specs.Prelude.{nat_le}
+use Rattle.std.proofs.Common.{◌≡◌, ◌∙◌, ℕ, ◌+◌, ◌-◌, ◌<◌, ◌≤◌, Bool, true, false, if◌then◌else◌, List, [], ◌∷◌, ◌++◌, length, map, flat_map, append_assoc, append-nil, Option, Some, Ok, refl, sym, subst, arith}
 use Rattle.std.specs.List.{AllByRecursion, filter, find}
 use Rattle.std.specs.Option.{unwrap_or}
-use Rattle.std.proofs.lemmas.Bool.{leb-true}
 use Rattle.m11_obj_blocks.specs.Tapes.{IsTape, data_limit, tape_block}
 use Rattle.m11_obj_blocks.specs.Tapes as tapes
 use Rattle.m11_obj.specs.declared.relocations.Relocation.{Relocation}
 use Rattle.m11_link_modules.specs.Parts.{Part}
-use Rattle.m11_link_modules.specs.Rules.{lies_within, width_of}
+use Rattle.m11_link_modules.specs.Rules.{lies_within}
 use Rattle.m11_link_layout.specs.Transfers.{is_even, transfer_address, transfer_value, transfers_of}
 use Rattle.m11_link_layout.specs.declared.definition.Transfer.{Transfer}
 use Rattle.m11_link_layout.specs.declared.fault.LinkOutput.TheVariants.{Tape}
 use Rattle.m11_link_text.specs.Findings.{Findings, findings_of}
-use Rattle.m11_link_text.specs.Relocation.{modulo, relocated, replaced, stored_bytes}
+use Rattle.m11_link_text.specs.Relocation.{modulo}
+use Rattle.m11_link_text.proofs.Stored.{size_kept}
 use Rattle.m11_link.specs.Objects.{AreItems, Item, outcome, taken}
 use Rattle.m11_link.specs.Outputs.{link}
 use Rattle.m11_link.specs.Written.{PlacedText, link_writes, placed_text, with_relocation, with_relocations}
@@ -22,43 +21,11 @@ use Rattle.m11_link_laws.specs.Texts.{block_of}
 use Rattle.m11_link_laws.specs.LinkedTexts.{ObjectText, has_data, linked_text, linked_texts, object_texts, tape_blocks}
 use Rattle.m11_link_laws.proofs.ItemsParts.{parts_are}
 use Rattle.m11_link_laws.proofs.LinkedTextsWritten.{tape_of_linked_texts}
-use Rattle.m11_link_laws.proofs.MovingBytes.{stored_width}
-use Rattle.m11_link_laws.proofs.MovingShapes.{replaced_is}
 use Rattle.m11_link_laws.proofs.RunsDecided.{taken_of}
 use Rattle.m11_link_laws.proofs.TextsFit.{Fits, TextFits, object_texts_fit, objects_fit}
 use Rattle.m11_link_laws.proofs.WholeObjects.{taken_between, taken_sound}
 
 -- ---- relocations leave a text its place and its size
-
-both_true : (a b : Bool) → (a && b) ≡ true → (a ≡ true) × (b ≡ true)
-both_true true b e = (refl, e)
-both_true false b e = absurd cc
-
-size_within : (text bytes : List ℕ) (displacement width : ℕ) → 4 ≤ displacement → displacement + width ≤ 4 + length text
-    → length bytes ≤ width → length (replaced text (displacement - 4) bytes) ≡ length text
-size_within text bytes displacement width least most le =
-    let index : ℕ = displacement - 4 in
-    let start : index ≤ length text = omega (arith, least, most) in
-    replaced_is text bytes index ∙ omega (arith, least, most, le)
-
-size_kept : (found : Findings) (module_index own address : ℕ) (relocation : Relocation) (text : List ℕ) (b : Bool)
-    → lies_within relocation (length text) ≡ b
-    → length (relocated found module_index own address relocation text) ≡ length text
-size_kept found module_index own address relocation text true e =
-    let index : ℕ = relocation.displacement - 4 in
-    let stored = stored_bytes found module_index own (modulo (address + index)) relocation.is_byte relocation.target in
-    let within =
-    both_true (nat_le 4 relocation.displacement)
-    (nat_le (relocation.displacement + width_of relocation.is_byte relocation.target) (4 + length text)) e in
-    ap (λ (c : Bool). length (if c then replaced text index stored else text)) e
-    ∙ size_within text stored relocation.displacement (width_of relocation.is_byte relocation.target)
-    (leb-true 4 relocation.displacement within.0)
-    (leb-true (relocation.displacement + width_of relocation.is_byte relocation.target) (4 + length text) within.1)
-    (stored_width found module_index own (modulo (address + index)) relocation.is_byte relocation.target)
-size_kept found module_index own address relocation text false e =
-    let index : ℕ = relocation.displacement - 4 in
-    let stored = stored_bytes found module_index own (modulo (address + index)) relocation.is_byte relocation.target in
-    ap (λ (c : Bool). length (if c then replaced text index stored else text)) e
 
 -- how a text lies
 record Lies (text other : PlacedText) : Type 0 where

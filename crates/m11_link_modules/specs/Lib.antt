@@ -5,3 +5,4 @@ pub mod Parts
 pub mod Places
 pub mod Rules
 pub mod Steps
+pub mod TextRelocation

@@ -181,6 +181,11 @@ abbrev pub returned : Option ModuleFault → Result (Unit {0}) ModuleFault
 returned None = Ok tt
 returned (Some fault) = Err fault
 
+-- the same of a check that hands on a value
+abbrev pub outcome_of : {A : Type 0} → Result A ModuleFault → Result (Unit {0}) ModuleFault
+outcome_of (Ok value) = Ok tt
+outcome_of (Err fault) = Err fault
+
 -- the fault of a record that may begin a module
 abbrev pub opening_fault : Stage → ℕ → Option ModuleFault
 opening_fault InBody modules = Some BadOrder

@@ -1,11 +1,13 @@
 //! What is wrong with one part of an object, by what is known before it.
 
-ghost use Rattle.std.specs.Prelude.{◌≡◌, length};
+ghost use Rattle.std.specs.Prelude.{◌≡◌, length, IfOk, Some};
 ghost use Rattle.m11_link_modules.specs.Places.{size_known};
-ghost use Rattle.m11_link_modules.specs.Rules.{returned, entering_fault, entry_fault, is_past, lies_within, opening_fault, place_fault, relocation_fault, section_fault, symbol_fault, global_fault, target_fault, text_fault, defines_relocatable, width_of};
+ghost use Rattle.m11_link_modules.specs.Rules.{returned, outcome_of, entering_fault, entry_fault, is_past, opening_fault, place_fault, relocation_fault, section_fault, symbol_fault, global_fault, target_fault, text_fault, defines_relocatable};
+ghost use Rattle.m11_link_modules.specs.TextRelocation.{in_text_before, stored_in};
 
 use crate::fault::ModuleFault;
 use crate::stage::Stage;
+use crate::text_relocation::TextRelocation;
 use bitflags::Flags;
 use indexmap::{IndexMap, IndexSet};
 use m11_base::{Name, absolute_section};
@@ -148,35 +150,17 @@ fn check_global(globals: &IndexSet<Name>, name: Name) -> Result<(), ModuleFault>
     Ok(())
 }
 
-// How many bytes a relocation stores.
-fn width_of(relocation: &Relocation) -> usize
-    ensures { result ≡ width_of relocation.now.is_byte relocation.now.target }
-{
-    match relocation.target {
-        Target::ProgramLimits => 4,
-        _ => { if relocation.is_byte { 1 } else { 2 } }
-    }
-}
-
-/// Whether all bytes that a relocation stores lie within a text of n bytes. The first has the displacement 4.
-pub fn lies_within(relocation: &Relocation, count: usize) -> bool
-    ensures { result ≡ lies_within relocation.now count }
-{
-    let place = usize::from(relocation.displacement);
-    place >= 4 && place + width_of(relocation) - 4 <= count
-}
-
 // The place of a relocation has to lie within the text before it.
-fn check_place(relocation: &Relocation, text: Option<usize>) -> Result<(), ModuleFault>
-    ensures { result ≡ returned (place_fault relocation.now text) }
+fn check_place(relocation: &Relocation, text: Option<usize>) -> Result<TextRelocation, ModuleFault>
+    ensures judged { outcome_of result ≡ returned (place_fault relocation.now text) }
+    ensures within { IfOk result (λ within. Some within ≡ in_text_before relocation.now text) }
 {
     let Some(count) = text else {
         return Err(ModuleFault::NoText);
     };
-    if lies_within(relocation, count) {
-        Ok(())
-    } else {
-        Err(ModuleFault::BadDisplacement)
+    match TextRelocation::within(relocation, count) {
+        Some(within) => Ok(within),
+        None => Err(ModuleFault::BadDisplacement),
     }
 }
 
@@ -201,21 +185,26 @@ fn check_target(
     }
 }
 
-/// A relocation.
+/// A relocation. Where it stores bytes, it is handed on as one that lies within the text before it.
 pub(crate) fn check_relocation(
     relocation: &Relocation,
     entered: &IndexMap<Name, u16>,
     text: Option<usize>,
     globals: &IndexSet<Name>,
-) -> Result<(), ModuleFault>
-    ensures { result ≡ returned (relocation_fault relocation.now entered.now.entries text globals.now.keys) }
+) -> Result<Option<TextRelocation>, ModuleFault>
+    ensures judged { outcome_of result ≡ returned (relocation_fault relocation.now entered.now.entries text globals.now.keys) }
+    ensures stored { IfOk result (λ stored. stored ≡ stored_in relocation.now text) }
 {
     match relocation.target {
-        Target::LocationCounterDefinition(name, _) => check_section(entered, name),
-        Target::LocationCounterModification(_) => Ok(()),
+        Target::LocationCounterDefinition(name, _) => {
+            check_section(entered, name)?;
+            Ok(None)
+        }
+        Target::LocationCounterModification(_) => Ok(None),
         target => {
-            check_place(relocation, text)?;
-            check_target(target, entered, globals)
+            let within = check_place(relocation, text)?;
+            check_target(target, entered, globals)?;
+            Ok(Some(within))
         }
     }
 }

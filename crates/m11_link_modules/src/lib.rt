@@ -10,8 +10,9 @@ pub use fault::ModuleFault;
 // Where a record may stand, and what is asked of its parts.
 mod checks;
 mod stage;
+mod text_relocation;
 
-pub use checks::lies_within;
+pub use text_relocation::TextRelocation;
 
 // The rules, kept while the records come.
 mod refusal;

@@ -1,15 +1,18 @@
 //! The rules by which records are modules, kept while the records come.
 
-ghost use Rattle.std.specs.Prelude.{◌≡◌, ◌∷◌, [], List, Result, Ok, Err, IfErr, is_some, map, true};
+ghost use Rattle.std.specs.Prelude.{◌≡◌, ◌∷◌, [], List, Result, Ok, Err, IfErr, IfOk, is_some, map, true};
 ghost use Rattle.m11_obj.specs.Reading.{record_entries, record_relocations};
 ghost use Rattle.m11_link_modules.specs.Laws.{TakesAfter};
 ghost use Rattle.m11_link_modules.specs.Parts.{Part, Directory, Entry, EndOfDirectory, Text, Relocations, Relocated, EndOfModule, EndOfFile, record_parts};
 ghost use Rattle.m11_link_modules.specs.Places.{adds_name, global_of, known_of};
+ghost use Rattle.m11_link_modules.specs.Rules.{outcome_of};
 ghost use Rattle.m11_link_modules.specs.Steps.{Notes, RulesTake, TakesOne, with_section, with_global, with_entry, with_target};
+ghost use Rattle.m11_link_modules.specs.TextRelocation.{stored_in};
 
 use crate::checks::{check_begin, check_entry, check_relocation, check_text, size_of};
 use crate::fault::ModuleFault;
 use crate::stage::Stage;
+use crate::text_relocation::TextRelocation;
 use indexmap::{IndexMap, IndexSet};
 use m11_base::{Name, absolute_section};
 use m11_obj::{GsdEntry, GsdKind, Record, RecordKind, Relocation, Target};
@@ -275,16 +278,24 @@ impl Rules {
     }
 
     /// Takes one relocation of a record whose beginning was taken: `begin_relocations`, and then this call for each of its
-    /// relocations, are one call of `record`. They are for a caller that uses a relocation in the walk that judges it.
+    /// relocations, are one call of `record`. They are for a caller that uses a relocation in the walk that judges it: one
+    /// that stores bytes is handed on as a relocation of the last text.
     ///
     /// Faults: `NoText`, `BadDisplacement`, `UnknownSection`, `TooManyGlobals`, and `NoMemory` where memory is refused
     /// for a global's name that passes no limit.
     #[tactic(auto, unfolding(crate::specs::Steps::TakesOne, crate::specs::Steps::known_after, crate::specs::Rules::fault_known))]
-    pub fn relocation(&mut self, relocation: Relocation) -> Result<(), ModuleFault>
-        ensures { TakesOne self.old self.new (Relocated relocation) result }
+    pub fn relocation(
+        &mut self,
+        relocation: Relocation,
+    ) -> Result<Option<TextRelocation>, ModuleFault>
+        ensures takes { TakesOne self.old self.new (Relocated relocation) (outcome_of result) }
+        ensures stored { IfOk result (λ stored. stored ≡ stored_in relocation self.old.text) }
     {
         match check_relocation(&relocation, &self.entered, self.text, &self.globals) {
-            Ok(()) => self.note_target(relocation.target),
+            Ok(stored) => {
+                self.note_target(relocation.target)?;
+                Ok(stored)
+            }
             Err(fault) => Err(fault),
         }
     }
@@ -336,7 +347,7 @@ impl Rules {
     {
         'relocations: for relocation in record.each_relocation() {
             match self.relocation(relocation) {
-                Ok(()) => {}
+                Ok(_) => {}
                 Err(fault) => return Err(fault),
             }
         }

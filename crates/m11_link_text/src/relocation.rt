@@ -1,6 +1,6 @@
 //! What relocations store. (RT-11 Volume and File Formats Manual, "Object file format", RLD block.)
 
-ghost use Rattle.std.specs.Prelude.{◌≡◌, ◌≤◌, ◌<◌, ◌+◌, ◌-◌, ◌++◌, length, if◌then◌else◌};
+ghost use Rattle.std.specs.Prelude.{◌≡◌, ◌≤◌, ◌<◌, ◌+◌, ◌-◌, ◌++◌, length, take, if◌then◌else◌};
 ghost use Rattle.m11_obj_blocks.specs.Frames.{word_bytes};
 ghost use Rattle.arrayvec.specs.ArrayVec.{array_vec_len};
 ghost use Rattle.m11_link_text.specs.Findings.{planned};
@@ -11,7 +11,7 @@ use arrayvec::ArrayVec;
 use byteorder::{ByteOrder, LittleEndian};
 use m11_base::Name;
 use m11_link_layout::Plan;
-use m11_link_modules::lies_within;
+use m11_link_modules::TextRelocation;
 use m11_obj::{Relocation, Target};
 
 // A module's text in the making: the module's index, and the base that its section has in it.
@@ -134,22 +134,27 @@ fn store(
 }
 
 /// Puts what a relocation stores into its text, which stands at this address in the module of this index; `base` is
-/// that of the text's section in the module. What stood there is replaced. A relocation that doesn't lie within its
-/// text changes nothing.
+/// that of the text's section in the module. What stood there is replaced. The text is what `room` begins with.
 pub fn relocate(
     plan: &Plan,
     module_index: usize,
     base: u16,
     address: u16,
-    relocation: &Relocation,
-    text: &mut [u8],
+    relocation: &TextRelocation,
+    room: &mut [u8; 512],
 )
-    ensures { text.new ≡ spec.relocated (planned plan.now) module_index base address relocation.now text.old }
+    ensures { take relocation.now.text_length room.new ≡ spec.relocated (planned plan.now) module_index base address
+        relocation.now.relocation (take relocation.now.text_length room.old) }
 {
-    if lies_within(relocation, text.len()) {
-        let index = relocation.displacement - 4;
-        let location = address.wrapping_add(u16::from(index));
-        let origin = Origin { module_index, base };
-        store(plan, origin, location, relocation, text, usize::from(index));
-    }
+    let index = relocation.index();
+    let location = address.wrapping_add(u16::from(index));
+    let origin = Origin { module_index, base };
+    store(
+        plan,
+        origin,
+        location,
+        relocation.relocation(),
+        room,
+        usize::from(index),
+    );
 }

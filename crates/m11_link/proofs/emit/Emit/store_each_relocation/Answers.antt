@@ -2,6 +2,7 @@ use Rattle.std.proofs.Common.{◌∙◌}
 use Rattle.m11_obj.specs.Reading.{relocations_left}
 use Rattle.m11_link_modules.proofs.Unread.{all_taken, left_after, one_refused, one_taken, refused_judged, same_after}
 use Rattle.m11_link.proofs.Emitted.{relocating, stored_more}
+use Rattle.m11_link.proofs.LastText.{holds_after}
 use Rattle.m11_link.proofs.emit.Emit.store_each_relocation.Goals as goal
 
 pub relocations-preserved : goal.relocations-preserved
@@ -16,9 +17,12 @@ relocations-preserved c =
       read = same_after all bytes rest relocation i.read first;
       judged = one_taken all bytes rest relocation i.read first c.args.self.now.known c.relocations.self.known
           c.store_relocation.new.self.known c.in-Ok.field-0 i.judged c.in-Ok.ensures.judged;
-      stored = λ are. stored_more c.relocations.self.reporting c.store_relocation.new.self.reporting
+      holds = λ holds. holds_after c.relocations.self c.store_relocation.new.self relocation c.in-Ok.field-0
+          c.in-Ok.ensures.judged (c.in-Ok.ensures.stored (i.holds holds)) (i.holds holds);
+      stored = λ are holds. stored_more c.relocations.self.reporting c.store_relocation.new.self.reporting
           (relocating (relocations_left all) c.args.self.now.reporting) (relocations_left bytes) (relocations_left rest)
-          relocation (left_after all bytes rest relocation i.read first are) (i.stored are) c.in-Ok.ensures.stored;
+          relocation (left_after all bytes rest relocation i.read first are) (i.stored are holds)
+          (c.in-Ok.ensures.stored (i.holds holds));
       begun = c.in-Ok.ensures.begun ∙ i.begun;
       kept = c.in-Ok.ensures.kept ∙ i.kept;
     }

@@ -7,6 +7,7 @@ use Rattle.m11_link_modules.specs.Steps.{RulesTake}
 use Rattle.m11_link_modules.proofs.Taking.{Outcome}
 use Rattle.m11_link.specs.Emit.{relocated_parts}
 use Rattle.m11_link.proofs.Emitted.{content_block, relocations_refused, relocations_taken}
+use Rattle.m11_link.proofs.LastText.{held_is_last}
 use Rattle.m11_link.proofs.emit.Emit.take_relocations.Goals as goal
 
 pub returns-in_err-branch-clause-takes : goal.returns-in_err-branch-clause-takes
@@ -33,5 +34,5 @@ returns-clause-takes g c = λ tape plan before bytes stands e.
     c.begin.result (e ∙ record_read unread are)
     (relocations_taken plan before relocations c.args.self.now c.store_relocations.new.self stands _ _ c.begin.new.self
     c.begin.result (subst P c.in_ok-branch.was c.in_ok-store_relocations.ensures.judged)
-    (rw c.in_ok-branch.was at c.in_ok-store_relocations.ensures.stored)
+    ((rw c.in_ok-branch.was at c.in_ok-store_relocations.ensures.stored) (held_is_last plan before c.args.self.now stands))
     c.in_ok-store_relocations.ensures.begun c.in_ok-store_relocations.ensures.kept (c.begin.ensures.writes tape))

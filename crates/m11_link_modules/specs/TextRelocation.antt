@@ -1,0 +1,29 @@
+-- Relocations that store bytes in the text before them. (RT-11 Volume and File Formats Manual, "Object file format", RLD
+-- block.)
+use Rattle.std.specs.Prelude.{ℕ, Option, Some, None}
+use Rattle.m11_obj.specs.declared.relocations.Relocation.{Relocation}
+use Rattle.m11_obj.specs.declared.relocations.Target.{Target}
+use Rattle.m11_obj.specs.declared.relocations.Target.TheVariants as target
+
+-- a relocation, and the length of the text before it
+pub record InText : Type 0 where
+  pub relocation : Relocation
+  pub text_length : ℕ
+
+abbrev pub in_text : Relocation → ℕ → InText
+in_text relocation count = record { relocation = relocation; text_length = count }
+
+-- a relocation of the text before it, which has n bytes, if there is one
+abbrev pub in_text_before : Relocation → Option ℕ → Option InText
+in_text_before relocation None = None
+in_text_before relocation (Some count) = Some (in_text relocation count)
+
+-- commands 7 and 10 store nothing
+abbrev pub stored_by : Target → Relocation → Option ℕ → Option InText
+stored_by (target.LocationCounterDefinition name constant) relocation text = None
+stored_by (target.LocationCounterModification constant) relocation text = None
+stored_by other relocation text = in_text_before relocation text
+
+-- what a relocation stores in the text before it, where it stores anything
+abbrev pub stored_in : Relocation → Option ℕ → Option InText
+stored_in relocation text = stored_by relocation.target relocation text
