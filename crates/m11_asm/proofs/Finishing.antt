@@ -12,8 +12,8 @@ use Rattle.m11_asm_passes.specs.Lines.{Numbered}
 use Rattle.m11_asm_passes.specs.States.{Going, PassStands}
 use Rattle.m11_asm_pass_laws.proofs.Counting.{at_most}
 use Rattle.m11_asm_rules.specs.Meanings.{Map, map_of}
-use Rattle.m11_asm_rules.specs.Places.{place_in}
-use Rattle.m11_asm_rules.specs.Tables.{Table, place}
+use Rattle.m11_asm_rules.specs.Locations.{location_in}
+use Rattle.m11_asm_rules.specs.Tables.{Table, location}
 use Rattle.m11_asm_rules.specs.declared.modes.Modes.{Modes}
 use Rattle.m11_asm_lines.specs.UsedSymbols.{Gathered}
 use Rattle.m11_asm_lines.specs.Passes.{Kept}
@@ -24,7 +24,7 @@ use Rattle.m11_base_writes.proofs.Writing.{writes_then}
 use Rattle.m11_asm.specs.Program.{Program, program_in, program_kept}
 use Rattle.m11_asm.specs.Second.{SecondEnds, SecondStands, SecondState, Wrote, ended_with}
 use Rattle.m11_asm.specs.Writing.{Writing, WritingStands, most_counted}
-use Rattle.m11_asm.specs.Written.{flagged_count, flagged_in, is_flagged, last_place, last_writes, flags_after, pieces_in, written}
+use Rattle.m11_asm.specs.Written.{flagged_count, flagged_in, is_flagged, last_location, last_writes, flags_after, pieces_in, written}
 use Rattle.m11_asm.specs.declared.done.AsmDone.{AsmDone}
 use Rattle.m11_asm.proofs.LinesWritten.{nothing_written}
 use Rattle.m11_asm.proofs.Taking.{stands_first}
@@ -82,14 +82,14 @@ pub count_few : (program : Program) (lines : List Numbered) (has_end : Bool) →
     → flagged_count program lines has_end ≤ most_counted
 count_few program lines has_end few = omega (arith, few, flagged_few program lines, least_added has_end)
 
-place_same : (one other : Table) → Alike one other → place one ≡ place other
-place_same one other alike =
-    alike.counters one.modes.section ∙ ap (λ (s : Modes). place_in s.section other.moves) alike.modes
+location_same : (one other : Table) → Alike one other → location one ≡ location other
+location_same one other alike =
+    alike.counters one.modes.section ∙ ap (λ (s : Modes). location_in s.section other.moves) alike.modes
 
 module _ (program : Program) (source : List SourceLine) (first now : Outputs) (state : SecondState)
     (stands : SecondStands program source first now state) where
-  pub place_is : place state.going.kept.table ≡ last_place program stands.stands.lines
-  place_is = place_same _ _ stands.stands.taken.stands.matches.alike
+  pub location_is : location state.going.kept.table ≡ last_location program stands.stands.lines
+  location_is = location_same _ _ stands.stands.taken.stands.matches.alike
 
   pub few_flagged : flagged_count program stands.stands.lines state.has_ended ≤ most_counted
   few_flagged =

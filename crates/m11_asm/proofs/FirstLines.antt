@@ -9,7 +9,7 @@ use Rattle.m11_asm.specs.First.{AreFactsOf, FirstFails, FirstStands, FirstState,
 use Rattle.m11_asm.proofs.Counting.{one_longer}
 use Rattle.m11_scan_lines.specs.Line.{SourceLine}
 use Rattle.m11_scan_lines.specs.Lines.{most_lines}
-use Rattle.m11_scan_lines.specs.Reader.{LineReading, ReadsNext, place, unread}
+use Rattle.m11_scan_lines.specs.Reader.{LineReading, ReadsNext, position, unread}
 use Rattle.m11_scan_lines.specs.declared.fault.LineFault.{LineFault}
 use Rattle.m11_scan_lines.specs.declared.fault.LineFault.TheVariants.{Read, TooMuchSource, TooManyLines}
 use Rattle.m11_asm_passes.specs.Lines as lines
@@ -42,12 +42,12 @@ module _ {F : Type 0} (text : F → Option Text) (faults : F → ℕ) (initial h
     unended : Unended empty_map none_used so.source so.stands.lines
     unended = unended_so empty_map none_used (AreFactsOf first.facts) so.source (line_state first) so.stands goes
 
-    pub first_read : ReadsNext (place text faults here reader) (place text faults later reader') (Ok None)
+    pub first_read : ReadsNext (position text faults here reader) (position text faults later reader') (Ok None)
         → FirstTaken (pass_of text faults initial later) first
     first_read next =
         taken_wholly text faults initial here reader (λ source. FirstStands source first) first.has_ended so goes later reader' next
 
-    reads_so : (fault : LineFault) → ReadsNext (place text faults here reader) (place text faults later reader') (Err fault)
+    reads_so : (fault : LineFault) → ReadsNext (position text faults here reader) (position text faults later reader') (Err fault)
         → ReadsFirst (pass_of text faults initial later) (Err (of_lines fault))
     reads_so Read next =
         (so.source, failed text faults initial here reader so.source so.read later reader' next, so.stands.lines, unended)
@@ -65,7 +65,7 @@ module _ {F : Type 0} (text : F → Option Text) (faults : F → ℕ) (initial h
     )
 
     pub first_stops : (came : LineFault) (stopped : AsmFault) → stopped ≡ of_lines came
-        → ReadsNext (place text faults here reader) (place text faults later reader') (Err came)
+        → ReadsNext (position text faults here reader) (position text faults later reader') (Err came)
         → FirstStops (pass_of text faults initial later) stopped
     first_stops came stopped is next =
         let P : AsmFault → Type 0 = λ f. FirstStops (pass_of text faults initial later) f in
@@ -75,7 +75,7 @@ module _ {F : Type 0} (text : F → Option Text) (faults : F → ℕ) (initial h
               came next,
         )
 
-    module _ (line : SourceLine) (next : ReadsNext (place text faults here reader) (place text faults later reader') (Ok (Some line)))
+    module _ (line : SourceLine) (next : ReadsNext (position text faults here reader) (position text faults later reader') (Ok (Some line)))
         (sound : reader'.fault ≡ None) where
       more : SoFar text faults initial later reader' (so.source ++ line ∷ [])
       more = one_more text faults initial here reader so.source so.read later reader' line next sound

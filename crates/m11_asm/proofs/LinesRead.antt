@@ -5,7 +5,7 @@ use Rattle.std.proofs.lemmas.List.Sums.{length-filter}
 use Rattle.m11_base.specs.Feed.{Text}
 use Rattle.m11_scan_lines.specs.Line.{SourceLine, line_of}
 use Rattle.m11_scan_lines.specs.Lines.{RawLine, is_line, line_text, lines_in, most_lines}
-use Rattle.m11_scan_lines.specs.Reader.{LineReading, ReadsNext, place, unread}
+use Rattle.m11_scan_lines.specs.Reader.{LineReading, ReadsNext, position, unread}
 use Rattle.m11_scan_lines.specs.declared.fault.LineFault.TheVariants.{Read, TooMuchSource, TooManyLines}
 use Rattle.m11_scan_line_laws.specs.Calls.{BeginReading, HasRead, start}
 use Rattle.m11_scan_line_laws.specs.Readings.{Reading, lines_of, reading_of}
@@ -25,7 +25,7 @@ pub record Begun {F : Type 0} (pass : Pass F) (lines : List SourceLine) : Type 0
 -- a reader has returned these lines
 pub record SoFar {F : Type 0} (text : F → Option Text) (faults : F → ℕ) (initial here : List F) (reader : LineReading)
     (lines : List SourceLine) : Type 0 where
-  pub has : HasRead (start text faults initial) (place text faults here reader) lines
+  pub has : HasRead (start text faults initial) (position text faults here reader) lines
   pub sound : reader.fault ≡ None
 
 lines_counted : (pieces : List RawLine) → length (lines_of pieces) ≡ lines_in pieces
@@ -56,57 +56,57 @@ module _ {F : Type 0} (text : F → Option Text) (faults : F → ℕ) where
     lines_given = how_far.just_lines text faults initial here reader.source reader.bytes_left reader.lines_left lines so.has
 
     module _ (later : List F) (reader' : LineReading) where
-      pub one_more : (line : SourceLine) → ReadsNext (place text faults here reader) (place text faults later reader') (Ok (Some line))
+      pub one_more : (line : SourceLine) → ReadsNext (position text faults here reader) (position text faults later reader') (Ok (Some line))
           → reader'.fault ≡ None → SoFar text faults initial later reader' (lines ++ line ∷ [])
       one_more line next sound = record {
-        has = goes_on (start text faults initial) (place text faults here reader) (place text faults later reader') lines line so.has next;
+        has = goes_on (start text faults initial) (position text faults here reader) (position text faults later reader') lines line so.has next;
         sound = sound;
       }
 
-      pub all_read : ReadsNext (place text faults here reader) (place text faults later reader') (Ok None)
+      pub all_read : ReadsNext (position text faults here reader) (position text faults later reader') (Ok None)
           → Reads (pass_of text faults initial later) (record { lines = lines; fault = None })
       all_read next =
           feeds.all text faults initial later reader'.source reader'.bytes_left reader'.lines_left lines
-          (place text faults here reader) so.has next
+          (position text faults here reader) so.has next
 
-      pub too_much : ReadsNext (place text faults here reader) (place text faults later reader') (Err TooMuchSource)
+      pub too_much : ReadsNext (position text faults here reader) (position text faults later reader') (Err TooMuchSource)
           → Reads (pass_of text faults initial later) (record { lines = lines; fault = Some TooMuchSource })
       too_much next =
           feeds.too_much text faults initial later reader'.source reader'.bytes_left reader'.lines_left lines
-          (place text faults here reader) so.has next
+          (position text faults here reader) so.has next
 
-      pub too_many : ReadsNext (place text faults here reader) (place text faults later reader') (Err TooManyLines)
+      pub too_many : ReadsNext (position text faults here reader) (position text faults later reader') (Err TooManyLines)
           → Reads (pass_of text faults initial later) (record { lines = lines; fault = Some TooManyLines })
       too_many next =
           feeds.too_many text faults initial later reader'.source reader'.bytes_left reader'.lines_left lines
-          (place text faults here reader) so.has next
+          (position text faults here reader) so.has next
 
-      pub failed : ReadsNext (place text faults here reader) (place text faults later reader') (Err Read)
+      pub failed : ReadsNext (position text faults here reader) (position text faults later reader') (Err Read)
           → ReadsTill (pass_of text faults initial later) lines
       failed next =
           feeds.failed text faults initial later reader'.source reader'.bytes_left reader'.lines_left lines
-          (place text faults here reader) so.has next
+          (position text faults here reader) so.has next
 
-      pub given_all : ReadsNext (place text faults here reader) (place text faults later reader') (Ok None)
+      pub given_all : ReadsNext (position text faults here reader) (position text faults later reader') (Ok None)
           → GaveAll text initial later lines
       given_all next =
           how_far.all_given text faults initial later reader'.source reader'.bytes_left reader'.lines_left lines
-          (place text faults here reader) so.has next
+          (position text faults here reader) so.has next
 
-      pub given_till : ReadsNext (place text faults here reader) (place text faults later reader') (Err Read)
+      pub given_till : ReadsNext (position text faults here reader) (position text faults later reader') (Err Read)
           → GaveTill text initial later lines
       given_till next =
           how_far.till_failure text faults initial later reader'.source reader'.bytes_left reader'.lines_left lines
-          (place text faults here reader) so.has next
+          (position text faults here reader) so.has next
 
-      pub past_bytes : ReadsNext (place text faults here reader) (place text faults later reader') (Err TooMuchSource)
+      pub past_bytes : ReadsNext (position text faults here reader) (position text faults later reader') (Err TooMuchSource)
           → GavePast text initial later lines TooMuchSource
       past_bytes next =
           how_far.past_bytes text faults initial later reader'.source reader'.bytes_left reader'.lines_left lines
-          (place text faults here reader) so.has next
+          (position text faults here reader) so.has next
 
-      pub past_lines : ReadsNext (place text faults here reader) (place text faults later reader') (Err TooManyLines)
+      pub past_lines : ReadsNext (position text faults here reader) (position text faults later reader') (Err TooManyLines)
           → GavePast text initial later lines TooManyLines
       past_lines next =
           how_far.past_lines text faults initial later reader'.source reader'.bytes_left reader'.lines_left lines
-          (place text faults here reader) so.has next
+          (position text faults here reader) so.has next

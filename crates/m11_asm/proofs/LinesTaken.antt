@@ -3,7 +3,7 @@ use Rattle.std.proofs.Common.{◌≡◌, ◌∙◌, Bool, true, false, List, [],
 use Rattle.m11_asm_faults.specs.Faults.{of_lines}
 use Rattle.m11_base.specs.Feed.{Text}
 use Rattle.m11_scan_lines.specs.Line.{SourceLine}
-use Rattle.m11_scan_lines.specs.Reader.{LineReading, ReadsNext, place}
+use Rattle.m11_scan_lines.specs.Reader.{LineReading, ReadsNext, position}
 use Rattle.m11_scan_lines.specs.declared.fault.LineFault.{LineFault}
 use Rattle.m11_scan_lines.specs.declared.fault.LineFault.TheVariants.{Read, TooMuchSource, TooManyLines}
 use Rattle.m11_scan_line_laws.specs.Readings.{Reading}
@@ -81,7 +81,7 @@ module _ {F : Type 0} (text : F → Option Text) (faults : F → ℕ) (initial h
 
     -- or no line is left
     pub taken_wholly : has_ended ≡ false → (later : List F) (reader' : LineReading)
-        → ReadsNext (place text faults here reader) (place text faults later reader') (Ok None)
+        → ReadsNext (position text faults here reader) (position text faults later reader') (Ok None)
         → SourceTaken (pass_of text faults initial later) StandsAfter has_ended
     taken_wholly goes later reader' next =
         let reading : Reading = record { lines = so.source; fault = None } in
@@ -100,7 +100,7 @@ module _ {F : Type 0} (text : F → Option Text) (faults : F → ℕ) (initial h
   pub given_to_fault : (map_ : Map) (counting : Counting) (source : List SourceLine) (lines : List Numbered)
       → SoFar text faults initial here reader source → Unended map_ counting source lines
       → (later : List F) (reader' : LineReading) (came : LineFault)
-      → ReadsNext (place text faults here reader) (place text faults later reader') (Err came)
+      → ReadsNext (position text faults here reader) (position text faults later reader') (Err came)
       → GivesToFault (pass_of text faults initial later) map_ counting (of_lines came)
   given_to_fault map_ counting source lines so unended later reader' Read next =
       (source, lines, unended, given_till text faults initial here reader source so later reader' next)

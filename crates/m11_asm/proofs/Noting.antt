@@ -18,13 +18,13 @@ use Rattle.m11_asm_rules.specs.Exports.{transfer}
 use Rattle.m11_asm_rules.specs.Lines.{Assign, Action, Operate, NoAction, SetCounter, after_line, change_of, action, action_of, line_change, operating, stands}
 use Rattle.m11_asm_rules.specs.Meanings.{empty_map, known_at}
 use Rattle.m11_asm_rules.specs.Sources.{Directed, directed, directed_by, directed_in, ident_by, ident_in, last_or, title_by, title_in, transfer_by, transfer_in, weak_by, weak_in}
-use Rattle.m11_asm_rules.specs.Tables.{Table, firm_table, place}
+use Rattle.m11_asm_rules.specs.Tables.{Table, firm_table, location}
 use Rattle.m11_asm_rules.specs.declared.meanings.Context.TheVariants.{LocalOnly}
 use Rattle.m11_asm_rules.specs.declared.operators.Directive.{Directive}
 use Rattle.m11_asm_rules.specs.declared.operators.Directive.TheVariants as word
 use Rattle.m11_asm_rules.specs.declared.operators.Operator.{Operator}
 use Rattle.m11_asm_rules.specs.declared.operators.Operator.TheVariants as operators
-use Rattle.m11_asm_lines.proofs.Alike.{alike_known, alike_place}
+use Rattle.m11_asm_lines.proofs.Alike.{alike_known, alike_location}
 use Rattle.m11_asm_lines.specs.Actions.{action_seen}
 use Rattle.m11_asm_lines.specs.declared.actions.Action as code
 use Rattle.m11_asm_lines.specs.declared.actions.Action.TheVariants as seen
@@ -63,20 +63,20 @@ by_directed : (stood : Table) (line : Bytes) (facts : Facts) (found : Option Dir
 by_directed stood line facts (Some found) = by_directive stood line facts found.directive found.start
 by_directed stood line facts None = refl
 
--- ---- the place after an operator's name lies in the line
+-- ---- the column after an operator's name lies in the line
 
-abbrev place_of : Action → ℕ
-place_of (Operate operator start) = start
-place_of NoAction = 0
-place_of (Assign name is_global start) = 0
-place_of (SetCounter start) = 0
+abbrev column_of : Action → ℕ
+column_of (Operate operator start) = start
+column_of NoAction = 0
+column_of (Assign name is_global start) = 0
+column_of (SetCounter start) = 0
 
 operates_within : (found : Option Operator) (name : Span) (size : ℕ) → name.start < name.end → name.end ≤ size
-    → place_of (operating found name) ≤ size
+    → column_of (operating found name) ≤ size
 operates_within (Some operator) name size some ends = ends
 operates_within None name size some ends = omega (arith, some, ends)
 
-action_within : (line : Bytes) (from : ℕ) (of : Body) → BodyStands from (length line) of → place_of (action_of line of) ≤ length line
+action_within : (line : Bytes) (from : ℕ) (of : Body) → BodyStands from (length line) of → column_of (action_of line of) ≤ length line
 action_within line from body.Nothing stood = omega arith
 action_within line from (body.Assign assignment) stood = omega arith
 action_within line from (body.SetCounter value) stood = omega arith
@@ -84,7 +84,7 @@ action_within line from (body.Operate name) stood = operates_within _ name (leng
 action_within line from (body.Words start) stood = let before = stood.1 in omega (arith, before)
 
 own_within : (line : Bytes) (is_own : Bool) → BodyStands (labels_end line) (length line) (body_of line)
-    → place_of (action is_own line) ≤ length line
+    → column_of (action is_own line) ≤ length line
 own_within line true stood = omega arith
 own_within line false stood = action_within line (labels_end line) (body_of line) stood
 
@@ -97,8 +97,8 @@ transfer_alike : (one other : Table) → Alike one other → (line : Bytes) (sta
     → transfer empty_map one line start ≡ transfer empty_map other line start
 transfer_alike one other alike line start =
     let told : Quantity → Option Quantity = λ value. if has_expression line start then Some value else None in
-    ap (λ (p : ℕ). told (value_at (known_at empty_map LocalOnly one p) line start)) (alike_place one other alike)
-    ∙ ap (λ (k : expressions.Known). told (value_at k line start)) (alike_known one other alike empty_map LocalOnly (place other))
+    ap (λ (p : ℕ). told (value_at (known_at empty_map LocalOnly one p) line start)) (alike_location one other alike)
+    ∙ ap (λ (k : expressions.Known). told (value_at k line start)) (alike_known one other alike empty_map LocalOnly (location other))
 
 -- the line changes nothing
 ends_so : (before : Table) (given : Given) (start : ℕ) → Operate (operators.Directive word.End) start ≡ action given.is_own given.live.line.text
@@ -130,7 +130,7 @@ module _ (before table : Table) (given : Given) (facts : Facts) (alike : Alike t
   at_operator (operators.Instruction operation) start is = refl
   at_operator (operators.Directive directive) start is =
       let P : ℕ → Type 0 = λ n. n ≤ length given.live.line.text in
-      let within = subst P (ap place_of (sym is)) (own_within given.live.line.text given.is_own stood) in
+      let within = subst P (ap column_of (sym is)) (own_within given.live.line.text given.is_own stood) in
       ap (λ (n : ℕ). with_directive table given.live.line.text directive n facts)
       (least_first start (length given.live.line.text) within)
       ∙ at_directive directive start is

@@ -25,14 +25,14 @@ use Rattle.m11_asm_passes.specs.Placed.{all_flags}
 use Rattle.m11_asm_passes.specs.Reaching.{Exceeds}
 use Rattle.m11_asm_rules.specs.Exports.{transfer_flags}
 use Rattle.m11_asm_rules.specs.Items.{is_listed}
-use Rattle.m11_asm_rules.specs.Lines.{after_line, action, pieces, put_place, stands}
+use Rattle.m11_asm_rules.specs.Lines.{after_line, action, pieces, put_location, stands}
 use Rattle.m11_asm_rules.specs.Placements.{placed_from}
 use Rattle.m11_asm_rules.specs.Sources.{directed, end_in}
-use Rattle.m11_asm_rules.specs.Tables.{Table, first_table, place}
+use Rattle.m11_asm_rules.specs.Tables.{Table, first_table, location}
 use Rattle.m11_scan_line_laws.specs.Readings.{Reading}
 use Rattle.m11_scan.specs.ErrorFlags.{flags_text}
 use Rattle.m11_asm.specs.Program.{Program}
-use Rattle.m11_asm.specs.Written.{Ended, added_writes, closing_writes, flagged_count, flagged_in, head_before, is_flagged, last_place, last_writes, flags_after, flags_at, line_writes, message_writes, pieces_in, pieces_of, program_writes, written, written_after}
+use Rattle.m11_asm.specs.Written.{Ended, added_writes, closing_writes, flagged_count, flagged_in, head_before, is_flagged, last_location, last_writes, flags_after, flags_at, line_writes, message_writes, pieces_in, pieces_of, program_writes, written, written_after}
 use Rattle.m11_asm.specs.declared.done.AsmDone.{AsmDone}
 use Rattle.m11_unfold_rules.specs.Stages.{Stage}
 use Rattle.m11_unfold_rules.specs.Unfolding.{Given}
@@ -105,11 +105,11 @@ module _ (one other : Program) (alike : AlikePrograms one other) where
   unfolding listing_writes
   listing_same table flags number given =
       let text = given.live.line.text in
-      let at : ℕ = put_place (stands table given) (action given.is_own text) in
+      let at : ℕ = put_location (stands table given) (action given.is_own text) in
       ap (λ (t : Table). if is_listed t given flags then all_to_listing (lines_of one.map table flags number given) else [])
       (after_line_same one.map other.map alike.maps table given)
       ∙ ap (λ (l : List Item). if is_listed (after_line other.map table given) given flags then
-      all_to_listing (listed_lines (flags_text flags) number (place table) at l text) else [])
+      all_to_listing (listed_lines (flags_text flags) number (location table) at l text) else [])
       (items_same one.map other.map alike.maps table given)
 
   listing_alike : (before : List Numbered) (line : Numbered)
@@ -164,10 +164,10 @@ module _ (one other : Program) (alike : AlikePrograms one other) where
   last_alike : (all : List Numbered) (ended : Ended) → last_writes one all ended ≡ last_writes other all ended
   last_alike all ended =
       let closing : Program → List Write = λ p. closing_writes (pieces_in p.map all) p.symbols p.sections (flagged_count p all ended.has_end) in
-      ap (λ (h : List Write). h ++ (added_writes ended (last_place one all) ++ closing one)) (head_alike all)
-      ∙ ap (λ (t : Table). head_before other all ++ (added_writes ended (place t) ++ closing one))
+      ap (λ (h : List Write). h ++ (added_writes ended (last_location one all) ++ closing one)) (head_alike all)
+      ∙ ap (λ (t : Table). head_before other all ++ (added_writes ended (location t) ++ closing one))
       (table_at_same one.map other.map alike.maps all)
-      ∙ ap (λ (w : List Write). head_before other all ++ (added_writes ended (last_place other all) ++ w)) (closing_alike all ended.has_end)
+      ∙ ap (λ (w : List Write). head_before other all ++ (added_writes ended (last_location other all) ++ w)) (closing_alike all ended.has_end)
 
   pub program_alike : (all : List Numbered) (ended : Ended) → program_writes one all ended ≡ program_writes other all ended
   program_alike all ended = rw (written_alike all, last_alike all ended) refl

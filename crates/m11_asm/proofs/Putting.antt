@@ -27,7 +27,7 @@ use Rattle.m11_asm_passes.specs.Placed.{IsPlaced, all_flags}
 use Rattle.m11_asm_passes.specs.declared.placed.PlacedLine.{PlacedLine}
 use Rattle.m11_asm_rules.specs.Contents.{Put, pieces_from}
 use Rattle.m11_asm_rules.specs.Exports.{transfer_flags}
-use Rattle.m11_asm_rules.specs.Lines.{Action, action, pieces, put_place, stands}
+use Rattle.m11_asm_rules.specs.Lines.{Action, action, pieces, put_location, stands}
 use Rattle.m11_asm_rules.specs.Sources.{directed_in, end_in}
 use Rattle.m11_asm_rules.specs.Tables.{Table, section_name}
 use Rattle.m11_asm_lines.specs.Actions.{action_seen}
@@ -131,13 +131,13 @@ line_parts program lines one = refl
 
 module _ (program : Program) (lines : List Numbered) (one : Numbered) (placed : PlacedLine) (put : Put) (contents : List PieceContent)
     (is : IsPlaced program.map (table_at program.map lines) one.given placed put) (same : put.contents ≡ contents) where
-  pub pieces_so : pieces_from placed.section placed.place contents ≡ pieces program.map (table_at program.map lines) one.given
+  pub pieces_so : pieces_from placed.section placed.location contents ≡ pieces program.map (table_at program.map lines) one.given
   pieces_so =
       let stood : Table = stands (table_at program.map lines) one.given in
-      let place : ℕ = put_place stood (action one.given.is_own one.given.live.line.text) in
-      ap (λ (s : Name). pieces_from s placed.place contents) is.section_is
-      ∙ ap (λ (p : ℕ). pieces_from (section_name stood) p contents) is.place_is
-      ∙ ap (pieces_from (section_name stood) place) (sym same ∙ is.contents_are)
+      let location : ℕ = put_location stood (action one.given.is_own one.given.live.line.text) in
+      ap (λ (s : Name). pieces_from s placed.location contents) is.section_is
+      ∙ ap (λ (p : ℕ). pieces_from (section_name stood) p contents) is.location_is
+      ∙ ap (pieces_from (section_name stood) location) (sym same ∙ is.contents_are)
 
   pub text_so : placed.live.line.text ≡ one.given.live.line.text
   text_so = ap (λ (l : Live). l.line.text) is.is_live.live_is

@@ -9,7 +9,7 @@ use Rattle.m11_asm_outputs.specs.Outputs.{AreFlushed, Outputs, StopsBetween, Sto
 use Rattle.m11_base.specs.Feed.{Text}
 use Rattle.m11_scan_lines.specs.Line.{SourceLine}
 use Rattle.m11_scan_lines.specs.Lines.{most_lines}
-use Rattle.m11_scan_lines.specs.Reader.{LineReading, ReadsNext, place, unread}
+use Rattle.m11_scan_lines.specs.Reader.{LineReading, ReadsNext, position, unread}
 use Rattle.m11_scan_lines.specs.declared.fault.LineFault.{LineFault}
 use Rattle.m11_scan_lines.specs.declared.fault.LineFault.TheVariants.{Read, TooMuchSource, TooManyLines}
 use Rattle.m11_asm_passes.specs.Lines as lines
@@ -78,14 +78,14 @@ module _ {F : Type 0} (text : F → Option Text) (faults : F → ℕ) (program :
       unended =
           unended_so program.map Definitions (Wrote program old now second.writing) so.source (line_state second) stands goes
 
-      pub second_read : ReadsNext (place text faults here reader) (place text faults later reader') (Ok None)
+      pub second_read : ReadsNext (position text faults here reader) (position text faults later reader') (Ok None)
           → SecondTaken (pass_of text faults initial later) program old now second
       second_read next =
           taken_wholly text faults initial here reader (λ source. SecondStands program source old now second) second.has_ended so goes
           later reader' next
 
       reads_so : (came : LineFault)
-          → ReadsNext (place text faults here reader) (place text faults later reader') (Err came)
+          → ReadsNext (position text faults here reader) (position text faults later reader') (Err came)
           → ReadsSecond (pass_of text faults initial later) program old now (Err (of_lines came))
       reads_so Read next = (
         so.source,
@@ -110,7 +110,7 @@ module _ {F : Type 0} (text : F → Option Text) (faults : F → ℕ) (program :
       )
 
       pub second_stops : (came : LineFault) (stopped : AsmFault) → stopped ≡ of_lines came
-          → ReadsNext (place text faults here reader) (place text faults later reader') (Err came)
+          → ReadsNext (position text faults here reader) (position text faults later reader') (Err came)
           → PutsAll (pass_of text faults initial later) program old now (Err stopped)
       second_stops came stopped is next =
           let P : AsmFault → Type 0 = λ f. PutsAll (pass_of text faults initial later) program old now (Err f) in
@@ -120,7 +120,7 @@ module _ {F : Type 0} (text : F → Option Text) (faults : F → ℕ) (program :
                 came next,
           )
 
-      module _ (line : SourceLine) (next : ReadsNext (place text faults here reader) (place text faults later reader') (Ok (Some line)))
+      module _ (line : SourceLine) (next : ReadsNext (position text faults here reader) (position text faults later reader') (Ok (Some line)))
           (sound : reader'.fault ≡ None) (new : Outputs) (second' : SecondState) where
         abbrev all : List SourceLine
         all = so.source ++ line ∷ []

@@ -1,4 +1,4 @@
--- What the lines of a source say of its module beside names and places, line by line: the last title and identification, the names that
+-- What the lines of a source say of its module beside names and locations, line by line: the last title and identification, the names that
 -- are made weak, and where the program begins. (MACRO-11 Language Reference Manual, ".TITLE directive", ".IDENT directive", ".WEAK
 -- directive" and ".END directive".)
 use Rattle.std.specs.Prelude.{List, [], ◌∷◌, Option, None}

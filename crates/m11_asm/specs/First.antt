@@ -15,7 +15,7 @@ use Rattle.m11_asm_passes.specs.States.{Going}
 use Rattle.m11_asm.specs.Facts.{Facts, facts_of}
 use Rattle.m11_asm.specs.Standing.{LineState, Stands, TakesAll}
 
--- the pass, what the lines said beside names and places, how many were read, whether `.END` became live, and the fault that ended the
+-- the pass, what the lines said beside names and locations, how many were read, whether `.END` became live, and the fault that ended the
 -- pass, if one did
 pub record FirstState : Type 0 where
   pub going : Going
@@ -24,7 +24,7 @@ pub record FirstState : Type 0 where
   pub has_ended : Bool
   pub fault : Option AsmFault
 
--- this is what live lines say beside names and places, as it is noted
+-- this is what live lines say beside names and locations, as it is noted
 abbrev pub AreFactsOf : Facts → List Numbered → Type 0
 AreFactsOf facts lines = facts ≡ facts_of (givens lines)
 

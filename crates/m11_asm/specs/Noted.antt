@@ -15,7 +15,7 @@ use Rattle.m11_asm_lines.specs.declared.actions.Action.{Action}
 use Rattle.m11_asm_lines.specs.declared.actions.Action.TheVariants.{NoAction, Assign, SetCounter, Operate}
 use Rattle.m11_asm.specs.Facts.{Facts, each_once}
 
--- the facts with what a directive says, by the table before it and the place after its name
+-- the facts with what a directive says, by the table before it and the column after its name
 abbrev pub with_directive : Table → Bytes → Directive → ℕ → Facts → Facts
 with_directive table line word.Title start facts = record facts { title = last_or (title line start) facts.title }
 with_directive table line word.Ident start facts =

@@ -12,7 +12,7 @@ use Rattle.m11_obj_texts.specs.declared.directory.DirectoryRow.{DirectoryRow}
 use Rattle.m11_asm_passes.specs.Lines.{counting_after}
 use Rattle.m11_asm_rules.specs.Meanings.{Map, empty_map, map_of}
 use Rattle.m11_asm_rules.specs.Placements.{program_map, table_after}
-use Rattle.m11_asm_rules.specs.Places.{size_in}
+use Rattle.m11_asm_rules.specs.Locations.{size_in}
 use Rattle.m11_asm_rules.specs.Tables.{first_table}
 use Rattle.m11_asm_lines.specs.Counting.{gathered_in, none_used}
 use Rattle.m11_asm_lines.specs.UsedSymbols.{Gathered}

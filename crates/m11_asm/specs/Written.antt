@@ -20,7 +20,7 @@ use Rattle.m11_asm_rules.specs.Lines.{pieces}
 use Rattle.m11_asm_rules.specs.Meanings.{Map}
 use Rattle.m11_asm_rules.specs.Placements.{Placed, placement}
 use Rattle.m11_asm_rules.specs.Sources.{directed, end_in}
-use Rattle.m11_asm_rules.specs.Tables.{Table, place}
+use Rattle.m11_asm_rules.specs.Tables.{Table, location}
 use Rattle.m11_asm_outputs.specs.Object.{content_writes, head_contents, last_records, records_closed_by}
 use Rattle.m11_asm_outputs.specs.Outputs.{Write, flushes, to_messages}
 use Rattle.m11_asm_passes.specs.Lines.{Numbered, givens, table_at}
@@ -118,14 +118,14 @@ closing_writes pieces symbols sections count =
     ++ (all_to_listing (last_lines symbols sections count) ++ (flushes ++ to_messages (count_line count) ∷ []))
 
 -- where the location counter stands after some lines
-abbrev pub last_place : Program → List Numbered → ℕ
-last_place program lines = place (table_at program.map lines)
+abbrev pub last_location : Program → List Numbered → ℕ
+last_location program lines = location (table_at program.map lines)
 
 -- the head, if no line became live; the line that is added, where the counter stands; and what closes all
 abbrev pub last_writes : Program → List Numbered → Ended → List Write
 last_writes program lines ended =
     head_before program lines
-    ++ (added_writes ended (last_place program lines)
+    ++ (added_writes ended (last_location program lines)
     ++ closing_writes (pieces_in program.map lines) program.symbols program.sections (flagged_count program lines ended.has_end))
 
 -- all that the lines of a source write

@@ -1,5 +1,5 @@
-//! What the lines of a source say of its module beside names and places. (MACRO-11 Language Reference Manual, ".TITLE directive", ".IDENT
-//! directive", ".WEAK directive" and ".END directive".)
+//! What the lines of a source say of its module beside names and locations. (MACRO-11 Language Reference Manual, ".TITLE directive",
+//! ".IDENT directive", ".WEAK directive" and ".END directive".)
 
 ghost use Rattle.std.specs.Prelude.{◌≡◌, ◌≤◌, [], ◌∷◌, IfOk, length, min, option_map};
 ghost use Rattle.m11_asm_directives.specs.Changes.{names_among};
@@ -29,7 +29,7 @@ use m11_scan_values::Value;
 use std::alloc::{AllocError, Global};
 use std::marker::Model;
 
-/// What the lines of a source say of its module beside names and places.
+/// What the lines of a source say of its module beside names and locations.
 #[derive(Drop)]
 pub struct Facts {
     title: Option<Name>,
@@ -229,9 +229,9 @@ fn insert_one(names: &mut IndexSet<Name>, name: Option<Name>) -> Result<(), Allo
     Ok(())
 }
 
-// A place within a line.
-fn within(line: &Line, place: u8) -> usize
-    ensures { result ≡ min place (length line.now.text) }
+// A column within a line.
+fn within(line: &Line, column: u8) -> usize
+    ensures { result ≡ min column (length line.now.text) }
 {
-    usize::from(place).min(line.text().len())
+    usize::from(column).min(line.text().len())
 }

@@ -184,8 +184,8 @@ impl Second {
             × (object.new ≡ object.old) × (listing.new ≡ listing.old) × (messages.new ≡ messages.old) }
     {
         self.fault.check()?;
-        let place = self.pass.table().place();
-        self.writing.end(self.has_ended, self.read, place, object, listing, messages)
+        let location = self.pass.table().location();
+        self.writing.end(self.has_ended, self.read, location, object, listing, messages)
     }
 }
 

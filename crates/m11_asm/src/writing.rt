@@ -21,7 +21,7 @@ ghost use Rattle.m11_asm_lines.specs.Actions.{action_seen};
 ghost use Rattle.m11_scan.specs.Views.{bits_of};
 ghost use Rattle.m11_asm.specs.Program.{Program, program_kept, directory_facts_in};
 ghost use Rattle.m11_asm.specs.Writing.{WritingStands, begun, counted, counted_last, most_counted, opened};
-ghost use Rattle.m11_asm.specs.Written.{added_writes, closing_writes, flagged_count, head_before, last_place, last_writes, line_writes, message_writes, pieces_in};
+ghost use Rattle.m11_asm.specs.Written.{added_writes, closing_writes, flagged_count, head_before, last_location, last_writes, line_writes, message_writes, pieces_in};
 ghost use Rattle.m11_unfold_rules.specs.Unfolding.{Given};
 ghost use Rattle.m11_scan_values.specs.Quantities.{quantity};
 ghost use Rattle.m11_base_writes.specs.Outputs.{Output, optional_output, output_of};
@@ -175,19 +175,19 @@ impl Writing {
         ensures writes { (before : List Piece) → IsOpenAfter before self.old.text → (listing messages : Output) → Writes
             (outputs (output_of S.Sink object.old) listing messages)
             (outputs (output_of S.Sink object.new) listing messages)
-            (content_writes (records_closed_by before (pieces_from line.now.section line.now.place contents.now))) result }
+            (content_writes (records_closed_by before (pieces_from line.now.section line.now.location contents.now))) result }
         ensures opens { IfOk result (λ _. self.new ≡ opened self.new.text self.old) }
         ensures stands { (before : List Piece) → IsOpenAfter before self.old.text → IfOk result (λ _. IsOpenAfter
-            (before ++ pieces_from line.now.section line.now.place contents.now) self.new.text) }
+            (before ++ pieces_from line.now.section line.now.location contents.now) self.new.text) }
         ensures fit { (before : List Piece) → IsOpenAfter before self.old.text → OnOk result
-            (AllFit (records_closed_by before (pieces_from line.now.section line.now.place contents.now))) }
+            (AllFit (records_closed_by before (pieces_from line.now.section line.now.location contents.now))) }
     {
         put_pieces(
             self.alloc,
             object,
             &mut self.text,
             line.section,
-            line.place,
+            line.location,
             contents,
         )
     }
@@ -239,20 +239,20 @@ impl Writing {
 
     /// What stands after all lines: the head, if there was none; where `.END` didn't become live a line that is added; the last text and the
     /// end of the module, the symbol table, the flush of object and listing, and the count of flagged lines. `read` is the number of lines
-    /// that were read, and `place` that of the location counter after them.
+    /// that were read, and `location` that of the location counter after them.
     ///
     /// Errors: `Write` of an output, and `NoMemory` between two writes.
     pub fn end<S: Sink, T: Sink, U: Sink>(
         &mut self,
         has_ended: bool,
         read: u16,
-        place: u16,
+        location: u16,
         object: &mut S,
         listing: &mut Option<T>,
         messages: &mut U,
     ) -> Result<AsmDone, AsmFault>
         ensures writes { (program : Program) (lines : List Numbered) → WritingStands program lines self.old
-            → place ≡ last_place program lines → flagged_count program lines has_ended ≤ most_counted → Writes
+            → location ≡ last_location program lines → flagged_count program lines has_ended ≤ most_counted → Writes
             (outputs_of S.Sink T.Sink U.Sink object.old listing.old messages.old)
             (outputs_of S.Sink T.Sink U.Sink object.new listing.new messages.new)
             (last_writes program lines (record { read = read; has_end = has_ended })) result }
@@ -264,7 +264,7 @@ impl Writing {
         ensures flushed { OnOk result (AreFlushed (outputs_of S.Sink T.Sink U.Sink object.new listing.new messages.new)) }
     {
         self.begin(object)?;
-        self.add_line(has_ended, read, place, listing, messages)?;
+        self.add_line(has_ended, read, location, listing, messages)?;
         self.close(object, listing, messages)
     }
 
@@ -273,20 +273,20 @@ impl Writing {
         &mut self,
         has_ended: bool,
         read: u16,
-        place: u16,
+        location: u16,
         listing: &mut Option<T>,
         messages: &mut U,
     ) -> Result<(), AsmFault>
         ensures writes { (object : Output) → Writes
             (outputs object (optional_output T.Sink listing.old) (output_of U.Sink messages.old))
             (outputs object (optional_output T.Sink listing.new) (output_of U.Sink messages.new))
-            (added_writes (record { read = read; has_end = has_ended }) place) result }
+            (added_writes (record { read = read; has_end = has_ended }) location) result }
         ensures counts { IfOk result (λ _. self.new ≡ record self.old { flagged = counted_last has_ended self.old.flagged }) }
     {
         if has_ended {
             return Ok(());
         }
-        put_listed(listing, ErrorFlags::E, read, place, place, &[], &[])?;
+        put_listed(listing, ErrorFlags::E, read, location, location, &[], &[])?;
         self.report(ErrorFlags::E, read, &[], messages)
     }
 

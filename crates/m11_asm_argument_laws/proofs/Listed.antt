@@ -17,7 +17,7 @@ use Rattle.m11_scan.proofs.OrderedTokens.{tokens_from-ordered}
 use Rattle.m11_scan.specs.Characters.{is_blank}
 use Rattle.m11_scan.specs.Cutting.{Lexeme, text_between, tokens_from}
 use Rattle.m11_scan.specs.Cuts.{AreOrdered}
-use Rattle.m11_scan.specs.Ends.{place_after, sort_in}
+use Rattle.m11_scan.specs.Ends.{column_after, sort_in}
 use Rattle.m11_scan.specs.Expressions.{begin, taken}
 use Rattle.m11_scan.specs.ErrorFlags.{flag_I}
 use Rattle.m11_scan.specs.Numbers.{base_of}
@@ -39,53 +39,53 @@ use Rattle.m11_asm_argument_laws.specs.Lists.AreFormals.{NoFormal, OneFormal}
 
 -- ---- past the end of a line
 
-past_tokens : (line : List ℕ) (place : ℕ) → length line ≤ place → tokens_from line place ≡ []
-past_tokens line place past = rw (drop_all place line past) refl
+past_tokens : (line : List ℕ) (column : ℕ) → length line ≤ column → tokens_from line column ≡ []
+past_tokens line column past = rw (drop_all column line past) refl
 
--- the first token from a place on ends after that place
-first_ends : (line : List ℕ) (place : ℕ) (token : Lexeme) (tokens : List Lexeme) → tokens_from line place ≡ token ∷ tokens
-    → place < token.end
-first_ends line place token tokens is = elim (cases_lt place (length line)) [
+-- the first token from a column on ends after that column
+first_ends : (line : List ℕ) (column : ℕ) (token : Lexeme) (tokens : List Lexeme) → tokens_from line column ≡ token ∷ tokens
+    → column < token.end
+first_ends line column token tokens is = elim (cases_lt column (length line)) [
   | inl within ↦
-      let ordered = subst (AreOrdered (length line) place) is (tokens_from-ordered line place (omega arith)) in
+      let ordered = subst (AreOrdered (length line) column) is (tokens_from-ordered line column (omega arith)) in
       let first = ordered.0 in
       let longer = ordered.1 in
       omega arith
-  | inr past ↦ let none = past_tokens line place past in absurd (cc)
+  | inr past ↦ let none = past_tokens line column past in absurd (cc)
 ]
 
 -- ---- formals
 
 abbrev EndsPast : ℕ → NextFormal → Type 0
-EndsPast place Ends = Unit {0}
-EndsPast place Bad = Unit {0}
-EndsPast place (Named formal) = place < formal.name.end
+EndsPast column Ends = Unit {0}
+EndsPast column Bad = Unit {0}
+EndsPast column (Named formal) = column < formal.name.end
 
-formal_ends : (line : List ℕ) (place : ℕ) (token : Lexeme) (is_good : Bool) → place < token.end
-    → EndsPast place (if is_good then named token.start token.end (follows_question line token.start) else Bad)
-formal_ends line place token true lt = lt
-formal_ends line place token false lt = tt
+formal_ends : (line : List ℕ) (column : ℕ) (token : Lexeme) (is_good : Bool) → column < token.end
+    → EndsPast column (if is_good then named token.start token.end (follows_question line token.start) else Bad)
+formal_ends line column token true lt = lt
+formal_ends line column token false lt = tt
 
-in_ends : (line : List ℕ) (place : ℕ) (tokens : List Lexeme) → tokens_from line place ≡ tokens → EndsPast place (formal_in line tokens)
-in_ends line place [] is = tt
-in_ends line place (token ∷ tokens) is = formal_ends line place token (is_name token) (first_ends line place token tokens is)
+in_ends : (line : List ℕ) (column : ℕ) (tokens : List Lexeme) → tokens_from line column ≡ tokens → EndsPast column (formal_in line tokens)
+in_ends line column [] is = tt
+in_ends line column (token ∷ tokens) is = formal_ends line column token (is_name token) (first_ends line column token tokens is)
 
 abbrev ListedPast : ℕ → NextListed → Type 0
-ListedPast place (Ending flags) = Unit {0}
-ListedPast place (Formally formal flags end) = place < end
+ListedPast column (Ending flags) = Unit {0}
+ListedPast column (Formally formal flags end) = column < end
 
-named_past : (line : List ℕ) (place : ℕ) (formal : Formal) (name : Option Name) → place < formal.name.end
-    → ListedPast place (listed_named line place formal name)
-named_past line place formal None lt = tt
-named_past line place formal (Some name) lt = lt
+named_past : (line : List ℕ) (column : ℕ) (formal : Formal) (name : Option Name) → column < formal.name.end
+    → ListedPast column (listed_named line column formal name)
+named_past line column formal None lt = tt
+named_past line column formal (Some name) lt = lt
 
-by_past : (line : List ℕ) (place : ℕ) (next : NextFormal) → EndsPast place next → ListedPast place (listed_by line place next)
-by_past line place Ends past = tt
-by_past line place Bad past = tt
-by_past line place (Named formal) past = named_past line place formal (formal_name line formal) past
+by_past : (line : List ℕ) (column : ℕ) (next : NextFormal) → EndsPast column next → ListedPast column (listed_by line column next)
+by_past line column Ends past = tt
+by_past line column Bad past = tt
+by_past line column (Named formal) past = named_past line column formal (formal_name line formal) past
 
-listed_past : (line : List ℕ) (place : ℕ) → ListedPast place (listed_at line place)
-listed_past line place = by_past line place (next_formal line place) (in_ends line place (tokens_from line place) refl)
+listed_past : (line : List ℕ) (column : ℕ) → ListedPast column (listed_at line column)
+listed_past line column = by_past line column (next_formal line column) (in_ends line column (tokens_from line column) refl)
 
 abbrev nothing : List ℕ
 nothing = []
@@ -94,47 +94,47 @@ take-nil : (count : ℕ) → take count nothing ≡ nothing
 take-nil zero = refl
 take-nil (suc count) = refl
 
-between_past : (line : List ℕ) (place : ℕ) → length line ≤ place → text_between line place (length line) ≡ []
-between_past line place past = by_order (nat_le place (length line)) where
-  by_order : (is_in : Bool) → (if is_in && nat_le (length line) (length line) then take (length line - place) (drop place line) else []) ≡ []
+between_past : (line : List ℕ) (column : ℕ) → length line ≤ column → text_between line column (length line) ≡ []
+between_past line column past = by_order (nat_le column (length line)) where
+  by_order : (is_in : Bool) → (if is_in && nat_le (length line) (length line) then take (length line - column) (drop column line) else []) ≡ []
   by_order false = refl
-  by_order true = rw (drop_all place line past) (by_size (nat_le (length line) (length line))) where
-    by_size : (is_in : Bool) → (if is_in then take (length line - place) nothing else nothing) ≡ nothing
+  by_order true = rw (drop_all column line past) (by_size (nat_le (length line) (length line))) where
+    by_size : (is_in : Bool) → (if is_in then take (length line - column) nothing else nothing) ≡ nothing
     by_size false = refl
-    by_size true = take-nil (length line - place)
+    by_size true = take-nil (length line - column)
 
-past_listed : (line : List ℕ) (place : ℕ) → length line ≤ place → listed_at line place ≡ Ending 0
-past_listed line place past =
-    ap (λ (tokens : List Lexeme). listed_by line place (formal_in line tokens)) (past_tokens line place past)
-    ∙ ap (λ (text : List ℕ). Ending (flag_if (has_skipped text) flag_I)) (between_past line place past)
+past_listed : (line : List ℕ) (column : ℕ) → length line ≤ column → listed_at line column ≡ Ending 0
+past_listed line column past =
+    ap (λ (tokens : List Lexeme). listed_by line column (formal_in line tokens)) (past_tokens line column past)
+    ∙ ap (λ (text : List ℕ). Ending (flag_if (has_skipped text) flag_I)) (between_past line column past)
 
-module _ (line : List ℕ) (bound place : ℕ)
-    (rest : (next : ℕ) → place < next → AreFormals line next (formals_within bound line next).list (formals_within bound line next).flags) where
-  by_listed : (found : NextListed) → listed_at line (separator_at line place).end ≡ found
-      → ListedPast (separator_at line place).end found
-      → AreFormals line place (formals_by (λ next. formals_within bound line next) found).list
+module _ (line : List ℕ) (bound column : ℕ)
+    (rest : (next : ℕ) → column < next → AreFormals line next (formals_within bound line next).list (formals_within bound line next).flags) where
+  by_listed : (found : NextListed) → listed_at line (separator_at line column).end ≡ found
+      → ListedPast (separator_at line column).end found
+      → AreFormals line column (formals_by (λ next. formals_within bound line next) found).list
       (formals_by (λ next. formals_within bound line next) found).flags
-  by_listed (Ending flags) is past = NoFormal place flags is
+  by_listed (Ending flags) is past = NoFormal column flags is
   by_listed (Formally formal flags end) is past =
-      OneFormal place formal flags end (formals_within bound line end).list (formals_within bound line end).flags is
+      OneFormal column formal flags end (formals_within bound line end).list (formals_within bound line end).flags is
       (rest end (omega arith))
 
-are_formals : (line : List ℕ) (bound place : ℕ) → length line ≤ place + bound
-    → AreFormals line place (formals_within bound line place).list (formals_within bound line place).flags
-are_formals line zero place past = NoFormal place 0 (past_listed line (separator_at line place).end (omega arith))
-are_formals line (suc bound) place past =
-    by_listed line bound place (λ next lt. are_formals line bound next (omega arith))
-    (listed_at line (separator_at line place).end) refl (listed_past line (separator_at line place).end)
+are_formals : (line : List ℕ) (bound column : ℕ) → length line ≤ column + bound
+    → AreFormals line column (formals_within bound line column).list (formals_within bound line column).flags
+are_formals line zero column past = NoFormal column 0 (past_listed line (separator_at line column).end (omega arith))
+are_formals line (suc bound) column past =
+    by_listed line bound column (λ next lt. are_formals line bound next (omega arith))
+    (listed_at line (separator_at line column).end) refl (listed_past line (separator_at line column).end)
 
-pub written_formals : (line : Bytes) (place : ℕ) → length line ≤ line_limit
-    → AreFormals line place (formals_after line place).list (formals_after line place).flags
-written_formals line place short = are_formals line line_limit place (omega arith)
+pub written_formals : (line : Bytes) (column : ℕ) → length line ≤ line_limit
+    → AreFormals line column (formals_after line column).list (formals_after line column).flags
+written_formals line column short = are_formals line line_limit column (omega arith)
 
 -- ---- actuals
 
 -- what separates an actual from the next ends after its own end
-separator_after : (line : List ℕ) (place : ℕ) → place ≤ (separator_at line place).end
-separator_after line place = omega arith
+separator_after : (line : List ℕ) (column : ℕ) → column ≤ (separator_at line column).end
+separator_after line column = omega arith
 
 -- an actual that isn't bracketed takes a character, or else what separates it from the next does
 prefix-true : (p : ℕ → Bool) (byte : ℕ) (text : List ℕ) → p byte ≡ true → prefix_len p (byte ∷ text) ≡ 1 + prefix_len p text
@@ -167,44 +167,44 @@ takes_by byte text other false false is_so so =
     takes_bare byte text (ap (λ (b : Bool). not (b || (byte == 0o54 || byte == 0o73))) is_so
     ∙ ap (λ (b : Bool). not (b || byte == 0o73)) so ∙ ap not other)
 
--- after an actual and what separates it from the next a place lies further on
+-- after an actual and what separates it from the next a column lies further on
 abbrev GoesOn : List ℕ → ℕ → Option Actual → Type 0
-GoesOn line place None = Unit {0}
-GoesOn line place (Some actual) = place < (separator_at line actual.end).end
+GoesOn line column None = Unit {0}
+GoesOn line column (Some actual) = column < (separator_at line actual.end).end
 
-either_goes : (line : List ℕ) (place : ℕ) (is_comment is_bracket is_digits : Bool) (bracketed digits bare : Actual)
-    → place < (separator_at line bracketed.end).end → place < (separator_at line digits.end).end
-    → (is_comment ≡ false → place < (separator_at line bare.end).end)
-    → GoesOn line place (if is_comment then None else (if is_bracket then Some bracketed
+either_goes : (line : List ℕ) (column : ℕ) (is_comment is_bracket is_digits : Bool) (bracketed digits bare : Actual)
+    → column < (separator_at line bracketed.end).end → column < (separator_at line digits.end).end
+    → (is_comment ≡ false → column < (separator_at line bare.end).end)
+    → GoesOn line column (if is_comment then None else (if is_bracket then Some bracketed
     else (if is_digits then Some digits else Some bare)))
-either_goes line place true is_bracket is_digits bracketed digits bare one two three = tt
-either_goes line place false true is_digits bracketed digits bare one two three = one
-either_goes line place false false true bracketed digits bare one two three = two
-either_goes line place false false false bracketed digits bare one two three = three refl
+either_goes line column true is_bracket is_digits bracketed digits bare one two three = tt
+either_goes line column false true is_digits bracketed digits bare one two three = one
+either_goes line column false false true bracketed digits bare one two three = two
+either_goes line column false false false bracketed digits bare one two three = three refl
 
 bracket_ends : (start size : ℕ) (is_closed : Bool) → start ≤ (if is_closed then start + size + 1 else start + size)
 bracket_ends start size true = omega arith
 bracket_ends start size false = omega arith
 
-after_tokens : (size place count : ℕ) (tokens : List Lexeme) → AreOrdered size place tokens
-    → place ≤ place_after place (take count tokens)
-after_tokens size place zero tokens o = omega arith
-after_tokens size place (suc count) [] o = omega arith
-after_tokens size place (suc count) (token ∷ tokens) o =
+after_tokens : (size column count : ℕ) (tokens : List Lexeme) → AreOrdered size column tokens
+    → column ≤ column_after column (take count tokens)
+after_tokens size column zero tokens o = omega arith
+after_tokens size column (suc count) [] o = omega arith
+after_tokens size column (suc count) (token ∷ tokens) o =
     let rest = after_tokens size token.end count tokens o.2 in
     let first = o.0 in
     let longer = o.1 in
     omega arith
 
-actual_goes : (line : List ℕ) (place start : ℕ) (text : List ℕ) → drop start line ≡ text → place ≤ start
-    → GoesOn line place (actual_in line start true text)
-actual_goes line place start [] is le = tt
-actual_goes line place start (byte ∷ text) is le =
+actual_goes : (line : List ℕ) (column start : ℕ) (text : List ℕ) → drop start line ≡ text → column ≤ start
+    → GoesOn line column (actual_in line start true text)
+actual_goes line column start [] is le = tt
+actual_goes line column start (byte ∷ text) is le =
     let size = length-drop start line in
     let some : length (drop start line) ≡ suc (length text) = ap length is in
     let tokens = tokens_from line (start + 1) in
     let count = taken (map sort_in tokens) begin in
-    either_goes line place (byte == 0o73) (byte == 0o74) (byte == 0o134 && true)
+    either_goes line column (byte == 0o73) (byte == 0o74) (byte == 0o134 && true)
     (bracketed_actual line (start + 1)) (digits_actual line (start + 1)) (bare_actual line start)
     (let enclosed = bracketed (drop (start + 1) line) in
     let ends = bracket_ends (start + 1) enclosed.length enclosed.is_closed in
@@ -222,31 +222,31 @@ actual_goes line place start (byte ∷ text) is le =
     subst (λ (t : List ℕ). 0 < prefix_len is_bare (drop start line) + separator_length t) same there in
     omega arith)
 
-next_goes : (line : List ℕ) (place : ℕ) → GoesOn line place (next_actual line place true)
-next_goes line place =
-    actual_goes line place (after_blanks line place) (drop (after_blanks line place) line) refl (omega arith)
+next_goes : (line : List ℕ) (column : ℕ) → GoesOn line column (next_actual line column true)
+next_goes line column =
+    actual_goes line column (after_blanks line column) (drop (after_blanks line column) line) refl (omega arith)
 
-past_actual : (line : List ℕ) (place : ℕ) → length line ≤ place → next_actual line place true ≡ None
-past_actual line place past =
-    ap (λ (t : List ℕ). actual_in line (after_blanks line place) true t) (drop_all (after_blanks line place) line (omega arith))
+past_actual : (line : List ℕ) (column : ℕ) → length line ≤ column → next_actual line column true ≡ None
+past_actual line column past =
+    ap (λ (t : List ℕ). actual_in line (after_blanks line column) true t) (drop_all (after_blanks line column) line (omega arith))
 
-module _ (known : Known) (line : List ℕ) (wanted place : ℕ)
-    (rest : (next : ℕ) → place < next → AreActuals known line next (actuals_from known line wanted next)) where
-  by_actual : (found : Option Actual) → next_actual line place true ≡ found → GoesOn line place found
-      → AreActuals known line place (wanted_by known line (λ next. actuals_from known line wanted next) found)
-  by_actual None is on = NoActual place is
+module _ (known : Known) (line : List ℕ) (wanted column : ℕ)
+    (rest : (next : ℕ) → column < next → AreActuals known line next (actuals_from known line wanted next)) where
+  by_actual : (found : Option Actual) → next_actual line column true ≡ found → GoesOn line column found
+      → AreActuals known line column (wanted_by known line (λ next. actuals_from known line wanted next) found)
+  by_actual None is on = NoActual column is
   by_actual (Some actual) is on =
-      OneActual place actual (actuals_from known line wanted (separator_at line actual.end).end) is
+      OneActual column actual (actuals_from known line wanted (separator_at line actual.end).end) is
       (rest (separator_at line actual.end).end on)
 
-pub all_actuals : (known : Known) (line : Bytes) (wanted place : ℕ) → length line ≤ place + wanted
-    → AreActuals known line place (actuals_from known line wanted place)
-all_actuals known line zero place past =
-    let none = past_actual line place (omega arith) in
-    subst (λ (a : Option Actual). AreActuals known line place (unwanted a)) (sym none) (NoActual place none)
-all_actuals known line (suc wanted) place past =
-    by_actual known line wanted place (λ next lt. all_actuals known line wanted next (omega arith))
-    (next_actual line place true) refl (next_goes line place)
+pub all_actuals : (known : Known) (line : Bytes) (wanted column : ℕ) → length line ≤ column + wanted
+    → AreActuals known line column (actuals_from known line wanted column)
+all_actuals known line zero column past =
+    let none = past_actual line column (omega arith) in
+    subst (λ (a : Option Actual). AreActuals known line column (unwanted a)) (sym none) (NoActual column none)
+all_actuals known line (suc wanted) column past =
+    by_actual known line wanted column (λ next lt. all_actuals known line wanted next (omega arith))
+    (next_actual line column true) refl (next_goes line column)
 
 -- an actual has one text
 pub record HasOne (given : Given) : Type 0 where
@@ -270,12 +270,12 @@ module _ (known : Known) (line : List ℕ) where
       ∙ ap (λ (ts : List (List ℕ)). one.text ∷ ts) same
       ∙ sym (ap (λ (ts : List (List ℕ)). take (suc wanted) (ts ++ all.texts)) one.is)
 
-  pub first_actuals : (wanted place : ℕ) (all : Given) → AreActuals known line place all
-      → (actuals_from known line wanted place).texts ≡ take wanted all.texts
-  first_actuals zero place all are = refl
-  first_actuals (suc wanted) place _ (NoActual _ none) =
+  pub first_actuals : (wanted column : ℕ) (all : Given) → AreActuals known line column all
+      → (actuals_from known line wanted column).texts ≡ take wanted all.texts
+  first_actuals zero column all are = refl
+  first_actuals (suc wanted) column _ (NoActual _ none) =
       ap (λ (a : Option Actual). (wanted_by known line (λ next. actuals_from known line wanted next) a).texts) none
-  first_actuals (suc wanted) place _ (OneActual _ actual more some are) =
+  first_actuals (suc wanted) column _ (OneActual _ actual more some are) =
       ap (λ (a : Option Actual). (wanted_by known line (λ next. actuals_from known line wanted next) a).texts) some
       ∙ one_wanted actual wanted (actuals_from known line wanted (separator_at line actual.end).end) more
       (one_as known line actual actual.kind)

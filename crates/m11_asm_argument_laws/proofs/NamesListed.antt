@@ -15,29 +15,29 @@ use Rattle.m11_asm_argument_laws.specs.Lists.{AreNames}
 use Rattle.m11_asm_argument_laws.specs.Lists.AreNames.{LastName, NextName}
 
 -- an element with a comma after it ends further on, within the line
-pub record LiesBehind (size place : ℕ) (found : ListedName) : Type 0 where
-  pub further : place < found.end
+pub record LiesBehind (size column : ℕ) (found : ListedName) : Type 0 where
+  pub further : column < found.end
   pub within : found.end ≤ size
 
 abbrev GoesOn : ℕ → ℕ → ListedName → Type 0
-GoesOn size place found = found.goes_on ≡ true → LiesBehind size place found
+GoesOn size column found = found.goes_on ≡ true → LiesBehind size column found
 
-ends_within : (size place : ℕ) (tokens : List Lexeme) → AreOrdered size place tokens → place ≤ size
-ends_within size place [] o = o
-ends_within size place (token ∷ tokens) o =
+ends_within : (size column : ℕ) (tokens : List Lexeme) → AreOrdered size column tokens → column ≤ size
+ends_within size column [] o = o
+ends_within size column (token ∷ tokens) o =
     let rest = ends_within size token.end tokens o.2 in
     let first = o.0 in
     let longer = o.1 in
     omega arith
 
-comma_by : (size place : ℕ) (name : Option Span) (comma end : ℕ) (other : ListedName) (is_comma : Bool) → place < comma
-    → comma ≤ size → GoesOn size place other
-    → GoesOn size place (if is_comma then element name true comma else other)
-comma_by size place name comma end other true lt le on = λ goes. record { further = lt; within = le }
-comma_by size place name comma end other false lt le on = on
+comma_by : (size column : ℕ) (name : Option Span) (comma end : ℕ) (other : ListedName) (is_comma : Bool) → column < comma
+    → comma ≤ size → GoesOn size column other
+    → GoesOn size column (if is_comma then element name true comma else other)
+comma_by size column name comma end other true lt le on = λ goes. record { further = lt; within = le }
+comma_by size column name comma end other false lt le on = on
 
-stops : (size place : ℕ) (name : Option Span) (end : ℕ) → GoesOn size place (element name false end)
-stops size place name end = λ goes. absurd (false≢true goes)
+stops : (size column : ℕ) (name : Option Span) (end : ℕ) → GoesOn size column (element name false end)
+stops size column name end = λ goes. absurd (false≢true goes)
 
 earlier : (size low high : ℕ) (found : ListedName) → low ≤ high → GoesOn size high found → GoesOn size low found
 earlier size low high found le on =
@@ -45,72 +45,72 @@ earlier size low high found le on =
     let further = behind.further in
     record { further = omega arith; within = behind.within }
 
-passed : (size place : ℕ) (tokens : List Lexeme) → AreOrdered size place tokens → GoesOn size place (passed_over place tokens)
-passed size place [] o = stops size place None place
-passed size place (token ∷ tokens) o =
+passed : (size column : ℕ) (tokens : List Lexeme) → AreOrdered size column tokens → GoesOn size column (passed_over column tokens)
+passed size column [] o = stops size column None column
+passed size column (token ∷ tokens) o =
     let first = o.0 in
     let longer = o.1 in
     let ends = ends_within size token.end tokens o.2 in
-    comma_by size place None token.end token.end (passed_over token.end tokens) (is_comma token.sort) (omega arith) ends
-    (earlier size place token.end (passed_over token.end tokens) (omega arith) (passed size token.end tokens o.2))
+    comma_by size column None token.end token.end (passed_over token.end tokens) (is_comma token.sort) (omega arith) ends
+    (earlier size column token.end (passed_over token.end tokens) (omega arith) (passed size token.end tokens o.2))
 
-after : (size place : ℕ) (name : Lexeme) (tokens : List Lexeme) → place ≤ name.end → AreOrdered size name.end tokens
-    → GoesOn size place (after_name name tokens)
-after size place name [] le o = stops size place (Some (span_of name)) name.end
-after size place name (token ∷ tokens) le o =
+after : (size column : ℕ) (name : Lexeme) (tokens : List Lexeme) → column ≤ name.end → AreOrdered size name.end tokens
+    → GoesOn size column (after_name name tokens)
+after size column name [] le o = stops size column (Some (span_of name)) name.end
+after size column name (token ∷ tokens) le o =
     let first = o.0 in
     let longer = o.1 in
     let ends = ends_within size token.end tokens o.2 in
-    comma_by size place (Some (span_of name)) token.end name.end (element (Some (span_of name)) false name.end)
-    (is_comma token.sort) (omega arith) ends (stops size place (Some (span_of name)) name.end)
+    comma_by size column (Some (span_of name)) token.end name.end (element (Some (span_of name)) false name.end)
+    (is_comma token.sort) (omega arith) ends (stops size column (Some (span_of name)) name.end)
 
-either : (size place : ℕ) (is_good : Bool) (good other : ListedName) → GoesOn size place good → GoesOn size place other
-    → GoesOn size place (if is_good then good else other)
-either size place true good other one two = one
-either size place false good other one two = two
+either : (size column : ℕ) (is_good : Bool) (good other : ListedName) → GoesOn size column good → GoesOn size column other
+    → GoesOn size column (if is_good then good else other)
+either size column true good other one two = one
+either size column false good other one two = two
 
-in_tokens : (size place : ℕ) (tokens : List Lexeme) → AreOrdered size place tokens → GoesOn size place (listed_name place tokens)
-in_tokens size place [] o = stops size place None place
-in_tokens size place (token ∷ tokens) o =
+in_tokens : (size column : ℕ) (tokens : List Lexeme) → AreOrdered size column tokens → GoesOn size column (listed_name column tokens)
+in_tokens size column [] o = stops size column None column
+in_tokens size column (token ∷ tokens) o =
     let first = o.0 in
     let longer = o.1 in
-    either size place (is_name token) (after_name token tokens) (passed_over place (token ∷ tokens))
-    (after size place token tokens (omega arith) o.2) (passed size place (token ∷ tokens) o)
+    either size column (is_name token) (after_name token tokens) (passed_over column (token ∷ tokens))
+    (after size column token tokens (omega arith) o.2) (passed size column (token ∷ tokens) o)
 
-goes_on : (line : List ℕ) (place : ℕ) → GoesOn (length line) place (listed_name place (tokens_from line place))
-goes_on line place = elim (cases_lt place (length line)) [
+goes_on : (line : List ℕ) (column : ℕ) → GoesOn (length line) column (listed_name column (tokens_from line column))
+goes_on line column = elim (cases_lt column (length line)) [
   | inl within ↦
-      in_tokens (length line) place (tokens_from line place) (tokens_from-ordered line place (omega arith))
+      in_tokens (length line) column (tokens_from line column) (tokens_from-ordered line column (omega arith))
   | inr past ↦
-      let none : tokens_from line place ≡ [] = rw (drop_all place line past) refl in
-      subst (λ (tokens : List Lexeme). GoesOn (length line) place (listed_name place tokens)) (sym none)
-      (stops (length line) place None place)
+      let none : tokens_from line column ≡ [] = rw (drop_all column line past) refl in
+      subst (λ (tokens : List Lexeme). GoesOn (length line) column (listed_name column tokens)) (sym none)
+      (stops (length line) column None column)
 ]
 
-module _ (bound : ℕ) (line : List ℕ) (place : ℕ) (found : ListedName) (is : listed_name place (tokens_from line place) ≡ found)
-    (rest : LiesBehind (length line) place found
+module _ (bound : ℕ) (line : List ℕ) (column : ℕ) (found : ListedName) (is : listed_name column (tokens_from line column) ≡ found)
+    (rest : LiesBehind (length line) column found
     → AreNames line found.end (names_within bound line found.end).list (names_within bound line found.end).end)
-    (on : GoesOn (length line) place found) where
+    (on : GoesOn (length line) column found) where
   by_comma : (goes : Bool) → found.goes_on ≡ goes → (names : Names)
       → names ≡ (if goes then name_before found (names_within bound line found.end) else last_name found)
-      → AreNames line place names.list names.end
+      → AreNames line column names.list names.end
   by_comma true goes names same =
-      subst (λ (n : Names). AreNames line place n.list n.end) (sym same)
-      (NextName place found (names_within bound line found.end).list (names_within bound line found.end).end is goes (rest (on goes)))
+      subst (λ (n : Names). AreNames line column n.list n.end) (sym same)
+      (NextName column found (names_within bound line found.end).list (names_within bound line found.end).end is goes (rest (on goes)))
   by_comma false goes names same =
-      subst (λ (n : Names). AreNames line place n.list n.end) (sym same) (LastName place found is goes)
+      subst (λ (n : Names). AreNames line column n.list n.end) (sym same) (LastName column found is goes)
 
-are_names : (bound : ℕ) (line : List ℕ) (place : ℕ) → 0 < bound → length line < place + bound
-    → AreNames line place (names_within bound line place).list (names_within bound line place).end
-are_names zero line place some enough = absurd (omega arith)
-are_names (suc bound) line place some enough =
-    let found = listed_name place (tokens_from line place) in
-    by_comma bound line place found refl
+are_names : (bound : ℕ) (line : List ℕ) (column : ℕ) → 0 < bound → length line < column + bound
+    → AreNames line column (names_within bound line column).list (names_within bound line column).end
+are_names zero line column some enough = absurd (omega arith)
+are_names (suc bound) line column some enough =
+    let found = listed_name column (tokens_from line column) in
+    by_comma bound line column found refl
     (λ behind.
     let further = behind.further in
     let within = behind.within in
     are_names bound line found.end (omega arith) (omega arith))
-    (goes_on line place) found.goes_on refl (names_by (λ next. names_within bound line next) found) refl
+    (goes_on line column) found.goes_on refl (names_by (λ next. names_within bound line next) found) refl
 
-pub written_names : (line : Bytes) (place : ℕ) → AreNames line place (names_at line place).list (names_at line place).end
-written_names line place = are_names (most_elements line) line place (omega arith) (omega arith)
+pub written_names : (line : Bytes) (column : ℕ) → AreNames line column (names_at line column).list (names_at line column).end
+written_names line column = are_names (most_elements line) line column (omega arith) (omega arith)

@@ -77,14 +77,14 @@ module _ (name colon : Lexeme) where
   by_sort LocalSymbol is direct = by_local colon.sort refl direct is
   by_sort _ is direct = inr refl
 
-  by_place : (is_next : Bool) → (name.end == colon.start) ≡ is_next
+  by_next : (is_next : Bool) → (name.end == colon.start) ≡ is_next
       → ((kind : LabelKind) × IsLabel name colon kind)
       ⊎ ((if is_next then labelled name colon.end (kind_of name.sort colon.sort name.text) else None) ≡ None)
-  by_place true is = by_sort name.sort refl (eqb-true name.end colon.start is)
-  by_place false is = inr refl
+  by_next true is = by_sort name.sort refl (eqb-true name.end colon.start is)
+  by_next false is = inr refl
 
   read_or_none : ((kind : LabelKind) × IsLabel name colon kind) ⊎ (label_of name colon ≡ None)
-  read_or_none = by_place (name.end == colon.start) refl
+  read_or_none = by_next (name.end == colon.start) refl
 
 read_labels : (tokens : List Lexeme) (labels : List Label) → AreLabelled tokens labels → labels_in tokens ≡ labels
 read_labels _ _ (Unlabelled [] none) = refl

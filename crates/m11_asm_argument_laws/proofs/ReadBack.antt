@@ -43,9 +43,9 @@ spelled-append base [] back = omega arith
 spelled-append base (digit ∷ front) back =
     rw (length-append front back, pow-add base (length front) (length back), spelled-append base front back)
     (regrouped (digit - 48) (base ^ length front) (base ^ length back) (spelled base front) (spelled base back)) where
-      regrouped : (digit places moved front back : ℕ)
-          → digit * (places * moved) + (front * moved + back) ≡ (digit * places + front) * moved + back
-      regrouped digit places moved front back = omega arith
+      regrouped : (digit columns moved front back : ℕ)
+          → digit * (columns * moved) + (front * moved + back) ≡ (digit * columns + front) * moved + back
+      regrouped digit columns moved front back = omega arith
 
 one_more : (base front number : ℕ) (digits : List ℕ) → spelled base digits ≡ front
     → spelled base (digits ++ (48 + number) ∷ []) ≡ base * front + number

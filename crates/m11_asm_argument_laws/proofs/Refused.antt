@@ -52,81 +52,81 @@ bad_verdict test size before _ (LaterName name mark tokens symbol joint is joins
     ∙ ap (λ (j : Option Joint). (after_joint (joined_to before (test symbol)) name.end j (λ next. names_in test size next tokens)).verdict) joins
     ∙ bad_verdict test size (Some (record { holds = joined_to before (test symbol); joint = joint })) tokens later
 
-bad_off : (line : Bytes) (place : ℕ) (names : Tested) (verdict : Option Bool) → verdict ≡ None → IsOff (named line place verdict names)
-bad_off line place names None is =
-    record { off = refl; skips = skipped_between line place names.end; flags = refl }
-bad_off line place names (Some verdict) is = absurd (cc)
+bad_off : (line : Bytes) (column : ℕ) (names : Tested) (verdict : Option Bool) → verdict ≡ None → IsOff (named line column verdict names)
+bad_off line column names None is =
+    record { off = refl; skips = skipped_between line column names.end; flags = refl }
+bad_off line column names (Some verdict) is = absurd (cc)
 
-defined_off : (known : Known) (line : Bytes) (place : ℕ) (wants : Bool) → HasBadName (tokens_from line place)
-    → IsOff (defined known line place wants)
-defined_off known line place wants bad =
-    let names = names_at known wants line place in
-    bad_off line place names names.verdict
-    (bad_verdict (tested known wants) (length line) None (tokens_from line place) bad)
+defined_off : (known : Known) (line : Bytes) (column : ℕ) (wants : Bool) → HasBadName (tokens_from line column)
+    → IsOff (defined known line column wants)
+defined_off known line column wants bad =
+    let names = names_at known wants line column in
+    bad_off line column names names.verdict
+    (bad_verdict (tested known wants) (length line) None (tokens_from line column) bad)
 
 -- ---- a missing number
 
-numeric_off : (known : Known) (line : Bytes) (place : ℕ) (condition : Condition) → has_expression line place ≡ false
-    → IsOff (numeric known line place condition)
-numeric_off known line place condition none =
-    subst (λ (b : Bool). IsOff (if b then compared known line place condition else refused place)) (sym none) (refused_off place)
+numeric_off : (known : Known) (line : Bytes) (column : ℕ) (condition : Condition) → has_expression line column ≡ false
+    → IsOff (numeric known line column condition)
+numeric_off known line column condition none =
+    subst (λ (b : Bool). IsOff (if b then compared known line column condition else refused column)) (sym none) (refused_off column)
 
 -- ---- missing texts
 
-without_off : (line : Bytes) (place : ℕ) (wants : Bool) → next_actual line place false ≡ None → IsOff (same line place wants)
-without_off line place wants none =
-    subst (λ (a : Option Actual). IsOff (first_by line place wants a)) (sym none) (refused_off place)
+without_off : (line : Bytes) (column : ℕ) (wants : Bool) → next_actual line column false ≡ None → IsOff (same line column wants)
+without_off line column wants none =
+    subst (λ (a : Option Actual). IsOff (first_by line column wants a)) (sym none) (refused_off column)
 
-single_off : (line : Bytes) (place : ℕ) (wants : Bool) (first : Actual) → next_actual line place false ≡ Some first
-    → IsSingleText line first → IsOff (same line place wants)
-single_off line place wants first some single =
+single_off : (line : Bytes) (column : ℕ) (wants : Bool) (first : Actual) → next_actual line column false ≡ Some first
+    → IsSingleText line first → IsOff (same line column wants)
+single_off line column wants first some single =
     let separator = separator_at line first.end in
-    subst (λ (a : Option Actual). IsOff (first_by line place wants a)) (sym some)
+    subst (λ (a : Option Actual). IsOff (first_by line column wants a)) (sym some)
     (subst (λ (a : Option Actual). IsOff (second_by line wants first separator a)) (sym single.second)
     (subst (λ (b : Bool). IsOff (if b then matched wants (text_of line first) [] separator.end (actual_flags first)
     else refused separator.end)) (sym single.comma) (refused_off separator.end)))
 
 -- ---- conditions
 
-number_off : (known : Known) (line : Bytes) (place : ℕ) (condition : Condition) → asks_number condition ≡ true
-    → has_expression line place ≡ false → IsOff (asked known line place condition)
-number_off known line place Zero is none = numeric_off known line place Zero none
-number_off known line place NotZero is none = numeric_off known line place NotZero none
-number_off known line place Positive is none = numeric_off known line place Positive none
-number_off known line place Negative is none = numeric_off known line place Negative none
-number_off known line place NotNegative is none = numeric_off known line place NotNegative none
-number_off known line place NotPositive is none = numeric_off known line place NotPositive none
-number_off known line place _ is none = absurd (false≢true is)
+number_off : (known : Known) (line : Bytes) (column : ℕ) (condition : Condition) → asks_number condition ≡ true
+    → has_expression line column ≡ false → IsOff (asked known line column condition)
+number_off known line column Zero is none = numeric_off known line column Zero none
+number_off known line column NotZero is none = numeric_off known line column NotZero none
+number_off known line column Positive is none = numeric_off known line column Positive none
+number_off known line column Negative is none = numeric_off known line column Negative none
+number_off known line column NotNegative is none = numeric_off known line column NotNegative none
+number_off known line column NotPositive is none = numeric_off known line column NotPositive none
+number_off known line column _ is none = absurd (false≢true is)
 
-names_off : (known : Known) (line : Bytes) (place : ℕ) (condition : Condition) → asks_names condition ≡ true
-    → HasBadName (tokens_from line place) → IsOff (asked known line place condition)
-names_off known line place Defined is bad = defined_off known line place true bad
-names_off known line place NotDefined is bad = defined_off known line place false bad
-names_off known line place _ is bad = absurd (false≢true is)
+names_off : (known : Known) (line : Bytes) (column : ℕ) (condition : Condition) → asks_names condition ≡ true
+    → HasBadName (tokens_from line column) → IsOff (asked known line column condition)
+names_off known line column Defined is bad = defined_off known line column true bad
+names_off known line column NotDefined is bad = defined_off known line column false bad
+names_off known line column _ is bad = absurd (false≢true is)
 
-texts_off : (known : Known) (line : Bytes) (place : ℕ) (condition : Condition) → asks_texts condition ≡ true
-    → ((wants : Bool) → IsOff (same line place wants)) → IsOff (asked known line place condition)
-texts_off known line place Identical is off = off true
-texts_off known line place Different is off = off false
-texts_off known line place _ is off = absurd (false≢true is)
+texts_off : (known : Known) (line : Bytes) (column : ℕ) (condition : Condition) → asks_texts condition ≡ true
+    → ((wants : Bool) → IsOff (same line column wants)) → IsOff (asked known line column condition)
+texts_off known line column Identical is off = off true
+texts_off known line column Different is off = off false
+texts_off known line column _ is off = absurd (false≢true is)
 
-asked_off : (known : Known) (line : Bytes) (place : ℕ) (condition : Condition) → LacksArgument line place condition
-    → IsOff (asked known line place condition)
-asked_off known line place condition (WithoutNumber is none) = number_off known line place condition is none
-asked_off known line place condition (WithBadName is bad) = names_off known line place condition is bad
-asked_off known line place condition (WithoutText is none) =
-    texts_off known line place condition is (λ wants. without_off line place wants none)
-asked_off known line place condition (WithOneText is first some single) =
-    texts_off known line place condition is (λ wants. single_off line place wants first some single)
+asked_off : (known : Known) (line : Bytes) (column : ℕ) (condition : Condition) → LacksArgument line column condition
+    → IsOff (asked known line column condition)
+asked_off known line column condition (WithoutNumber is none) = number_off known line column condition is none
+asked_off known line column condition (WithBadName is bad) = names_off known line column condition is bad
+asked_off known line column condition (WithoutText is none) =
+    texts_off known line column condition is (λ wants. without_off line column wants none)
+asked_off known line column condition (WithOneText is first some single) =
+    texts_off known line column condition is (λ wants. single_off line column wants first some single)
 
-refused_named : (known : Known) (line : Bytes) (place : ℕ) → IsRefused line place → IsOff (named_by known line (tokens_from line place))
-refused_named known line place (Unnamed none) =
+refused_named : (known : Known) (line : Bytes) (column : ℕ) → IsRefused line column → IsOff (named_by known line (tokens_from line column))
+refused_named known line column (Unnamed none) =
     subst (λ (tokens : List Lexeme). IsOff (named_by known line tokens)) (sym none) (refused_off (length line))
-refused_named known line place (Unknown name tokens stands none) =
+refused_named known line column (Unknown name tokens stands none) =
     subst (λ (tokens : List Lexeme). IsOff (named_by known line tokens)) (sym stands)
     (subst (λ (c : Option Condition). IsOff (asked_by known line (separator_at line name.end).end c)) (sym none)
     (refused_off (length line)))
-refused_named known line place (Lacking name tokens condition stands some lacks) =
+refused_named known line column (Lacking name tokens condition stands some lacks) =
     subst (λ (tokens : List Lexeme). IsOff (named_by known line tokens)) (sym stands)
     (subst (λ (c : Option Condition). IsOff (asked_by known line (separator_at line name.end).end c)) (sym some)
     (asked_off known line (separator_at line name.end).end condition lacks))
@@ -137,14 +137,14 @@ has_A true false = refl
 has_A false true = refl
 has_A false false = refl
 
-pub refused-false : (known : Known) (line : Bytes) (place : ℕ) → IsRefused line place → (condition known line place).holds ≡ false
-refused-false known line place is = (refused_named known line place is).off
+pub refused-false : (known : Known) (line : Bytes) (column : ℕ) → IsRefused line column → (condition known line column).holds ≡ false
+refused-false known line column is = (refused_named known line column is).off
 
-pub refused-flagged : (known : Known) (line : Bytes) (place : ℕ) → IsRefused line place
-    → HasFlag flag_A (condition known line place).flags
-refused-flagged known line place is =
-    let off = refused_named known line place is in
-    let before = skipped_between line place (start_of line (tokens_from line place)) in
+pub refused-flagged : (known : Known) (line : Bytes) (column : ℕ) → IsRefused line column
+    → HasFlag flag_A (condition known line column).flags
+refused-flagged known line column is =
+    let off = refused_named known line column is in
+    let before = skipped_between line column (start_of line (tokens_from line column)) in
     subst (λ (n : ℕ). HasFlag flag_A (bit_or (flag_if before flag_I) n)) (sym off.flags) (has_A before off.skips)
 
 -- ---- repeats
@@ -155,13 +155,13 @@ left_A true false = refl
 left_A false true = refl
 left_A false false = refl
 
-module _ (known : Known) (line : Bytes) (place : ℕ) (none : has_expression line place ≡ false) where
-  pub rounds-none : rept_count known line place ≡ 0
-  rounds-none = ap (λ (b : Bool). if b then rounds_of (number_at known line place) else 0) none
+module _ (known : Known) (line : Bytes) (column : ℕ) (none : has_expression line column ≡ false) where
+  pub rounds-none : rept_count known line column ≡ 0
+  rounds-none = ap (λ (b : Bool). if b then rounds_of (number_at known line column) else 0) none
 
-  pub rounds-flagged : HasFlag flag_A (notes known line place).flags
+  pub rounds-flagged : HasFlag flag_A (notes known line column).flags
   rounds-flagged =
       subst (λ (b : Bool). HasFlag flag_A (if b then
-      noting (bit_or (number_flags known line place) (left_over line (expression_end line place))) (symbols_at line place)
-      else noting (bit_or flag_A (left_over line place)) []).flags) (sym none)
-      (left_A (has_token (tokens_from line place)) (skipped_between line place (length line)))
+      noting (bit_or (number_flags known line column) (left_over line (expression_end line column))) (symbols_at line column)
+      else noting (bit_or flag_A (left_over line column)) []).flags) (sym none)
+      (left_A (has_token (tokens_from line column)) (skipped_between line column (length line)))

@@ -15,34 +15,34 @@ use Rattle.m11_scan_statements.specs.declared.actuals.Actual.{Actual}
 use Rattle.m11_scan_statements.specs.declared.listed.ListedName.{ListedName}
 use Rattle.m11_scan_statements.specs.declared.spans.Span.{Span}
 
--- formals that stand one after the other from a place on, with the flags of their list: blanks, a comma or both stand before
+-- formals that stand one after the other from a column on, with the flags of their list: blanks, a comma or both stand before
 -- each
 pub data AreFormals (line : Bytes) : ℕ → List MacroFormal → ℕ → Type 0 where
   -- where none stands next, the list ends
-  NoFormal : (place flags : ℕ) → listed_at line (separator_at line place).end ≡ Ending flags
-      → AreFormals line place [] flags
+  NoFormal : (column flags : ℕ) → listed_at line (separator_at line column).end ≡ Ending flags
+      → AreFormals line column [] flags
   -- where one stands next, the list goes on after it
-  OneFormal : (place : ℕ) (formal : MacroFormal) (flags end : ℕ) (formals : List MacroFormal) (further : ℕ)
-      → listed_at line (separator_at line place).end ≡ Formally formal flags end → AreFormals line end formals further
-      → AreFormals line place (formal ∷ formals) (bit_or flags further)
+  OneFormal : (column : ℕ) (formal : MacroFormal) (flags end : ℕ) (formals : List MacroFormal) (further : ℕ)
+      → listed_at line (separator_at line column).end ≡ Formally formal flags end → AreFormals line end formals further
+      → AreFormals line column (formal ∷ formals) (bit_or flags further)
 
--- actuals that stand one after the other from a place on, with what reading them leaves: blanks, a comma or both stand between
+-- actuals that stand one after the other from a column on, with what reading them leaves: blanks, a comma or both stand between
 -- two
 pub data AreActuals (known : Known) (line : Bytes) : ℕ → Given → Type 0 where
   -- where none stands next, they end
-  NoActual : (place : ℕ) → next_actual line place true ≡ None → AreActuals known line place nothing_given
+  NoActual : (column : ℕ) → next_actual line column true ≡ None → AreActuals known line column nothing_given
   -- where one stands next, the others stand after what separates it from them
-  OneActual : (place : ℕ) (actual : Actual) (more : Given) → next_actual line place true ≡ Some actual
+  OneActual : (column : ℕ) (actual : Actual) (more : Given) → next_actual line column true ≡ Some actual
       → AreActuals known line (separator_at line actual.end).end more
-      → AreActuals known line place (followed_by (given_by known line actual) more)
+      → AreActuals known line column (followed_by (given_by known line actual) more)
 
--- elements of a list of names that stand one after the other from a place on, and the place after them; one that is no name is
+-- elements of a list of names that stand one after the other from a column on, and the column after them; one that is no name is
 -- none
 pub data AreNames (line : Bytes) : ℕ → List (Option Span) → ℕ → Type 0 where
   -- where no comma stands after an element, it is the last
-  LastName : (place : ℕ) (element : ListedName) → listed_name place (tokens_from line place) ≡ element → element.goes_on ≡ false
-      → AreNames line place (element.name ∷ []) element.end
+  LastName : (column : ℕ) (element : ListedName) → listed_name column (tokens_from line column) ≡ element → element.goes_on ≡ false
+      → AreNames line column (element.name ∷ []) element.end
   -- after a comma the next one stands
-  NextName : (place : ℕ) (element : ListedName) (names : List (Option Span)) (end : ℕ)
-      → listed_name place (tokens_from line place) ≡ element → element.goes_on ≡ true → AreNames line element.end names end
-      → AreNames line place (element.name ∷ names) end
+  NextName : (column : ℕ) (element : ListedName) (names : List (Option Span)) (end : ℕ)
+      → listed_name column (tokens_from line column) ≡ element → element.goes_on ≡ true → AreNames line element.end names end
+      → AreNames line column (element.name ∷ names) end

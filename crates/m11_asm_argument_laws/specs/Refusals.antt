@@ -54,22 +54,22 @@ pub record IsSingleText (line : Bytes) (first : Actual) : Type 0 where
   pub second : next_actual line (separator_at line first.end).end false ≡ None
   pub comma : (separator_at line first.end).has_comma ≡ false
 
--- a condition whose arguments begin at a place lacks one of them
-pub data LacksArgument (line : Bytes) (place : ℕ) (condition : Condition) : Type 0 where
-  WithoutNumber : asks_number condition ≡ true → has_expression line place ≡ false → LacksArgument line place condition
-  WithBadName : asks_names condition ≡ true → HasBadName (tokens_from line place) → LacksArgument line place condition
-  WithoutText : asks_texts condition ≡ true → next_actual line place false ≡ None → LacksArgument line place condition
-  WithOneText : asks_texts condition ≡ true → (first : Actual) → next_actual line place false ≡ Some first
-      → IsSingleText line first → LacksArgument line place condition
+-- a condition whose arguments begin at a column lacks one of them
+pub data LacksArgument (line : Bytes) (column : ℕ) (condition : Condition) : Type 0 where
+  WithoutNumber : asks_number condition ≡ true → has_expression line column ≡ false → LacksArgument line column condition
+  WithBadName : asks_names condition ≡ true → HasBadName (tokens_from line column) → LacksArgument line column condition
+  WithoutText : asks_texts condition ≡ true → next_actual line column false ≡ None → LacksArgument line column condition
+  WithOneText : asks_texts condition ≡ true → (first : Actual) → next_actual line column false ≡ Some first
+      → IsSingleText line first → LacksArgument line column condition
 
--- a condition that begins at a place is refused
-pub data IsRefused (line : Bytes) (place : ℕ) : Type 0 where
+-- a condition that begins at a column is refused
+pub data IsRefused (line : Bytes) (column : ℕ) : Type 0 where
   -- nothing stands there
-  Unnamed : tokens_from line place ≡ [] → IsRefused line place
+  Unnamed : tokens_from line column ≡ [] → IsRefused line column
   -- what stands there is no name of a condition
-  Unknown : (name : Lexeme) (tokens : List Lexeme) → tokens_from line place ≡ name ∷ tokens
-      → condition_of name.sort name.text ≡ None → IsRefused line place
+  Unknown : (name : Lexeme) (tokens : List Lexeme) → tokens_from line column ≡ name ∷ tokens
+      → condition_of name.sort name.text ≡ None → IsRefused line column
   -- after its name an argument is bad or missing
-  Lacking : (name : Lexeme) (tokens : List Lexeme) (condition : Condition) → tokens_from line place ≡ name ∷ tokens
+  Lacking : (name : Lexeme) (tokens : List Lexeme) (condition : Condition) → tokens_from line column ≡ name ∷ tokens
       → condition_of name.sort name.text ≡ Some condition
-      → LacksArgument line (separator_at line name.end).end condition → IsRefused line place
+      → LacksArgument line (separator_at line name.end).end condition → IsRefused line column

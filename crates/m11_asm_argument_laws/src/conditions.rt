@@ -12,16 +12,16 @@ ghost use Rattle.m11_scan.specs.ErrorFlags.{flag_A};
 /// A condition that is refused, since its name is unknown or an argument of it bad or missing, doesn't hold and has A, whatever
 /// names stand for.
 pub fn refused_conditions_do_not_hold()
-    ensures off { (known : Known) (line : Bytes) (place : ℕ) → IsRefused line place
-        → (condition known line place).holds ≡ false }
-    ensures flagged { (known : Known) (line : Bytes) (place : ℕ) → IsRefused line place
-        → HasFlag flag_A (condition known line place).flags }
+    ensures off { (known : Known) (line : Bytes) (column : ℕ) → IsRefused line column
+        → (condition known line column).holds ≡ false }
+    ensures flagged { (known : Known) (line : Bytes) (column : ℕ) → IsRefused line column
+        → HasFlag flag_A (condition known line column).flags }
 {}
 
 /// A repeat whose number is missing has no round, and A.
 pub fn a_repeat_without_a_number_has_no_round()
-    ensures none { (known : Known) (line : Bytes) (place : ℕ) → has_expression line place ≡ false
-        → rept_count known line place ≡ 0 }
-    ensures flagged { (known : Known) (line : Bytes) (place : ℕ) → has_expression line place ≡ false
-        → HasFlag flag_A (notes known line place).flags }
+    ensures none { (known : Known) (line : Bytes) (column : ℕ) → has_expression line column ≡ false
+        → rept_count known line column ≡ 0 }
+    ensures flagged { (known : Known) (line : Bytes) (column : ℕ) → has_expression line column ≡ false
+        → HasFlag flag_A (notes known line column).flags }
 {}

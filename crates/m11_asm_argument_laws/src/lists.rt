@@ -12,20 +12,20 @@ ghost use Rattle.m11_asm_rules.specs.Elements.{names_at};
 
 /// The formals of a macro are all that stand one after the other: no bound cuts them off.
 pub fn formals_stand_one_after_the_other()
-    ensures { (line : Bytes) (place : ℕ) → length line ≤ line_limit
-        → AreFormals line place (formals_after line place).list (formals_after line place).flags }
+    ensures { (line : Bytes) (column : ℕ) → length line ≤ line_limit
+        → AreFormals line column (formals_after line column).list (formals_after line column).flags }
 {}
 
 /// A call takes its actuals in their order: where enough are wanted all that stand one after the other, and else the first of
 /// them.
 pub fn actuals_stand_one_after_the_other()
-    ensures all { (known : Known) (line : Bytes) (wanted place : ℕ) → length line ≤ place + wanted
-        → AreActuals known line place (actuals_from known line wanted place) }
-    ensures first { (known : Known) (line : Bytes) (wanted place : ℕ) (all : Given) → AreActuals known line place all
-        → (actuals_from known line wanted place).texts ≡ take wanted all.texts }
+    ensures all { (known : Known) (line : Bytes) (wanted column : ℕ) → length line ≤ column + wanted
+        → AreActuals known line column (actuals_from known line wanted column) }
+    ensures first { (known : Known) (line : Bytes) (wanted column : ℕ) (all : Given) → AreActuals known line column all
+        → (actuals_from known line wanted column).texts ≡ take wanted all.texts }
 {}
 
 /// The names of a list, as that of `.GLOBL`, are all that stand one after the other, each with a comma before the next.
 pub fn names_stand_one_after_the_other()
-    ensures { (line : Bytes) (place : ℕ) → AreNames line place (names_at line place).list (names_at line place).end }
+    ensures { (line : Bytes) (column : ℕ) → AreNames line column (names_at line column).list (names_at line column).end }
 {}

@@ -18,23 +18,23 @@ step_on done new first rest more adds same =
     ∙ followed_joins done first rest
     ∙ ap (λ (p : Put). followed_by done (followed_by first p)) same
 
-module _ (map : Map) (table : Table) (line : List ℕ) (done new : Put) (place next start : ℕ) (value : Quantity)
-    (is : value ≡ element_value (known_at map MayBeGlobal table place) line start) where
-  pub word_on : new ≡ followed_by done (word table false place value) → next ≡ further place 2 → (starts : List ℕ)
-      → followed_by new (words_from map table line next starts) ≡ followed_by done (words_from map table line place (start ∷ starts))
+module _ (map : Map) (table : Table) (line : List ℕ) (done new : Put) (location next start : ℕ) (value : Quantity)
+    (is : value ≡ element_value (known_at map MayBeGlobal table location) line start) where
+  pub word_on : new ≡ followed_by done (word table false location value) → next ≡ further location 2 → (starts : List ℕ)
+      → followed_by new (words_from map table line next starts) ≡ followed_by done (words_from map table line location (start ∷ starts))
   word_on adds goes starts =
-      step_on done new (word table false place value) (words_from map table line next starts)
-      (words_from map table line (further place 2) starts) adds (ap (λ (n : ℕ). words_from map table line n starts) goes)
-      ∙ ap (λ (p : Put). followed_by done (followed_by p (words_from map table line (further place 2) starts)))
-      (ap (λ (q : Quantity). word table false place q) is)
+      step_on done new (word table false location value) (words_from map table line next starts)
+      (words_from map table line (further location 2) starts) adds (ap (λ (n : ℕ). words_from map table line n starts) goes)
+      ∙ ap (λ (p : Put). followed_by done (followed_by p (words_from map table line (further location 2) starts)))
+      (ap (λ (q : Quantity). word table false location q) is)
 
-  pub byte_on : new ≡ followed_by done (byte table place value) → next ≡ further place 1 → (starts : List ℕ)
-      → followed_by new (bytes_from map table line next starts) ≡ followed_by done (bytes_from map table line place (start ∷ starts))
+  pub byte_on : new ≡ followed_by done (byte table location value) → next ≡ further location 1 → (starts : List ℕ)
+      → followed_by new (bytes_from map table line next starts) ≡ followed_by done (bytes_from map table line location (start ∷ starts))
   byte_on adds goes starts =
-      step_on done new (byte table place value) (bytes_from map table line next starts)
-      (bytes_from map table line (further place 1) starts) adds (ap (λ (n : ℕ). bytes_from map table line n starts) goes)
-      ∙ ap (λ (p : Put). followed_by done (followed_by p (bytes_from map table line (further place 1) starts)))
-      (ap (λ (q : Quantity). byte table place q) is)
+      step_on done new (byte table location value) (bytes_from map table line next starts)
+      (bytes_from map table line (further location 1) starts) adds (ap (λ (n : ℕ). bytes_from map table line n starts) goes)
+      ∙ ap (λ (p : Put). followed_by done (followed_by p (bytes_from map table line (further location 1) starts)))
+      (ap (λ (q : Quantity). byte table location q) is)
 
 -- an element that isn't empty
 pub of_element : (known : Known) (line : List ℕ) (start : ℕ) (value : Quantity) (has : Bool) → has ≡ true

@@ -8,13 +8,13 @@ use Rattle.m11_asm_rules.specs.Strings.{part_bytes, part_size, parts_bytes}
 use Rattle.m11_asm_rules.specs.Tables.{Table}
 use Rattle.m11_scan_statements.specs.declared.parts.Part.{Part}
 
-pub part_on : (known : Map) (table : Table) (line : List ℕ) (done new : Put) (place next : ℕ) (part : Part)
-    → new ≡ followed_by done (part_bytes known table place line part part.kind)
-    → next ≡ further place (part_size line part part.kind) → (parts : List Part)
-    → followed_by new (parts_bytes known table next line parts) ≡ followed_by done (parts_bytes known table place line (part ∷ parts))
-part_on known table line done new place next part adds goes parts =
-    step_on done new (part_bytes known table place line part part.kind) (parts_bytes known table next line parts)
-    (parts_bytes known table (further place (part_size line part part.kind)) line parts) adds
+pub part_on : (known : Map) (table : Table) (line : List ℕ) (done new : Put) (location next : ℕ) (part : Part)
+    → new ≡ followed_by done (part_bytes known table location line part part.kind)
+    → next ≡ further location (part_size line part part.kind) → (parts : List Part)
+    → followed_by new (parts_bytes known table next line parts) ≡ followed_by done (parts_bytes known table location line (part ∷ parts))
+part_on known table line done new location next part adds goes parts =
+    step_on done new (part_bytes known table location line part part.kind) (parts_bytes known table next line parts)
+    (parts_bytes known table (further location (part_size line part part.kind)) line parts) adds
     (ap (λ (n : ℕ). parts_bytes known table n line parts) goes)
 
 pub character_on : (done new : Put) (character number : ℕ) (text : List ℕ) → number ≡ character

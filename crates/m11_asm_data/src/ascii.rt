@@ -33,14 +33,14 @@ pub fn asciz_size(line: &Line, start: usize) -> u16
 pub fn put_ascii(put: &mut Put, line_context: &LineContext, start: usize) -> Result<(), AllocError>
     requires { start ≤ length line_context.now.line }
     ensures { IfOk result (λ _. put.new ≡ followed_by put.old
-        (spec.ascii line_context.now.map line_context.now.table line_context.now.place line_context.now.line start)) }
+        (spec.ascii line_context.now.map line_context.now.table line_context.now.location line_context.now.line start)) }
 {
     let parts = parts_at(line_context.line(), start);
     put.add_flags(text_flags(line_context.line(), start, &parts));
     put_parts(
         put,
         line_context,
-        line_context.place(),
+        line_context.location(),
         parts.list.as_slice(),
     )
 }
@@ -49,7 +49,7 @@ pub fn put_ascii(put: &mut Put, line_context: &LineContext, start: usize) -> Res
 pub fn put_asciz(put: &mut Put, line_context: &LineContext, start: usize) -> Result<(), AllocError>
     requires { start ≤ length line_context.now.line }
     ensures { IfOk result (λ _. put.new ≡ followed_by put.old
-        (spec.asciz line_context.now.map line_context.now.table line_context.now.place line_context.now.line start)) }
+        (spec.asciz line_context.now.map line_context.now.table line_context.now.location line_context.now.line start)) }
 {
     put_ascii(put, line_context, start)?;
     put.add_fixed_byte(0)
@@ -59,49 +59,49 @@ pub fn put_asciz(put: &mut Put, line_context: &LineContext, start: usize) -> Res
 fn put_parts(
     put: &mut Put,
     line_context: &LineContext,
-    place: u16,
+    location: u16,
     parts: &[Part],
 ) -> Result<(), AllocError>
     ensures { IfOk result (λ _. put.new ≡ followed_by put.old
-        (spec.parts_bytes line_context.now.map line_context.now.table place line_context.now.line parts.now)) }
+        (spec.parts_bytes line_context.now.map line_context.now.table location line_context.now.line parts.now)) }
 {
-    let mut place = place;
+    let mut location = location;
     'parts: for part in parts {
-        place = put_part(put, line_context, place, *part)?;
+        location = put_part(put, line_context, location, *part)?;
     }
     Ok(())
 }
 
-// The bytes of a part, and the place after it.
+// The bytes of a part, and the location after it.
 fn put_part(
     put: &mut Put,
     line_context: &LineContext,
-    place: u16,
+    location: u16,
     part: Part,
 ) -> Result<u16, AllocError>
     ensures { IfOk result (λ next. (parts : List Part)
         → followed_by put.new (spec.parts_bytes line_context.now.map line_context.now.table next line_context.now.line parts)
-        ≡ followed_by put.old (spec.parts_bytes line_context.now.map line_context.now.table place line_context.now.line (part ∷ parts))) }
+        ≡ followed_by put.old (spec.parts_bytes line_context.now.map line_context.now.table location line_context.now.line (part ∷ parts))) }
 {
-    put_part_bytes(put, line_context, place, part)?;
-    Ok(further(place, part_size(line_context.line(), part)))
+    put_part_bytes(put, line_context, location, part)?;
+    Ok(further(location, part_size(line_context.line(), part)))
 }
 
-// The bytes of a part. An expression is one as in a `.BYTE`, and `.` in it is its own place.
+// The bytes of a part. An expression is one as in a `.BYTE`, and `.` in it is its own location.
 fn put_part_bytes(
     put: &mut Put,
     line_context: &LineContext,
-    place: u16,
+    location: u16,
     part: Part,
 ) -> Result<(), AllocError>
     ensures { IfOk result (λ _. put.new ≡ followed_by put.old
-        (spec.part_bytes line_context.now.map line_context.now.table place line_context.now.line part part.kind)) }
+        (spec.part_bytes line_context.now.map line_context.now.table location line_context.now.line part part.kind)) }
 {
     match part.kind {
         PartKind::Text => put_characters(put, part.inside.text(line_context.line())),
         PartKind::Expression => {
-            let value = line_context.at(place).reference(part.inside.start);
-            put_byte(put, line_context, place, value)
+            let value = line_context.at(location).reference(part.inside.start);
+            put_byte(put, line_context, location, value)
         }
     }
 }

@@ -14,7 +14,7 @@ ghost use Rattle.m11_asm_data.specs.Seen.{parts_seen};
 use crate::parts::Parts;
 use m11_scan::{ErrorFlags, Line};
 use m11_scan_statements::{Part, PartKind};
-use m11_unfold_arguments::{left_over, place_in, skip_flags};
+use m11_unfold_arguments::{column_in, left_over, skip_flags};
 
 // The flags of a text: A where it has no part; those of its parts; and those of what is left over.
 pub(crate) fn text_flags(line: &Line, start: usize, parts: &Parts) -> ErrorFlags
@@ -23,7 +23,7 @@ pub(crate) fn text_flags(line: &Line, start: usize, parts: &Parts) -> ErrorFlags
     ensures { bits_of result ≡ spec.text_flags line.now.text start (parts_seen parts.now) }
 {
     let list = parts.list.as_slice();
-    let flags = empty_flags(list).with(parts_flags(line, place_in(line, start), list));
+    let flags = empty_flags(list).with(parts_flags(line, column_in(line, start), list));
     flags.with(left_over(line, usize::from(parts.end)))
 }
 
@@ -40,40 +40,40 @@ fn is_empty(parts: &[Part]) -> bool
     matches!(parts, [])
 }
 
-// The flags of parts that begin after a place.
+// The flags of parts that begin after a column.
 fn parts_flags(line: &Line, start: u8, parts: &[Part]) -> ErrorFlags
     ensures { bits_of result ≡ spec.parts_flags line.now.text start parts.now }
 {
     let mut flags = ErrorFlags::none();
-    let mut place = start;
+    let mut column = start;
     'parts: for part in parts {
-        flags = with_part(flags, line, place, *part);
-        place = part.end;
+        flags = with_part(flags, line, column, *part);
+        column = part.end;
     }
     flags
 }
 
-// Flags with those of a part that stands next after a place.
-fn with_part(flags: ErrorFlags, line: &Line, place: u8, part: Part) -> ErrorFlags
+// Flags with those of a part that stands next after a column.
+fn with_part(flags: ErrorFlags, line: &Line, column: u8, part: Part) -> ErrorFlags
     ensures { (parts : List Part) → bit_or (bits_of result) (spec.parts_flags line.now.text part.end parts)
-        ≡ bit_or (bits_of flags) (spec.parts_flags line.now.text place (part ∷ parts)) }
+        ≡ bit_or (bits_of flags) (spec.parts_flags line.now.text column (part ∷ parts)) }
 {
-    flags.with(flags_of(line, usize::from(place), part))
+    flags.with(flags_of(line, usize::from(column), part))
 }
 
 // The flags of such a part.
-fn flags_of(line: &Line, place: usize, part: Part) -> ErrorFlags
-    ensures { bits_of result ≡ bit_or (spec.skipped_flags line.now.text place part) (part_flags part) }
+fn flags_of(line: &Line, column: usize, part: Part) -> ErrorFlags
+    ensures { bits_of result ≡ bit_or (spec.skipped_flags line.now.text column part) (part_flags part) }
 {
-    skipped_flags(line, place, part).with(part.flags())
+    skipped_flags(line, column, part).with(part.flags())
 }
 
 // I for a character that is skipped before a part, or in its expression.
-fn skipped_flags(line: &Line, place: usize, part: Part) -> ErrorFlags
-    ensures { bits_of result ≡ spec.skipped_flags line.now.text place part }
+fn skipped_flags(line: &Line, column: usize, part: Part) -> ErrorFlags
+    ensures { bits_of result ≡ spec.skipped_flags line.now.text column part }
 {
     let begin = usize::from(part.inside.start).saturating_sub(1);
-    skip_flags(line, place, begin).with(inside_flags(line, part))
+    skip_flags(line, column, begin).with(inside_flags(line, part))
 }
 
 fn inside_flags(line: &Line, part: Part) -> ErrorFlags

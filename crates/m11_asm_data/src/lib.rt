@@ -1,4 +1,4 @@
-//! What the directives of data put at their places, with sizes and flags: `.WORD`, `.BYTE` and `.LIMIT`, the texts of `.ASCII`, `.ASCIZ`
+//! What the directives of data put at their locations, with sizes and flags: `.WORD`, `.BYTE` and `.LIMIT`, the texts of `.ASCII`, `.ASCIZ`
 //! and `.RAD50`, and the room of `.BLKB` and `.BLKW`. (MACRO-11 Language Reference Manual, "General assembler directives" and "Relocation
 //! and linking".)
 #![tactic(auto)]

@@ -7,7 +7,7 @@ ghost use Rattle.m11_asm_data.specs.Seen.{parts_seen};
 use arrayvec::ArrayVec;
 use m11_scan::Line;
 use m11_scan_statements::{Part, PartKind, next_part};
-use m11_unfold_arguments::place_in;
+use m11_unfold_arguments::column_in;
 
 /// The most parts of a line: each has two characters or more, but for the last one, which may lack its end.
 pub const PART_LIMIT: usize = 66;
@@ -17,11 +17,11 @@ pub const PART_LIMIT: usize = 66;
 pub struct Parts {
     /// The parts, in order.
     pub list: ArrayVec<Part, PART_LIMIT>,
-    /// The place after the last one. What stands after it is left over.
+    /// The column after the last one. What stands after it is left over.
     pub end: u8,
 }
 
-/// The parts of a text that begins at a place of a line.
+/// The parts of a text that begins at a column of a line.
 pub fn parts_at(line: &Line, start: usize) -> Parts
     requires { start ≤ length line.now.text }
     ensures parts { parts_seen result ≡ spec.parts_at line.now.text start }
@@ -29,13 +29,13 @@ pub fn parts_at(line: &Line, start: usize) -> Parts
 {
     let mut list = ArrayVec::new();
     let mut is_first = true;
-    let mut place = start;
+    let mut column = start;
     let mut left = line.text().len() + 1;
     'parts: while left > 0 {
-        let Some(part) = next_part(line, place, is_first) else {
+        let Some(part) = next_part(line, column, is_first) else {
             return Parts {
                 list,
-                end: place_in(line, place),
+                end: column_in(line, column),
             };
         };
         list.push(part);
@@ -45,13 +45,13 @@ pub fn parts_at(line: &Line, start: usize) -> Parts
                 end: part.end,
             };
         }
-        place = usize::from(part.end);
+        column = usize::from(part.end);
         is_first = false;
         left -= 1;
     }
     Parts {
         list,
-        end: place_in(line, place),
+        end: column_in(line, column),
     }
 }
 
@@ -81,7 +81,7 @@ fn parts_size(line: &Line, parts: &[Part]) -> u16
     size
 }
 
-/// How many bytes the parts of a text take that begins at a place of a line.
+/// How many bytes the parts of a text take that begins at a column of a line.
 pub(crate) fn text_size(line: &Line, start: usize) -> u16
     requires { start ≤ length line.now.text }
     ensures size { result ≡ spec.parts_size line.now.text (spec.parts_at line.now.text start).list }

@@ -29,7 +29,7 @@ pub fn rad50_size(line: &Line, start: usize) -> u16
 pub fn put_rad50(put: &mut Put, line_context: &LineContext, start: usize) -> Result<(), AllocError>
     requires { start ≤ length line_context.now.line }
     ensures { IfOk result (λ _. put.new ≡ followed_by put.old
-        (spec.rad50 line_context.now.map line_context.now.table line_context.now.place line_context.now.line start)) }
+        (spec.rad50 line_context.now.map line_context.now.table line_context.now.location line_context.now.line start)) }
 {
     let parts = parts_at(line_context.line(), start);
     put.add_flags(text_flags(line_context.line(), start, &parts));

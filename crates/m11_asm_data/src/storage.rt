@@ -41,25 +41,25 @@ pub fn byte_size(line: &Line, start: usize) -> u16
 // How many elements a list has.
 fn element_count(line: &Line, start: usize) -> u16
     requires { start ≤ length line.now.text }
-    ensures count { result ≡ length (elements.elements_at line.now.text start).places }
+    ensures count { result ≡ length (elements.elements_at line.now.text start).columns }
     ensures most { result ≤ 133 }
 {
-    elements_at(line, start).places.as_slice().len() as u16
+    elements_at(line, start).columns.as_slice().len() as u16
 }
 
 /// The words of a `.WORD`. Error: memory may be refused.
 pub fn put_words(put: &mut Put, line_context: &LineContext, start: usize) -> Result<(), AllocError>
     requires { start ≤ length line_context.now.line }
     ensures { IfOk result (λ _. put.new ≡ followed_by put.old
-        (spec.words line_context.now.map line_context.now.table line_context.now.place line_context.now.line start)) }
+        (spec.words line_context.now.map line_context.now.table line_context.now.location line_context.now.line start)) }
 {
     let elements = elements_at(line_context.line(), start);
     put.add_flags(end_flags(line_context.line(), start, usize::from(elements.end)));
     put_words_from(
         put,
         line_context,
-        line_context.place(),
-        elements.places.as_slice(),
+        line_context.location(),
+        elements.columns.as_slice(),
     )
 }
 
@@ -67,48 +67,48 @@ pub fn put_words(put: &mut Put, line_context: &LineContext, start: usize) -> Res
 fn put_words_from(
     put: &mut Put,
     line_context: &LineContext,
-    place: u16,
+    location: u16,
     starts: &[u8],
 ) -> Result<(), AllocError>
     ensures { IfOk result (λ _. put.new ≡ followed_by put.old
-        (spec.words_from line_context.now.map line_context.now.table line_context.now.line place starts.now)) }
+        (spec.words_from line_context.now.map line_context.now.table line_context.now.line location starts.now)) }
 {
-    let mut place = place;
+    let mut location = location;
     'elements: for start in starts {
-        place = put_element_word(put, line_context, place, *start)?;
+        location = put_element_word(put, line_context, location, *start)?;
     }
     Ok(())
 }
 
-// An element as a word, and the place after it.
+// An element as a word, and the location after it.
 fn put_element_word(
     put: &mut Put,
     line_context: &LineContext,
-    place: u16,
+    location: u16,
     start: u8,
 ) -> Result<u16, AllocError>
     ensures { IfOk result (λ next. (starts : List ℕ)
         → followed_by put.new (spec.words_from line_context.now.map line_context.now.table line_context.now.line next starts)
-        ≡ followed_by put.old (spec.words_from line_context.now.map line_context.now.table line_context.now.line place (start ∷ starts))) }
+        ≡ followed_by put.old (spec.words_from line_context.now.map line_context.now.table line_context.now.line location (start ∷ starts))) }
 {
-    let value = element_value(line_context, place, start);
-    put_word(put, line_context, false, place, value)?;
-    Ok(further(place, 2))
+    let value = element_value(line_context, location, start);
+    put_word(put, line_context, false, location, value)?;
+    Ok(further(location, 2))
 }
 
 /// The bytes of a `.BYTE`. Error: memory may be refused.
 pub fn put_bytes(put: &mut Put, line_context: &LineContext, start: usize) -> Result<(), AllocError>
     requires { start ≤ length line_context.now.line }
     ensures { IfOk result (λ _. put.new ≡ followed_by put.old
-        (spec.bytes line_context.now.map line_context.now.table line_context.now.place line_context.now.line start)) }
+        (spec.bytes line_context.now.map line_context.now.table line_context.now.location line_context.now.line start)) }
 {
     let elements = elements_at(line_context.line(), start);
     put.add_flags(end_flags(line_context.line(), start, usize::from(elements.end)));
     put_bytes_from(
         put,
         line_context,
-        line_context.place(),
-        elements.places.as_slice(),
+        line_context.location(),
+        elements.columns.as_slice(),
     )
 }
 
@@ -116,48 +116,48 @@ pub fn put_bytes(put: &mut Put, line_context: &LineContext, start: usize) -> Res
 fn put_bytes_from(
     put: &mut Put,
     line_context: &LineContext,
-    place: u16,
+    location: u16,
     starts: &[u8],
 ) -> Result<(), AllocError>
     ensures { IfOk result (λ _. put.new ≡ followed_by put.old
-        (spec.bytes_from line_context.now.map line_context.now.table line_context.now.line place starts.now)) }
+        (spec.bytes_from line_context.now.map line_context.now.table line_context.now.line location starts.now)) }
 {
-    let mut place = place;
+    let mut location = location;
     'elements: for start in starts {
-        place = put_element_byte(put, line_context, place, *start)?;
+        location = put_element_byte(put, line_context, location, *start)?;
     }
     Ok(())
 }
 
-// An element as a byte, and the place after it.
+// An element as a byte, and the location after it.
 fn put_element_byte(
     put: &mut Put,
     line_context: &LineContext,
-    place: u16,
+    location: u16,
     start: u8,
 ) -> Result<u16, AllocError>
     ensures { IfOk result (λ next. (starts : List ℕ)
         → followed_by put.new (spec.bytes_from line_context.now.map line_context.now.table line_context.now.line next starts)
-        ≡ followed_by put.old (spec.bytes_from line_context.now.map line_context.now.table line_context.now.line place (start ∷ starts))) }
+        ≡ followed_by put.old (spec.bytes_from line_context.now.map line_context.now.table line_context.now.line location (start ∷ starts))) }
 {
-    let value = element_value(line_context, place, start);
-    put_byte(put, line_context, place, value)?;
-    Ok(further(place, 1))
+    let value = element_value(line_context, location, start);
+    put_byte(put, line_context, location, value)?;
+    Ok(further(location, 1))
 }
 
-// What an element stands for at its own place, which is `.` in it. An empty one counts as 0.
-fn element_value(line_context: &LineContext, place: u16, start: u8) -> Value
+// What an element stands for at its own location, which is `.` in it. An empty one counts as 0.
+fn element_value(line_context: &LineContext, location: u16, start: u8) -> Value
     ensures { quantity result ≡ element_value
-        (known_at line_context.now.map MayBeGlobal line_context.now.table place) line_context.now.line start }
+        (known_at line_context.now.map MayBeGlobal line_context.now.table location) line_context.now.line start }
 {
     if has_element(line_context.line(), start) {
-        line_context.at(place).reference(start)
+        line_context.at(location).reference(start)
     } else {
         Value::absolute(0, ErrorFlags::none())
     }
 }
 
-// Whether some expression stands at a place of a line. After its end there is none, as at its end.
+// Whether some expression stands at a column of a line. After its end there is none, as at its end.
 fn has_element(line: &Line, start: u8) -> bool
     ensures { result ≡ has_expression line.now.text start }
 {
@@ -187,50 +187,50 @@ pub fn put_limits(put: &mut Put, line_context: &LineContext, start: usize) -> Re
 }
 
 /// The size of a `.BLKB` in bytes.
-pub fn blkb_size(table: &Table, place: u16, line: &Line, start: usize) -> u32
+pub fn blkb_size(table: &Table, location: u16, line: &Line, start: usize) -> u32
     requires { start ≤ length line.now.text }
-    ensures size { result ≡ spec.blkb_size table.now place line.now.text start }
+    ensures size { result ≡ spec.blkb_size table.now location line.now.text start }
     ensures most { result ≤ 65535 }
 {
-    u32::from(block_count(table, place, line, start))
+    u32::from(block_count(table, location, line, start))
 }
 
 /// The size of a `.BLKW` in bytes.
-pub fn blkw_size(table: &Table, place: u16, line: &Line, start: usize) -> u32
+pub fn blkw_size(table: &Table, location: u16, line: &Line, start: usize) -> u32
     requires { start ≤ length line.now.text }
-    ensures size { result ≡ spec.blkw_size table.now place line.now.text start }
+    ensures size { result ≡ spec.blkw_size table.now location line.now.text start }
     ensures most { result ≤ 131070 }
 {
-    u32::from(block_count(table, place, line, start)) * 2
+    u32::from(block_count(table, location, line, start)) * 2
 }
 
 // How many bytes or words a block has: 1 where nothing says it. It is asked of firm names.
-fn block_count(table: &Table, place: u16, line: &Line, start: usize) -> u16
+fn block_count(table: &Table, location: u16, line: &Line, start: usize) -> u16
     requires { start ≤ length line.now.text }
-    ensures { result ≡ spec.block_count table.now place line.now.text start }
+    ensures { result ≡ spec.block_count table.now location line.now.text start }
 {
     if has_expression(line, start) {
-        firm_value(table, place, line, start).number
+        firm_value(table, location, line, start).number
     } else {
         1
     }
 }
 
-fn firm_value(table: &Table, place: u16, line: &Line, start: usize) -> Value
+fn firm_value(table: &Table, location: u16, line: &Line, start: usize) -> Value
     requires { start ≤ length line.now.text }
-    ensures { quantity result ≡ value_at (firm_known table.now place) line.now.text start }
+    ensures { quantity result ≡ value_at (firm_known table.now location) line.now.text start }
 {
-    let names = FirmNames::new(table, place);
+    let names = FirmNames::new(table, location);
     value_at(line, start, &names)
 }
 
 /// The flags of a `.BLKB` or `.BLKW`: those of its count, and of what is left over.
-pub fn block_flags(table: &Table, place: u16, line: &Line, start: usize) -> ErrorFlags
+pub fn block_flags(table: &Table, location: u16, line: &Line, start: usize) -> ErrorFlags
     requires { start ≤ length line.now.text }
-    ensures { bits_of result ≡ spec.block_flags table.now place line.now.text start }
+    ensures { bits_of result ≡ spec.block_flags table.now location line.now.text start }
 {
     if has_expression(line, start) {
-        let flags = count_flags(table, place, line, start);
+        let flags = count_flags(table, location, line, start);
         flags.with(left_over(line, expression_end(line, start)))
     } else {
         left_over(line, start)
@@ -238,11 +238,11 @@ pub fn block_flags(table: &Table, place: u16, line: &Line, start: usize) -> Erro
 }
 
 // The flags of a count: it has to be an absolute number.
-fn count_flags(table: &Table, place: u16, line: &Line, start: usize) -> ErrorFlags
+fn count_flags(table: &Table, location: u16, line: &Line, start: usize) -> ErrorFlags
     requires { start ≤ length line.now.text }
-    ensures { bits_of result ≡ number_flags (firm_known table.now place) line.now.text start }
+    ensures { bits_of result ≡ number_flags (firm_known table.now location) line.now.text start }
 {
-    let value = firm_value(table, place, line, start);
+    let value = firm_value(table, location, line, start);
     let flags = value.flags.with(value.kind.absence());
     flags.with(skip_flags(line, start, expression_end(line, start)))
 }

@@ -7,15 +7,15 @@ use Rattle.m11_scan.specs.Cutting.{text_between}
 use Rattle.m11_scan_statements.specs.declared.spans.Span.{Span}
 use Rattle.m11_asm_rules.specs.Changes as changes
 use Rattle.m11_asm_rules.specs.Elements.{with_name}
-use Rattle.m11_asm_rules.specs.Places as places
+use Rattle.m11_asm_rules.specs.Locations as locations
 use Rattle.m11_asm_directives.specs.declared.changes.Change.{Change}
 use Rattle.m11_asm_directives.specs.declared.changes.Change.TheVariants.{Keeps, Counts, Selects, Numbers, Exports, Sets}
 use Rattle.m11_asm_directives.specs.declared.changes.Move.{Move}
 use Rattle.m11_asm_directives.specs.declared.changes.Move.TheVariants.{Steps, Goes}
 
-abbrev pub move_seen : Move → places.Move
-move_seen (Steps size) = places.Steps size
-move_seen (Goes place) = places.Goes place
+abbrev pub move_seen : Move → locations.Move
+move_seen (Steps size) = locations.Steps size
+move_seen (Goes location) = locations.Goes location
 
 -- the name of an element, if it is one
 abbrev pub name_in : Bytes → Option Span → Option Name

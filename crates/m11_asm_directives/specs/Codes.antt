@@ -11,6 +11,6 @@ coded_by character None = 0o40
 abbrev pub coded : ℕ → ℕ
 coded character = coded_by character (code_of character)
 
--- the character of a text at a place; a blank where it has no code, and after the end of the text
+-- the character of a text at a column; a blank where it has no code, and after the end of the text
 abbrev pub coded_at : Bytes → ℕ → ℕ
-coded_at text place = if nat_lt place (length text) then coded (slice_index text place) else 0o40
+coded_at text location = if nat_lt location (length text) then coded (slice_index text location) else 0o40

@@ -6,7 +6,7 @@ ghost use Rattle.m11_scan.specs.Views.{bits_of};
 ghost use Rattle.m11_scan_values.specs.Quantities.{quantity};
 ghost use Rattle.m11_asm_rules.specs.Assigning as spec;
 ghost use Rattle.m11_asm_rules.specs.Meanings.{known_at};
-ghost use Rattle.m11_asm_rules.specs.Tables.{place};
+ghost use Rattle.m11_asm_rules.specs.Tables.{location};
 ghost use Rattle.m11_asm_rules.specs.declared.meanings.Context.TheVariants.{LocalOnly};
 ghost use Rattle.m11_asm_directives.specs.Changes.{change_seen};
 
@@ -45,10 +45,10 @@ pub fn assignment_flags(
     target_flags(map, table, target(line, name)).with(flags)
 }
 
-/// The value of the expression at a place, where a name that no line defines is unknown.
+/// The value of the expression at a column, where a name that no line defines is unknown.
 pub fn known_value(map: &Map<'_>, table: &Table, line: &Line, start: usize) -> Value
     requires { start ≤ length line.now.text }
-    ensures { quantity result ≡ value_at (known_at map.now LocalOnly table.now (place table.now)) line.now.text start }
+    ensures { quantity result ≡ value_at (known_at map.now LocalOnly table.now (location table.now)) line.now.text start }
 {
     known_value_by(map, table, line, start, single_term(line, start))
 }
@@ -63,13 +63,13 @@ pub fn known_value_by(
 ) -> Value
     requires within { start ≤ length line.now.text }
     requires term { IfSome term (λ term. IsAlone line.now.text start term) }
-    ensures { quantity result ≡ value_at (known_at map.now LocalOnly table.now (place table.now)) line.now.text start }
+    ensures { quantity result ≡ value_at (known_at map.now LocalOnly table.now (location table.now)) line.now.text start }
 {
-    let names = NamesAt::new(map, Context::LocalOnly, table, table.place());
+    let names = NamesAt::new(map, Context::LocalOnly, table, table.location());
     value_by(line, start, term, &names)
 }
 
-// Q for what stands after the expression at a place.
+// Q for what stands after the expression at a column.
 fn after_expression(line: &Line, start: usize) -> ErrorFlags
     requires { start ≤ length line.now.text }
     ensures { bits_of result ≡ spec.after_expression line.now.text start }
@@ -136,7 +136,7 @@ fn is_unknown_as(standing: Standing) -> bool
     }
 }
 
-/// What `.=` changes: the counter is set to a place of its section, and to no other.
+/// What `.=` changes: the counter is set to a location of its section, and to no other.
 pub fn counter_change(table: &Table, line: &Line, start: usize) -> Change
     requires { start ≤ length line.now.text }
     ensures { change_seen result ≡ spec.counter_change table.now line.now.text start }
@@ -149,7 +149,7 @@ pub fn counter_change(table: &Table, line: &Line, start: usize) -> Change
     }
 }
 
-/// The flags of `.=`: those of its value, R for a register, A for a place outside the section, and Q for what stands after it.
+/// The flags of `.=`: those of its value, R for a register, A for a location outside the section, and Q for what stands after it.
 pub fn counter_flags(table: &Table, line: &Line, start: usize) -> ErrorFlags
     requires { start ≤ length line.now.text }
     ensures { bits_of result ≡ spec.counter_flags table.now line.now.text start }
@@ -176,11 +176,11 @@ fn outside_flags(table: &Table, value: Value) -> ErrorFlags
     }
 }
 
-// The value of a place, asked of firm names.
+// The value of a location, asked of firm names.
 fn counter_value(table: &Table, line: &Line, start: usize) -> Value
     requires { start ≤ length line.now.text }
     ensures { quantity result ≡ spec.counter_value table.now line.now.text start }
 {
-    let names = FirmNames::new(table, table.place());
+    let names = FirmNames::new(table, table.location());
     value_at(line, start, &names)
 }

@@ -9,7 +9,7 @@ use m11_base::Name;
 pub enum Move {
     /// It goes on by some bytes.
     Steps(u32),
-    /// It is set to a place.
+    /// It is set to a location.
     Goes(u16),
 }
 
@@ -24,7 +24,7 @@ pub enum Change {
     Selects(Name, u8),
     /// A name is assigned a number that no name decides.
     Numbers(Name, u16),
-    /// The names of the list at a place become global.
+    /// The names of the list at a column become global.
     Exports(u8),
     /// The radix, or what is listed.
     Sets(Modes),

@@ -55,11 +55,11 @@ fn first_six(text: &[u8]) -> &[u8]
     &text[..text.len().min(6)]
 }
 
-// A text's character at a place, where it has a code, and else a blank.
-fn coded_at(text: &[u8], place: usize) -> u8
-    ensures { result ≡ coded_at text.now place }
+// A text's character at an index, where it has a code, and else a blank.
+fn coded_at(text: &[u8], index: usize) -> u8
+    ensures { result ≡ coded_at text.now index }
 {
-    match text.get(place) {
+    match text.get(index) {
         Some(character) => coded(*character),
         None => b' ',
     }

@@ -1,4 +1,4 @@
-//! Directives that put nothing at a place, and direct assignments: what each changes for the lines after it, what it says of the whole
+//! Directives that put nothing at a location, and direct assignments: what each changes for the lines after it, what it says of the whole
 //! object, and its flags. (MACRO-11 Language Reference Manual, "General assembler directives", "Program section directives", "Listing
 //! control directives" and "Direct assignment statements".)
 #![tactic(auto)]

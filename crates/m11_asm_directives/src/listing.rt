@@ -33,7 +33,7 @@ const ENABLED_WORDS: [[u8; 6]; 2] = [*b"LC    ", *b"GBL   "];
 
 /// What a `.LIST` changes: the level goes up where nothing stands; with ME among its words, expansions are listed.
 pub fn list(modes: Modes, line: &Line, start: usize) -> Change
-    requires place { start ≤ length line.now.text }
+    requires column { start ≤ length line.now.text }
     requires counted { modes.listed < u64.MAX }
     ensures { change_seen result ≡ spec.list modes line.now.text start }
 {
@@ -49,7 +49,7 @@ pub fn list(modes: Modes, line: &Line, start: usize) -> Change
 
 /// What a `.NLIST` changes: the level goes down where nothing stands; with ME among its words, expansions aren't listed.
 pub fn nlist(modes: Modes, line: &Line, start: usize) -> Change
-    requires place { start ≤ length line.now.text }
+    requires column { start ≤ length line.now.text }
     requires counted { modes.unlisted < u64.MAX }
     ensures { change_seen result ≡ spec.nlist modes line.now.text start }
 {

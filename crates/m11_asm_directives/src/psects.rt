@@ -20,7 +20,7 @@ use m11_base::blank_name;
 use m11_scan::{ErrorFlags, Line, Sort, next_token};
 use m11_scan_statements::Span;
 use m11_unfold_arguments::{
-    NameAt, after_comma, flags_before, left_over, name_at, place_in, rest_flags, skip_flags,
+    NameAt, after_comma, flags_before, left_over, name_at, column_in, rest_flags, skip_flags,
 };
 
 // The attributes of sections.
@@ -105,7 +105,7 @@ fn attributes_at(line: &Line, end: usize) -> ListedNames
         Some(next) => names_at(line, usize::from(next)),
         None => ListedNames {
             list: ArrayVec::new(),
-            end: place_in(line, end),
+            end: column_in(line, end),
         },
     }
 }
@@ -133,7 +133,7 @@ fn unnamed_flags(table: &Table, line: &Line, start: usize) -> ErrorFlags
 
 // The flags of a `.PSECT` with a name.
 fn named_flags(table: &Table, line: &Line, start: usize, name: NameAt) -> ErrorFlags
-    requires place { start ≤ length line.now.text }
+    requires column { start ≤ length line.now.text }
     requires end { name.end ≤ length line.now.text }
     ensures { bits_of result
         ≡ spec.psect_flags_of table.now.sections line.now.text start (spec.NamedAt name.name name.end) }
@@ -149,9 +149,9 @@ fn attributes_flags(line: &Line, known: &Option<Section>, end: usize) -> ErrorFl
         ≡ spec.attributes_flags line.now.text known.now end (spec.attributes_at line.now.text end) }
 {
     let names = attributes_at(line, end);
-    let place = usize::from(names.end);
-    elements_flags(line, known, names.list.as_slice()).with(skip_flags(line, end, place).with(
-        left_over(line, place),
+    let column = usize::from(names.end);
+    elements_flags(line, known, names.list.as_slice()).with(skip_flags(line, end, column).with(
+        left_over(line, column),
     ))
 }
 

@@ -9,13 +9,13 @@ use Rattle.m11_asm_rules.specs.declared.fields.Field.{Field}
 use Rattle.m11_asm_rules.specs.declared.fields.Field.TheVariants.{Formed}
 use Rattle.m11_asm_rules.specs.declared.operands.Form.{Form}
 
-pub formed_on : (line_context : LineContext) (done new : Put) (place next size : ℕ) (field : Field) (form : Form) → field ≡ Formed form
-    → new ≡ followed_by done (form_words line_context place form) → next ≡ further place size → size ≡ words_of form * 2
+pub formed_on : (line_context : LineContext) (done new : Put) (location next size : ℕ) (field : Field) (form : Form) → field ≡ Formed form
+    → new ≡ followed_by done (form_words line_context location form) → next ≡ further location size → size ≡ words_of form * 2
     → (forms : List Form)
-    → followed_by new (words_from line_context next forms) ≡ followed_by done (words_from line_context place (with_form field forms))
-formed_on line_context done new place next size field form is adds goes sizes forms =
+    → followed_by new (words_from line_context next forms) ≡ followed_by done (words_from line_context location (with_form field forms))
+formed_on line_context done new location next size field form is adds goes sizes forms =
     ap (λ (p : Put). followed_by p (words_from line_context next forms)) adds
-    ∙ followed_joins done (form_words line_context place form) (words_from line_context next forms)
-    ∙ ap (λ (n : ℕ). followed_by done (followed_by (form_words line_context place form) (words_from line_context n forms)))
-    (goes ∙ ap (λ (n : ℕ). further place n) sizes)
-    ∙ ap (λ (f : Field). followed_by done (words_from line_context place (with_form f forms))) (sym is)
+    ∙ followed_joins done (form_words line_context location form) (words_from line_context next forms)
+    ∙ ap (λ (n : ℕ). followed_by done (followed_by (form_words line_context location form) (words_from line_context n forms)))
+    (goes ∙ ap (λ (n : ℕ). further location n) sizes)
+    ∙ ap (λ (f : Field). followed_by done (words_from line_context location (with_form f forms))) (sym is)

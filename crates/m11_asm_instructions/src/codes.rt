@@ -7,7 +7,7 @@ ghost use Rattle.m11_asm_instructions.specs.CodeValues.{field_value, flags_in, v
 ghost use Rattle.m11_asm_values.specs.LineContext.{line_context_of};
 ghost use Rattle.m11_asm_operands.specs.ListedOperations.{is_listed};
 ghost use Rattle.m11_asm_rules.specs.Codes as spec;
-ghost use Rattle.m11_asm_rules.specs.Codes.{LineContext as Place};
+ghost use Rattle.m11_asm_rules.specs.Codes.{LineContext as Stated};
 ghost use Rattle.m11_scan.specs.Views.{bits_of};
 ghost use Rattle.m11_scan_values.specs.Quantities.{quantity};
 
@@ -22,7 +22,7 @@ use m11_scan_values::Value;
 
 // The operand in the first of some fields, whose value this is.
 fn operand_in(fields: &[Field], value: &Value) -> Operand
-    ensures { (line_context : Place) → quantity value.now ≡ value_in line_context fields.now → result ≡ spec.operand_in line_context fields.now }
+    ensures { (line_context : Stated) → quantity value.now ≡ value_in line_context fields.now → result ≡ spec.operand_in line_context fields.now }
 {
     match fields {
         [Field::Formed(form), ..] => operand_of(*form, value),
@@ -35,7 +35,7 @@ fn operand_in(fields: &[Field], value: &Value) -> Operand
 
 // The register in the first of some fields, whose value this is.
 fn register_in(fields: &[Field], value: &Value) -> Register
-    ensures { (line_context : Place) → quantity value.now ≡ value_in line_context fields.now → result ≡ spec.register_in line_context fields.now }
+    ensures { (line_context : Stated) → quantity value.now ≡ value_in line_context fields.now → result ≡ spec.register_in line_context fields.now }
 {
     match fields {
         [Field::Registered(_), ..] => register(value),
@@ -51,7 +51,7 @@ fn branch_in(line_context: &LineContext, fields: &[Field], value: &Value) -> u8
     match fields {
         [Field::Targeted(_), ..] => branch_offset(
             line_context.table(),
-            line_context.place(),
+            line_context.location(),
             value,
         ),
         _ => 0,
@@ -65,14 +65,14 @@ fn loop_in(line_context: &LineContext, fields: &[Field], value: &Value) -> u8
     ensures below { result < 64 }
 {
     match fields {
-        [Field::Targeted(_), ..] => loop_offset(line_context.table(), line_context.place(), value),
+        [Field::Targeted(_), ..] => loop_offset(line_context.table(), line_context.location(), value),
         _ => 0,
     }
 }
 
 // The number in the first of some fields, whose value this is, cut to the bits that the code has for it.
 fn number_in(operation: NumberOp, fields: &[Field], value: &Value) -> u8
-    ensures number { (line_context : Place) → quantity value.now ≡ value_in line_context fields.now
+    ensures number { (line_context : Stated) → quantity value.now ≡ value_in line_context fields.now
         → result ≡ spec.number_in line_context operation fields.now }
     ensures below { result < encoding.number_limit operation }
 {
@@ -159,8 +159,8 @@ fn reach_flags(line_context: &LineContext, operation: Op, target: &Value) -> Err
         → bits_of result ≡ spec.reach_flags (line_context_of line_context.now) operation start }
 {
     match operation {
-        Op::Sob => target_flags(loop_reaches(line_context.table(), line_context.place(), target)),
-        _ => target_flags(branch_reaches(line_context.table(), line_context.place(), target)),
+        Op::Sob => target_flags(loop_reaches(line_context.table(), line_context.location(), target)),
+        _ => target_flags(branch_reaches(line_context.table(), line_context.location(), target)),
     }
 }
 

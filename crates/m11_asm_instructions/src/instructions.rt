@@ -64,26 +64,26 @@ fn put_code(
     put.add_word(fixed(code), flags)
 }
 
-// The word of a field after the instruction, if it has one, and the place after it. Where the field is found to be one term, this is its
+// The word of a field after the instruction, if it has one, and the location after it. Where the field is found to be one term, this is its
 // token.
 fn put_field(
     put: &mut Put,
     line_context: &LineContext,
-    place: u16,
+    location: u16,
     field: Field,
     term: Option<Token>,
 ) -> Result<u16, AllocError>
     requires { IfSome term (λ term. IsFieldTerm line_context.now.line field term) }
     ensures { IfOk result (λ next. (forms : List Form)
         → followed_by put.new (codes.words_from (line_context_of line_context.now) next forms)
-        ≡ followed_by put.old (codes.words_from (line_context_of line_context.now) place (with_form field forms))) }
+        ≡ followed_by put.old (codes.words_from (line_context_of line_context.now) location (with_form field forms))) }
 {
     match field {
         Field::Formed(form) => {
-            put_form(put, line_context, place, form, term)?;
-            Ok(further(place, size_of(form)))
+            put_form(put, line_context, location, form, term)?;
+            Ok(further(location, size_of(form)))
         }
-        _ => Ok(place),
+        _ => Ok(location),
     }
 }
 
@@ -91,24 +91,24 @@ fn put_field(
 fn put_words_after(
     put: &mut Put,
     line_context: &LineContext,
-    place: u16,
+    location: u16,
     fields: &[Field],
     terms: &FieldTerms,
 ) -> Result<(), AllocError>
     requires { AreTerms line_context.now.line fields.now terms.now }
     ensures { IfOk result (λ _. put.new
-        ≡ followed_by put.old (codes.words_from (line_context_of line_context.now) place (forms_of fields.now))) }
+        ≡ followed_by put.old (codes.words_from (line_context_of line_context.now) location (forms_of fields.now))) }
 {
-    let mut place = place;
+    let mut location = location;
     let mut terms = *terms;
     'fields: for field in fields {
-        place = put_field(put, line_context, place, *field, terms.first)?;
+        location = put_field(put, line_context, location, *field, terms.first)?;
         terms = terms.others();
     }
     Ok(())
 }
 
-/// The words of an instruction, from its fields, the place after them, their flags and their terms. Error: memory may be refused.
+/// The words of an instruction, from its fields, the location after them, their flags and their terms. Error: memory may be refused.
 pub fn put_instruction(
     put: &mut Put,
     line_context: &LineContext,
@@ -131,7 +131,7 @@ pub fn put_instruction(
     put_words_after(
         put,
         line_context,
-        further(line_context.place(), 2),
+        further(line_context.location(), 2),
         fields,
         terms,
     )

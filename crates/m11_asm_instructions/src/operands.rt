@@ -8,7 +8,7 @@ ghost use Rattle.m11_asm_operands.specs.Terms.{IsFormTerm};
 ghost use Rattle.m11_asm_instructions.specs.CodeValues.{form_value};
 ghost use Rattle.m11_asm_values.specs.LineContext.{line_context_of};
 ghost use Rattle.m11_asm_rules.specs.Codes as spec;
-ghost use Rattle.m11_asm_rules.specs.Codes.{LineContext as Place};
+ghost use Rattle.m11_asm_rules.specs.Codes.{LineContext as Stated};
 ghost use Rattle.m11_asm_rules.specs.Contents.{followed_by, word};
 ghost use Rattle.m11_asm_rules.specs.Operands.{words_of};
 ghost use Rattle.m11_scan.specs.Views.{bits_of};
@@ -44,7 +44,7 @@ fn operand(mode: Mode, register: Register) -> Operand
 
 // The mode and the register of a form, whose value this is.
 pub(crate) fn operand_of(form: Form, value: &Value) -> Operand
-    ensures { (line_context : Place) → quantity value.now ≡ form_value line_context form → result ≡ spec.operand_of line_context form }
+    ensures { (line_context : Stated) → quantity value.now ≡ form_value line_context form → result ≡ spec.operand_of line_context form }
 {
     match form {
         Form::Absent => operand(Mode::Register, Register::R0),
@@ -57,7 +57,7 @@ pub(crate) fn operand_of(form: Form, value: &Value) -> Operand
 
 // The flags of the register of a form, whose value this is.
 pub(crate) fn form_flags(form: Form, value: &Value) -> ErrorFlags
-    ensures { (line_context : Place) → quantity value.now ≡ form_value line_context form → bits_of result ≡ spec.form_flags line_context form }
+    ensures { (line_context : Stated) → quantity value.now ≡ form_value line_context form → bits_of result ≡ spec.form_flags line_context form }
 {
     match form {
         Form::Absent | Form::AfterCounter(_, _) => ErrorFlags::none(),
@@ -67,7 +67,7 @@ pub(crate) fn form_flags(form: Form, value: &Value) -> ErrorFlags
     }
 }
 
-// The modes of PC that find a place by how far it lies.
+// The modes of PC that find an address by how far it lies.
 fn is_relative(mode: Mode) -> bool
     ensures { result ≡ spec.is_relative mode }
 {
@@ -84,41 +84,41 @@ pub(crate) fn size_of(form: Form) -> u16
     }
 }
 
-// The word after the instruction for a form, whose term this is, at a place of its own; `.` in it is the place of the instruction.
+// The word after the instruction for a form, whose term this is, at a location of its own; `.` in it is the location of the instruction.
 #[tactic(auto, using(m11_asm_values::proofs::Joining::followed_nothing))]
 pub(crate) fn put_form(
     put: &mut Put,
     line_context: &LineContext,
-    place: u16,
+    location: u16,
     form: Form,
     term: Option<Token>,
 ) -> Result<(), AllocError>
     requires { IfSome term (λ term. IsFormTerm line_context.now.line form term) }
-    ensures { IfOk result (λ _. put.new ≡ followed_by put.old (spec.form_words (line_context_of line_context.now) place form)) }
+    ensures { IfOk result (λ _. put.new ≡ followed_by put.old (spec.form_words (line_context_of line_context.now) location form)) }
 {
     match form {
         Form::Absent | Form::InRegister(_, _) => Ok(()),
-        Form::Indexed(_, _, index) => put_reference(put, line_context, false, place, index, None),
+        Form::Indexed(_, _, index) => put_reference(put, line_context, false, location, index, None),
         Form::Unindexed(_) => put.add_fixed_word(0),
         Form::AfterCounter(mode, start) => {
-            put_reference(put, line_context, is_relative(mode), place, start, term)
+            put_reference(put, line_context, is_relative(mode), location, start, term)
         }
     }
 }
 
-// A word for the expression at a place of the line. Where it is found to be one term, this is its token.
+// A word for the expression at a column of the line. Where it is found to be one term, this is its token.
 fn put_reference(
     put: &mut Put,
     line_context: &LineContext,
     is_relative: bool,
-    place: u16,
+    location: u16,
     start: u8,
     term: Option<Token>,
 ) -> Result<(), AllocError>
     requires { IfSome term (λ term. IsAlone line_context.now.line start term) }
     ensures { IfOk result (λ _. put.new ≡ followed_by put.old (word line_context.now.table is_relative
-        place (value_at (line_context_of line_context.now).refers line_context.now.line start))) }
+        location (value_at (line_context_of line_context.now).refers line_context.now.line start))) }
 {
     let value = line_context.reference_by(start, term);
-    put_word(put, line_context, is_relative, place, value)
+    put_word(put, line_context, is_relative, location, value)
 }

@@ -12,11 +12,11 @@ use arrayvec::ArrayVec;
 use m11_asm_operands::{FieldTerms, Fields, fields_at};
 use m11_asm_rules::Operator;
 use m11_asm_table::{FirmNames, Table};
-use m11_asm_values::place_for;
+use m11_asm_values::location_for;
 use m11_base_instructions::Op;
 use m11_scan::{ErrorFlags, Line, Token};
 
-/// The fields of an operator whose name ends at a place of its line: those of an instruction, whose forms are asked of firm names. A
+/// The fields of an operator whose name ends at a column of its line: those of an instruction, whose forms are asked of firm names. A
 /// directive has none.
 pub fn operator_fields(table: &Table, line: &Line, start: usize, operator: Operator) -> Fields
     requires { start ≤ length line.now.text }
@@ -28,7 +28,7 @@ pub fn operator_fields(table: &Table, line: &Line, start: usize, operator: Opera
         Operator::Instruction(operation) => {
             operation_fields(
                 table,
-                place_for(true, table.place()),
+                location_for(true, table.location()),
                 line,
                 start,
                 operation,
@@ -63,7 +63,7 @@ pub fn single_fields(term: Option<Token>) -> Fields
     fields
 }
 
-// The fields of an instruction at a place.
+// The fields of an instruction at a location.
 fn operation_fields(table: &Table, here: u16, line: &Line, start: usize, operation: Op) -> Fields
     requires { start ≤ length line.now.text }
     ensures fields { fields_seen result ≡ instructions.fields table.now here line.now.text start operation }

@@ -15,7 +15,7 @@ with_zero : (base constant : ℕ) → base < 65536 → (constant == 0) ≡ true 
 with_zero base constant within e =
     nothing_added base within ∙ ap (λ (n : ℕ). modulo (base + n)) (sym (eqb-true constant 0 e))
 
-module _ (found : Findings) (index own location : ℕ) (is_byte : Bool) (name : Name) (constant : ℕ) (words : AreWords found) where
+module _ (found : Findings) (index own linked_location : ℕ) (is_byte : Bool) (name : Name) (constant : ℕ) (words : AreWords found) where
   abbrev base : ℕ
   base = found.base index name
 
@@ -23,51 +23,51 @@ module _ (found : Findings) (index own location : ℕ) (is_byte : Bool) (name : 
   value = symbol found name
 
   section_by : (is_zero : Bool) → (constant == 0) ≡ is_zero
-      → stored_bytes found index own location is_byte
+      → stored_bytes found index own linked_location is_byte
       (if is_zero then target.Section name else target.SectionAdditive name constant)
       ≡ value_bytes is_byte (modulo (base + constant))
   section_by true e = ap (λ (v : ℕ). value_bytes is_byte v) (with_zero base constant (words.bases index name) e)
   section_by false e = refl
 
-  pub section_row : stored_bytes found index own location is_byte
+  pub section_row : stored_bytes found index own linked_location is_byte
       (if constant == 0 then target.Section name else target.SectionAdditive name constant)
       ≡ value_bytes is_byte (modulo (base + constant))
   section_row = section_by (constant == 0) refl
 
   displaced_section_by : (is_zero : Bool) → (constant == 0) ≡ is_zero
-      → stored_bytes found index own location is_byte
+      → stored_bytes found index own linked_location is_byte
       (if is_zero then target.SectionDisplaced name else target.SectionAdditiveDisplaced name constant)
-      ≡ value_bytes is_byte (less (modulo (base + constant)) (following location))
+      ≡ value_bytes is_byte (less (modulo (base + constant)) (following linked_location))
   displaced_section_by true e =
-      ap (λ (v : ℕ). value_bytes is_byte (less v (following location))) (with_zero base constant (words.bases index name) e)
+      ap (λ (v : ℕ). value_bytes is_byte (less v (following linked_location))) (with_zero base constant (words.bases index name) e)
   displaced_section_by false e = refl
 
-  pub displaced_section_row : stored_bytes found index own location is_byte
+  pub displaced_section_row : stored_bytes found index own linked_location is_byte
       (if constant == 0 then target.SectionDisplaced name else target.SectionAdditiveDisplaced name constant)
-      ≡ value_bytes is_byte (less (modulo (base + constant)) (following location))
+      ≡ value_bytes is_byte (less (modulo (base + constant)) (following linked_location))
   displaced_section_row = displaced_section_by (constant == 0) refl
 
   global_by : (is_zero : Bool) → (constant == 0) ≡ is_zero
-      → stored_bytes found index own location is_byte
+      → stored_bytes found index own linked_location is_byte
       (if is_zero then target.Global name else target.GlobalAdditive name constant)
       ≡ value_bytes is_byte (modulo (value + constant))
   global_by true e = ap (λ (v : ℕ). value_bytes is_byte v) (with_zero value constant (words.values name) e)
   global_by false e = refl
 
-  pub global_row : stored_bytes found index own location is_byte
+  pub global_row : stored_bytes found index own linked_location is_byte
       (if constant == 0 then target.Global name else target.GlobalAdditive name constant)
       ≡ value_bytes is_byte (modulo (value + constant))
   global_row = global_by (constant == 0) refl
 
   displaced_global_by : (is_zero : Bool) → (constant == 0) ≡ is_zero
-      → stored_bytes found index own location is_byte
+      → stored_bytes found index own linked_location is_byte
       (if is_zero then target.GlobalDisplaced name else target.GlobalAdditiveDisplaced name constant)
-      ≡ value_bytes is_byte (less (modulo (value + constant)) (following location))
+      ≡ value_bytes is_byte (less (modulo (value + constant)) (following linked_location))
   displaced_global_by true e =
-      ap (λ (v : ℕ). value_bytes is_byte (less v (following location))) (with_zero value constant (words.values name) e)
+      ap (λ (v : ℕ). value_bytes is_byte (less v (following linked_location))) (with_zero value constant (words.values name) e)
   displaced_global_by false e = refl
 
-  pub displaced_global_row : stored_bytes found index own location is_byte
+  pub displaced_global_row : stored_bytes found index own linked_location is_byte
       (if constant == 0 then target.GlobalDisplaced name else target.GlobalAdditiveDisplaced name constant)
-      ≡ value_bytes is_byte (less (modulo (value + constant)) (following location))
+      ≡ value_bytes is_byte (less (modulo (value + constant)) (following linked_location))
   displaced_global_row = displaced_global_by (constant == 0) refl

@@ -11,40 +11,40 @@ use Rattle.m11_asm_laws.specs.Linked.{linked_bytes}
 use Rattle.m11_asm_laws.specs.Targets.{AreWords, LiesAt, address_of, stored_address}
 use Rattle.m11_asm_laws.proofs.Rows.{displaced_global_row, displaced_section_row, global_row, section_row}
 
--- two places of one section lie as far from each other as before
-same_distance : (own place number location : ℕ) → place < 65536 → number < 65536 → location ≡ (own + place) % 65536
-    → (number + 131072 - (place + 2)) % 65536 ≡ ((own + number) % 65536 + (65536 - (location + 2) % 65536)) % 65536
-same_distance own place number location within known e = omega arith
+-- two locations of one section lie as far from each other as before
+same_distance : (own location number linked_location : ℕ) → location < 65536 → number < 65536 → linked_location ≡ (own + location) % 65536
+    → (number + 131072 - (location + 2)) % 65536 ≡ ((own + number) % 65536 + (65536 - (linked_location + 2) % 65536)) % 65536
+same_distance own location number linked_location within known e = omega arith
 
-at_zero : (own place number location : ℕ) → place < 65536 → number < 65536 → location ≡ (own + place) % 65536 → own ≡ 0
-    → (number + 131072 - (place + 2)) % 65536 ≡ (number % 65536 + (65536 - (location + 2) % 65536)) % 65536
-at_zero own place number location within known e f = omega arith
+at_zero : (own location number linked_location : ℕ) → location < 65536 → number < 65536 → linked_location ≡ (own + location) % 65536 → own ≡ 0
+    → (number + 131072 - (location + 2)) % 65536 ≡ (number % 65536 + (65536 - (linked_location + 2) % 65536)) % 65536
+at_zero own location number linked_location within known e f = omega arith
 
 itself : (number : ℕ) → number < 65536 → number ≡ number % 65536
 itself number known = omega arith
 
-module _ (found : Findings) (index own location place number : ℕ) (words : AreWords found) (within : place < 65536)
-    (known : number < 65536) (lies : location ≡ modulo (own + place)) where
+module _ (found : Findings) (index own linked_location location number : ℕ) (words : AreWords found) (within : location < 65536)
+    (known : number < 65536) (lies : linked_location ≡ modulo (own + location)) where
   pub tells : (origin : Origin) (is_relative moves : Bool) → (moves ≡ false → own ≡ 0)
-      → linked_bytes found index own location (Word (stored_as is_relative (relocation_by is_relative moves (row_of origin)) place number))
-      ≡ word_bytes (stored_address is_relative location (address_of found index own origin number))
+      → linked_bytes found index own linked_location (Word (stored_as is_relative (relocation_by is_relative moves (row_of origin)) location number))
+      ≡ word_bytes (stored_address is_relative linked_location (address_of found index own origin number))
   tells Here false moves absolute = refl
-  tells Here true true absolute = ap word_bytes (same_distance own place number location within known lies)
-  tells Here true false absolute = ap word_bytes (same_distance own place number location within known lies)
+  tells Here true true absolute = ap word_bytes (same_distance own location number linked_location within known lies)
+  tells Here true false absolute = ap word_bytes (same_distance own location number linked_location within known lies)
   tells Zero false moves absolute = ap word_bytes (itself number known)
-  tells Zero true true absolute = ap (λ (n : ℕ). word_bytes (less n (following location))) (itself number known)
-  tells Zero true false absolute = ap word_bytes (at_zero own place number location within known lies (absolute refl))
-  tells (InSection name) false moves absolute = section_row found index own location false name number words
-  tells (InSection name) true true absolute = displaced_section_row found index own location false name number words
-  tells (InSection name) true false absolute = displaced_section_row found index own location false name number words
-  tells (InObject name) false moves absolute = global_row found index own location false name number words
-  tells (InObject name) true true absolute = displaced_global_row found index own location false name number words
-  tells (InObject name) true false absolute = displaced_global_row found index own location false name number words
+  tells Zero true true absolute = ap (λ (n : ℕ). word_bytes (less n (following linked_location))) (itself number known)
+  tells Zero true false absolute = ap word_bytes (at_zero own location number linked_location within known lies (absolute refl))
+  tells (InSection name) false moves absolute = section_row found index own linked_location false name number words
+  tells (InSection name) true true absolute = displaced_section_row found index own linked_location false name number words
+  tells (InSection name) true false absolute = displaced_section_row found index own linked_location false name number words
+  tells (InObject name) false moves absolute = global_row found index own linked_location false name number words
+  tells (InObject name) true true absolute = displaced_global_row found index own linked_location false name number words
+  tells (InObject name) true false absolute = displaced_global_row found index own linked_location false name number words
 
-pub values_lie : (found : Findings) (index own location place : ℕ) (table : Table) (is_relative : Bool)
-    (value : Quantity) → AreWords found → LiesAt table own place location → value.number < 65536
-    → linked_bytes found index own location (Word (stored table is_relative place value))
-    ≡ word_bytes (stored_address is_relative location (address_of found index own (origin_of table value.kind) value.number))
-values_lie found index own location place table is_relative value words lies known =
-    tells found index own location place value.number words lies.within known lies.moved (origin_of table value.kind)
+pub values_lie : (found : Findings) (index own linked_location location : ℕ) (table : Table) (is_relative : Bool)
+    (value : Quantity) → AreWords found → LiesAt table own location linked_location → value.number < 65536
+    → linked_bytes found index own linked_location (Word (stored table is_relative location value))
+    ≡ word_bytes (stored_address is_relative linked_location (address_of found index own (origin_of table value.kind) value.number))
+values_lie found index own linked_location location table is_relative value words lies known =
+    tells found index own linked_location location value.number words lies.within known lies.moved (origin_of table value.kind)
     is_relative (is_moved table) lies.absolute

@@ -12,24 +12,24 @@ use Rattle.m11_obj_texts.specs.declared.pieces.Stored.{Stored}
 
 -- the bytes that a relocation stores, or those of the text where there is none
 abbrev pub bytes_by : Findings → ℕ → ℕ → ℕ → Bytes → Option Relocation → Bytes
-bytes_by found module_index own location text (Some relocation) =
-    stored_bytes found module_index own location relocation.is_byte relocation.target
-bytes_by found module_index own location text None = text
+bytes_by found module_index own linked_location text (Some relocation) =
+    stored_bytes found module_index own linked_location relocation.is_byte relocation.target
+bytes_by found module_index own linked_location text None = text
 
 -- the bytes of a piece at a location, when they are linked: it stands in a text of the module of this index, after this base. Which
 -- displacement its relocation has changes nothing
 abbrev pub linked_bytes : Findings → ℕ → ℕ → ℕ → PieceContent → Bytes
-linked_bytes found module_index own location content =
-    bytes_by found module_index own location (content_bytes content) (relocation_at 4 content)
+linked_bytes found module_index own linked_location content =
+    bytes_by found module_index own linked_location (content_bytes content) (relocation_at 4 content)
 
 abbrev pub constant_of : RelocationKind → ℕ → Stored
 constant_of kind constant = record { constant = constant; kind = kind }
 
 -- the linked bytes of a word, and of a byte
 abbrev pub linked_word : Findings → ℕ → ℕ → ℕ → RelocationKind → ℕ → Bytes
-linked_word found module_index own location kind constant =
-    linked_bytes found module_index own location (Word (constant_of kind constant))
+linked_word found module_index own linked_location kind constant =
+    linked_bytes found module_index own linked_location (Word (constant_of kind constant))
 
 abbrev pub linked_byte : Findings → ℕ → ℕ → ℕ → RelocationKind → ℕ → Bytes
-linked_byte found module_index own location kind constant =
-    linked_bytes found module_index own location (Byte (constant_of kind constant))
+linked_byte found module_index own linked_location kind constant =
+    linked_bytes found module_index own linked_location (Byte (constant_of kind constant))

@@ -13,18 +13,18 @@ address_of found module_index own Zero number = modulo number
 address_of found module_index own (InSection name) number = modulo (found.base module_index name + number)
 address_of found module_index own (InObject name) number = modulo (symbol found name + number)
 
--- a relative operand says how far the address is from the place after it
+-- a relative operand says how far the address is from the location after it
 abbrev pub stored_address : Bool → ℕ → ℕ → ℕ
-stored_address true location address = less address (following location)
-stored_address false location address = address
+stored_address true linked_location address = less address (following linked_location)
+stored_address false linked_location address = address
 
 -- bases and the values of globals are words
 pub record AreWords (found : Findings) : Type 0 where
   pub bases : (module_index : ℕ) (name : Name) → found.base module_index name < 65536
   pub values : (name : Name) → symbol found name < 65536
 
--- a place of the section of a line lies at a location; a section with ABS stands at 0
-pub record LiesAt (table : Table) (own place location : ℕ) : Type 0 where
-  pub within : place < 65536
-  pub moved : location ≡ modulo (own + place)
+-- a location of the section of a line lies at a linked location; a section with ABS stands at 0
+pub record LiesAt (table : Table) (own location linked_location : ℕ) : Type 0 where
+  pub within : location < 65536
+  pub moved : linked_location ≡ modulo (own + location)
   pub absolute : is_moved table ≡ false → own ≡ 0

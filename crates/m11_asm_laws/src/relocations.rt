@@ -15,64 +15,64 @@ ghost use Rattle.m11_asm_laws.specs.Targets.{AreWords, LiesAt, address_of, store
 
 /// A fixed value stands as it is, and of a byte its low byte.
 pub fn fixed_values_stay()
-    ensures word { (found : Findings) (index own location number : ℕ)
-        → linked_word found index own location kind.Fixed number ≡ word_bytes number }
-    ensures byte { (found : Findings) (index own location number : ℕ)
-        → linked_byte found index own location kind.Fixed number ≡ (number % 256) ∷ [] }
+    ensures word { (found : Findings) (index own linked_location number : ℕ)
+        → linked_word found index own linked_location kind.Fixed number ≡ word_bytes number }
+    ensures byte { (found : Findings) (index own linked_location number : ℕ)
+        → linked_byte found index own linked_location kind.Fixed number ≡ (number % 256) ∷ [] }
 {}
 
 /// A value of its own section moves by the base of that section's contribution.
 pub fn values_move_with_their_section()
-    ensures word { (found : Findings) (index own location number : ℕ)
-        → linked_word found index own location kind.Internal number ≡ word_bytes (modulo (own + number)) }
-    ensures byte { (found : Findings) (index own location number : ℕ)
-        → linked_byte found index own location kind.Internal number ≡ (modulo (own + number) % 256) ∷ [] }
+    ensures word { (found : Findings) (index own linked_location number : ℕ)
+        → linked_word found index own linked_location kind.Internal number ≡ word_bytes (modulo (own + number)) }
+    ensures byte { (found : Findings) (index own linked_location number : ℕ)
+        → linked_byte found index own linked_location kind.Internal number ≡ (modulo (own + number) % 256) ∷ [] }
 {}
 
-/// A displaced absolute value is counted from the place after the word.
+/// A displaced absolute value is counted from the location after the word.
 pub fn absolute_targets_are_counted_from_the_word()
-    ensures { (found : Findings) (index own location number : ℕ)
-        → linked_word found index own location kind.InternalDisplaced number ≡ word_bytes (less number (following location)) }
+    ensures { (found : Findings) (index own linked_location number : ℕ)
+        → linked_word found index own linked_location kind.InternalDisplaced number ≡ word_bytes (less number (following linked_location)) }
 {}
 
 /// A value of another section moves by the base of that section's contribution.
 pub fn values_move_with_other_sections()
-    ensures word { (found : Findings) (index own location number : ℕ) (name : Name) → AreWords found
-        → linked_word found index own location (kind.Section name) number
+    ensures word { (found : Findings) (index own linked_location number : ℕ) (name : Name) → AreWords found
+        → linked_word found index own linked_location (kind.Section name) number
         ≡ word_bytes (modulo (found.base index name + number)) }
-    ensures byte { (found : Findings) (index own location number : ℕ) (name : Name) → AreWords found
-        → linked_byte found index own location (kind.Section name) number
+    ensures byte { (found : Findings) (index own linked_location number : ℕ) (name : Name) → AreWords found
+        → linked_byte found index own linked_location (kind.Section name) number
         ≡ (modulo (found.base index name + number) % 256) ∷ [] }
 {}
 
-/// A displaced value of another section moves by the base of that section's contribution, less the place after the word.
+/// A displaced value of another section moves by the base of that section's contribution, less the location after the word.
 pub fn displaced_sections_are_counted_from_the_word()
-    ensures { (found : Findings) (index own location number : ℕ) (name : Name) → AreWords found
-        → linked_word found index own location (kind.SectionDisplaced name) number
-        ≡ word_bytes (less (modulo (found.base index name + number)) (following location)) }
+    ensures { (found : Findings) (index own linked_location number : ℕ) (name : Name) → AreWords found
+        → linked_word found index own linked_location (kind.SectionDisplaced name) number
+        ≡ word_bytes (less (modulo (found.base index name + number)) (following linked_location)) }
 {}
 
 /// A value that counts from a global moves by the global's value.
 pub fn values_move_with_globals()
-    ensures word { (found : Findings) (index own location number : ℕ) (name : Name) → AreWords found
-        → linked_word found index own location (kind.Global name) number ≡ word_bytes (modulo (symbol found name + number)) }
-    ensures byte { (found : Findings) (index own location number : ℕ) (name : Name) → AreWords found
-        → linked_byte found index own location (kind.Global name) number
+    ensures word { (found : Findings) (index own linked_location number : ℕ) (name : Name) → AreWords found
+        → linked_word found index own linked_location (kind.Global name) number ≡ word_bytes (modulo (symbol found name + number)) }
+    ensures byte { (found : Findings) (index own linked_location number : ℕ) (name : Name) → AreWords found
+        → linked_byte found index own linked_location (kind.Global name) number
         ≡ (modulo (symbol found name + number) % 256) ∷ [] }
 {}
 
-/// A displaced value that counts from a global moves by the global's value, less the place after the word.
+/// A displaced value that counts from a global moves by the global's value, less the location after the word.
 pub fn displaced_globals_are_counted_from_the_word()
-    ensures { (found : Findings) (index own location number : ℕ) (name : Name) → AreWords found
-        → linked_word found index own location (kind.GlobalDisplaced name) number
-        ≡ word_bytes (less (modulo (symbol found name + number)) (following location)) }
+    ensures { (found : Findings) (index own linked_location number : ℕ) (name : Name) → AreWords found
+        → linked_word found index own linked_location (kind.GlobalDisplaced name) number
+        ≡ word_bytes (less (modulo (symbol found name + number)) (following linked_location)) }
 {}
 
 /// Whatever a value of a line counts from, the word of it in the linked program is the address of its target, or, in a relative operand, how far
-/// that address is from the place after the word.
+/// that address is from the location after the word.
 pub fn linked_values_say_where_their_targets_lie()
-    ensures { (found : Findings) (index own location place : ℕ) (table : Table)
-        (is_relative : Bool) (value : Quantity) → AreWords found → LiesAt table own place location → value.number < 65536
-        → linked_bytes found index own location (Word (stored table is_relative place value))
-        ≡ word_bytes (stored_address is_relative location (address_of found index own (origin_of table value.kind) value.number)) }
+    ensures { (found : Findings) (index own linked_location location : ℕ) (table : Table)
+        (is_relative : Bool) (value : Quantity) → AreWords found → LiesAt table own location linked_location → value.number < 65536
+        → linked_bytes found index own linked_location (Word (stored table is_relative location value))
+        ≡ word_bytes (stored_address is_relative linked_location (address_of found index own (origin_of table value.kind) value.number)) }
 {}

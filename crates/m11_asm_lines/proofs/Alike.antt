@@ -1,4 +1,4 @@
--- Tables that are alike say the same of places, kinds and symbols.
+-- Tables that are alike say the same of locations, kinds and symbols.
 use Rattle.std.proofs.Common.{◌≡◌, ◌∙◌, ℕ, Bool, true, false, List, [], ◌∷◌, Option, Some, None, refl, sym, ap}
 use Rattle.std.proofs.Math.Path.{fun_ext}
 use Rattle.std.specs.Option.{is_some}
@@ -10,9 +10,9 @@ use Rattle.m11_asm_rules.specs.Assignments.{all_firm, assigned, standing_of}
 use Rattle.m11_asm_rules.specs.Definitions.{has_key, is_defined, is_labelled, is_of_label, last_definition}
 use Rattle.m11_asm_rules.specs.Labels.{labelled}
 use Rattle.m11_asm_rules.specs.Meanings.{Map, defined_or, is_firm, is_firm_in, known_at, flag_D, meaning_of, quantity_of, stands_for, undefined}
-use Rattle.m11_asm_rules.specs.Places.{place_in}
-use Rattle.m11_asm_rules.specs.Sections.{numbered, place_kind}
-use Rattle.m11_asm_rules.specs.Tables.{Table, kind_here, place, section_name}
+use Rattle.m11_asm_rules.specs.Locations.{location_in}
+use Rattle.m11_asm_rules.specs.Sections.{location_kind, numbered}
+use Rattle.m11_asm_rules.specs.Tables.{Table, kind_here, location, section_name}
 use Rattle.m11_asm_rules.specs.declared.definitions.Definition.{Definition}
 use Rattle.m11_asm_rules.specs.declared.definitions.Key.{Key}
 use Rattle.m11_asm_rules.specs.declared.definitions.Key.TheVariants.{Named, Numbered}
@@ -50,15 +50,15 @@ asked_by key doubly_defined other (Some definition) = refl
 asked_by key doubly_defined other None = refl
 
 module _ (one other : Table) (alike : Alike one other) where
-  -- ---- places and kinds
+  -- ---- locations and kinds
 
-  pub alike_place : place one ≡ place other
-  alike_place = alike.counters one.modes.section ∙ ap (λ (s : Modes). place_in s.section other.moves) alike.modes
+  pub alike_location : location one ≡ location other
+  alike_location = alike.counters one.modes.section ∙ ap (λ (s : Modes). location_in s.section other.moves) alike.modes
 
   pub alike_kind : kind_here one ≡ kind_here other
   alike_kind =
-      ap (λ (s : Modes). place_kind s.section one.sections) alike.modes
-      ∙ ap (place_kind other.modes.section) alike.sections
+      ap (λ (s : Modes). location_kind s.section one.sections) alike.modes
+      ∙ ap (location_kind other.modes.section) alike.sections
 
   pub alike_section : section_name one ≡ section_name other
   alike_section =
@@ -78,9 +78,9 @@ module _ (one other : Table) (alike : Alike one other) where
   same_labelled key =
       let at : ℕ → Kind → Name → Definition = λ p k section.
       record { key = key; standing = Known p k; is_firm = true; label = Some section } in
-      ap (λ (p : ℕ). at p (kind_here one) (section_name one)) alike_place
-      ∙ ap (λ (k : Kind). at (place other) k (section_name one)) alike_kind
-      ∙ ap (at (place other) (kind_here other)) alike_section
+      ap (λ (p : ℕ). at p (kind_here one) (section_name one)) alike_location
+      ∙ ap (λ (k : Kind). at (location other) k (section_name one)) alike_kind
+      ∙ ap (at (location other) (kind_here other)) alike_section
 
   -- ---- symbols
 
@@ -92,19 +92,19 @@ module _ (one other : Table) (alike : Alike one other) where
       ∙ ap (defined_by (has_key key other.doubly_defined) in_map) (alike.definitions key)
       ∙ sym (asked_by key other.doubly_defined in_map (last_definition key other.definitions))
 
-  symbol_alike : (map : Map) (context : Context) (place : ℕ) (symbol : Symbol)
-      → stands_for map context one place symbol ≡ stands_for map context other place symbol
-  symbol_alike map context place (Ordinary name) = meaning_alike map (undefined context (Ordinary name)) (Named name)
-  symbol_alike map context place (Local number) =
+  symbol_alike : (map : Map) (context : Context) (location : ℕ) (symbol : Symbol)
+      → stands_for map context one location symbol ≡ stands_for map context other location symbol
+  symbol_alike map context location (Ordinary name) = meaning_alike map (undefined context (Ordinary name)) (Named name)
+  symbol_alike map context location (Local number) =
       ap (λ (s : Modes). meaning_of map (undefined context (Local number)) one (Numbered s.block number)) alike.modes
       ∙ meaning_alike map (undefined context (Local number)) (Numbered other.modes.block number)
-  symbol_alike map context place Counter =
-      ap (λ (k : Kind). record { number = place; kind = k; flags = 0 }) alike_kind
+  symbol_alike map context location Counter =
+      ap (λ (k : Kind). record { number = location; kind = k; flags = 0 }) alike_kind
 
-  pub alike_known : (map : Map) (context : Context) (place : ℕ) → known_at map context one place ≡ known_at map context other place
-  alike_known map context place =
-      ap (λ (s : Modes). known_by s.radix (stands_for map context one place)) alike.modes
-      ∙ ap (known_by other.modes.radix) (fun_ext (λ symbol. symbol_alike map context place symbol))
+  pub alike_known : (map : Map) (context : Context) (location : ℕ) → known_at map context one location ≡ known_at map context other location
+  alike_known map context location =
+      ap (λ (s : Modes). known_by s.radix (stands_for map context one location)) alike.modes
+      ∙ ap (known_by other.modes.radix) (fun_ext (λ symbol. symbol_alike map context location symbol))
 
   -- ---- assignments
 
@@ -120,10 +120,10 @@ module _ (one other : Table) (alike : Alike one other) where
   all_alike (symbol ∷ symbols) = rw (firm_alike symbol, all_alike symbols) refl
 
   pub alike_value : (map : Map) (line : Bytes) (start : ℕ)
-      → value_at (known_at map LocalOnly one (place one)) line start ≡ value_at (known_at map LocalOnly other (place other)) line start
+      → value_at (known_at map LocalOnly one (location one)) line start ≡ value_at (known_at map LocalOnly other (location other)) line start
   alike_value map line start =
-      ap (λ (p : ℕ). value_at (known_at map LocalOnly one p) line start) alike_place
-      ∙ ap (λ (k : expressions.Known). value_at k line start) (alike_known map LocalOnly (place other))
+      ap (λ (p : ℕ). value_at (known_at map LocalOnly one p) line start) alike_location
+      ∙ ap (λ (k : expressions.Known). value_at k line start) (alike_known map LocalOnly (location other))
 
   pub alike_assigned : (map : Map) (key : Key) (line : Bytes) (start : ℕ)
       → assigned map one key line start ≡ assigned map other key line start
@@ -131,4 +131,4 @@ module _ (one other : Table) (alike : Alike one other) where
       let of : Quantity → Bool → Definition = λ value firm.
       record { key = key; standing = standing_of value; is_firm = firm; label = None } in
       ap (λ (v : Quantity). of v (all_firm one (symbols_at line start))) (alike_value map line start)
-      ∙ ap (of (value_at (known_at map LocalOnly other (place other)) line start)) (all_alike (symbols_at line start))
+      ∙ ap (of (value_at (known_at map LocalOnly other (location other)) line start)) (all_alike (symbols_at line start))

@@ -14,7 +14,7 @@ use Rattle.m11_asm_rules.specs.Labels.{global_if, with_definition, with_doubly_d
 use Rattle.m11_asm_rules.proofs.NamesDefined.{one_more}
 use Rattle.m11_asm_rules.specs.Limits.{has_too_many, is_local, local_count, most_defined_names, most_local_symbols, name_count, names_defined, with_defined}
 use Rattle.m11_asm_rules.specs.Meanings.{Map, known_at}
-use Rattle.m11_asm_rules.specs.Tables.{Table, place}
+use Rattle.m11_asm_rules.specs.Tables.{Table, location}
 use Rattle.m11_asm_rules.specs.declared.definitions.Definition.{Definition}
 use Rattle.m11_asm_rules.specs.declared.definitions.Key.{Key}
 use Rattle.m11_asm_rules.specs.declared.definitions.Key.TheVariants.{Named}
@@ -36,11 +36,11 @@ given name value firm = record { key = Named name; standing = standing_of value;
 -- a value that is found, and whether its symbols are firm, are those of the definition
 pub gives : (map : Map) (name : Name) (line : Bytes) (start : ℕ) (table : Table) (value : Quantity) (firm : Bool)
     (definition : Definition) → definition ≡ given name value firm
-    → value ≡ value_at (known_at map LocalOnly table (place table)) line start → firm ≡ all_firm table (symbols_at line start)
+    → value ≡ value_at (known_at map LocalOnly table (location table)) line start → firm ≡ all_firm table (symbols_at line start)
     → definition ≡ assigned map table (Named name) line start
 gives map name line start table value firm definition is value_is firm_is =
     is ∙ ap (λ (v : Quantity). given name v firm) value_is
-    ∙ ap (given name (value_at (known_at map LocalOnly table (place table)) line start)) firm_is
+    ∙ ap (given name (value_at (known_at map LocalOnly table (location table)) line start)) firm_is
 
 pub assigns : {A : Type 0} (map : Map) (key : Key) (line : Bytes) (start : ℕ) (old new : Kept) (definition : Definition)
     (result : Result A AsmFault) → definition ≡ assigned map old.table key line start

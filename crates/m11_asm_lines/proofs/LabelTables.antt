@@ -7,7 +7,7 @@ use Rattle.m11_base.specs.Rad50.{Name}
 use Rattle.m11_asm_rules.specs.Definitions.{is_defined, last_definition}
 use Rattle.m11_asm_rules.specs.Labels.{global_if, kind_flags, label_name, labelled, with_block, with_definition, with_doubly_defined, with_key, with_label, with_labels, with_name}
 use Rattle.m11_asm_rules.specs.Meanings.{Map}
-use Rattle.m11_asm_rules.specs.Tables.{Table, place, section_name}
+use Rattle.m11_asm_rules.specs.Tables.{Table, location, section_name}
 use Rattle.m11_asm_rules.specs.declared.definitions.Definition.{Definition}
 use Rattle.m11_asm_rules.specs.declared.definitions.Key.{Key}
 use Rattle.m11_asm_rules.specs.declared.definitions.Key.TheVariants.{Named, Numbered}
@@ -17,9 +17,9 @@ use Rattle.m11_scan_statements.specs.declared.labels.Label.{Label}
 use Rattle.m11_scan_statements.specs.declared.labels.LabelKind.{LabelKind}
 use Rattle.m11_scan_statements.specs.declared.labels.LabelKind.TheVariants as kind
 use Rattle.m11_asm_table.specs.Alike.{Alike, Follows}
-use Rattle.m11_asm_lines.proofs.Alike.{alike_defined, alike_place, alike_section, same_labelled}
+use Rattle.m11_asm_lines.proofs.Alike.{alike_defined, alike_location, alike_section, same_labelled}
 use Rattle.m11_asm_lines.specs.Labels.{Defines}
-use Rattle.m11_asm_lines.specs.Moved.{is_at, is_in, is_place_of, flag_P, moved_key, moved_kind, moved_flags, moved_name}
+use Rattle.m11_asm_lines.specs.Moved.{is_at, is_in, is_location_of, flag_P, moved_key, moved_kind, moved_flags, moved_name}
 use Rattle.m11_asm_lines.specs.Passes.{Kept, Matches}
 
 -- ---- one key
@@ -86,17 +86,17 @@ module _ (old new : Table) (block number : ℕ) (is : block ≡ old.modes.block)
 -- ---- the flags of one label
 
 module _ (one other : Table) (alike : Alike one other) (map : Map) where
-  places_alike : (found : Option Definition) → is_place_of one found ≡ is_place_of other found
-  places_alike (Some definition) =
-      ap (λ (p : ℕ). is_in (section_name one) definition.label && is_at p definition.standing) (alike_place one other alike)
-      ∙ ap (λ (n : Name). is_in n definition.label && is_at (place other) definition.standing) (alike_section one other alike)
-  places_alike None = refl
+  locations_alike : (found : Option Definition) → is_location_of one found ≡ is_location_of other found
+  locations_alike (Some definition) =
+      ap (λ (p : ℕ). is_in (section_name one) definition.label && is_at p definition.standing) (alike_location one other alike)
+      ∙ ap (λ (n : Name). is_in n definition.label && is_at (location other) definition.standing) (alike_section one other alike)
+  locations_alike None = refl
 
   key_alike : (key : Key) → moved_key map one key ≡ moved_key map other key
   key_alike key =
-      let flag : Bool → Bool → ℕ = λ is_known is_place. flag_if (not is_known && not is_place) flag_P in
-      ap (λ (b : Bool). flag b (is_place_of one (last_definition key map.definitions))) (alike_defined one other alike key)
-      ∙ ap (flag (is_defined key other.definitions)) (places_alike (last_definition key map.definitions))
+      let flag : Bool → Bool → ℕ = λ is_known is_location. flag_if (not is_known && not is_location) flag_P in
+      ap (λ (b : Bool). flag b (is_location_of one (last_definition key map.definitions))) (alike_defined one other alike key)
+      ∙ ap (flag (is_defined key other.definitions)) (locations_alike (last_definition key map.definitions))
 
   name_alike : (name : Option Name) → moved_name map one name ≡ moved_name map other name
   name_alike (Some name) = key_alike (Named name)

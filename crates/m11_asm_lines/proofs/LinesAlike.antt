@@ -15,7 +15,7 @@ use Rattle.m11_scan_statements.specs.declared.spans.Span.{Span}
 use Rattle.m11_scan_values.specs.Quantities.{Quantity}
 use Rattle.std.specs.List.{flat_map}
 use Rattle.m11_scan_statements.specs.Statements.{flag_if}
-use Rattle.m11_asm_rules.specs.Alignment.{gap, gap_flags, place_for}
+use Rattle.m11_asm_rules.specs.Alignment.{gap, gap_flags, location_for}
 use Rattle.m11_asm_rules.specs.Assigning as assigning
 use Rattle.m11_asm_rules.specs.Changes.{Change, Numbers}
 use Rattle.m11_asm_rules.specs.Counts as counts
@@ -25,17 +25,17 @@ use Rattle.m11_asm_rules.specs.Elements.{elements_at}
 use Rattle.m11_asm_rules.specs.Exports as exports
 use Rattle.m11_asm_rules.specs.Fields.{Fields, fields_at, forms_of}
 use Rattle.m11_asm_rules.specs.Instructions.{assembled, fields}
-use Rattle.m11_asm_rules.specs.Lines.{Assign, Action, Operate, NoAction, SetCounter as SetsPlace, change_of, operation_put, put_by}
+use Rattle.m11_asm_rules.specs.Lines.{Assign, Action, Operate, NoAction, SetCounter as SetsLocation, change_of, operation_put, put_by}
 use Rattle.m11_asm_rules.specs.Labels.{flag_M}
 use Rattle.m11_asm_rules.specs.Meanings.{Map, empty_map, firm_known, known_at}
 use Rattle.m11_asm_rules.specs.SymbolUses.{action_uses, field_uses}
 use Rattle.m11_asm_rules.specs.Operands.{instruction_size}
 use Rattle.m11_asm_rules.specs.Operators.{is_even}
-use Rattle.m11_asm_rules.specs.Places.{Moved}
+use Rattle.m11_asm_rules.specs.Locations.{Moved}
 use Rattle.m11_asm_rules.specs.declared.sections.Section.{Section}
 use Rattle.m11_asm_rules.specs.Storage as storage
 use Rattle.m11_asm_rules.specs.Strings as strings
-use Rattle.m11_asm_rules.specs.Tables.{Table, firm_table, place}
+use Rattle.m11_asm_rules.specs.Tables.{Table, firm_table, location}
 use Rattle.m11_asm_rules.specs.declared.definitions.Definition.{Definition}
 use Rattle.m11_asm_rules.specs.declared.definitions.Key.{Key}
 use Rattle.m11_asm_rules.specs.declared.definitions.Key.TheVariants.{Named}
@@ -47,7 +47,7 @@ use Rattle.m11_asm_rules.specs.declared.operators.Operator.TheVariants as operat
 use Rattle.m11_asm_rules.specs.declared.modes.Modes.{Modes}
 use Rattle.m11_asm_rules.proofs.FirmNames.{firm_option, last_firm}
 use Rattle.m11_asm_table.specs.Alike.{Alike}
-use Rattle.m11_asm_lines.proofs.Alike.{alike_known, alike_labelled, alike_place, alike_value}
+use Rattle.m11_asm_lines.proofs.Alike.{alike_known, alike_labelled, alike_location, alike_value}
 
 -- ---- as far as they are firm they are alike too
 
@@ -77,8 +77,8 @@ module _ (one : Table) (definitions : List Definition) (doubly_defined : List Ke
   abbrev other : Table
   other = beside one definitions doubly_defined globals moves
 
-  same_place : place one ≡ place other
-  same_place = alike_place one other alike
+  same_location : location one ≡ location other
+  same_location = alike_location one other alike
 
   known_alike : (here : ℕ) → firm_known one here ≡ firm_known other here
   known_alike here =
@@ -112,19 +112,19 @@ module _ (one : Table) (definitions : List Definition) (doubly_defined : List Ke
   operator_alike : (line : Bytes) (start : ℕ) (arguments : Option ℕ) (operator : Operator)
       → operator_change one line start arguments operator ≡ operator_change other line start arguments operator
   operator_alike line start arguments operator =
-      ap (λ (p : ℕ). change_by one (gap (is_even operator) p) (place_for (is_even operator) p) line start arguments operator) same_place
-      ∙ by_alike (gap (is_even operator) (place other)) (place_for (is_even operator) (place other)) line start arguments operator
+      ap (λ (p : ℕ). change_by one (gap (is_even operator) p) (location_for (is_even operator) p) line start arguments operator) same_location
+      ∙ by_alike (gap (is_even operator) (location other)) (location_for (is_even operator) (location other)) line start arguments operator
 
   counter_alike : (line : Bytes) (start : ℕ) → assigning.counter_value one line start ≡ assigning.counter_value other line start
   counter_alike line start =
-      ap (λ (p : ℕ). value_at (firm_known one p) line start) same_place
-      ∙ ap (λ (k : expressions.Known). value_at k line start) (known_alike (place other))
+      ap (λ (p : ℕ). value_at (firm_known one p) line start) same_location
+      ∙ ap (λ (k : expressions.Known). value_at k line start) (known_alike (location other))
 
   change_alike : (line : Bytes) (arguments : Option ℕ) (action : Action)
       → change_of one line arguments action ≡ change_of other line arguments action
   change_alike line arguments NoAction = refl
   change_alike line arguments (Assign name is_global start) = refl
-  change_alike line arguments (SetsPlace start) = ap (λ (v : Quantity). assigning.counter_to one v) (counter_alike line start)
+  change_alike line arguments (SetsLocation start) = ap (λ (v : Quantity). assigning.counter_to one v) (counter_alike line start)
   change_alike line arguments (Operate operator start) = operator_alike line start arguments operator
 
   -- ---- what is put
@@ -192,10 +192,10 @@ module _ (one : Table) (definitions : List Definition) (doubly_defined : List Ke
         → directive_put map one here line start arguments of ≡ directive_put map other here line start arguments of
     put_directive_alike here start arguments directive.Word =
         ap (λ (p : Put). with_flags (storage.end_flags line start (elements_at line start).end) p)
-        (words_alike (elements_at line start).places here)
+        (words_alike (elements_at line start).columns here)
     put_directive_alike here start arguments directive.Byte =
         ap (λ (p : Put). with_flags (storage.end_flags line start (elements_at line start).end) p)
-        (bytes_alike (elements_at line start).places here)
+        (bytes_alike (elements_at line start).columns here)
     put_directive_alike here start arguments directive.Ascii = ascii_alike here start
     put_directive_alike here start arguments directive.Asciz =
         ap (λ (p : Put). followed_by p (put (fixed_byte 0 ∷ []) 0)) (ascii_alike here start)
@@ -219,7 +219,7 @@ module _ (one : Table) (definitions : List Definition) (doubly_defined : List Ke
         → operator_put map one here line start arguments operator ≡ operator_put map other here line start arguments operator
     put_operator_alike here start arguments (operators.Instruction operation) =
         let at : expressions.Known → expressions.Known → Fields → Put = λ known refers found.
-        assembled (record { table = one; place = here; known = known; refers = refers; line = line }) start operation found in
+        assembled (record { table = one; location = here; known = known; refers = refers; line = line }) start operation found in
         ap (λ (k : expressions.Known). at k (known_at map MayBeGlobal one here) (fields one here line start operation))
         (alike_known one other alike map LocalOnly here)
         ∙ ap (λ (k : expressions.Known). at (known_at map LocalOnly other here) k (fields one here line start operation))
@@ -231,9 +231,9 @@ module _ (one : Table) (definitions : List Definition) (doubly_defined : List Ke
         → operation_put map one line arguments operator start ≡ operation_put map other line arguments operator start
     operation_alike start arguments operator =
         ap (λ (p : ℕ). with_flags (gap_flags (is_even operator) p)
-        (operator_put map one (place_for (is_even operator) p) line start arguments operator)) same_place
-        ∙ ap (λ (p : Put). with_flags (gap_flags (is_even operator) (place other)) p)
-        (put_operator_alike (place_for (is_even operator) (place other)) start arguments operator)
+        (operator_put map one (location_for (is_even operator) p) line start arguments operator)) same_location
+        ∙ ap (λ (p : Put). with_flags (gap_flags (is_even operator) (location other)) p)
+        (put_operator_alike (location_for (is_even operator) (location other)) start arguments operator)
 
     target_alike : (name : Option Name) → assigning.target_flags map one name ≡ assigning.target_flags map other name
     target_alike (Some name) = definition_alike name
@@ -244,16 +244,16 @@ module _ (one : Table) (definitions : List Definition) (doubly_defined : List Ke
     assignment_alike name start =
         let with_value : ℕ → Quantity → ℕ = λ flags value.
         bit_or flags (bit_or value.flags (assigning.after_expression line start)) in
-        ap (λ (n : ℕ). with_value n (value_at (known_at map LocalOnly one (place one)) line start)) (target_alike (assigning.target line name))
+        ap (λ (n : ℕ). with_value n (value_at (known_at map LocalOnly one (location one)) line start)) (target_alike (assigning.target line name))
         ∙ ap (λ (p : ℕ). with_value (assigning.target_flags map other (assigning.target line name))
-        (value_at (known_at map LocalOnly one p) line start)) same_place
+        (value_at (known_at map LocalOnly one p) line start)) same_location
         ∙ ap (λ (k : expressions.Known). with_value (assigning.target_flags map other (assigning.target line name)) (value_at k line start))
-        (alike_known one other alike map LocalOnly (place other))
+        (alike_known one other alike map LocalOnly (location other))
 
     put_alike : (arguments : Option ℕ) (action : Action) → put_by map one line arguments action ≡ put_by map other line arguments action
     put_alike arguments NoAction = refl
     put_alike arguments (Assign name is_global start) = ap nothing (assignment_alike name start)
-    put_alike arguments (SetsPlace start) =
+    put_alike arguments (SetsLocation start) =
         ap (λ (v : Quantity). nothing (bit_or (assigning.counter_flags_of one v) (assigning.after_expression line start)))
         (counter_alike line start)
     put_alike arguments (Operate operator start) = operation_alike start arguments operator
@@ -264,10 +264,10 @@ module _ (one : Table) (definitions : List Definition) (doubly_defined : List Ke
       → action_uses one line arguments action ≡ action_uses other line arguments action
   uses_alike line arguments NoAction = refl
   uses_alike line arguments (Assign name is_global start) = refl
-  uses_alike line arguments (SetsPlace start) = refl
+  uses_alike line arguments (SetsLocation start) = refl
   uses_alike line arguments (Operate (operators.Instruction operation) start) =
-      ap (λ (p : ℕ). flat_map (field_uses line) (fields one (place_for true p) line start operation).list) same_place
-      ∙ ap (λ (f : Fields). flat_map (field_uses line) f.list) (fields_alike (place_for true (place other)) line start operation)
+      ap (λ (p : ℕ). flat_map (field_uses line) (fields one (location_for true p) line start operation).list) same_location
+      ∙ ap (λ (f : Fields). flat_map (field_uses line) f.list) (fields_alike (location_for true (location other)) line start operation)
   uses_alike line arguments (Operate (operators.Directive of) start) = refl
 
 -- ---- any two tables that are alike

@@ -1,4 +1,4 @@
--- The list of names at a place is that of the tokens from there on.
+-- The list of names at a column is that of the tokens from there on.
 use Rattle.std.proofs.Common.{◌≡◌, ◌∙◌, ℕ, List, [], ◌∷◌, ap, length, refl}
 use Rattle.m11_base.specs.Devices.{Bytes}
 use Rattle.m11_scan.specs.Cutting.{Lexeme, tokens_from}

@@ -10,15 +10,15 @@ use Rattle.m11_asm_rules.proofs.NamesDefined.{known_counts, new_counts, symbol_c
 use Rattle.m11_asm_rules.specs.Definitions.{is_defined}
 use Rattle.m11_asm_rules.specs.Labels.{with_definition, with_doubly_defined, with_global}
 use Rattle.m11_asm_rules.specs.Limits.{has_too_many, is_local, is_local_definition, local_count, name_count}
-use Rattle.m11_asm_rules.specs.Places.{Move, in_section, place_in, size_in}
-use Rattle.m11_asm_rules.specs.Tables.{Table, first_table, place}
+use Rattle.m11_asm_rules.specs.Locations.{Move, in_section, location_in, size_in}
+use Rattle.m11_asm_rules.specs.Tables.{Table, first_table, location}
 use Rattle.m11_asm_rules.specs.declared.definitions.Definition.{Definition}
 use Rattle.m11_asm_rules.specs.declared.definitions.Key.{Key}
 use Rattle.m11_asm_rules.specs.declared.definitions.Key.TheVariants.{Named, Numbered}
 use Rattle.m11_asm_rules.specs.declared.modes.Modes.{Modes}
 use Rattle.m11_asm_table.specs.Alike as tables
 use Rattle.m11_asm_table.specs.Alike.{Alike}
-use Rattle.m11_asm_lines.proofs.Alike.{alike_defined, alike_itself, alike_place}
+use Rattle.m11_asm_lines.proofs.Alike.{alike_defined, alike_itself, alike_location}
 use Rattle.m11_asm_lines.proofs.Room.{few_of_both, many_names, many_symbols}
 use Rattle.m11_asm_lines.proofs.Sizes.{size_here, size_there}
 use Rattle.m11_asm_lines.specs.Passes.{Follows, Kept, Matches, no_sizes, size_at, with_size}
@@ -101,27 +101,27 @@ exports old new name follows told matches = record {
 
 -- ---- the counter goes on, and with it the size of its section
 
-size_by : (sizes : List ℕ) (section number place_now : ℕ) (told : Table) (move : Move) (is_here : Bool)
+size_by : (sizes : List ℕ) (section number location_now : ℕ) (told : Table) (move : Move) (is_here : Bool)
     → (section == number) ≡ is_here → section < length sizes
     → size_at sizes number ≡ size_in number told.moves
-    → place_now ≡ place_in section (told.moves ++ in_section section move ∷ [])
-    → size_at (slice_set sizes section (max (size_at sizes section) place_now)) number
+    → location_now ≡ location_in section (told.moves ++ in_section section move ∷ [])
+    → size_at (slice_set sizes section (max (size_at sizes section) location_now)) number
     ≡ size_in number (told.moves ++ in_section section move ∷ [])
-size_by sizes section number place_now told move true e within same there =
-    let P : ℕ → Type 0 = λ n. size_at (slice_set sizes section (max (size_at sizes section) place_now)) n
+size_by sizes section number location_now told move true e within same there =
+    let P : ℕ → Type 0 = λ n. size_at (slice_set sizes section (max (size_at sizes section) location_now)) n
     ≡ size_in n (told.moves ++ in_section section move ∷ []) in
     let same_here : size_at sizes section ≡ size_in section told.moves
     = let Q : ℕ → Type 0 = λ n. size_at sizes n ≡ size_in n told.moves in subst Q (sym (eqb-true section number e)) same in
     subst P (eqb-true section number e)
-    (get_or-set_same sizes section (max (size_at sizes section) place_now) 0 within
-    ∙ ap (λ (n : ℕ). max n place_now) same_here
+    (get_or-set_same sizes section (max (size_at sizes section) location_now) 0 within
+    ∙ ap (λ (n : ℕ). max n location_now) same_here
     ∙ ap (max (size_in section told.moves)) there
     ∙ sym (size_here section section told.moves move (itself section)))
   where
     itself : (n : ℕ) → (n == n) ≡ true
     itself n = grind (arith, nat_tests)
-size_by sizes section number place_now told move false e within same there =
-    get_or-set_other sizes section number (max (size_at sizes section) place_now) 0 (differs section number e)
+size_by sizes section number location_now told move false e within same there =
+    get_or-set_other sizes section number (max (size_at sizes section) location_now) 0 (differs section number e)
     ∙ same ∙ sym (size_there number section told.moves move e)
   where
     differs : (section number : ℕ) → (section == number) ≡ false → number ≢ section
@@ -135,17 +135,17 @@ counts old table new move follows e within told matches =
     let P : Kept → Type 0 = λ k. Matches k (with_move move told) in
     let S : ℕ → Type 0 = λ n. n < length old.sizes in
     let T : ℕ → Type 0 = λ n. (number : ℕ) → number < 64
-    → size_at (slice_set old.sizes n (max (size_at old.sizes n) (place table))) number
+    → size_at (slice_set old.sizes n (max (size_at old.sizes n) (location table))) number
     ≡ size_in number (with_move move told).moves in
     subst P (sym e) (record {
       alike = went;
       names = matches.names;
       local_symbols = matches.local_symbols;
       sizes = subst T (sym (ap (λ (s : Modes). s.section) went.modes))
-          (λ number below. size_by old.sizes told.modes.section number (place table) told move
+          (λ number below. size_by old.sizes told.modes.section number (location table) told move
           (told.modes.section == number) refl
           (subst S (ap (λ (s : Modes). s.section) matches.alike.modes) within)
-          (matches.sizes number below) (alike_place table (with_move move told) went));
+          (matches.sizes number below) (alike_location table (with_move move told) went));
     })
 
 -- ---- what is kept, by its parts

@@ -19,7 +19,7 @@ action_seen (Assign assignment) = lines.Assign assignment.name assignment.is_glo
 action_seen (SetCounter value) = lines.SetCounter value
 action_seen (Operate operator start) = lines.Operate operator start
 
--- the places of an action lie in a line of a size
+-- the locations of an action lie in a line of a size
 abbrev pub IsWithin : ℕ → Action → Type 0
 IsWithin size NoAction = Unit {0}
 IsWithin size (Assign assignment) = assignment.value ≤ size

@@ -1,5 +1,5 @@
 -- Labels that stand elsewhere than a map has them. (MACRO-11 Language Reference Manual, "Diagnostic error message summary", P: phase
--- error. That the sections of two readings are the same where their names are, and that what is assigned has no place, is this project's
+-- error. That the sections of two readings are the same where their names are, and that what is assigned has no location, is this project's
 -- own.)
 use Rattle.std.specs.Prelude.{ℕ, ◌==◌, ◌&&◌, not, Bool, false, true, List, [], ◌∷◌, Option, Some, None}
 use Rattle.std.specs.Int.RustNames.{bit_or}
@@ -12,7 +12,7 @@ use Rattle.m11_scan_statements.specs.declared.labels.LabelKind.TheVariants as la
 use Rattle.m11_asm_rules.specs.Definitions.{is_defined, last_definition}
 use Rattle.m11_asm_rules.specs.Labels.{label_name, with_label}
 use Rattle.m11_asm_rules.specs.Meanings.{Map}
-use Rattle.m11_asm_rules.specs.Tables.{Table, place, section_name}
+use Rattle.m11_asm_rules.specs.Tables.{Table, location, section_name}
 use Rattle.m11_asm_rules.specs.declared.definitions.Definition.{Definition}
 use Rattle.m11_asm_rules.specs.declared.definitions.Key.{Key}
 use Rattle.m11_asm_rules.specs.declared.definitions.Key.TheVariants.{Named, Numbered}
@@ -30,18 +30,18 @@ is_in section None = false
 
 -- what is known has a number
 abbrev pub is_at : ℕ → Standing → Bool
-is_at place (Known number kind) = number == place
-is_at place Unknown = false
+is_at location (Known number kind) = number == location
+is_at location Unknown = false
 
--- a definition is that of a label which stands where the counter does: in the section of the line, and at its place there
-abbrev pub is_place_of : Table → Option Definition → Bool
-is_place_of table (Some definition) = is_in (section_name table) definition.label && is_at (place table) definition.standing
-is_place_of table None = false
+-- a definition is that of a label which stands where the counter does: in the section of the line, and at its location there
+abbrev pub is_location_of : Table → Option Definition → Bool
+is_location_of table (Some definition) = is_in (section_name table) definition.label && is_at (location table) definition.standing
+is_location_of table None = false
 
--- P where the map doesn't have the place of a label. A key that is defined before has no place of its own
+-- P where the map doesn't have the location of a label. A key that is defined before has no location of its own
 abbrev pub moved_key : Map → Table → Key → ℕ
 moved_key map table key =
-    flag_if (not (is_defined key table.definitions) && not (is_place_of table (last_definition key map.definitions))) flag_P
+    flag_if (not (is_defined key table.definitions) && not (is_location_of table (last_definition key map.definitions))) flag_P
 
 abbrev pub moved_name : Map → Table → Option Name → ℕ
 moved_name map table (Some name) = moved_key map table (Named name)

@@ -2,8 +2,8 @@
 -- section directives".)
 use Rattle.std.specs.Prelude.{◌≡◌, ◌<◌, ℕ, max, List, get_or, replicate, slice_set}
 use Rattle.m11_asm_rules.specs.Limits.{local_count, name_count}
-use Rattle.m11_asm_rules.specs.Places.{size_in}
-use Rattle.m11_asm_rules.specs.Tables.{Table, place}
+use Rattle.m11_asm_rules.specs.Locations.{size_in}
+use Rattle.m11_asm_rules.specs.Tables.{Table, location}
 use Rattle.m11_asm_table.specs.Alike.{Alike}
 
 -- the table of the last definitions, how many names and local symbols are defined, and the sizes of sections by their numbers
@@ -31,8 +31,8 @@ Follows old new change = (table : Table) → Matches old table → Matches new (
 unfoldable pub no_sizes : List ℕ
 no_sizes = replicate 64 0
 
--- the size of the section is the greatest place of its counter
+-- the size of the section is the greatest location of its counter
 abbrev pub with_size : Kept → Kept
 with_size kept = record kept {
-  sizes = slice_set kept.sizes kept.table.modes.section (max (size_at kept.sizes kept.table.modes.section) (place kept.table));
+  sizes = slice_set kept.sizes kept.table.modes.section (max (size_at kept.sizes kept.table.modes.section) (location kept.table));
 }

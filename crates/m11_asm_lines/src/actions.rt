@@ -24,9 +24,9 @@ pub enum Action {
     NoAction,
     /// An assignment.
     Assign(Assignment),
-    /// `.=`, and the place where the expression begins.
+    /// `.=`, and the column where the expression begins.
     SetCounter(u8),
-    /// An operator, and the place after its name.
+    /// An operator, and the column after its name.
     Operate(Operator, u8),
 }
 
@@ -91,7 +91,7 @@ fn operating(line: &Line, name: Span) -> Action
     }
 }
 
-// The action of a text from a place on that is read as if `.WORD` stood before it.
+// The action of a text from a location on that is read as if `.WORD` stood before it.
 fn implied_words(start: u8) -> Action
     ensures { result ≡ Action.Operate (Operator.Directive Directive.Word) start }
 {

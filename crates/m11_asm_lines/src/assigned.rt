@@ -9,7 +9,7 @@ ghost use Rattle.m11_asm_rules.specs.Changes.{changed, with_value};
 ghost use Rattle.m11_asm_rules.specs.Items.{value_items};
 ghost use Rattle.m11_asm_rules.specs.Labels.{with_definition};
 ghost use Rattle.m11_asm_rules.specs.Meanings.{Map as LineMap, known_at};
-ghost use Rattle.m11_asm_rules.specs.Tables.{Table as LineTable, place};
+ghost use Rattle.m11_asm_rules.specs.Tables.{Table as LineTable, location};
 ghost use Rattle.m11_asm_rules.specs.declared.definitions.Key.TheVariants.{Named};
 ghost use Rattle.m11_asm_rules.specs.declared.meanings.Context.TheVariants.{LocalOnly};
 ghost use Rattle.m11_asm_lines.specs.Faults.{Overfills};
@@ -51,7 +51,7 @@ impl Pass {
             (assignment line.now.text made.name made.is_global made.value) before)) }
         ensures symbols { IfOk result (λ _. self.new.local_symbols ≡ self.old.local_symbols) }
         ensures shows { IfOk result (λ item. option_to_list item
-            ≡ value_items (value_at (known_at map.now LocalOnly self.old.table (place self.old.table)) line.now.text made.value)) }
+            ≡ value_items (value_at (known_at map.now LocalOnly self.old.table (location self.old.table)) line.now.text made.value)) }
         ensures refuses { IfErr result (λ fault. (before : LineTable) → Matches self.old before
             → Overfills fault (changed map.now line.now.text
             (assignment line.now.text made.name made.is_global made.value) before)) }
@@ -62,7 +62,7 @@ impl Pass {
         Ok(value_item(value))
     }
 
-    // Assigns the value of the expression at a place to what is written before the `=`, if that is a name.
+    // Assigns the value of the expression at a column to what is written before the `=`, if that is a name.
     fn assign_to(
         &mut self,
         line: &Line,
@@ -75,11 +75,11 @@ impl Pass {
         requires within { start ≤ length line.now.text }
         requires term { IfSome term (λ term. IsAlone line.now.text start term) }
         ensures takes { (map : LineMap)
-            → quantity value.now ≡ value_at (known_at map LocalOnly self.old.table (place self.old.table)) line.now.text start
+            → quantity value.now ≡ value_at (known_at map LocalOnly self.old.table (location self.old.table)) line.now.text start
             → IfOk result (λ _. Follows self.old self.new (λ before. changed map line.now.text
             (assignment line.now.text name is_global start) before)) }
         ensures tables { (map : LineMap)
-            → quantity value.now ≡ value_at (known_at map LocalOnly self.old.table (place self.old.table)) line.now.text start
+            → quantity value.now ≡ value_at (known_at map LocalOnly self.old.table (location self.old.table)) line.now.text start
             → IfOk result (λ _. tables.Follows self.old.table self.new.table (λ before. changed map line.now.text
             (assignment line.now.text name is_global start) before)) }
         ensures symbols { IfOk result (λ _. self.new.local_symbols ≡ self.old.local_symbols) }
@@ -93,7 +93,7 @@ impl Pass {
         }
     }
 
-    // Assigns the value of the expression at a place to a name. A label's name becomes doubly defined.
+    // Assigns the value of the expression at a column to a name. A label's name becomes doubly defined.
     fn assign(
         &mut self,
         line: &Line,
@@ -106,10 +106,10 @@ impl Pass {
         requires within { start ≤ length line.now.text }
         requires term { IfSome term (λ term. IsAlone line.now.text start term) }
         ensures assigns { (map : LineMap)
-            → quantity value.now ≡ value_at (known_at map LocalOnly self.old.table (place self.old.table)) line.now.text start
+            → quantity value.now ≡ value_at (known_at map LocalOnly self.old.table (location self.old.table)) line.now.text start
             → IfOk result (λ _. Follows self.old self.new (with_value map name is_global line.now.text start)) }
         ensures tables { (map : LineMap)
-            → quantity value.now ≡ value_at (known_at map LocalOnly self.old.table (place self.old.table)) line.now.text start
+            → quantity value.now ≡ value_at (known_at map LocalOnly self.old.table (location self.old.table)) line.now.text start
             → IfOk result (λ _. tables.Follows self.old.table self.new.table (with_value map name is_global line.now.text start)) }
         ensures symbols { IfOk result (λ _. self.new.local_symbols ≡ self.old.local_symbols) }
         ensures refuses { (map : LineMap) → IfErr result (λ fault. (before : LineTable) → Matches self.old before
@@ -125,7 +125,7 @@ impl Pass {
         Ok(())
     }
 
-    // Defines a name as the value of the expression at a place.
+    // Defines a name as the value of the expression at a column.
     fn define_assigned(
         &mut self,
         line: &Line,
@@ -137,11 +137,11 @@ impl Pass {
         requires within { start ≤ length line.now.text }
         requires term { IfSome term (λ term. IsAlone line.now.text start term) }
         ensures defines { (map : LineMap)
-            → quantity value.now ≡ value_at (known_at map LocalOnly self.old.table (place self.old.table)) line.now.text start
+            → quantity value.now ≡ value_at (known_at map LocalOnly self.old.table (location self.old.table)) line.now.text start
             → IfOk result (λ _. Follows self.old self.new
             (λ before. with_definition (assignments.assigned map before (Named name) line.now.text start) before)) }
         ensures tables { (map : LineMap)
-            → quantity value.now ≡ value_at (known_at map LocalOnly self.old.table (place self.old.table)) line.now.text start
+            → quantity value.now ≡ value_at (known_at map LocalOnly self.old.table (location self.old.table)) line.now.text start
             → IfOk result (λ _. tables.Follows self.old.table self.new.table
             (λ before. with_definition (assignments.assigned map before (Named name) line.now.text start) before)) }
         ensures symbols { IfOk result (λ _. self.new.local_symbols ≡ self.old.local_symbols) }
@@ -170,7 +170,7 @@ fn definition_of(name: Name, value: &Value, is_firm: bool) -> Definition
     }
 }
 
-// Whether all symbols of the expression at a place are firm, asked of its one token where it was found to be one term.
+// Whether all symbols of the expression at a column are firm, asked of its one token where it was found to be one term.
 fn is_firm_by(
     alloc: Global,
     table: &Table,
@@ -198,7 +198,7 @@ fn is_firm_term(table: &Table, line: &Line, term: &Token) -> bool
     }
 }
 
-// Whether all symbols of the expression at a place are firm.
+// Whether all symbols of the expression at a column are firm.
 fn is_firm_at(alloc: Global, table: &Table, line: &Line, start: usize) -> Result<bool, AllocError>
     requires { start ≤ length line.now.text }
     ensures { IfOk result (λ firm. firm ≡ assignments.all_firm table.now (symbols_at line.now.text start)) }

@@ -161,7 +161,7 @@ impl Pass {
         }
     }
 
-    /// Moves the counter past an instruction with these fields, whose name ends at a place of its line. The changes of other operators are
+    /// Moves the counter past an instruction with these fields, whose name ends at a column of its line. The changes of other operators are
     /// handed on by memory.
     pub fn step_over(&mut self, line: &Line, start: u8, operation: Op, fields: &Fields)
         requires fields { fields_seen fields.now ≡ operator_fields self.old.table line.now.text start (Instruction operation) }
@@ -191,7 +191,7 @@ impl Pass {
         }
     }
 
-    // Makes the names of the list at a place global.
+    // Makes the names of the list at a column global.
     fn export_list(&mut self, line: &Line, start: u8) -> Result<(), AsmFault>
         ensures exports { IfOk result (λ _. Follows self.old self.new (with_globals (listed_names line.now.text start))) }
         ensures tables { IfOk result (λ _. tables.Follows self.old.table self.new.table
@@ -231,14 +231,14 @@ impl Pass {
     }
 }
 
-// A place within a line: its end for one after that, since no token stands at either.
-pub(crate) fn within(line: &Line, place: u8) -> usize
-    ensures same { tokens_from line.now.text result ≡ tokens_from line.now.text place }
+// A column within a line: its end for one after that, since no token stands at either.
+pub(crate) fn within(line: &Line, column: u8) -> usize
+    ensures same { tokens_from line.now.text result ≡ tokens_from line.now.text column }
     ensures within { result ≤ length line.now.text }
 {
-    let place = usize::from(place);
+    let column = usize::from(column);
     let end = line.text().len();
-    if place <= end { place } else { end }
+    if column <= end { column } else { end }
 }
 
 // The definition of a name as a number, which is firm.

@@ -29,7 +29,7 @@ use m11_scan_statements::{Label, LabelKind};
 pub struct LabelFlags {
     /// M for each that is defined before it.
     pub doubly_defined: ErrorFlags,
-    /// P for each other one whose place isn't the map's.
+    /// P for each other one whose location isn't the map's.
     pub moved: ErrorFlags,
 }
 
@@ -70,7 +70,7 @@ impl LabelFlags {
 
 impl Pass {
     /// Defines the labels of a line, one after the other. M for each whose name or local symbol is defined before it, and P for each other
-    /// one whose last definition in the map isn't the place where it stands.
+    /// one whose last definition in the map isn't the location where it stands.
     ///
     /// Errors: `TooManySymbols` where more than 4,096 names besides those of the registers, or more than 16,384 local symbols, would be
     /// defined, and `NoMemory`, at a label up to which there are no more.
@@ -228,7 +228,7 @@ fn labelled(table: &Table, key: Key) -> Definition
 {
     Definition {
         key,
-        standing: Standing::Known(table.place(), table.kind_here()),
+        standing: Standing::Known(table.location(), table.kind_here()),
         is_firm: true,
         label: Some(table.section_name()),
     }

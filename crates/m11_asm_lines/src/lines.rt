@@ -21,7 +21,7 @@ use m11_scan_statements::{Assignment, Body};
 use m11_unfold_arguments::skip_flags;
 use std::alloc::AllocError;
 
-/// Adds what the action of a line puts at its places, with the flags of its operator and arguments. The map says what the whole source
+/// Adds what the action of a line puts at its locations, with the flags of its operator and arguments. The map says what the whole source
 /// gives its names. Error: memory may be refused.
 pub fn put_action(
     put: &mut Put,

@@ -16,17 +16,17 @@ pub(crate) fn moved_flag(map: &Map<'_>, table: &Table, key: &Key) -> ErrorFlags
     requires { is_defined key.now table.now.definitions ≡ false }
     ensures { bits_of result ≡ spec.moved_key map.now table.now key.now }
 {
-    ErrorFlags::P.when(!is_place_of(table, map.definition(key)))
+    ErrorFlags::P.when(!is_location_of(table, map.definition(key)))
 }
 
 // Whether a definition is that of a label which stands where the counter does.
-fn is_place_of(table: &Table, found: Option<Definition>) -> bool
-    ensures { result ≡ spec.is_place_of table.now found }
+fn is_location_of(table: &Table, found: Option<Definition>) -> bool
+    ensures { result ≡ spec.is_location_of table.now found }
 {
     match found {
         Some(definition) => {
             is_in(table.section_name(), definition.label)
-                && is_at(table.place(), definition.standing)
+                && is_at(table.location(), definition.standing)
         }
         None => false,
     }
@@ -42,11 +42,11 @@ fn is_in(section: Name, label: Option<Name>) -> bool
     }
 }
 
-fn is_at(place: u16, standing: Standing) -> bool
-    ensures { result ≡ spec.is_at place standing }
+fn is_at(location: u16, standing: Standing) -> bool
+    ensures { result ≡ spec.is_at location standing }
 {
     match standing {
-        Standing::Known(number, _) => number == place,
+        Standing::Known(number, _) => number == location,
         Standing::Unknown => false,
     }
 }

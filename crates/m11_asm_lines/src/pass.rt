@@ -39,7 +39,7 @@ pub struct Pass {
     // How many names are defined, those of the registers among them, and how many local symbols.
     names: u32,
     local_symbols: u32,
-    // The greatest place that each counter had after a line, by the numbers of sections.
+    // The greatest location that each counter had after a line, by the numbers of sections.
     sizes: [u16; 64],
 }
 
@@ -86,7 +86,7 @@ impl Pass {
         &self.table
     }
 
-    /// The size of the section of a number, in bytes: the greatest place that its counter had after a line. Numbers are
+    /// The size of the section of a number, in bytes: the greatest location that its counter had after a line. Numbers are
     /// 63 at most.
     pub fn size(&self, number: usize) -> u16
         requires { number < 64 }
@@ -228,15 +228,15 @@ impl Pass {
         self.note_size();
     }
 
-    // Makes the size of the section the greatest place of its counter.
+    // Makes the size of the section the greatest location of its counter.
     fn note_size(&mut self)
         requires { self.old.table.modes.section < 64 }
         ensures { self.new ≡ with_size self.old }
     {
         let section = usize::from(self.table.modes().section);
-        let place = self.table.place();
-        if self.sizes[section] < place {
-            self.sizes[section] = place;
+        let location = self.table.location();
+        if self.sizes[section] < location {
+            self.sizes[section] = location;
         }
     }
 }
@@ -256,6 +256,6 @@ fn move_counter(table: &mut Table, step: Move)
 {
     match step {
         Move::Steps(size) => table.step(size),
-        Move::Goes(place) => table.go_to(place),
+        Move::Goes(location) => table.go_to(location),
     }
 }

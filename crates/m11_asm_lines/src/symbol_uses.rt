@@ -142,14 +142,14 @@ impl UsedSymbols {
         self.read_by(line, assignment.value, term, Context::LocalOnly)
     }
 
-    // Adds the symbols of the expression at a place. Most expressions are one term, so no list is made of them.
+    // Adds the symbols of the expression at a column. Most expressions are one term, so no list is made of them.
     fn read(&mut self, line: &Line, start: u8, context: Context) -> Result<(), AsmFault>
         ensures { Adds (spec.read_at context line.now.text start) self.old self.new result }
     {
-        let place = within(line, start);
-        match single_term(line, place) {
+        let column = within(line, start);
+        match single_term(line, column) {
             Some(term) => self.read_term(line, &term, context),
-            None => self.read_all(line, place, context),
+            None => self.read_all(line, column, context),
         }
     }
 
@@ -179,12 +179,12 @@ impl UsedSymbols {
         }
     }
 
-    fn read_all(&mut self, line: &Line, place: usize, context: Context) -> Result<(), AsmFault>
-        requires { place ≤ length line.now.text }
-        ensures { Adds (in_context context (symbols_at line.now.text place)) self.old self.new result }
+    fn read_all(&mut self, line: &Line, column: usize, context: Context) -> Result<(), AsmFault>
+        requires { column ≤ length line.now.text }
+        ensures { Adds (in_context context (symbols_at line.now.text column)) self.old self.new result }
     {
         let mut notes = Notes::new(self.alloc);
-        note_symbols(line, place, &mut notes)?;
+        note_symbols(line, column, &mut notes)?;
         self.add_all(notes.symbols(), context)
     }
 }
@@ -252,22 +252,22 @@ impl UsedSymbols {
         requires { start ≤ length line.now.text }
         ensures { Adds (spec.directive_uses line.now.text start arguments directive) self.old self.new result }
     {
-        let place = usize::from(start);
+        let column = usize::from(start);
         match directive {
-            Directive::Word | Directive::Byte => self.add_list(line, place),
-            Directive::Ascii | Directive::Asciz => self.add_text(line, place, Context::MayBeGlobal),
-            Directive::Rad50 => self.add_text(line, place, Context::LocalOnly),
+            Directive::Word | Directive::Byte => self.add_list(line, column),
+            Directive::Ascii | Directive::Asciz => self.add_text(line, column, Context::MayBeGlobal),
+            Directive::Rad50 => self.add_text(line, column, Context::LocalOnly),
             Directive::Blkb | Directive::Blkw | Directive::End => {
                 self.read(line, start, Context::LocalOnly)
             }
-            Directive::Globl | Directive::Weak => self.add_exports(line, place),
-            Directive::Narg => self.add_number(&narg(arguments, line, place)),
-            Directive::Nchr => self.add_number(&nchr(line, place)),
+            Directive::Globl | Directive::Weak => self.add_exports(line, column),
+            Directive::Narg => self.add_number(&narg(arguments, line, column)),
+            Directive::Nchr => self.add_number(&nchr(line, column)),
             _ => Ok(()),
         }
     }
 
-    // Adds the symbols of the list at a place.
+    // Adds the symbols of the list at a column.
     // speed: a call, since in the caller room for the elements of one would be cleared for each directive.
     #[inline(never)]
     fn add_list(&mut self, line: &Line, start: usize) -> Result<(), AsmFault>
@@ -275,7 +275,7 @@ impl UsedSymbols {
         ensures { Adds (spec.element_uses line.now.text start) self.old self.new result }
     {
         let elements = elements_at(line, start);
-        self.add_elements(line, elements.places.as_slice())
+        self.add_elements(line, elements.columns.as_slice())
     }
 
     // Adds the names that become global or weak.
@@ -290,13 +290,13 @@ impl UsedSymbols {
     }
 
     // Adds the symbols in the elements of a list of words or bytes.
-    fn add_elements(&mut self, line: &Line, places: &[u8]) -> Result<(), AsmFault>
-        ensures { Adds (flat_map (spec.read_at Context.MayBeGlobal line.now.text) places.now) self.old self.new result }
+    fn add_elements(&mut self, line: &Line, columns: &[u8]) -> Result<(), AsmFault>
+        ensures { Adds (flat_map (spec.read_at Context.MayBeGlobal line.now.text) columns.now) self.old self.new result }
     {
-        match places {
+        match columns {
             [] => Ok(()),
-            [place, others @ ..] => {
-                self.read(line, *place, Context::MayBeGlobal)?;
+            [column, others @ ..] => {
+                self.read(line, *column, Context::MayBeGlobal)?;
                 self.add_elements(line, others)
             }
         }

@@ -7,32 +7,32 @@ use Rattle.std.specs.Prelude.{codes}
 use Rattle.m11_base.specs.Devices.{Bytes}
 use Rattle.m11_asm_listing.specs.declared.items.Item.{Item}
 use Rattle.m11_asm_listing.specs.Columns.{blanks, has_print, printed, shown}
-use Rattle.m11_asm_listing.specs.Items.{place_after}
-use Rattle.m11_asm_listing.specs.Listing.{further_line, further_lines, head, listed_line, places}
+use Rattle.m11_asm_listing.specs.Items.{location_after}
+use Rattle.m11_asm_listing.specs.Listing.{further_line, further_lines, head, listed_line, location_and_items}
 use Rattle.m11_asm_listing.specs.Messages.{message_line}
-use Rattle.m11_asm_listing.proofs.Widths.{length-front, length-places}
+use Rattle.m11_asm_listing.proofs.Widths.{length-front, length-location_and_items}
 use Rattle.m11_obj_print.proofs.LineEnds.{length-line_of, whole_line}
 use Rattle.m11_obj_print.specs.Lines.{line_of}
 
 abbrev front_of : Bytes → ℕ → ℕ → List Item → Bytes
-front_of flags number place items = head flags number ++ places place items ++ blanks 1
+front_of flags number location items = head flags number ++ location_and_items location items ++ blanks 1
 
 longest : (front text : Bytes) → length front ≡ 42 → length (line_of (front ++ printed text)) ≤ 42 + length text + 1
 longest front text e =
     omega (arith, e, length-line_of (front ++ printed text), length-append front (printed text), length-map text shown)
 
-pub listed_length : (flags : Bytes) (number place : ℕ) (items : List Item) (text : Bytes) → number < 65536
-    → length (listed_line flags number place items text) ≤ 42 + length text + 1
-listed_length flags number place items text h =
-    longest (front_of flags number place items) text (length-front flags number place items h)
+pub listed_length : (flags : Bytes) (number location : ℕ) (items : List Item) (text : Bytes) → number < 65536
+    → length (listed_line flags number location items text) ≤ 42 + length text + 1
+listed_length flags number location items text h =
+    longest (front_of flags number location items) text (length-front flags number location items h)
 
-pub further_length : (place : ℕ) (items : List Item) → length (further_line place items) ≤ 41 + 1
-further_length place items =
+pub further_length : (location : ℕ) (items : List Item) → length (further_line location items) ≤ 41 + 1
+further_length location items =
     omega (
       arith,
-      length-line_of (blanks 10 ++ places place items),
-      length-append (blanks 10) (places place items),
-      length-places place items,
+      length-line_of (blanks 10 ++ location_and_items location items),
+      length-append (blanks 10) (location_and_items location items),
+      length-location_and_items location items,
     )
 
 -- ---- texts that end with no blank
@@ -61,12 +61,12 @@ after_front front text e =
     let Q : Bytes → Type 0 = λ bs. drop 42 bs ≡ text ++ 10 ∷ [] in
     subst Q (sym (append_assoc front text (10 ∷ []))) (subst P e (drop-append_seam front (text ++ 10 ∷ [])))
 
-pub text_begins : (flags : Bytes) (number place : ℕ) (items : List Item) (text : Bytes) (last : ℕ) → number < 65536
+pub text_begins : (flags : Bytes) (number location : ℕ) (items : List Item) (text : Bytes) (last : ℕ) → number < 65536
     → (last ≡ 32 → ⊥)
-    → drop 42 (listed_line flags number place items (text ++ last ∷ [])) ≡ printed (text ++ last ∷ []) ++ 10 ∷ []
-text_begins flags number place items text last h other =
-    ap (λ (bs : Bytes). drop 42 bs) (whole (front_of flags number place items) text last other)
-    ∙ after_front (front_of flags number place items) (printed (text ++ last ∷ [])) (length-front flags number place items h)
+    → drop 42 (listed_line flags number location items (text ++ last ∷ [])) ≡ printed (text ++ last ∷ []) ++ 10 ∷ []
+text_begins flags number location items text last h other =
+    ap (λ (bs : Bytes). drop 42 bs) (whole (front_of flags number location items) text last other)
+    ∙ after_front (front_of flags number location items) (printed (text ++ last ∷ [])) (length-front flags number location items h)
 
 pub message_whole : (flags : Bytes) (number : ℕ) (text : Bytes) (last : ℕ) → (last ≡ 32 → ⊥)
     → message_line flags number (text ++ last ∷ [])
@@ -75,8 +75,8 @@ message_whole flags number text last other = whole (flags ++ codes " " ++ decima
 
 -- ---- further lines
 
-pub by_threes : (place : ℕ) (first : Item) (items : List Item) → further_lines place (first ∷ items)
-    ≡ further_line place (first ∷ items) ∷ further_lines (place_after place (take 3 (first ∷ items))) (drop 3 (first ∷ items))
-by_threes place first [] = refl
-by_threes place first (second ∷ []) = refl
-by_threes place first (second ∷ third ∷ items) = refl
+pub by_threes : (location : ℕ) (first : Item) (items : List Item) → further_lines location (first ∷ items)
+    ≡ further_line location (first ∷ items) ∷ further_lines (location_after location (take 3 (first ∷ items))) (drop 3 (first ∷ items))
+by_threes location first [] = refl
+by_threes location first (second ∷ []) = refl
+by_threes location first (second ∷ third ∷ items) = refl

@@ -9,7 +9,7 @@ use Rattle.m11_asm_listing.specs.declared.items.Item.{Item}
 use Rattle.m11_asm_listing.specs.declared.items.Item.TheVariants.{InByte, InWord}
 use Rattle.m11_asm_listing.specs.Columns.{at_left, at_right, blanks}
 use Rattle.m11_asm_listing.specs.Items.{item_column, items_column}
-use Rattle.m11_asm_listing.specs.Listing.{head, flags_column, number_column, place_column, places}
+use Rattle.m11_asm_listing.specs.Listing.{head, flags_column, location_and_items, location_column, number_column}
 
 pub length-at_left : (width : ℕ) (text : Bytes) → length text ≤ width → length (at_left width text) ≡ width
 length-at_left width text h =
@@ -48,18 +48,18 @@ length-head flags number h =
       length-number_column number h,
     )
 
-pub length-places : (place : ℕ) (items : List Item) → length (places place items) ≡ 31
-length-places place items =
-    let seven : length (place_column place) ≡ 7 = refl in
-    omega (arith, seven, length-append (place_column place) (items_column items), length-items_column items)
+pub length-location_and_items : (location : ℕ) (items : List Item) → length (location_and_items location items) ≡ 31
+length-location_and_items location items =
+    let seven : length (location_column location) ≡ 7 = refl in
+    omega (arith, seven, length-append (location_column location) (items_column items), length-items_column items)
 
-pub length-front : (flags : Bytes) (number place : ℕ) (items : List Item) → number < 65536
-    → length (head flags number ++ places place items ++ blanks 1) ≡ 42
-length-front flags number place items h =
+pub length-front : (flags : Bytes) (number location : ℕ) (items : List Item) → number < 65536
+    → length (head flags number ++ location_and_items location items ++ blanks 1) ≡ 42
+length-front flags number location items h =
     omega (
       arith,
-      length-append (head flags number ++ places place items) (blanks 1),
-      length-append (head flags number) (places place items),
+      length-append (head flags number ++ location_and_items location items) (blanks 1),
+      length-append (head flags number) (location_and_items location items),
       length-head flags number h,
-      length-places place items,
+      length-location_and_items location items,
     )

@@ -41,6 +41,6 @@ abbrev pub item_size : Item → ℕ
 item_size (InByte byte mark) = 1
 item_size (InWord word mark) = 2
 
--- places are kept modulo 65536
-abbrev pub place_after : ℕ → List Item → ℕ
-place_after place items = (place + sum_by item_size items) % 65536
+-- locations are kept modulo 65536
+abbrev pub location_after : ℕ → List Item → ℕ
+location_after location items = (location + sum_by item_size items) % 65536

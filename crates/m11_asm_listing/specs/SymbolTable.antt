@@ -29,14 +29,14 @@ assignment_column is_assigned = if is_assigned then codes " = " else codes "   "
 abbrev pub value_column : SymbolValue → Bytes
 value_column Unknown = codes "******"
 value_column (Absolute number) = octal_text number
-value_column (Relocatable place section) = octal_text place
+value_column (Relocatable location section) = octal_text location
 value_column (Register number) = octal_text number
 
 -- `R` for relocatable, `%` for a register
 abbrev pub kind_character : SymbolValue → ℕ
 kind_character Unknown = 0o40
 kind_character (Absolute number) = 0o40
-kind_character (Relocatable place section) = 0o122
+kind_character (Relocatable location section) = 0o122
 kind_character (Register number) = 0o45
 
 -- `G` for a global
@@ -51,7 +51,7 @@ number_column number = at_right 3 (decimal number)
 abbrev pub section_column : SymbolValue → Bytes
 section_column Unknown = blanks 3
 section_column (Absolute number) = blanks 3
-section_column (Relocatable place section) = number_column section
+section_column (Relocatable location section) = number_column section
 section_column (Register number) = blanks 3
 
 -- ---- lines

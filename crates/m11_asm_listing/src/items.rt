@@ -93,11 +93,11 @@ pub(crate) fn put_items(line: &mut Line, items: &[Item])
     put(line, &column_at(items, 2));
 }
 
-/// The place after items that begin at a place.
-pub fn place_after(place: u16, items: &[Item]) -> u16
-    ensures { result ≡ spec.place_after place items.now }
+/// The location after items that begin at a location.
+pub fn location_after(location: u16, items: &[Item]) -> u16
+    ensures { result ≡ spec.location_after location items.now }
 {
-    let mut after = place;
+    let mut after = location;
     for item in items {
         after = after.wrapping_add(item.size());
     }

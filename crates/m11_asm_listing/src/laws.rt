@@ -7,7 +7,7 @@ ghost use Rattle.m11_asm_listing.specs.Columns.{printed};
 ghost use Rattle.m11_asm_listing.specs.declared.items.Item.{Item};
 ghost use Rattle.m11_asm_listing.specs.declared.symbol_table.SectionEntry.{SectionEntry};
 ghost use Rattle.m11_asm_listing.specs.declared.symbol_table.SymbolEntry.{SymbolEntry};
-ghost use Rattle.m11_asm_listing.specs.Items.{place_after};
+ghost use Rattle.m11_asm_listing.specs.Items.{location_after};
 ghost use Rattle.m11_asm_listing.specs.Laws.{EndsWithNoBlank};
 ghost use Rattle.m11_asm_listing.specs.Listing.{further_line, further_lines, listed_line};
 ghost use Rattle.m11_asm_listing.specs.Messages.{message_line};
@@ -15,26 +15,26 @@ ghost use Rattle.m11_asm_listing.specs.SymbolTable.{section_line, symbol_line};
 
 /// A listed line has at most 42 characters and those of its text, and a line feed.
 pub fn a_listed_line_has_at_most_42_characters_and_its_text()
-    ensures { (flags : Bytes) (number place : ℕ) (items : List Item) (text : Bytes) → number < 65536
-        → length (listed_line flags number place items text) ≤ 42 + length text + 1 }
+    ensures { (flags : Bytes) (number location : ℕ) (items : List Item) (text : Bytes) → number < 65536
+        → length (listed_line flags number location items text) ≤ 42 + length text + 1 }
 {}
 
 /// A further line has at most 41 characters, and a line feed.
 pub fn a_further_line_has_at_most_41_characters()
-    ensures { (place : ℕ) (items : List Item) → length (further_line place items) ≤ 41 + 1 }
+    ensures { (location : ℕ) (items : List Item) → length (further_line location items) ≤ 41 + 1 }
 {}
 
 /// The text of a listed line begins in column 43, whatever stands before it. The text is one that ends with no blank.
 pub fn the_text_of_a_listed_line_begins_in_column_43()
-    ensures { (flags : Bytes) (number place : ℕ) (items : List Item) (text : Bytes) (last : ℕ) → number < 65536 → last ≢ 32
-        → drop 42 (listed_line flags number place items (text ++ last ∷ [])) ≡ printed (text ++ last ∷ []) ++ 10 ∷ [] }
+    ensures { (flags : Bytes) (number location : ℕ) (items : List Item) (text : Bytes) (last : ℕ) → number < 65536 → last ≢ 32
+        → drop 42 (listed_line flags number location items (text ++ last ∷ [])) ≡ printed (text ++ last ∷ []) ++ 10 ∷ [] }
 {}
 
 /// No line ends with a blank: none of source lines, none of messages, none of the symbol table.
 pub fn no_line_ends_with_a_blank()
-    ensures listed { (flags : Bytes) (number place : ℕ) (items : List Item) (text : Bytes)
-        → EndsWithNoBlank (listed_line flags number place items text) }
-    ensures further { (place : ℕ) (items : List Item) → EndsWithNoBlank (further_line place items) }
+    ensures listed { (flags : Bytes) (number location : ℕ) (items : List Item) (text : Bytes)
+        → EndsWithNoBlank (listed_line flags number location items text) }
+    ensures further { (location : ℕ) (items : List Item) → EndsWithNoBlank (further_line location items) }
     ensures message { (flags : Bytes) (number : ℕ) (text : Bytes) → EndsWithNoBlank (message_line flags number text) }
     ensures symbol { (symbol : SymbolEntry) → EndsWithNoBlank (symbol_line symbol) }
     ensures section { (section : SectionEntry) → EndsWithNoBlank (section_line section) }
@@ -47,9 +47,9 @@ pub fn a_message_shows_its_text()
         ≡ (flags ++ codes " " ++ decimal number ++ codes ": " ++ printed (text ++ last ∷ [])) ++ 10 ∷ [] }
 {}
 
-/// Three items more stand in each further line, from the place of the first of them on.
+/// Three items more stand in each further line, from the location of the first of them on.
 pub fn further_lines_go_by_threes()
-    ensures { (place : ℕ) (first : Item) (items : List Item) → further_lines place (first ∷ items)
-        ≡ further_line place (first ∷ items)
-        ∷ further_lines (place_after place (take 3 (first ∷ items))) (drop 3 (first ∷ items)) }
+    ensures { (location : ℕ) (first : Item) (items : List Item) → further_lines location (first ∷ items)
+        ≡ further_line location (first ∷ items)
+        ∷ further_lines (location_after location (take 3 (first ∷ items))) (drop 3 (first ∷ items)) }
 {}

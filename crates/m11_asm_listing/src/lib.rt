@@ -1,5 +1,5 @@
 //! What an assembly prints, as texts: the lines of its listing, its symbol table and its messages. No output, no source and
-//! no memory is taken: flags, numbers, items and texts are handed in; a call gives one line, or the place after items. (This project's
+//! no memory is taken: flags, numbers, items and texts are handed in; a call gives one line, or the location after items. (This project's
 //! own.)
 #![tactic(auto)]
 
@@ -10,7 +10,7 @@ mod columns;
 mod items;
 mod listing;
 
-pub use items::{Item, Mark, place_after};
+pub use items::{Item, Mark, location_after};
 pub use listing::{further_line, listed_line};
 
 // The lines of messages, and those of the symbol table.

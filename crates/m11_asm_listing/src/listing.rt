@@ -28,37 +28,37 @@ fn put_head(line: &mut Line, flags: &[u8], number: u16)
     put_right(line, 6, Buffer::new().format(number).as_bytes());
 }
 
-// Adds the columns of a place and its items.
-fn put_places(line: &mut Line, place: u16, items: &[Item])
+// Adds the columns of a location and its items.
+fn put_location_and_items(line: &mut Line, location: u16, items: &[Item])
     requires { array_vec_len line.old ≤ 100 }
-    ensures items { line.new.items ≡ line.old.items ++ spec.places place items.now }
+    ensures items { line.new.items ≡ line.old.items ++ spec.location_and_items location items.now }
     ensures size { array_vec_len line.new ≡ array_vec_len line.old + 31 }
 {
     put(line, b" ");
-    put(line, &octal6(place));
+    put(line, &octal6(location));
     put_items(line, items);
 }
 
-/// The line of a source line: the first four of its flags, its number, a place, the first three of its items, and its text, which has
+/// The line of a source line: the first four of its flags, its number, a location, the first three of its items, and its text, which has
 /// at most 132 characters.
-pub fn listed_line(flags: &[u8], number: u16, place: u16, items: &[Item], text: &[u8]) -> Line
+pub fn listed_line(flags: &[u8], number: u16, location: u16, items: &[Item], text: &[u8]) -> Line
     requires { length text.now ≤ 132 }
-    ensures { result.items ≡ spec.listed_line flags.now number place items.now text.now }
+    ensures { result.items ≡ spec.listed_line flags.now number location items.now text.now }
 {
     let mut line = Line::new();
     put_head(&mut line, flags, number);
-    put_places(&mut line, place, items);
+    put_location_and_items(&mut line, location, items);
     put(&mut line, b" ");
     put_printed(&mut line, text);
     ended(line)
 }
 
-/// A further line of a source line: three more items at most, and the place of the first of them.
-pub fn further_line(place: u16, items: &[Item]) -> Line
-    ensures { result.items ≡ spec.further_line place items.now }
+/// A further line of a source line: three more items at most, and the location of the first of them.
+pub fn further_line(location: u16, items: &[Item]) -> Line
+    ensures { result.items ≡ spec.further_line location items.now }
 {
     let mut line = Line::new();
     put_blanks(&mut line, 10);
-    put_places(&mut line, place, items);
+    put_location_and_items(&mut line, location, items);
     ended(line)
 }

@@ -17,8 +17,8 @@ pub enum SymbolValue {
     Unknown,
     /// A number that no section moves.
     Absolute(u16),
-    /// A place of the section of this number.
-    Relocatable { place: u16, section: u8 },
+    /// A location of the section of this number.
+    Relocatable { location: u16, section: u8 },
     /// The number of a register.
     Register(u16),
 }
@@ -41,7 +41,7 @@ pub struct SymbolEntry {
 pub struct SectionEntry {
     /// Its six characters.
     pub name: Name,
-    /// From 0 to the greatest place that its counter had after a line.
+    /// From 0 to the greatest location that its counter had after a line.
     pub size: u16,
     /// 63 at most, in the order in which sections appear.
     pub number: u8,
@@ -81,7 +81,7 @@ fn value_digits(value: SymbolValue) -> [u8; 6]
     match value {
         SymbolValue::Unknown => *b"******",
         SymbolValue::Absolute(number) => octal6(number),
-        SymbolValue::Relocatable { place, section: _ } => octal6(place),
+        SymbolValue::Relocatable { location, section: _ } => octal6(location),
         SymbolValue::Register(number) => octal6(number),
     }
 }
@@ -111,7 +111,7 @@ fn put_section_number(line: &mut Line, value: SymbolValue)
     ensures size { array_vec_len line.new ≡ array_vec_len line.old + 3 }
 {
     match value {
-        SymbolValue::Relocatable { place: _, section } => put_number(line, section),
+        SymbolValue::Relocatable { location: _, section } => put_number(line, section),
         SymbolValue::Unknown => put_blanks(line, 3),
         SymbolValue::Absolute(_) => put_blanks(line, 3),
         SymbolValue::Register(_) => put_blanks(line, 3),

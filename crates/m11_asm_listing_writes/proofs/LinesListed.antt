@@ -18,9 +18,9 @@ use Rattle.m11_asm_passes.specs.declared.placed.PlacedLine.{PlacedLine}
 use Rattle.m11_asm_rules.specs.Contents.{Put}
 use Rattle.m11_asm_rules.specs.Items.{assigned_items, content_items, is_listed, items, items_of}
 use Rattle.m11_asm_rules.specs.Labels.{labels_stand}
-use Rattle.m11_asm_rules.specs.Lines.{after_line, action, line_put, put_place, stands}
+use Rattle.m11_asm_rules.specs.Lines.{after_line, action, line_put, put_location, stands}
 use Rattle.m11_asm_rules.specs.Meanings.{Map}
-use Rattle.m11_asm_rules.specs.Tables.{Table, place}
+use Rattle.m11_asm_rules.specs.Tables.{Table, location}
 use Rattle.m11_unfold_rules.specs.Taking.{Live}
 use Rattle.m11_unfold_rules.specs.Unfolding.{Given}
 use Rattle.m11_base_writes.specs.Outputs.{Output, no_output, optional_output}
@@ -62,20 +62,20 @@ module _ (map : Map) (table : Table) (given : Given) (placed : PlacedLine) (put 
       ∙ ap (λ (c : List PieceContent). items_of c ++ option_to_list placed.assigned) (sym same ∙ is.contents_are)
       ∙ ap (λ (l : List Item). items_of (line_put map (stands table given) given).contents ++ l) is.assigned_is
 
-  pub shown_so : ((table : Table) (line : Bytes) → place (labels_stand table line) ≡ place table)
+  pub shown_so : ((table : Table) (line : Bytes) → location (labels_stand table line) ≡ location table)
       → not (flags == 0) || placed.is_shown ≡ true → (all : List Item)
       → all ≡ items_of contents ++ option_to_list placed.assigned → (text : Bytes) → text ≡ placed.live.line.text
-      → all_to_listing (listed_lines (flags_text flags) number placed.counter placed.place all text)
+      → all_to_listing (listed_lines (flags_text flags) number placed.counter placed.location all text)
       ≡ listing_writes map table flags number given
   unfolding listing_writes
   shown_so keeps shows all are text text_is =
       let shown = flags_text flags in
-      ap (λ (p : ℕ). all_to_listing (listed_lines shown number p placed.place all text))
+      ap (λ (p : ℕ). all_to_listing (listed_lines shown number p placed.location all text))
       (is.counter_is ∙ keeps table given.live.line.text)
-      ∙ ap (λ (p : ℕ). all_to_listing (listed_lines shown number (place table) p all text)) is.place_is
-      ∙ ap (λ (l : List Item). all_to_listing (listed_lines shown number (place table)
-      (put_place (stands table given) (action given.is_own given.live.line.text)) l text)) (items_so all are)
-      ∙ ap (λ (t : Bytes). all_to_listing (listed_lines shown number (place table)
-      (put_place (stands table given) (action given.is_own given.live.line.text)) (items map table given) t))
+      ∙ ap (λ (p : ℕ). all_to_listing (listed_lines shown number (location table) p all text)) is.location_is
+      ∙ ap (λ (l : List Item). all_to_listing (listed_lines shown number (location table)
+      (put_location (stands table given) (action given.is_own given.live.line.text)) l text)) (items_so all are)
+      ∙ ap (λ (t : Bytes). all_to_listing (listed_lines shown number (location table)
+      (put_location (stands table given) (action given.is_own given.live.line.text)) (items map table given) t))
       (text_is ∙ ap (λ (l : Live). l.line.text) is.is_live.live_is)
       ∙ sym (ap (λ (b : Bool). if b then all_to_listing (lines_of map table flags number given) else []) (listed_by ∙ shows))

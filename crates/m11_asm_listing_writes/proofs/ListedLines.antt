@@ -3,7 +3,7 @@ use Rattle.std.proofs.Common.{◌≡◌, ◌∙◌, ◌≤◌, ◌<◌, ℕ, ◌
 use Rattle.std.proofs.lemmas.List.{map-append}
 use Rattle.m11_asm_faults.specs.declared.fault.AsmFault.{AsmFault}
 use Rattle.m11_base.specs.Devices.{Bytes}
-use Rattle.m11_asm_listing.specs.Items.{place_after}
+use Rattle.m11_asm_listing.specs.Items.{location_after}
 use Rattle.m11_asm_listing.specs.Listing.{further_line, further_lines}
 use Rattle.m11_asm_listing.specs.Messages.{count_line}
 use Rattle.m11_asm_listing.specs.SymbolTable.{empty_line, last_lines, section_line, symbol_line, title_line}
@@ -36,24 +36,24 @@ writes_nothing a ws none = let P : List Write → Type 0 = λ w. Gains a a w in 
 
 -- ---- further items
 
-pub further_split : (place : ℕ) (items : List Item) → 1 ≤ length items → all_to_listing (further_lines place items)
-    ≡ (to_listing (further_line place items) ∷ [])
-    ++ all_to_listing (further_lines (place_after place (take 3 items)) (drop 3 items))
-further_split place [] some = absurd (omega (arith, some))
-further_split place (one ∷ []) some = refl
-further_split place (one ∷ two ∷ []) some = refl
-further_split place (one ∷ two ∷ three ∷ items) some = refl
+pub further_split : (location : ℕ) (items : List Item) → 1 ≤ length items → all_to_listing (further_lines location items)
+    ≡ (to_listing (further_line location items) ∷ [])
+    ++ all_to_listing (further_lines (location_after location (take 3 items)) (drop 3 items))
+further_split location [] some = absurd (omega (arith, some))
+further_split location (one ∷ []) some = refl
+further_split location (one ∷ two ∷ []) some = refl
+further_split location (one ∷ two ∷ three ∷ items) some = refl
 
--- after its first three, at the place after them
-pub further_rest : (place next : ℕ) (items shown left : List Item) → 1 ≤ length items → shown ≡ take 3 items → left ≡ drop 3 items
-    → next ≡ place_after place shown → all_to_listing (further_lines place items)
-    ≡ (to_listing (further_line place items) ∷ []) ++ all_to_listing (further_lines next left)
-further_rest place next items shown left some first others goes =
-    further_split place items some
-    ∙ ap (λ (l : List Item). (to_listing (further_line place items) ∷ []) ++ all_to_listing (further_lines (place_after place l) (drop 3 items)))
+-- after its first three, at the location after them
+pub further_rest : (location next : ℕ) (items shown left : List Item) → 1 ≤ length items → shown ≡ take 3 items → left ≡ drop 3 items
+    → next ≡ location_after location shown → all_to_listing (further_lines location items)
+    ≡ (to_listing (further_line location items) ∷ []) ++ all_to_listing (further_lines next left)
+further_rest location next items shown left some first others goes =
+    further_split location items some
+    ∙ ap (λ (l : List Item). (to_listing (further_line location items) ∷ []) ++ all_to_listing (further_lines (location_after location l) (drop 3 items)))
     (sym first)
-    ∙ ap (λ (n : ℕ). (to_listing (further_line place items) ∷ []) ++ all_to_listing (further_lines n (drop 3 items))) (sym goes)
-    ∙ ap (λ (l : List Item). (to_listing (further_line place items) ∷ []) ++ all_to_listing (further_lines next l)) (sym others)
+    ∙ ap (λ (n : ℕ). (to_listing (further_line location items) ∷ []) ++ all_to_listing (further_lines n (drop 3 items))) (sym goes)
+    ∙ ap (λ (l : List Item). (to_listing (further_line location items) ∷ []) ++ all_to_listing (further_lines next l)) (sym others)
 
 pub less_left : (items left : List Item) → 1 ≤ length items → left ≡ drop 3 items → length left < length items
 less_left items left some is =
@@ -65,9 +65,9 @@ less_left items left some is =
     fewer (one ∷ two ∷ []) some = omega arith
     fewer (one ∷ two ∷ three ∷ all) some = omega arith
 
-pub further_none : (place : ℕ) (items : List Item) → length items ≡ 0 → all_to_listing (further_lines place items) ≡ []
-further_none place [] none = refl
-further_none place (item ∷ items) none = absurd (omega (arith, none))
+pub further_none : (location : ℕ) (items : List Item) → length items ≡ 0 → all_to_listing (further_lines location items) ≡ []
+further_none location [] none = refl
+further_none location (item ∷ items) none = absurd (omega (arith, none))
 
 -- ---- a line for each thing of a list
 

@@ -7,9 +7,9 @@ use Rattle.m11_asm_listing.specs.Listing.{listed_lines}
 use Rattle.m11_scan.specs.ErrorFlags.{flags_text}
 use Rattle.m11_unfold_rules.specs.Unfolding.{Given}
 use Rattle.m11_asm_rules.specs.Items.{is_listed, items}
-use Rattle.m11_asm_rules.specs.Lines.{after_line, action, put_place, stands}
+use Rattle.m11_asm_rules.specs.Lines.{after_line, action, put_location, stands}
 use Rattle.m11_asm_rules.specs.Meanings.{Map}
-use Rattle.m11_asm_rules.specs.Tables.{Table, place}
+use Rattle.m11_asm_rules.specs.Tables.{Table, location}
 
 -- lines, one after the other
 abbrev pub all_to_listing : List Bytes → List Write
@@ -17,11 +17,11 @@ all_to_listing lines = each to_listing lines
 
 -- ---- a line of the source, after a table
 
--- the lines of a source line: its items lie from the place on where it puts them
+-- the lines of a source line: its items lie from the location on where it puts them
 abbrev pub lines_of : Map → Table → ℕ → ℕ → Given → List Bytes
 lines_of map table flags number given =
-    listed_lines (flags_text flags) number (place table)
-    (put_place (stands table given) (action given.is_own given.live.line.text)) (items map table given) given.live.line.text
+    listed_lines (flags_text flags) number (location table)
+    (put_location (stands table given) (action given.is_own given.live.line.text)) (items map table given) given.live.line.text
 
 -- the levels after it decide whether it is listed, where it isn't flagged
 unfoldable pub listing_writes : Map → Table → ℕ → ℕ → Given → List Write
@@ -32,4 +32,4 @@ listing_writes map table flags number given =
 
 -- an empty line that is added, with its flags, where the counter stands
 abbrev pub added_lines : ℕ → ℕ → ℕ → List Bytes
-added_lines flags number place = listed_lines (flags_text flags) number place place [] []
+added_lines flags number location = listed_lines (flags_text flags) number location location [] []

@@ -9,12 +9,12 @@ ghost use Rattle.m11_asm_outputs.specs.Outputs.{Writes, outputs};
 ghost use Rattle.m11_asm_listing_writes.specs.Listed.{all_to_listing};
 
 use m11_asm_faults::AsmFault;
-use m11_asm_listing::{Item, further_line, listed_line, place_after};
+use m11_asm_listing::{Item, further_line, listed_line, location_after};
 use m11_asm_outputs::put_listing;
 use m11_base::Sink;
 use m11_scan::ErrorFlags;
 
-/// The lines of a source line: its flags, its number, the place of the counter before it, its items, which lie from another place on,
+/// The lines of a source line: its flags, its number, the location of the counter before it, its items, which lie from another location on,
 /// and its text, which has at most 132 bytes.
 ///
 /// Fault: `Write` of the listing.
@@ -22,8 +22,8 @@ pub fn put_listed<T: Sink>(
     listing: &mut Option<T>,
     flags: ErrorFlags,
     number: u16,
-    place: u16,
-    first_item_place: u16,
+    location: u16,
+    first_item_location: u16,
     items: &[Item],
     text: &[u8],
 ) -> Result<(), AsmFault>
@@ -31,12 +31,12 @@ pub fn put_listed<T: Sink>(
     ensures { (object messages : Output) → Writes
         (outputs object (optional_output T.Sink listing.old) messages)
         (outputs object (optional_output T.Sink listing.new) messages)
-        (all_to_listing (listed_lines (flags_text (bits_of flags)) number place first_item_place items.now text.now)) result }
+        (all_to_listing (listed_lines (flags_text (bits_of flags)) number location first_item_location items.now text.now)) result }
 {
-    let line = listed_line(flags.text().as_slice(), number, place, items, text);
+    let line = listed_line(flags.text().as_slice(), number, location, items, text);
     put_listing(listing, line.as_slice())?;
     let (shown, more) = three(items);
-    put_further(listing, place_after(first_item_place, shown), more)
+    put_further(listing, location_after(first_item_location, shown), more)
 }
 
 // The first three items, and the others.
@@ -48,18 +48,18 @@ fn three(items: &[Item]) -> (&[Item], &[Item])
 }
 
 // The lines of further items, three on each.
-fn put_further<T: Sink>(listing: &mut Option<T>, place: u16, items: &[Item]) -> Result<(), AsmFault>
+fn put_further<T: Sink>(listing: &mut Option<T>, location: u16, items: &[Item]) -> Result<(), AsmFault>
     ensures { (object messages : Output) → Writes
         (outputs object (optional_output T.Sink listing.old) messages)
         (outputs object (optional_output T.Sink listing.new) messages)
-        (all_to_listing (further_lines place items.now)) result }
+        (all_to_listing (further_lines location items.now)) result }
 {
-    let mut place = place;
+    let mut location = location;
     let mut left = items;
     'lines: while !left.is_empty() {
-        put_listing(listing, further_line(place, left).as_slice())?;
+        put_listing(listing, further_line(location, left).as_slice())?;
         let (shown, more) = three(left);
-        place = place_after(place, shown);
+        location = location_after(location, shown);
         left = more;
     }
     Ok(())

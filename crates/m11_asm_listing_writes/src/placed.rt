@@ -57,7 +57,7 @@ pub fn put_placed<T: Sink>(
         flags,
         number,
         line.counter,
-        line.place,
+        line.location,
         items.as_slice(),
         text,
     )

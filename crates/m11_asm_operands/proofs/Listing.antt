@@ -1,4 +1,4 @@
--- The elements of a list from a place on, by the one that stands first.
+-- The elements of a list from a column on, by the one that stands first.
 use Rattle.std.proofs.Common.{◌≡◌, ℕ, suc, Bool, true, false, not, if◌then◌else◌, List, Option, Some, None, refl, ap, sym, ◌∙◌}
 use Rattle.m11_scan.specs.Cutting.{tokens_from}
 use Rattle.m11_scan.specs.Ends.{expression_end}
@@ -18,9 +18,9 @@ module _ (line : List ℕ) (left next begin : ℕ) (is : left ≡ suc next) wher
       → elements_within left line begin ≡ last_element begin (expression_end line begin)
   last_on none = stands None none
 
-  pub element_on : (place : ℕ) → next_element line (expression_end line begin) ≡ Some place
-      → elements_within left line begin ≡ element_before begin (elements_within next line place)
-  element_on place some = stands (Some place) some
+  pub element_on : (column : ℕ) → next_element line (expression_end line begin) ≡ Some column
+      → elements_within left line begin ≡ element_before begin (elements_within next line column)
+  element_on column some = stands (Some column) some
 
   listed : (element : ListedName) → element ≡ listed_name begin (tokens_from line begin)
       → names_within left line begin ≡ names_by (λ n. names_within next line n) element
@@ -46,8 +46,8 @@ module _ (line : List ℕ) (left next begin : ℕ) (is : left ≡ suc next) (ele
   pub last_listed : element.goes_on ≡ false → names_within left line begin ≡ last_name element
   last_listed ends = listed line left next begin is element same ∙ by_last (λ n. names_within next line n) element ends
 
-  pub name_on : (place : ℕ) → place ≡ element.end → not element.goes_on ≡ false
-      → names_within left line begin ≡ name_before element (names_within next line place)
-  name_on place here more =
+  pub name_on : (column : ℕ) → column ≡ element.end → not element.goes_on ≡ false
+      → names_within left line begin ≡ name_before element (names_within next line column)
+  name_on column here more =
       listed line left next begin is element same ∙ by_next (λ n. names_within next line n) element (goes element.goes_on more)
       ∙ ap (λ (n : ℕ). name_before element (names_within next line n)) (sym here)

@@ -1,4 +1,4 @@
--- The table of places misses no row: at the place by a name's hash stands the row that a search of the lists finds.
+-- The table of indices misses no row: at the index by a name's hash stands the row that a search of the lists finds.
 use Rattle.std.proofs.Common.{◌≡◌, ℕ, zero, suc, Bool, true, false, cond, eqb, List, [], ◌∷◌, ◌++◌, Option, Some, None, find, get_or, refl, sym, ap, subst, ◌∙◌, arith}
 use Rattle.std.proofs.lemmas.Bool.{and_parts, eqb-true}
 use Rattle.std.proofs.lemmas.List.Folds.{find-append, find_at}
@@ -10,21 +10,21 @@ use Rattle.m11_base_instructions.specs.Instructions.{operation_in, other_names, 
 use Rattle.m11_base_instructions.specs.Mnemonics.{named_in, or_else}
 use Rattle.m11_base_instructions.specs.declared.instruction_list.Row.{Row}
 use Rattle.m11_asm_operands.specs.Hashes.{hash_of, operation_named}
-use Rattle.m11_asm_operands.specs.declared.operations.TheConstants.{PLACES}
+use Rattle.m11_asm_operands.specs.declared.operations.TheConstants.{INDICES}
 
 abbrev has : List ℕ → Row → Bool
 has name row = bytes_eq row.name name
 
-abbrev place_by_hash : List ℕ → ℕ
-place_by_hash name = get_or PLACES (hash_of name) 0
+abbrev index_by_hash : List ℕ → ℕ
+index_by_hash name = get_or INDICES (hash_of name) 0
 
--- whether the table has the first place of a row's name
-is_placed : Row → Bool
-is_placed row = eqb (position_or_len (has row.name) (rows ++ other_names)) (place_by_hash row.name)
+-- whether the table has the first index of a row's name
+is_indexed : Row → Bool
+is_indexed row = eqb (position_or_len (has row.name) (rows ++ other_names)) (index_by_hash row.name)
 
-all_placed : list_all is_placed (rows ++ other_names) ≡ true
-unfolding is_placed rows other_names
-all_placed = refl
+all_indexed : list_all is_indexed (rows ++ other_names) ≡ true
+unfolding is_indexed rows other_names
+all_indexed = refl
 
 -- what a search finds passes its test, and another one that all pass; where it finds none, none passes
 module _ {A : Type 0} (test : A → Bool) where
@@ -52,11 +52,11 @@ module _ {A : Type 0} (test : A → Bool) where
   none_by true y more e = grind arith
   none_by false y more e = (refl, e)
 
-  none_passes : (xs : List A) (place : ℕ) (x : A) → find test xs ≡ None → slice_get xs place ≡ Some x → test x ≡ false
-  none_passes [] place x e there = grind arith
+  none_passes : (xs : List A) (index : ℕ) (x : A) → find test xs ≡ None → slice_get xs index ≡ Some x → test x ≡ false
+  none_passes [] index x e there = grind arith
   none_passes (y ∷ xs) zero x e there = let none = none_by (test y) y (find test xs) e in grind arith
-  none_passes (y ∷ xs) (suc place) x e there =
-      none_passes xs place x (none_by (test y) y (find test xs) e).1 there
+  none_passes (y ∷ xs) (suc index) x e there =
+      none_passes xs index x (none_by (test y) y (find test xs) e).1 there
 
 module _ (name : List ℕ) where
   same_name : (row : Row) → has name row ≡ true → row.name ≡ name
@@ -68,28 +68,28 @@ module _ (name : List ℕ) where
   unnamed : (row : Row) → has name row ≡ false → operation_named (Some row) name ≡ None
   unnamed row is = rw is refl
 
-  place_of : (row : Row) → row.name ≡ name → is_placed row ≡ true → position_or_len (has name) (rows ++ other_names) ≡ place_by_hash name
-  unfolding is_placed
-  place_of row same is =
-      subst (λ (n : List ℕ). position_or_len (has n) (rows ++ other_names) ≡ place_by_hash n) same (eqb-true _ _ is)
+  index_of : (row : Row) → row.name ≡ name → is_indexed row ≡ true → position_or_len (has name) (rows ++ other_names) ≡ index_by_hash name
+  unfolding is_indexed
+  index_of row same is =
+      subst (λ (n : List ℕ). position_or_len (has n) (rows ++ other_names) ≡ index_by_hash n) same (eqb-true _ _ is)
 
   by_search : (found there : Option Row) → find (has name) (rows ++ other_names) ≡ found
-      → slice_get (rows ++ other_names) (place_by_hash name) ≡ there → operation_named there name ≡ operation_in found
+      → slice_get (rows ++ other_names) (index_by_hash name) ≡ there → operation_named there name ≡ operation_in found
   by_search (Some row) there e f =
       let is = passes (has name) (rows ++ other_names) row e in
-      let placed = place_of row (same_name row is) (all_pass (has name) is_placed (rows ++ other_names) row all_placed e) in
+      let indexed = index_of row (same_name row is) (all_pass (has name) is_indexed (rows ++ other_names) row all_indexed e) in
       ap (λ (r : Option Row). operation_named r name)
-      (sym f ∙ ap (slice_get (rows ++ other_names)) (sym placed) ∙ sym (find_at (has name) (rows ++ other_names)) ∙ e)
+      (sym f ∙ ap (slice_get (rows ++ other_names)) (sym indexed) ∙ sym (find_at (has name) (rows ++ other_names)) ∙ e)
       ∙ named row is
   by_search None None e f = refl
   by_search None (Some row) e f =
-      unnamed row (none_passes (has name) (rows ++ other_names) (place_by_hash name) row e f)
+      unnamed row (none_passes (has name) (rows ++ other_names) (index_by_hash name) row e f)
 
   in_either : (first other : Option Row) → operation_in (option_or first other) ≡ or_else (operation_in first) (operation_in other)
   in_either (Some row) other = refl
   in_either None other = refl
 
-  pub only_row : operation_named (slice_get (rows ++ other_names) (place_by_hash name)) name
+  pub only_row : operation_named (slice_get (rows ++ other_names) (index_by_hash name)) name
       ≡ or_else (named_in rows name) (named_in other_names name)
   only_row =
       by_search (find (has name) (rows ++ other_names)) _ refl refl

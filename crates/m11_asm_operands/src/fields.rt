@@ -4,7 +4,7 @@
 ghost use Rattle.std.specs.Prelude.{◌≡◌, ◌≤◌, ◌*◌, ◌∷◌, [], length, IfSome, List, None};
 ghost use Rattle.m11_unfold_arguments.specs.Expressions.{IsAlone, has_expression, known_by};
 ghost use Rattle.m11_base.specs.Devices.{Bytes};
-ghost use Rattle.m11_asm_operands.specs.Reads.{alone, bytes_in, field_seen, fields_seen, places_in};
+ghost use Rattle.m11_asm_operands.specs.Reads.{alone, bytes_in, field_seen, fields_seen, kinds_in};
 ghost use Rattle.m11_asm_operands.specs.Terms.{AreTerms, IsFieldTerm};
 ghost use Rattle.m11_asm_rules.specs.Codes.{others};
 ghost use Rattle.m11_asm_rules.specs.Fields as spec;
@@ -13,18 +13,18 @@ ghost use Rattle.m11_scan.specs.Views.{bits_of};
 
 use crate::operands::operand_at;
 use arrayvec::ArrayVec;
-use m11_asm_rules::{Field, FieldPlace, Form};
+use m11_asm_rules::{Field, FieldKind, Form};
 use m11_base_instructions::Op;
 use m11_scan::{ErrorFlags, Line, Token};
 use m11_scan_values::Names;
-use m11_unfold_arguments::{after_comma, expression_end_at, has_expression, place_in};
+use m11_unfold_arguments::{after_comma, column_in, expression_end_at, has_expression};
 
 /// The fields of an instruction.
 #[derive(Drop)]
 pub struct Fields {
     /// What stands in them, in the order in which they are written.
     pub list: ArrayVec<Field, 2>,
-    /// The place after them.
+    /// The column after them.
     pub end: u8,
     /// A for each operand, register or target that is missing, and for each missing `)`.
     pub flags: ErrorFlags,
@@ -67,7 +67,7 @@ impl FieldTerms {
 #[derive(Clone, Copy)]
 pub struct FieldRead {
     pub(crate) field: Field,
-    // The place after it.
+    // The column after it.
     pub(crate) end: u8,
     pub(crate) flags: ErrorFlags,
     // Its token, where it is one term.
@@ -76,13 +76,13 @@ pub struct FieldRead {
 
 // The fields that an operation has.
 #[derive(Clone, Copy)]
-pub enum Places {
+pub enum FieldKinds {
     Zero,
-    One(FieldPlace),
-    Two(FieldPlace, FieldPlace),
+    One(FieldKind),
+    Two(FieldKind, FieldKind),
 }
 
-/// The fields of an operation, which begin at a place of a line, with a comma between two of them. The forms of operands are asked of
+/// The fields of an operation, which begin at a column of a line, with a comma between two of them. The forms of operands are asked of
 /// names: those of the lines before.
 pub fn fields_at<N: Names>(line: &Line, start: usize, operation: Op, names: &N) -> Fields
     requires { start ≤ length line.now.text }
@@ -91,10 +91,10 @@ pub fn fields_at<N: Names>(line: &Line, start: usize, operation: Op, names: &N) 
     ensures within { result.end ≤ length line.now.text }
     ensures terms { AreTerms line.now.text result.list.items result.terms }
 {
-    match places_of(operation) {
-        Places::Zero => no_fields(line, start),
-        Places::One(place) => one_field(field_at(line, start, place, names)),
-        Places::Two(first, second) => {
+    match kinds_of(operation) {
+        FieldKinds::Zero => no_fields(line, start),
+        FieldKinds::One(kind) => one_field(field_at(line, start, kind, names)),
+        FieldKinds::Two(first, second) => {
             let first = field_at(line, start, first, names);
             let second = field_after(line, first.end, second, names);
             two_fields(first, second)
@@ -103,31 +103,31 @@ pub fn fields_at<N: Names>(line: &Line, start: usize, operation: Op, names: &N) 
 }
 
 // Which fields an operation has, in the order in which they are written.
-fn places_of(operation: Op) -> Places
-    ensures { places_in result ≡ spec.places_of operation }
+fn kinds_of(operation: Op) -> FieldKinds
+    ensures { kinds_in result ≡ spec.kinds_of operation }
 {
     match operation {
-        Op::Double(_, _) => Places::Two(FieldPlace::Operand, FieldPlace::Operand),
-        Op::Extended(_) => Places::Two(FieldPlace::Operand, FieldPlace::Register),
-        Op::Register(_) => Places::Two(FieldPlace::Register, FieldPlace::Operand),
-        Op::Sob => Places::Two(FieldPlace::Register, FieldPlace::Target),
-        Op::Single(_, _) | Op::Call => Places::One(FieldPlace::Operand),
-        Op::Rts => Places::One(FieldPlace::Register),
-        Op::Number(_) => Places::One(FieldPlace::Number),
-        Op::Branch(_) => Places::One(FieldPlace::Target),
-        Op::Bare(_) | Op::Condition(_) | Op::Return | Op::Codes(_, _) => Places::Zero,
+        Op::Double(_, _) => FieldKinds::Two(FieldKind::Operand, FieldKind::Operand),
+        Op::Extended(_) => FieldKinds::Two(FieldKind::Operand, FieldKind::Register),
+        Op::Register(_) => FieldKinds::Two(FieldKind::Register, FieldKind::Operand),
+        Op::Sob => FieldKinds::Two(FieldKind::Register, FieldKind::Target),
+        Op::Single(_, _) | Op::Call => FieldKinds::One(FieldKind::Operand),
+        Op::Rts => FieldKinds::One(FieldKind::Register),
+        Op::Number(_) => FieldKinds::One(FieldKind::Number),
+        Op::Branch(_) => FieldKinds::One(FieldKind::Target),
+        Op::Bare(_) | Op::Condition(_) | Op::Return | Op::Codes(_, _) => FieldKinds::Zero,
     }
 }
 
-fn no_fields(line: &Line, place: usize) -> Fields
-    requires { place ≤ length line.now.text }
-    ensures fields { fields_seen result ≡ spec.no_fields place }
+fn no_fields(line: &Line, column: usize) -> Fields
+    requires { column ≤ length line.now.text }
+    ensures fields { fields_seen result ≡ spec.no_fields column }
     ensures within { result.end ≤ length line.now.text }
     ensures terms { AreTerms line.now.text result.list.items result.terms }
 {
     Fields {
         list: ArrayVec::new(),
-        end: place_in(line, place),
+        end: column_in(line, column),
         flags: ErrorFlags::none(),
         terms: FieldTerms::none(),
     }
@@ -174,29 +174,29 @@ fn two_fields(first: FieldRead, second: FieldRead) -> Fields
 }
 
 // The field that stands after another one: after its comma, or else it is missing.
-fn field_after<N: Names>(line: &Line, end: u8, place: FieldPlace, names: &N) -> FieldRead
+fn field_after<N: Names>(line: &Line, end: u8, kind: FieldKind, names: &N) -> FieldRead
     requires { end ≤ length line.now.text }
     ensures field { alone (field_seen result) ≡ spec.fields_after
-        (known_by (N.base names.now) (N.stands_for names.now)) line.now.text end (place ∷ []) }
+        (known_by (N.base names.now) (N.stands_for names.now)) line.now.text end (kind ∷ []) }
     ensures within { result.end ≤ length line.now.text }
     ensures term { IfSome result.term (λ term. IsFieldTerm line.now.text result.field term) }
 {
     match after_comma(line, usize::from(end)) {
-        Some(next) => field_at(line, usize::from(next), place, names),
-        None => missing(place, end),
+        Some(next) => field_at(line, usize::from(next), kind, names),
+        None => missing(kind, end),
     }
 }
 
 // A field before which its comma is missing. Nothing stands in it.
-fn missing(place: FieldPlace, end: u8) -> FieldRead
-    ensures field { alone (field_seen result) ≡ spec.missing_fields end (place ∷ []) }
+fn missing(kind: FieldKind, end: u8) -> FieldRead
+    ensures field { alone (field_seen result) ≡ spec.missing_fields end (kind ∷ []) }
     ensures end { result.end ≡ end }
     ensures term { result.term ≡ None }
 {
-    match place {
-        FieldPlace::Operand => field_read(Field::Formed(Form::Absent), end, ErrorFlags::A),
-        FieldPlace::Register | FieldPlace::Target => field_read(Field::Missing, end, ErrorFlags::A),
-        FieldPlace::Number => field_read(Field::Missing, end, ErrorFlags::none()),
+    match kind {
+        FieldKind::Operand => field_read(Field::Formed(Form::Absent), end, ErrorFlags::A),
+        FieldKind::Register | FieldKind::Target => field_read(Field::Missing, end, ErrorFlags::A),
+        FieldKind::Number => field_read(Field::Missing, end, ErrorFlags::none()),
     }
 }
 
@@ -213,25 +213,25 @@ fn field_read(field: Field, end: u8, flags: ErrorFlags) -> FieldRead
     }
 }
 
-// The field at a place.
+// The field at a column.
 #[tactic(auto, using(crate::proofs::Terms::registered_term, crate::proofs::Terms::targeted_term, crate::proofs::Terms::numbered_term))]
-fn field_at<N: Names>(line: &Line, start: usize, place: FieldPlace, names: &N) -> FieldRead
+fn field_at<N: Names>(line: &Line, start: usize, kind: FieldKind, names: &N) -> FieldRead
     requires { start ≤ length line.now.text }
     ensures field { field_seen result ≡ spec.field_at
-        (known_by (N.base names.now) (N.stands_for names.now)) line.now.text start place }
+        (known_by (N.base names.now) (N.stands_for names.now)) line.now.text start kind }
     ensures within { result.end ≤ length line.now.text }
     ensures term { IfSome result.term (λ term. IsFieldTerm line.now.text result.field term) }
 {
-    let begin = place_in(line, start);
-    match place {
-        FieldPlace::Operand => operand(line, start, names),
-        FieldPlace::Register => expression(line, begin, Field::Registered(begin), ErrorFlags::A),
-        FieldPlace::Target => expression(line, begin, Field::Targeted(begin), ErrorFlags::A),
-        FieldPlace::Number => expression(line, begin, Field::Numbered(begin), ErrorFlags::none()),
+    let begin = column_in(line, start);
+    match kind {
+        FieldKind::Operand => operand(line, start, names),
+        FieldKind::Register => expression(line, begin, Field::Registered(begin), ErrorFlags::A),
+        FieldKind::Target => expression(line, begin, Field::Targeted(begin), ErrorFlags::A),
+        FieldKind::Number => expression(line, begin, Field::Numbered(begin), ErrorFlags::none()),
     }
 }
 
-// The operand at a place.
+// The operand at a column.
 fn operand<N: Names>(line: &Line, start: usize, names: &N) -> FieldRead
     requires { start ≤ length line.now.text }
     ensures field { field_seen result ≡ spec.operand_read (operand.operand_at
@@ -248,7 +248,7 @@ fn operand<N: Names>(line: &Line, start: usize, names: &N) -> FieldRead
     }
 }
 
-// A field that is an expression at a place, or with flags where none stands there.
+// A field that is an expression at a column, or with flags where none stands there.
 fn expression(line: &Line, start: u8, field: Field, flags: ErrorFlags) -> FieldRead
     requires { start ≤ length line.now.text }
     ensures field { field_seen result
@@ -275,7 +275,7 @@ fn expression(line: &Line, start: u8, field: Field, flags: ErrorFlags) -> FieldR
     }
 }
 
-// Whether an expression stands at a place. Where it is found to be one term, this is its token, and no token need be cut.
+// Whether an expression stands at a column. Where it is found to be one term, this is its token, and no token need be cut.
 fn stands(line: &Line, start: u8, term: Option<Token>) -> bool
     requires within { start ≤ length line.now.text }
     requires term { IfSome term (λ term. IsAlone line.now.text start term) }

@@ -1,4 +1,4 @@
-//! The operand that stands at a place of a line. (MACRO-11 Language Reference Manual, "Addressing modes"; PDP-11/40 Processor Handbook,
+//! The operand that stands at a column of a line. (MACRO-11 Language Reference Manual, "Addressing modes"; PDP-11/40 Processor Handbook,
 //! "Addressing modes".)
 
 ghost use Rattle.std.specs.Prelude.{◌≡◌, ◌<◌, ◌≤◌, ◌∷◌, [], IfSome, MatchOption, length, Option};
@@ -19,7 +19,7 @@ use m11_base_instructions::Mode;
 use m11_scan::{ErrorFlags, Line, Sort, Token, next_token, skipped_between};
 use m11_scan_values::Names;
 use m11_unfold_arguments::{
-    ExpressionEnd, expression_end_at, expression_end_from, place_in, value_by,
+    ExpressionEnd, expression_end_at, expression_end_from, column_in, value_by,
 };
 
 /// An operand, as it stands in a line.
@@ -27,7 +27,7 @@ use m11_unfold_arguments::{
 pub struct OperandRead {
     /// Its form.
     pub form: Form,
-    /// The place after it.
+    /// The column after it.
     pub end: u8,
     /// A where nothing stands there, or where a `)` is missing.
     pub flags: ErrorFlags,
@@ -35,7 +35,7 @@ pub struct OperandRead {
     pub term: Option<Token>,
 }
 
-/// The operand at a place of a line. Whether an expression is a register is asked of names: those of the lines before.
+/// The operand at a column of a line. Whether an expression is a register is asked of names: those of the lines before.
 // speed: a call would hand its result on by memory.
 #[inline(always)]
 pub fn operand_at<N: Names>(line: &Line, start: usize, names: &N) -> OperandRead
@@ -78,7 +78,7 @@ fn absent(line: &Line, start: usize) -> OperandRead
 {
     OperandRead {
         form: Form::Absent,
-        end: place_in(line, start),
+        end: column_in(line, start),
         flags: ErrorFlags::A,
         term: None,
     }
@@ -142,7 +142,7 @@ fn immediate(line: &Line, is_deferred: bool, start: u8) -> OperandRead
     }
 }
 
-// What stands after `-`, at a place of its own: `(` directly after it, or else the `-` is a sign.
+// What stands after `-`, at a column of its own: `(` directly after it, or else the `-` is a sign.
 fn after_minus<N: Names>(
     line: &Line,
     is_deferred: bool,
@@ -169,13 +169,13 @@ fn after_minus<N: Names>(
     }
 }
 
-// Whether a token is a `(`, and no character is skipped between a place and it.
-fn opens_after(line: &Line, place: u8, token: Token) -> bool
-    requires ordered { place ≤ token.start }
+// Whether a token is a `(`, and no character is skipped between a column and it.
+fn opens_after(line: &Line, column: u8, token: Token) -> bool
+    requires ordered { column ≤ token.start }
     requires within { token.start ≤ length line.now.text }
-    ensures { result ≡ opens_after line.now.text place (lexeme line.now.text token) }
+    ensures { result ≡ opens_after line.now.text column (lexeme line.now.text token) }
 {
-    is_open(token.sort) && !skipped_between(line, usize::from(place), usize::from(token.start))
+    is_open(token.sort) && !skipped_between(line, usize::from(column), usize::from(token.start))
 }
 
 // An expression, which begins with a token.
@@ -226,7 +226,7 @@ fn reached<N: Names>(
     match expression_end.next {
         Some(token) if is_open(token.sort) => closed(
             line,
-            Form::Indexed(indexed(is_deferred), token.end, place_in(line, start)),
+            Form::Indexed(indexed(is_deferred), token.end, column_in(line, start)),
             token.end,
         ),
         _ => OperandRead {
@@ -238,7 +238,7 @@ fn reached<N: Names>(
     }
 }
 
-// An expression without `(`: a register, or a place. Where it is one term, this is its token.
+// An expression without `(`: a register, or an address. Where it is one term, this is its token.
 fn plain<N: Names>(
     line: &Line,
     is_deferred: bool,
@@ -252,13 +252,13 @@ fn plain<N: Names>(
     ensures term { IfSome term (λ term. IsFormTerm line.now.text result term) }
 {
     if is_register_at(line, start, term, names) {
-        Form::InRegister(direct(is_deferred), place_in(line, start))
+        Form::InRegister(direct(is_deferred), column_in(line, start))
     } else {
-        Form::AfterCounter(indexed(is_deferred), place_in(line, start))
+        Form::AfterCounter(indexed(is_deferred), column_in(line, start))
     }
 }
 
-// Whether the expression at a place is a register.
+// Whether the expression at a column is a register.
 fn is_register_at<N: Names>(line: &Line, start: usize, term: Option<Token>, names: &N) -> bool
     requires within { start ≤ length line.now.text }
     requires term { IfSome term (λ term. IsAlone line.now.text start term) }

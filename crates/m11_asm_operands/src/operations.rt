@@ -8,11 +8,11 @@ ghost use Rattle.m11_asm_operands.specs.Hashes.{hash_of, operation_named};
 use m11_base_instructions::{Op, Row, other_names, rows};
 use m11_scan::is_same_six;
 
-// By the hash of a name, the place of the one row that may have the name: in the list, and after its end in that of the further names.
-// There are 89 rows, so that 99 is the place of none. A search of the rows one by one would compare 40 of them for a common name.
+// By the hash of a name, the index of the one row that may have the name: in the list, and after its end in that of the further names.
+// There are 89 rows, so that 99 is the index of none. A search of the rows one by one would compare 40 of them for a common name.
 // The proof of `operation_of` shows that no row is missed; it fails if a row is added and this table is not made again.
 #[rattlefmt::skip]
-static PLACES: [u8; 256] = [
+static INDICES: [u8; 256] = [
     99, 72, 69, 99, 83, 99, 99, 5, 99, 99, 99, 99, 99, 99, 99, 99,
     99, 99, 66, 48, 84, 99, 99, 99, 99, 99, 63, 99, 99, 99, 99, 10,
     99, 99, 99, 99, 99, 99, 99, 87, 99, 99, 99, 6, 35, 77, 99, 99,
@@ -36,8 +36,8 @@ static PLACES: [u8; 256] = [
 pub(crate) fn operation_of(name: &[u8; 6]) -> Option<Op>
     ensures { result ≡ or_else (named_in rows name.now) (named_in other_names name.now) }
 {
-    let place = PLACES[hash_of(name)];
-    operation_in(row_at(usize::from(place)), name)
+    let index = INDICES[hash_of(name)];
+    operation_in(row_at(usize::from(index)), name)
 }
 
 // A number of the first four characters. The factors were found by trying, so that no two names of operations have one hash.
@@ -52,14 +52,14 @@ fn hash_of(name: &[u8; 6]) -> usize
     sum % 256
 }
 
-// The row at a place, where the further names stand after the list.
-fn row_at(place: usize) -> Option<&'static Row>
-    ensures { option_map (λ row. row.now) result ≡ slice_get (rows ++ other_names) place }
+// The row at an index, where the further names stand after the list.
+fn row_at(index: usize) -> Option<&'static Row>
+    ensures { option_map (λ row. row.now) result ≡ slice_get (rows ++ other_names) index }
 {
     let list = rows();
-    match list.get(place) {
+    match list.get(index) {
         Some(row) => Some(row),
-        None => other_names().get(place - list.len()),
+        None => other_names().get(index - list.len()),
     }
 }
 

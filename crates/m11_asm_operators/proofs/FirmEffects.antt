@@ -3,13 +3,13 @@ use Rattle.std.proofs.Common.{◌≡◌, ℕ, ◌*◌, List, Option, refl, ap}
 use Rattle.std.specs.Prelude.{if◌then◌else◌}
 use Rattle.m11_unfold_arguments.specs.Expressions.{Known, has_expression, number_at}
 use Rattle.m11_asm_rules.proofs.FilledSizes.{table_twice}
-use Rattle.m11_asm_rules.specs.Alignment.{gap, place_for}
+use Rattle.m11_asm_rules.specs.Alignment.{gap, location_for}
 use Rattle.m11_asm_rules.specs.Effects.{change_by, directive_change, operator_change, steps}
 use Rattle.m11_asm_rules.specs.Fields.{fields_at, forms_of}
 use Rattle.m11_asm_rules.specs.Meanings.{empty_map, firm_known, known_at}
 use Rattle.m11_asm_rules.specs.Operands.{instruction_size}
 use Rattle.m11_asm_rules.specs.Operators.{is_even}
-use Rattle.m11_asm_rules.specs.Tables.{Table, firm_table, place}
+use Rattle.m11_asm_rules.specs.Tables.{Table, firm_table, location}
 use Rattle.m11_asm_rules.specs.declared.meanings.Context.TheVariants.{LocalOnly}
 use Rattle.m11_asm_rules.specs.declared.operators.Directive.{Directive}
 use Rattle.m11_asm_rules.specs.declared.operators.Directive.TheVariants as word
@@ -63,4 +63,4 @@ module _ (table : Table) (passed here : ℕ) (line : List ℕ) (start : ℕ) (ar
 pub change_firm : (table : Table) (line : List ℕ) (start : ℕ) (arguments : Option ℕ) (operator : Operator)
     → operator_change (firm_table table) line start arguments operator ≡ operator_change table line start arguments operator
 change_firm table line start arguments operator =
-    by_firm table (gap (is_even operator) (place table)) (place_for (is_even operator) (place table)) line start arguments operator
+    by_firm table (gap (is_even operator) (location table)) (location_for (is_even operator) (location table)) line start arguments operator

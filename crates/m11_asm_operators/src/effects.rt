@@ -7,7 +7,7 @@ ghost use Rattle.m11_asm_operands.specs.Reads.{fields_seen};
 ghost use Rattle.m11_asm_instructions.specs.Reading.{fields_at, operator_fields};
 ghost use Rattle.m11_asm_rules.specs.Changes.{Counts};
 ghost use Rattle.m11_asm_rules.specs.Effects as spec;
-ghost use Rattle.m11_asm_rules.specs.Places.{Steps};
+ghost use Rattle.m11_asm_rules.specs.Locations.{Steps};
 ghost use Rattle.m11_asm_rules.specs.Tables.{firm_table};
 ghost use Rattle.m11_asm_rules.specs.declared.operators.Operator.TheVariants.{Instruction};
 
@@ -20,11 +20,11 @@ use m11_asm_directives::{
 use m11_asm_operands::{Fields, instruction_size, is_even};
 use m11_asm_rules::{Directive, Operator};
 use m11_asm_table::Table;
-use m11_asm_values::{gap, place_for, to_even, to_odd};
+use m11_asm_values::{gap, location_for, to_even, to_odd};
 use m11_base_instructions::Op;
 use m11_scan::Line;
 
-/// The change that an operator with these fields makes, whose name ends at a place of its line. It is asked of firm names alone.
+/// The change that an operator with these fields makes, whose name ends at a column of its line. It is asked of firm names alone.
 /// `arguments` is the number of actuals of the macro around the line.
 #[tactic(auto, using(crate::proofs::FirmEffects::change_firm))]
 pub fn operator_change(
@@ -42,14 +42,14 @@ pub fn operator_change(
     ensures { change_seen result ≡ spec.operator_change (firm_table table.now) line.now.text start arguments operator }
 {
     let is_even = is_even(operator);
-    let passed = gap(is_even, table.place());
-    let here = place_for(is_even, table.place());
+    let passed = gap(is_even, table.location());
+    let here = location_for(is_even, table.location());
     change_at(
         table, passed, here, line, start, arguments, operator, fields,
     )
 }
 
-/// The bytes by which an instruction moves the counter, with those that are passed over before it. Its name ends at a place of its line,
+/// The bytes by which an instruction moves the counter, with those that are passed over before it. Its name ends at a column of its line,
 /// and these are its fields.
 pub fn instruction_steps(
     table: &Table,
@@ -62,12 +62,12 @@ pub fn instruction_steps(
     ensures { (arguments : Option ℕ) → Counts (Steps result)
         ≡ spec.operator_change (firm_table table.now) line.now.text start arguments (Instruction operation) }
 {
-    let passed = gap(true, table.place());
+    let passed = gap(true, table.location());
     let size = instruction_size(fields.list.as_slice());
     u32::from(passed) + u32::from(size)
 }
 
-// The change of an operator that stands at a place, after some bytes that are passed over.
+// The change of an operator that stands at a location, after some bytes that are passed over.
 fn change_at(
     table: &Table,
     passed: u16,

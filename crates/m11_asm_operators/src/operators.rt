@@ -1,4 +1,4 @@
-//! What operators put at their places, with their flags. (MACRO-11 Language Reference Manual, "General assembler directives"; PDP-11/40
+//! What operators put at their locations, with their flags. (MACRO-11 Language Reference Manual, "General assembler directives"; PDP-11/40
 //! Processor Handbook, "Instruction set".)
 
 ghost use Rattle.std.specs.Prelude.{◌≡◌, ◌≤◌, length, IfOk, IsTrue};
@@ -30,14 +30,15 @@ use m11_asm_instructions::put_instruction;
 use m11_asm_operands::{Fields, is_even};
 use m11_asm_rules::{Directive, Operator};
 use m11_asm_table::{Map, Table};
-use m11_asm_values::{LineContext, Put, gap_flags, place_for};
+use m11_asm_values::{LineContext, Put, gap_flags, location_for};
 use m11_base_instructions::Op;
 use m11_scan::{ErrorFlags, Line};
 use m11_unfold_arguments::left_over;
 use std::alloc::AllocError;
 
-/// Puts what an operator with these fields puts, whose name ends at a place of its line, with its flags. What has to stand at an even place
-/// goes on to the next one, with B. `arguments` is the number of actuals of the macro around the line. Error: memory may be refused.
+/// Puts what an operator with these fields puts, whose name ends at a column of its line, with its flags. What has to stand at an even
+/// location goes on to the next one, with B. `arguments` is the number of actuals of the macro around the line. Error: memory may be
+/// refused.
 pub fn put_operator(
     put: &mut Put,
     map: &Map<'_>,
@@ -57,12 +58,12 @@ pub fn put_operator(
         (lines.operation_put map.now table.now line.now.text arguments operator start)) }
 {
     let is_even = is_even(operator);
-    put.add_flags(gap_flags(is_even, table.place()));
-    let line_context = LineContext::new(map, table, place_for(is_even, table.place()), line);
+    put.add_flags(gap_flags(is_even, table.location()));
+    let line_context = LineContext::new(map, table, location_for(is_even, table.location()), line);
     put_at(put, &line_context, start, arguments, operator, fields)
 }
 
-// Puts what an operator puts at the place of its line.
+// Puts what an operator puts at the location of its line.
 fn put_at(
     put: &mut Put,
     line_context: &LineContext,
@@ -73,11 +74,11 @@ fn put_at(
 ) -> Result<(), AllocError>
     requires within { start ≤ length line_context.now.line }
     requires listed { IsTrue (has_listed_operation operator) }
-    requires fields { fields_seen fields.now ≡ fields_at line_context.now.table line_context.now.place line_context.now.line start operator }
+    requires fields { fields_seen fields.now ≡ fields_at line_context.now.table line_context.now.location line_context.now.line start operator }
     requires ends { fields.now.end ≤ length line_context.now.line }
     requires terms { AreTerms line_context.now.line fields.now.list.items fields.now.terms }
     ensures { IfOk result (λ _. put.new ≡ followed_by put.old (effects.operator_put
-        line_context.now.map line_context.now.table line_context.now.place line_context.now.line start arguments operator)) }
+        line_context.now.map line_context.now.table line_context.now.location line_context.now.line start arguments operator)) }
 {
     match operator {
         Operator::Instruction(operation) => put_operation(
@@ -108,11 +109,11 @@ fn put_operation(
     requires within { start ≤ length line_context.now.line }
     requires listed { IsTrue (is_listed operation) }
     requires fields { fields_seen fields.now
-        ≡ instructions.fields line_context.now.table line_context.now.place line_context.now.line start operation }
+        ≡ instructions.fields line_context.now.table line_context.now.location line_context.now.line start operation }
     requires ends { fields.now.end ≤ length line_context.now.line }
     requires terms { AreTerms line_context.now.line fields.now.list.items fields.now.terms }
     ensures { IfOk result (λ _. put.new ≡ followed_by put.old (instructions.words
-        line_context.now.map line_context.now.table line_context.now.place line_context.now.line start operation)) }
+        line_context.now.map line_context.now.table line_context.now.location line_context.now.line start operation)) }
 {
     put_instruction(
         put,
@@ -136,7 +137,7 @@ fn put_directive(
 ) -> Result<(), AllocError>
     requires { start ≤ length line_context.now.line }
     ensures { IfOk result (λ _. put.new ≡ followed_by put.old (effects.directive_put
-        line_context.now.map line_context.now.table line_context.now.place line_context.now.line start arguments directive)) }
+        line_context.now.map line_context.now.table line_context.now.location line_context.now.line start arguments directive)) }
 {
     let line = line_context.line();
     match directive {
@@ -182,11 +183,11 @@ fn put_flags(put: &mut Put, flags: ErrorFlags) -> Result<(), AllocError>
 fn block_flags_at(line_context: &LineContext, start: usize) -> ErrorFlags
     requires { start ≤ length line_context.now.line }
     ensures { bits_of result
-        ≡ storage.block_flags line_context.now.table line_context.now.place line_context.now.line start }
+        ≡ storage.block_flags line_context.now.table line_context.now.location line_context.now.line start }
 {
     block_flags(
         line_context.table(),
-        line_context.place(),
+        line_context.location(),
         line_context.line(),
         start,
     )

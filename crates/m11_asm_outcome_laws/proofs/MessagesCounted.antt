@@ -15,7 +15,7 @@ use Rattle.m11_asm_rules.specs.Meanings.{Map}
 use Rattle.m11_asm_rules.specs.Tables.{Table}
 use Rattle.m11_scan.specs.ErrorFlags.{flags_text}
 use Rattle.m11_asm.specs.Program.{Program}
-use Rattle.m11_asm.specs.Written.{Ended, added_writes, closing_writes, flagged_count, flagged_in, head_before, is_flagged, last_place, last_writes, flag_E, flags_after, flags_at, line_writes, message_writes, pieces_in, program_writes, written, written_after}
+use Rattle.m11_asm.specs.Written.{Ended, added_writes, closing_writes, flagged_count, flagged_in, head_before, is_flagged, last_location, last_writes, flag_E, flags_after, flags_at, line_writes, message_writes, pieces_in, program_writes, written, written_after}
 use Rattle.m11_unfold_rules.specs.Unfolding.{Given}
 use Rattle.m11_asm_outcome_laws.specs.Messages.{is_message, messages_in}
 
@@ -121,7 +121,7 @@ module _ (program : Program) where
       → messages_in (program_writes program all ended) ≡ flagged_count program all ended.has_end + 1
   as_many_messages all ended =
       let head = head_before program all in
-      let added = added_writes ended (last_place program all) in
+      let added = added_writes ended (last_location program all) in
       let closing = closing_writes (pieces_in program.map all) program.symbols program.sections
       (flagged_count program all ended.has_end) in
       of_both (written program all) (last_writes program all ended)
@@ -131,6 +131,6 @@ module _ (program : Program) where
         arith,
         of_written all,
         of_head all,
-        of_added ended.read (last_place program all) ended.has_end,
+        of_added ended.read (last_location program all) ended.has_end,
         of_closing all (flagged_count program all ended.has_end),
       )

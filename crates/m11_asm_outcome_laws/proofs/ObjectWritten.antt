@@ -4,7 +4,7 @@ use Rattle.std.specs.List.{flat_map}
 use Rattle.std.proofs.lemmas.Grind.{flat_map-append}
 use Rattle.m11_asm.proofs.LinesWritten.{pieces_more}
 use Rattle.m11_asm.specs.Program.{Program}
-use Rattle.m11_asm.specs.Written.{Ended, added_writes, closing_writes, flagged_count, head_before, is_flagged, last_place, last_writes, flag_E, flags_at, line_writes, message_writes, pieces_in, program_writes, written, written_after}
+use Rattle.m11_asm.specs.Written.{Ended, added_writes, closing_writes, flagged_count, head_before, is_flagged, last_location, last_writes, flag_E, flags_at, line_writes, message_writes, pieces_in, program_writes, written, written_after}
 use Rattle.m11_asm_faults.specs.declared.fault.AsmOutput.TheVariants.{Object}
 use Rattle.m11_asm_outputs.proofs.Closing.{all_records, closed-append}
 use Rattle.m11_asm_outputs.specs.Object.{closed_records, content_writes, head_contents, last_records, object_contents, records_closed_by}
@@ -219,7 +219,7 @@ module _ (program : Program) where
       → gains (program_writes program lines ended) ≡ blocks (object_contents program.rows (pieces_at lines))
   object_is_its_blocks lines ended =
       let first = head_before program lines in
-      let added = added_writes ended (last_place program lines) in
+      let added = added_writes ended (last_location program lines) in
       let count = flagged_count program lines ended.has_end in
       let closing = closing_writes (pieces_at lines) program.symbols program.sections count in
       let closed = blocks (closed_records (pieces_at lines)) in
@@ -227,7 +227,7 @@ module _ (program : Program) where
       ∙ ap₂ (λ (s t : Bytes). s ++ t) (of_written lines) (of_both first (added ++ closing))
       ∙ sym (append_assoc (so_far lines) (gains first) (gains (added ++ closing)))
       ∙ ap₂ (λ (s t : Bytes). s ++ t) (with_head lines)
-      (of_both added closing ∙ ap₂ (λ (s t : Bytes). s ++ t) (of_added ended (last_place program lines)) (of_closing lines count))
+      (of_both added closing ∙ ap₂ (λ (s t : Bytes). s ++ t) (of_added ended (last_location program lines)) (of_closing lines count))
       ∙ append_assoc head closed (blocks (last_records (pieces_at lines) ++ EndOfModule ∷ []))
       ∙ ap (λ (t : Bytes). head ++ t) (all_texts (pieces_at lines))
       ∙ whole_object (pieces_at lines)

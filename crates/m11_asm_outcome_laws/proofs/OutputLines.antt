@@ -3,7 +3,7 @@ use Rattle.std.proofs.Common.{◌≡◌, ◌∙◌, ℕ, Bool, true, false, if�
 use Rattle.std.specs.List.{concat, cons_option}
 use Rattle.std.proofs.lemmas.List.Folds.{concat-append}
 use Rattle.m11_asm.specs.Program.{Program}
-use Rattle.m11_asm.specs.Written.{Ended, added_writes, closing_writes, flagged_count, head_before, is_flagged, last_place, last_writes, flag_E, flags_at, line_writes, message_writes, pieces_in, program_writes, written, written_after}
+use Rattle.m11_asm.specs.Written.{Ended, added_writes, closing_writes, flagged_count, head_before, is_flagged, last_location, last_writes, flag_E, flags_at, line_writes, message_writes, pieces_in, program_writes, written, written_after}
 use Rattle.m11_asm_faults.specs.declared.fault.AsmOutput.{AsmOutput}
 use Rattle.m11_asm_faults.specs.declared.fault.AsmOutput.TheVariants.{Listing, Messages}
 use Rattle.m11_asm_outputs.specs.Object.{content_writes, head_contents, last_records, records_closed_by}
@@ -249,16 +249,16 @@ module _ (program : Program) where
     closing = closing_writes (pieces_in program.map lines) program.symbols program.sections count
 
     abbrev added_after : List Write
-    added_after = added_writes ended (last_place program lines)
+    added_after = added_writes ended (last_location program lines)
 
     pub listing_is_its_lines : Makes Listing (program_writes program lines ended) (listing_lines program lines ended)
     listing_is_its_lines =
-        let added = added_listed ended (last_place program lines) in
+        let added = added_listed ended (last_location program lines) in
         then_made Listing (written program lines) (last_writes program lines ended) (listed_after program [] lines)
         (added ++ table lines count) (written_listed lines)
         (then_made Listing (head_before program lines) (added_after ++ closing) [] (added ++ table lines count)
         (head_unlisted lines)
-        (then_made Listing added_after closing added (table lines count) (added_is_listed ended (last_place program lines))
+        (then_made Listing added_after closing added (table lines count) (added_is_listed ended (last_location program lines))
         (closing_listed lines count)))
 
     pub messages_are_their_lines : Makes Messages (program_writes program lines ended) (message_lines program lines ended)
@@ -268,4 +268,4 @@ module _ (program : Program) where
         (written_said lines)
         (then_made Messages (head_before program lines) (added_after ++ closing) [] last (head_unsaid lines)
         (then_made Messages added_after closing (added_message ended) (count_line count ∷ [])
-        (added_is_said ended (last_place program lines)) (closing_said lines count)))
+        (added_is_said ended (last_location program lines)) (closing_said lines count)))

@@ -15,7 +15,7 @@ use Rattle.m11_asm_lines.specs.Counting.{none_used}
 abbrev pub program_after : List Numbered → Program
 program_after lines = program_of (givens lines)
 
--- the second pass has the live lines of the first one, up to the same end, and none of their labels has another place than the map says
+-- the second pass has the live lines of the first one, up to the same end, and none of their labels has another location than the map says
 pub record Repeats (reading : Reading) (lines : List Numbered) (ended : Ended) : Type 0 where
   pub ends : Ends (program_after lines).map Definitions reading lines ended
   pub unmoved : (before more : List Numbered) (this : Numbered) → lines ≡ before ++ this ∷ more

@@ -14,7 +14,7 @@ use Rattle.m11_asm_rules.specs.Items.{is_listed}
 use Rattle.m11_asm_rules.specs.Lines.{after_line}
 use Rattle.m11_scan.specs.ErrorFlags.{flags_text}
 use Rattle.m11_asm.specs.Program.{Program}
-use Rattle.m11_asm.specs.Written.{Ended, flagged_count, is_flagged, last_place, flag_E, flags_at}
+use Rattle.m11_asm.specs.Written.{Ended, flagged_count, is_flagged, last_location, flag_E, flags_at}
 
 -- ---- the object
 
@@ -41,7 +41,7 @@ added_listed ended counter = if ended.has_end then [] else added_lines flag_E en
 -- the lines of each listed line, that which is added, and the symbol table with the count of flagged lines
 abbrev pub listing_lines : Program → List Numbered → Ended → List Bytes
 listing_lines program lines ended = listed_after program [] lines
-    ++ (added_listed ended (last_place program lines)
+    ++ (added_listed ended (last_location program lines)
     ++ last_lines program.symbols program.sections (flagged_count program lines ended.has_end))
 
 -- ---- the messages

@@ -128,7 +128,7 @@ pub fn open_text() -> OpenText
     OpenText::new()
 }
 
-/// Takes what a line puts from a place of a section on, and writes the texts that it closes: a text is closed once a
+/// Takes what a line puts from a location of a section on, and writes the texts that it closes: a text is closed once a
 /// content comes that it can't hold too. What isn't closed stays in the open text until more comes, or the end.
 ///
 /// Faults: `Write` of the object, and `NoMemory` before a record. After a fault the open text is of no use.
@@ -137,39 +137,39 @@ pub fn put_pieces<S: Sink>(
     object: &mut S,
     text: &mut OpenText,
     section: Name,
-    place: u16,
+    location: u16,
     contents: &[PieceContent],
 ) -> Result<(), AsmFault>
     ensures writes { (before : List Piece) → IsOpenAfter before text.old → (listing messages : Output) → Writes
         (outputs (output_of S.Sink object.old) listing messages)
         (outputs (output_of S.Sink object.new) listing messages)
-        (content_writes (records_closed_by before (pieces_from section place contents.now))) result }
+        (content_writes (records_closed_by before (pieces_from section location contents.now))) result }
     ensures opens { (before : List Piece) → IsOpenAfter before text.old
-        → OnOk result (IsOpenAfter (before ++ pieces_from section place contents.now) text.new) }
+        → OnOk result (IsOpenAfter (before ++ pieces_from section location contents.now) text.new) }
     ensures fit { (before : List Piece) → IsOpenAfter before text.old
-        → OnOk result (AllFit (records_closed_by before (pieces_from section place contents.now))) }
+        → OnOk result (AllFit (records_closed_by before (pieces_from section location contents.now))) }
 {
-    let mut next = place;
+    let mut next = location;
     'contents: for content in contents {
         let piece = Piece {
             section,
-            place: next,
+            location: next,
             content: *content,
         };
         match put_piece(alloc, object, text, &piece) {
             Ok(()) => {}
             Err(fault) => return Err(fault),
         }
-        next = place_after(next, content);
+        next = location_after(next, content);
     }
     Ok(())
 }
 
-// The place after a content, counted modulo 65536.
-fn place_after(place: u16, content: &PieceContent) -> u16
-    ensures { result ≡ further place (content_size content.now) }
+// The location after a content, counted modulo 65536.
+fn location_after(location: u16, content: &PieceContent) -> u16
+    ensures { result ≡ further location (content_size content.now) }
 {
-    place.wrapping_add(content.byte_count() as u16)
+    location.wrapping_add(content.byte_count() as u16)
 }
 
 // The text that a piece closes, if it closes one. The piece is in the open text also where the write failed.

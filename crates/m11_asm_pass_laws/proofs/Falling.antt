@@ -46,11 +46,11 @@ into_depth (Repeats formals rounds) taken text None stage =
 into_depth Drops taken text None stage = omega arith
 into_depth purpose taken text (Some nested) stage = omega arith
 
-statement_depth : (text : Bytes) (holds : Bool) (place : Option ℕ) (stage : Stage)
-    → depth (with_statement text holds place stage).left ≤ depth stage.left + 1
-statement_depth text true (Some place) stage = omega arith
+statement_depth : (text : Bytes) (holds : Bool) (column : Option ℕ) (stage : Stage)
+    → depth (with_statement text holds column stage).left ≤ depth stage.left + 1
+statement_depth text true (Some column) stage = omega arith
 statement_depth text true None stage = omega arith
-statement_depth text false place stage = omega arith
+statement_depth text false column stage = omega arith
 
 same_ends : (left : List Left) → marks (after_mark left) ≡ marks left
 same_ends [] = refl
@@ -62,40 +62,40 @@ choice_depth : (choice : Bool) (one other : Acted) (most : ℕ) → depth one.af
 choice_depth true one other most first second = first
 choice_depth false one other most first second = second
 
-directive_depth : (known : Known) (text : Bytes) (place : ℕ) (stage : Stage) (of : Directive)
-    → depth (acted_by known text stage (OwnDirective of place)).after.left ≤ depth stage.left + 1
-directive_depth known text place stage word.If = choice_depth (has_room stage) _ _ (depth stage.left + 1) (omega arith) (omega arith)
-directive_depth known text place stage word.Iff =
+directive_depth : (known : Known) (text : Bytes) (column : ℕ) (stage : Stage) (of : Directive)
+    → depth (acted_by known text stage (OwnDirective of column)).after.left ≤ depth stage.left + 1
+directive_depth known text column stage word.If = choice_depth (has_room stage) _ _ (depth stage.left + 1) (omega arith) (omega arith)
+directive_depth known text column stage word.Iff =
     choice_depth (has_none stage.conditions) _ _ (depth stage.left + 1) (omega arith) (omega arith)
-directive_depth known text place stage word.Ift =
+directive_depth known text column stage word.Ift =
     choice_depth (has_none stage.conditions) _ _ (depth stage.left + 1) (omega arith) (omega arith)
-directive_depth known text place stage word.Iftf =
+directive_depth known text column stage word.Iftf =
     choice_depth (has_none stage.conditions) _ _ (depth stage.left + 1) (omega arith) (omega arith)
-directive_depth known text place stage word.Endc =
+directive_depth known text column stage word.Endc =
     choice_depth (has_none stage.conditions) _ _ (depth stage.left + 1) (omega arith) (omega arith)
-directive_depth known text place stage word.Iif =
-    statement_depth text (immediate.immediate known text place).holds (immediate.immediate known text place).statement stage
-directive_depth known text place stage word.Macro = omega arith
-directive_depth known text place stage word.Endm = omega arith
-directive_depth known text place stage word.Rept = omega arith
-directive_depth known text place stage word.Endr = omega arith
-directive_depth known text place stage word.Irp = omega arith
-directive_depth known text place stage word.Irpc = omega arith
-directive_depth known text place stage word.Mexit =
+directive_depth known text column stage word.Iif =
+    statement_depth text (immediate.immediate known text column).holds (immediate.immediate known text column).statement stage
+directive_depth known text column stage word.Macro = omega arith
+directive_depth known text column stage word.Endm = omega arith
+directive_depth known text column stage word.Rept = omega arith
+directive_depth known text column stage word.Endr = omega arith
+directive_depth known text column stage word.Irp = omega arith
+directive_depth known text column stage word.Irpc = omega arith
+directive_depth known text column stage word.Mexit =
     choice_depth (is_expanding stage.left) _ _ (depth stage.left + 1) (rw same_ends omega arith) (omega arith)
-directive_depth known text place stage word.Narg = omega arith
-directive_depth known text place stage word.Nchr = omega arith
-directive_depth known text place stage word.End = omega arith
+directive_depth known text column stage word.Narg = omega arith
+directive_depth known text column stage word.Nchr = omega arith
+directive_depth known text column stage word.End = omega arith
 
 operation_depth : (known : Known) (text : Bytes) (stage : Stage) (of : Operation)
     → depth (acted_by known text stage of).after.left ≤ depth stage.left + 1
 operation_depth known text stage Foreign = omega arith
-operation_depth known text stage (Calls macro place) =
-    let given = actuals_from known text (length macro.formals) place in
+operation_depth known text stage (Calls macro column) =
+    let given = actuals_from known text (length macro.formals) column in
     let filling = filled macro.formals given.texts stage.created in
     opened_depth (Some (length given.texts)) 0 (map formal_name macro.formals) (filling.texts ∷ []) macro.body
     (record stage { created = filling.created })
-operation_depth known text stage (OwnDirective of place) = directive_depth known text place stage of
+operation_depth known text stage (OwnDirective of column) = directive_depth known text column stage of
 
 -- an operator leaves at most one more to do
 pub acts_falling : (known : Known) (stage : Stage) (text : Bytes) → work_left (act known stage text).after ≤ work_left stage + 1

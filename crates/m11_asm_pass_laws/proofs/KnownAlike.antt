@@ -6,7 +6,7 @@ use Rattle.m11_asm_passes.specs.Refusals.{given_by}
 use Rattle.m11_asm_rules.specs.Lines.{after_line, line_change, stands}
 use Rattle.m11_asm_rules.specs.Meanings.{Map, empty_map, known_at}
 use Rattle.m11_asm_rules.specs.Placements.{after_lines, table_after}
-use Rattle.m11_asm_rules.specs.Tables.{Table, firm_table, first_table, place}
+use Rattle.m11_asm_rules.specs.Tables.{Table, firm_table, first_table, location}
 use Rattle.m11_asm_rules.specs.Unfolded.{known_after_labels}
 use Rattle.m11_asm_rules.specs.declared.meanings.Context.TheVariants.{LocalOnly}
 use Rattle.m11_unfold_rules.specs.Stages.{Stage}
@@ -49,7 +49,7 @@ module _ (alike : PlaceAlike) (one other : Map) where
 
   pub told_alike : (lines : List Given) (given : Given)
       → known_after_labels (stands (table_after one lines) given) ≡ known_after_labels (stands (table_after other lines) given)
-  told_alike lines given = ap (λ (t : Table). known_at empty_map LocalOnly t (place t)) (stands_alike lines given)
+  told_alike lines given = ap (λ (t : Table). known_at empty_map LocalOnly t (location t)) (stands_alike lines given)
 
   -- a line that becomes live is the same line
   pub given_alike : (lines : List Numbered) (live : Live) (stage : Stage)

@@ -28,7 +28,7 @@ use Rattle.m11_unfold_rules.specs.Unfolding.{Given}
 use Rattle.m11_scan_values.specs.Quantities.{Quantity}
 use Rattle.m11_scan_values.specs.declared.names.Symbol.{Symbol}
 use Rattle.m11_scan_values.specs.declared.names.Symbol.TheVariants.{Ordinary, Local, Counter}
-use Rattle.m11_asm_rules.specs.Alignment.{gap_flags, place_for}
+use Rattle.m11_asm_rules.specs.Alignment.{gap_flags, location_for}
 use Rattle.m11_asm_rules.specs.Assigning as assigning
 use Rattle.m11_asm_rules.specs.Assignments.{all_firm, assigned, standing_of}
 use Rattle.m11_asm_rules.specs.Changes.{Assigns, Change, Numbers, becomes_global, changed}
@@ -43,13 +43,13 @@ use Rattle.m11_asm_rules.specs.Instructions.{assembled, fields, line_context}
 use Rattle.m11_asm_rules.specs.Items.{assigned_items, action_items, items, items_of, value_items}
 use Rattle.m11_asm_rules.specs.Labels.{global_if, label_name, labels_flags, with_definition, with_doubly_defined, with_label}
 use Rattle.m11_asm_rules.specs.Limits.{limit_fault}
-use Rattle.m11_asm_rules.specs.Lines.{Assign, Action, Operate, NoAction, SetCounter as SetsPlace, after_line, action, known_end, flags, line_change, line_put, pieces, put_by, put_place, stands}
+use Rattle.m11_asm_rules.specs.Lines.{Assign, Action, Operate, NoAction, SetCounter as SetsLocation, after_line, action, known_end, flags, line_change, line_put, pieces, put_by, put_location, stands}
 use Rattle.m11_asm_rules.specs.Meanings.{Map, defined_or, known_at, flag_D, map_of, meaning_of, quantity_of, stands_for, undefined}
 use Rattle.m11_asm_rules.specs.SymbolUses.{symbol_uses}
 use Rattle.m11_asm_rules.specs.Operators.{is_even}
 use Rattle.m11_asm_rules.specs.Storage as storage
 use Rattle.m11_asm_rules.specs.Strings as strings
-use Rattle.m11_asm_rules.specs.Tables.{Table, firm_table, place, section_name}
+use Rattle.m11_asm_rules.specs.Tables.{Table, firm_table, location, section_name}
 use Rattle.m11_asm_rules.specs.declared.definitions.Definition.{Definition}
 use Rattle.m11_asm_rules.specs.declared.definitions.Key.{Key}
 use Rattle.m11_asm_rules.specs.declared.definitions.Key.TheVariants.{Named, Numbered}
@@ -60,7 +60,7 @@ use Rattle.m11_asm_rules.specs.declared.operators.Directive.TheVariants as direc
 use Rattle.m11_asm_rules.specs.declared.operators.Operator.{Operator}
 use Rattle.m11_asm_rules.specs.declared.operators.Operator.TheVariants as operators
 use Rattle.m11_asm_table.specs.Alike.{Alike}
-use Rattle.m11_asm_lines.specs.Moved.{is_place_of, flag_P, moved_key, moved_kind, moved_flags, moved_name}
+use Rattle.m11_asm_lines.specs.Moved.{is_location_of, flag_P, moved_key, moved_kind, moved_flags, moved_name}
 use Rattle.m11_asm_passes.specs.Placed.{all_flags}
 use Rattle.m11_asm_lines.specs.Counting.{names_counted, with_counted}
 use Rattle.m11_asm_lines.specs.declared.counting.Counting.{Counting}
@@ -117,7 +117,7 @@ module _ (one other : Map) (same : MapsAgree one other) where
         is_firm = all_firm table (symbols_at line start);
         label = None;
       } in
-      ap of (known_same LocalOnly table (place table))
+      ap of (known_same LocalOnly table (location table))
 
   pub changed_same : (line : Bytes) (change : Change) (table : Table) → changed one line change table ≡ changed other line change table
   changed_same line (Assigns name is_global start) table =
@@ -157,8 +157,8 @@ module _ (one other : Map) (same : MapsAgree one other) where
   assignment_same table line name start =
       let with_value : ℕ → expressions.Known → ℕ = λ flags known.
       bit_or flags (bit_or (value_at known line start).flags (assigning.after_expression line start)) in
-      ap (λ (n : ℕ). with_value n (known_at one LocalOnly table (place table))) (target_same table (assigning.target line name))
-      ∙ ap (with_value (assigning.target_flags other table (assigning.target line name))) (known_same LocalOnly table (place table))
+      ap (λ (n : ℕ). with_value n (known_at one LocalOnly table (location table))) (target_same table (assigning.target line name))
+      ∙ ap (with_value (assigning.target_flags other table (assigning.target line name))) (known_same LocalOnly table (location table))
 
   -- ---- what is put
 
@@ -204,9 +204,9 @@ module _ (one other : Map) (same : MapsAgree one other) where
     directive_same : (here start : ℕ) (arguments : Option ℕ) (of : Directive)
         → directive_put one table here line start arguments of ≡ directive_put other table here line start arguments of
     directive_same here start arguments directive.Word =
-        ap (with_flags (storage.end_flags line start (elements_at line start).end)) (words_same (elements_at line start).places here)
+        ap (with_flags (storage.end_flags line start (elements_at line start).end)) (words_same (elements_at line start).columns here)
     directive_same here start arguments directive.Byte =
-        ap (with_flags (storage.end_flags line start (elements_at line start).end)) (bytes_same (elements_at line start).places here)
+        ap (with_flags (storage.end_flags line start (elements_at line start).end)) (bytes_same (elements_at line start).columns here)
     directive_same here start arguments directive.Ascii = ascii_same here start
     directive_same here start arguments directive.Asciz =
         ap (λ (p : Put). followed_by p (put (fixed_byte 0 ∷ []) 0)) (ascii_same here start)
@@ -222,13 +222,13 @@ module _ (one other : Map) (same : MapsAgree one other) where
         ap (λ (k : expressions.Known). nothing (bit_or
         (exports.expression_flags (if has_expression line start then Some (value_at k line start) else None))
         (bit_or (skip_flags line start (expression_end line start)) (left_over line (expression_end line start)))))
-        (known_same LocalOnly table (place table))
+        (known_same LocalOnly table (location table))
     directive_same here start arguments of = refl
 
     line_context_same : (here : ℕ) → line_context one table here line ≡ line_context other table here line
     line_context_same here =
         let at : expressions.Known → expressions.Known → LineContext = λ known refers.
-        record { table = table; place = here; known = known; refers = refers; line = line } in
+        record { table = table; location = here; known = known; refers = refers; line = line } in
         ap (λ (k : expressions.Known). at k (known_at one MayBeGlobal table here)) (known_same LocalOnly table here)
         ∙ ap (at (known_at other LocalOnly table here)) (known_same MayBeGlobal table here)
 
@@ -241,10 +241,10 @@ module _ (one other : Map) (same : MapsAgree one other) where
     pub put_same : (arguments : Option ℕ) (action : Action) → put_by one table line arguments action ≡ put_by other table line arguments action
     put_same arguments NoAction = refl
     put_same arguments (Assign name is_global start) = ap nothing (assignment_same table line name start)
-    put_same arguments (SetsPlace start) = refl
+    put_same arguments (SetsLocation start) = refl
     put_same arguments (Operate operator start) =
-        ap (with_flags (gap_flags (is_even operator) (place table)))
-        (operator_same (place_for (is_even operator) (place table)) start arguments operator)
+        ap (with_flags (gap_flags (is_even operator) (location table)))
+        (operator_same (location_for (is_even operator) (location table)) start arguments operator)
 
   pub line_put_same : (table : Table) (given : Given) → line_put one table given ≡ line_put other table given
   unfolding line_put
@@ -256,8 +256,8 @@ module _ (one other : Map) (same : MapsAgree one other) where
       → action_items one table line change of ≡ action_items other table line change of
   action_items_same table line change NoAction = refl
   action_items_same table line change (Assign name is_global start) =
-      ap (λ (k : expressions.Known). value_items (value_at k line start)) (known_same LocalOnly table (place table))
-  action_items_same table line change (SetsPlace start) = refl
+      ap (λ (k : expressions.Known). value_items (value_at k line start)) (known_same LocalOnly table (location table))
+  action_items_same table line change (SetsLocation start) = refl
   action_items_same table line change (Operate operator start) = refl
 
   pub items_same : (table : Table) (given : Given) → items one table given ≡ items other table given
@@ -272,7 +272,7 @@ module _ (one other : Map) (same : MapsAgree one other) where
   pub pieces_same : (table : Table) (given : Given) → pieces one table given ≡ pieces other table given
   pieces_same table given =
       ap (λ (p : Put). pieces_from (section_name (stands table given))
-      (put_place (stands table given) (action given.is_own given.live.line.text)) p.contents)
+      (put_location (stands table given) (action given.is_own given.live.line.text)) p.contents)
       (line_put_same (stands table given) given)
 
   -- ---- flags
@@ -287,7 +287,7 @@ module _ (one other : Map) (same : MapsAgree one other) where
 
   moved_key_same : (table : Table) (key : Key) → moved_key one table key ≡ moved_key other table key
   moved_key_same table key =
-      ap (λ (d : Option Definition). flag_if (not (is_defined key table.definitions) && not (is_place_of table d)) flag_P)
+      ap (λ (d : Option Definition). flag_if (not (is_defined key table.definitions) && not (is_location_of table d)) flag_P)
       (same.definitions key)
 
   moved_name_same : (table : Table) (name : Option Name) → moved_name one table name ≡ moved_name other table name

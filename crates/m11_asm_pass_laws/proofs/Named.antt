@@ -6,7 +6,7 @@ use Rattle.std.specs.Prelude.{ℕ, if◌then◌else◌, Option}
 use Rattle.m11_base.proofs.SameNames.{same_name_itself}
 use Rattle.m11_base.specs.Devices.{Bytes}
 use Rattle.m11_base.specs.Rad50.{Name, is_same_name}
-use Rattle.m11_asm_rules.specs.Alignment.{place_for}
+use Rattle.m11_asm_rules.specs.Alignment.{location_for}
 use Rattle.m11_asm_rules.specs.Definitions.{is_defined, registers}
 use Rattle.m11_asm_rules.specs.Fields.{fields_at}
 use Rattle.m11_asm_rules.specs.Limits.{is_counted, names_after, with_uses, with_symbol}
@@ -14,7 +14,7 @@ use Rattle.m11_asm_rules.specs.Lines.{Assign, Action, Operate, NoAction, SetCoun
 use Rattle.m11_asm_rules.specs.Meanings.{Map, empty_map, known_at}
 use Rattle.m11_asm_rules.specs.SymbolUses.{SymbolUse, action_uses, field_uses, label_uses, symbol_use, symbol_uses}
 use Rattle.m11_asm_rules.specs.Placements.{table_after}
-use Rattle.m11_asm_rules.specs.Tables.{Table, firm_table, first_table, place}
+use Rattle.m11_asm_rules.specs.Tables.{Table, firm_table, first_table, location}
 use Rattle.m11_asm_rules.specs.declared.definitions.Key.TheVariants.{Named}
 use Rattle.m11_asm_rules.specs.declared.meanings.Context.TheVariants.{LocalOnly}
 use Rattle.m11_asm_rules.specs.declared.operators.Operator.TheVariants as operators
@@ -169,7 +169,7 @@ actions_alike line arguments (SetCounter start) first second same = refl
 actions_alike line arguments (Operate (operators.Directive directive) start) first second same = refl
 actions_alike line arguments (Operate (operators.Instruction operation) start) first second same =
     ap (λ (t : Table). flat_map (field_uses line)
-    (fields_at (known_at empty_map LocalOnly t (place_for true (place t))) line start operation).list) same
+    (fields_at (known_at empty_map LocalOnly t (location_for true (location t))) line start operation).list) same
 
 module _ (alike : PlaceAlike) (one other : Map) where
   uses_alike : (done : List Given) (given : Given)

@@ -18,14 +18,14 @@ use Rattle.m11_asm_rules.specs.Labels.{global_if, label_name, labelled, with_blo
 use Rattle.m11_asm_rules.specs.Lines.{after_line, line_change, stands}
 use Rattle.m11_asm_rules.specs.Meanings.{Map}
 use Rattle.m11_asm_rules.specs.Placements.{after_lines, program_map, table_after}
-use Rattle.m11_asm_rules.specs.Tables.{Table, firm_table, first_table, kind_here, place, section_name}
+use Rattle.m11_asm_rules.specs.Tables.{Table, firm_table, first_table, kind_here, location, section_name}
 use Rattle.m11_asm_rules.specs.declared.definitions.Definition.{Definition}
 use Rattle.m11_asm_rules.specs.declared.definitions.Key.{Key}
 use Rattle.m11_asm_rules.specs.declared.definitions.Key.TheVariants.{Named}
 use Rattle.m11_asm_rules.specs.declared.definitions.Key.TheVariants as of_key
 use Rattle.m11_asm_rules.specs.declared.definitions.Standing.{Standing}
 use Rattle.m11_asm_rules.specs.declared.definitions.Standing.TheVariants.{Known}
-use Rattle.m11_asm_lines.specs.Moved.{is_at, is_in, is_place_of, flag_P, moved_key, moved_kind, moved_flags, moved_name}
+use Rattle.m11_asm_lines.specs.Moved.{is_at, is_in, is_location_of, flag_P, moved_key, moved_kind, moved_flags, moved_name}
 use Rattle.m11_scan_statements.specs.Labels.{labels_at}
 use Rattle.m11_scan_statements.specs.Statements.{flag_if}
 use Rattle.m11_scan_statements.specs.declared.labels.Label.{Label}
@@ -44,12 +44,12 @@ use Rattle.m11_asm_pass_laws.specs.Second.{map_from, moved_after}
 abbrev Keeps : Table → Table → Type 0
 Keeps table final = (key : Key) (label : Definition) → is_some label.label ≡ true → StandsIn key label table → StandsIn key label final
 
--- ---- a place is the place of itself
+-- ---- a location is the location of itself
 
-same_place : (table : Table) → (is_same_name (section_name table) (section_name table) && (place table == place table)) ≡ true
-same_place table =
-    ap (λ (b : Bool). b && (place table == place table)) (same_name_itself (section_name table))
-    ∙ eq-eqb (place table) (place table) refl
+same_location : (table : Table) → (is_same_name (section_name table) (section_name table) && (location table == location table)) ≡ true
+same_location table =
+    ap (λ (b : Bool). b && (location table == location table)) (same_name_itself (section_name table))
+    ∙ eq-eqb (location table) (location table) refl
 
 standing_by : (is_firm : Bool) (standing known : Standing) → is_firm ≡ true → firm_standing is_firm standing ≡ known → standing ≡ known
 standing_by true standing known firm same = same
@@ -59,34 +59,34 @@ part_of : (is_asked : Bool) (part label : Definition) → (if is_asked then Some
 part_of true part label same = cc
 part_of false part label same = absurd (cc)
 
-found_place : (table : Table) (key : Key) (found : Option Definition) → label_or_value found ≡ Some (labelled table key)
-    → is_place_of table found ≡ true
-found_place table key None same = absurd (cc)
-found_place table key (Some definition) same =
+found_location : (table : Table) (key : Key) (found : Option Definition) → label_or_value found ≡ Some (labelled table key)
+    → is_location_of table found ≡ true
+found_location table key None same = absurd (cc)
+found_location table key (Some definition) same =
     let part : firm_part definition ≡ labelled table key
     = part_of (is_label_or_firm definition) (firm_part definition) (labelled table key) same in
-    ap (λ (label : Option Name). is_in (section_name table) label && is_at (place table) definition.standing)
+    ap (λ (label : Option Name). is_in (section_name table) label && is_at (location table) definition.standing)
     (ap (λ (d : Definition). d.label) part)
-    ∙ ap (λ (standing : Standing). is_in (section_name table) (Some (section_name table)) && is_at (place table) standing)
-    (standing_by definition.is_firm definition.standing (Known (place table) (kind_here table))
+    ∙ ap (λ (standing : Standing). is_in (section_name table) (Some (section_name table)) && is_at (location table) standing)
+    (standing_by definition.is_firm definition.standing (Known (location table) (kind_here table))
     (ap (λ (d : Definition). d.is_firm) part) (ap (λ (d : Definition). d.standing) part))
-    ∙ same_place table
+    ∙ same_location table
 
 -- ---- the labels of a line
 
 module _ (map : Map) (final : Table)
     (solves : (key : Key) → label_or_value_of key map.definitions ≡ label_or_value_of key final.definitions) where
-  unmoved_by : (is_known is_place : Bool) → (is_known ≡ false → is_place ≡ true)
-      → flag_if (not is_known && not is_place) flag_P ≡ 0
-  unmoved_by true is_place found = refl
+  unmoved_by : (is_known is_location : Bool) → (is_known ≡ false → is_location ≡ true)
+      → flag_if (not is_known && not is_location) flag_P ≡ 0
+  unmoved_by true is_location found = refl
   unmoved_by false true found = refl
   unmoved_by false false found = absurd (let same = found refl in cc same)
 
   key_unmoved : (table : Table) (key : Key) → (is_defined key table.definitions ≡ false → StandsIn key (labelled table key) final)
       → moved_key map table key ≡ 0
   key_unmoved table key stands =
-      unmoved_by (is_defined key table.definitions) (is_place_of table (last_definition key map.definitions))
-      (λ none. found_place table key (last_definition key map.definitions) (solves key ∙ ap label_or_value (stands none)))
+      unmoved_by (is_defined key table.definitions) (is_location_of table (last_definition key map.definitions))
+      (λ none. found_location table key (last_definition key map.definitions) (solves key ∙ ap label_or_value (stands none)))
 
   -- a label of a key that has no definition defines it
   name_by : (is_there is_global : Bool) (table : Table) (name : Name) → is_there ≡ false

@@ -10,7 +10,7 @@ use Rattle.m11_asm_lines.specs.Moved.{moved_flags}
 abbrev pub map_from : List Numbered → Map
 map_from lines = program_map (givens lines)
 
--- P where a label of a line after others has another place than the map says
+-- P where a label of a line after others has another location than the map says
 abbrev pub moved_after : Map → List Numbered → Numbered → ℕ
 moved_after map before one =
     moved_flags map one.given.live.line.text (table_at map before) (labels_at one.given.live.line.text)

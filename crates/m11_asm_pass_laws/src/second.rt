@@ -38,7 +38,7 @@ pub fn the_same_lines_are_read_alike()
 }
 
 /// In a second pass over the lines that a first one read to its end, under the map that these give, no label has moved, so that none has
-/// the flag P: each label whose key isn't defined before it defines the place that the map has of the key, since no later line gives the
+/// the flag P: each label whose key isn't defined before it defines the location that the map has of the key, since no later line gives the
 /// key of a label another definition.
 pub fn no_label_has_moved_in_a_second_pass_over_the_same_lines()
     ensures { (one : Map) (counting others : Counting) (all source read rest : List SourceLine)

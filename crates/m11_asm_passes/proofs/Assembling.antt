@@ -19,21 +19,21 @@ use Rattle.m11_unfold_rules.specs.Stages.{Stage, start}
 use Rattle.m11_unfold_rules.specs.Taking.{Live}
 use Rattle.m11_unfold_rules.specs.Unfolding.{Given}
 use Rattle.m11_unfold_rules.specs.declared.fault.UnfoldFault.{UnfoldFault}
-use Rattle.m11_asm_rules.specs.Alignment.{place_for}
+use Rattle.m11_asm_rules.specs.Alignment.{location_for}
 use Rattle.m11_asm_rules.specs.Changes.{Change, changed}
 use Rattle.m11_asm_rules.specs.Contents.{Put}
 use Rattle.m11_asm_rules.specs.Labels.{labels_flags, labels_stand}
 use Rattle.m11_asm_rules.specs.Limits.{has_too_many, most_defined_names, most_local_symbols, most_names, most_sections}
 use Rattle.m11_asm_rules.specs.Items.{assigned_items, action_items, is_shown, value_items}
-use Rattle.m11_asm_rules.specs.Lines.{Action, NoAction, Assign, SetCounter, Operate, after_line, action, line_change, line_put, put_by, put_place, stands}
+use Rattle.m11_asm_rules.specs.Lines.{Action, NoAction, Assign, SetCounter, Operate, after_line, action, line_change, line_put, put_by, put_location, stands}
 use Rattle.m11_asm_rules.specs.Meanings.{Map, empty_map, known_at, stands_for}
 use Rattle.m11_asm_rules.specs.declared.meanings.Context.TheVariants.{LocalOnly}
 use Rattle.m11_asm_rules.specs.Operators.{is_even}
-use Rattle.m11_asm_rules.specs.Tables.{Table, firm_table, first_table, place, section_name}
+use Rattle.m11_asm_rules.specs.Tables.{Table, firm_table, first_table, location, section_name}
 use Rattle.m11_asm_rules.specs.Unfolded.{known_after_labels}
 use Rattle.m11_asm_rules.specs.declared.sections.Section.{Section}
 use Rattle.m11_asm_rules.specs.declared.modes.Modes.{Modes}
-use Rattle.m11_asm_lines.proofs.Alike.{alike_itself, alike_known, alike_place, alike_section}
+use Rattle.m11_asm_lines.proofs.Alike.{alike_itself, alike_known, alike_location, alike_section}
 use Rattle.m11_asm_lines.specs.Actions.{action_seen}
 use Rattle.m11_asm_lines.specs.Lines.{flags_from}
 use Rattle.m11_asm_lines.specs.Counting.{names_counted, with_counted}
@@ -85,30 +85,30 @@ module _ (unfolder : Unfolding) (kept : Kept) (counting before : Counting)
 -- ---- what unfolding is told
 
 pub acts_told : (names : FirmAsked) (table : Table) (at : ℕ) (text : Bytes) (before after : Stage) (result : Result Acting UnfoldFault)
-    → names ≡ firm_asked table at → at ≡ place table
-    → Acts (known_by names.table.modes.radix (stands_for empty_map LocalOnly (firm_table names.table) names.place)) text before after result
+    → names ≡ firm_asked table at → at ≡ location table
+    → Acts (known_by names.table.modes.radix (stands_for empty_map LocalOnly (firm_table names.table) names.location)) text before after result
     → Acts (known_after_labels table) text before after result
 acts_told names table at text before after result is there acts =
     let P : FirmAsked → Type 0 = λ n.
-    Acts (known_by n.table.modes.radix (stands_for empty_map LocalOnly (firm_table n.table) n.place)) text before after result in
+    Acts (known_by n.table.modes.radix (stands_for empty_map LocalOnly (firm_table n.table) n.location)) text before after result in
     let Q : ℕ → Type 0 = λ p.
     Acts (known_by table.modes.radix (stands_for empty_map LocalOnly (firm_table table) p)) text before after result in
     subst Q there (subst P is acts)
 
 -- ---- what is told of tables that are alike
 
-put_place_alike : (one other : Table) → Alike one other → (of : Action) → put_place one of ≡ put_place other of
-put_place_alike one other alike NoAction = alike_place one other alike
-put_place_alike one other alike (Assign name is_global start) = alike_place one other alike
-put_place_alike one other alike (SetCounter start) = alike_place one other alike
-put_place_alike one other alike (Operate operator start) = ap (place_for (is_even operator)) (alike_place one other alike)
+put_location_alike : (one other : Table) → Alike one other → (of : Action) → put_location one of ≡ put_location other of
+put_location_alike one other alike NoAction = alike_location one other alike
+put_location_alike one other alike (Assign name is_global start) = alike_location one other alike
+put_location_alike one other alike (SetCounter start) = alike_location one other alike
+put_location_alike one other alike (Operate operator start) = ap (location_for (is_even operator)) (alike_location one other alike)
 
 action_items_alike : (map_ : Map) (one other : Table) → Alike one other → (line : Bytes) (change : Change) (of : Action)
     → action_items map_ one line change of ≡ action_items map_ other line change of
 action_items_alike map_ one other alike line change NoAction = refl
 action_items_alike map_ one other alike line change (Assign name is_global start) =
     ap (λ (k : Known). value_items (value_at k line start))
-    (alike_known one other alike map_ LocalOnly (place one) ∙ ap (known_at map_ LocalOnly other) (alike_place one other alike))
+    (alike_known one other alike map_ LocalOnly (location one) ∙ ap (known_at map_ LocalOnly other) (alike_location one other alike))
 action_items_alike map_ one other alike line change (SetCounter start) = refl
 action_items_alike map_ one other alike line change (Operate operator start) = refl
 
@@ -243,14 +243,14 @@ module _ (map_ : Map) (live : Live) (old middle : Going) (does : code.Action) (b
   pub placed_so : (statement : Statement) → States live statement
       → (new : Going) (placed : PlacedLine) → live_in placed.live ≡ live → placed.live.action ≡ does
       → new.put ≡ put_by map_ stood.table text done.arguments of
-      → placed.section ≡ section_name stood.table → placed.place ≡ put_place stood.table of → placed.counter ≡ place stood.table
+      → placed.section ≡ section_name stood.table → placed.location ≡ put_location stood.table of → placed.counter ≡ location stood.table
       → placed.is_shown ≡ is_shown new.kept.table.modes placed.live.is_expanded
       → bits_of placed.flags ≡ bit_or (flags_from text statement.labels_end statement.body
       (bits_of statement.label_flags) (bits_of begun.found.doubly_defined) new.put.flags done.notes.flags)
       (bits_of begun.found.moved)
       → Finishes map_ live before old new (Ok placed.assigned)
       → Places map_ live before old new (SaysPlaced map_ placed new.put) (Ok tt)
-  placed_so statement states new placed same action_so_far put_is section_is place_is counter_is shown_is flags_are finishes_so table
+  placed_so statement states new placed same action_so_far put_is section_is location_is counter_is shown_is flags_are finishes_so table
       matches =
       let here = begins.labels table matches in
       let line : Given = given_by table live before in
@@ -284,10 +284,10 @@ module _ (map_ : Map) (live : Live) (old middle : Going) (does : code.Action) (b
               ∙ ap (λ (n : Notes). flags_from text (labels_end text) (body_of text) (label_flags live.line)
               (labels_flags text table (labels_at text)) (line_put map_ (stands table line) line).flags n.flags) notes);
           section_is = section_is ∙ alike_section stood.table (labels_stand table text) here.matches.alike;
-          place_is = place_is ∙ put_place_alike stood.table (labels_stand table text) here.matches.alike of
-              ∙ ap (put_place (labels_stand table text)) (begins.action_is ∙ own);
+          location_is = location_is ∙ put_location_alike stood.table (labels_stand table text) here.matches.alike of
+              ∙ ap (put_location (labels_stand table text)) (begins.action_is ∙ own);
           contents_are = ap (λ (p : Put). p.contents) put_so;
-          counter_is = counter_is ∙ alike_place stood.table (labels_stand table text) here.matches.alike;
+          counter_is = counter_is ∙ alike_location stood.table (labels_stand table text) here.matches.alike;
           assigned_is = finished.1;
           shown_is = shown_is
               ∙ ap (λ (s : Modes). is_shown s placed.live.is_expanded) finished.0.matches.alike.modes

@@ -24,14 +24,14 @@ use Rattle.m11_asm_rules.specs.Contents.{Put, nothing}
 use Rattle.m11_asm_rules.specs.Items.{action_items, is_shown}
 use Rattle.m11_asm_rules.specs.Labels.{labels_flags, with_labels}
 use Rattle.m11_asm_rules.specs.Limits.{has_too_many, limit_fault, most_defined_names, most_local_symbols, most_names, most_sections}
-use Rattle.m11_asm_rules.specs.Lines.{NoAction, after_line, change_of, action, action_of, known_end, line_change, line_put, put_by, put_place, stands}
+use Rattle.m11_asm_rules.specs.Lines.{NoAction, after_line, change_of, action, action_of, known_end, line_change, line_put, put_by, put_location, stands}
 use Rattle.m11_asm_rules.specs.Meanings.{Map}
 use Rattle.m11_asm_rules.specs.declared.meanings.Context.TheVariants.{LocalOnly}
 use Rattle.m11_asm_rules.specs.SymbolUses.{SymbolUse, action_uses, label_uses, symbol_use, symbol_uses}
-use Rattle.m11_asm_rules.specs.Tables.{Table, firm_table, place, section_name}
+use Rattle.m11_asm_rules.specs.Tables.{Table, firm_table, location, section_name}
 use Rattle.m11_asm_rules.specs.declared.sections.Section.{Section}
 use Rattle.m11_asm_rules.specs.declared.modes.Modes.{Modes}
-use Rattle.m11_asm_lines.proofs.Alike.{alike_place, alike_section}
+use Rattle.m11_asm_lines.proofs.Alike.{alike_location, alike_section}
 use Rattle.m11_asm_lines.specs.Actions.{action_seen}
 use Rattle.m11_asm_lines.proofs.Room.{few_told}
 use Rattle.m11_asm_lines.specs.Counting.{names_counted, with_counted}
@@ -155,17 +155,17 @@ module _ (live : Live) (stage : Stage) (blank : IsBlank live.line.text) (table :
   pub placed_so : (map_ : Map) (pass : Kept) (placed : PlacedLine) (put : Put) → Matches pass table → live_in placed.live ≡ live
       → placed.live.action ≡ code.NoAction → put ≡ nothing 0
       → bits_of placed.flags ≡ bit_or (label_flags live.line) (rest_flags text 0)
-      → placed.section ≡ section_name pass.table → placed.place ≡ place pass.table → placed.counter ≡ place pass.table
+      → placed.section ≡ section_name pass.table → placed.location ≡ location pass.table → placed.counter ≡ location pass.table
       → placed.assigned ≡ None → placed.is_shown ≡ is_shown pass.table.modes live.is_expanded
       → IsPlaced map_ table line placed put
-  placed_so map_ pass placed put matches same rests put_is flags_are section_is place_is counter_is assigned_is shown_is =
-      let there : place pass.table ≡ place (stands table line)
-      = alike_place pass.table table matches.alike ∙ ap place (sym stands_so) in
+  placed_so map_ pass placed put matches same rests put_is flags_are section_is location_is counter_is assigned_is shown_is =
+      let there : location pass.table ≡ location (stands table line)
+      = alike_location pass.table table matches.alike ∙ ap location (sym stands_so) in
       record {
         is_live = live_so placed.live same rests;
         flags_are = flags_are ∙ sym (flags_so map_);
         section_is = section_is ∙ alike_section pass.table table matches.alike ∙ ap section_name (sym stands_so);
-        place_is = place_is ∙ there ∙ ap (put_place (stands table line)) (sym action_so);
+        location_is = location_is ∙ there ∙ ap (put_location (stands table line)) (sym action_so);
         contents_are = ap (λ (p : Put). p.contents) (put_is ∙ sym (put_so map_));
         counter_is = counter_is ∙ there;
         assigned_is = ap (λ (item : Option Item). option_to_list item) assigned_is

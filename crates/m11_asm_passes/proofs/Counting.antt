@@ -64,42 +64,42 @@ giving_takes stage after live moves =
 
 -- ---- an operator
 
-statement_takes : (text : Bytes) (holds : Bool) (place : Option ℕ) (stage : Stage)
-    → (with_statement text holds place stage).taken ≡ stage.taken
-statement_takes text true (Some place) stage = refl
+statement_takes : (text : Bytes) (holds : Bool) (location : Option ℕ) (stage : Stage)
+    → (with_statement text holds location stage).taken ≡ stage.taken
+statement_takes text true (Some location) stage = refl
 statement_takes text true None stage = refl
-statement_takes text false place stage = refl
+statement_takes text false location stage = refl
 
 choice_takes : (choice : Bool) (one other : Acted) (taken : ℕ) → one.after.taken ≡ taken → other.after.taken ≡ taken
     → (if choice then one else other).after.taken ≡ taken
 choice_takes true one other taken first second = first
 choice_takes false one other taken first second = second
 
-directive_takes : (known : Known) (text : Bytes) (place : ℕ) (stage : Stage) (of : Directive)
-    → (acted_by known text stage (OwnDirective of place)).after.taken ≡ stage.taken
-directive_takes known text place stage word.If = choice_takes (has_room stage) _ _ stage.taken refl refl
-directive_takes known text place stage word.Iff = choice_takes (has_none stage.conditions) _ _ stage.taken refl refl
-directive_takes known text place stage word.Ift = choice_takes (has_none stage.conditions) _ _ stage.taken refl refl
-directive_takes known text place stage word.Iftf = choice_takes (has_none stage.conditions) _ _ stage.taken refl refl
-directive_takes known text place stage word.Endc = choice_takes (has_none stage.conditions) _ _ stage.taken refl refl
-directive_takes known text place stage word.Iif =
-    statement_takes text (immediate.immediate known text place).holds (immediate.immediate known text place).statement stage
-directive_takes known text place stage word.Macro = refl
-directive_takes known text place stage word.Endm = refl
-directive_takes known text place stage word.Rept = refl
-directive_takes known text place stage word.Endr = refl
-directive_takes known text place stage word.Irp = refl
-directive_takes known text place stage word.Irpc = refl
-directive_takes known text place stage word.Mexit = choice_takes (is_expanding stage.left) _ _ stage.taken refl refl
-directive_takes known text place stage word.Narg = refl
-directive_takes known text place stage word.Nchr = refl
-directive_takes known text place stage word.End = refl
+directive_takes : (known : Known) (text : Bytes) (location : ℕ) (stage : Stage) (of : Directive)
+    → (acted_by known text stage (OwnDirective of location)).after.taken ≡ stage.taken
+directive_takes known text location stage word.If = choice_takes (has_room stage) _ _ stage.taken refl refl
+directive_takes known text location stage word.Iff = choice_takes (has_none stage.conditions) _ _ stage.taken refl refl
+directive_takes known text location stage word.Ift = choice_takes (has_none stage.conditions) _ _ stage.taken refl refl
+directive_takes known text location stage word.Iftf = choice_takes (has_none stage.conditions) _ _ stage.taken refl refl
+directive_takes known text location stage word.Endc = choice_takes (has_none stage.conditions) _ _ stage.taken refl refl
+directive_takes known text location stage word.Iif =
+    statement_takes text (immediate.immediate known text location).holds (immediate.immediate known text location).statement stage
+directive_takes known text location stage word.Macro = refl
+directive_takes known text location stage word.Endm = refl
+directive_takes known text location stage word.Rept = refl
+directive_takes known text location stage word.Endr = refl
+directive_takes known text location stage word.Irp = refl
+directive_takes known text location stage word.Irpc = refl
+directive_takes known text location stage word.Mexit = choice_takes (is_expanding stage.left) _ _ stage.taken refl refl
+directive_takes known text location stage word.Narg = refl
+directive_takes known text location stage word.Nchr = refl
+directive_takes known text location stage word.End = refl
 
 operation_takes : (known : Known) (text : Bytes) (stage : Stage) (of : Operation)
     → (acted_by known text stage of).after.taken ≡ stage.taken
 operation_takes known text stage Foreign = refl
-operation_takes known text stage (Calls macro place) = refl
-operation_takes known text stage (OwnDirective of place) = directive_takes known text place stage of
+operation_takes known text stage (Calls macro location) = refl
+operation_takes known text stage (OwnDirective of location) = directive_takes known text location stage of
 
 pub act_takes : (known : Known) (stage : Stage) (text : Bytes) → (act known stage text).after.taken ≡ stage.taken
 act_takes known stage text = operation_takes known text stage (operation stage.conditions stage.macros text)

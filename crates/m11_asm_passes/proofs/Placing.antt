@@ -26,10 +26,10 @@ use Rattle.m11_asm_rules.specs.Lines.{after_line, action, line_change, line_put,
 use Rattle.m11_asm_rules.specs.Meanings.{Map, empty_map, firm_known}
 use Rattle.m11_asm_rules.specs.declared.meanings.Context.TheVariants.{LocalOnly}
 use Rattle.m11_asm_rules.specs.SymbolUses.{SymbolUse, action_uses, symbol_use, symbol_uses}
-use Rattle.m11_asm_rules.specs.Tables.{Table, firm_table, place}
+use Rattle.m11_asm_rules.specs.Tables.{Table, firm_table, location}
 use Rattle.m11_asm_rules.specs.declared.sections.Section.{Section}
 use Rattle.m11_asm_rules.specs.Unfolded.{known_after_labels}
-use Rattle.m11_asm_lines.proofs.Alike.{alike_known, alike_place}
+use Rattle.m11_asm_lines.proofs.Alike.{alike_known, alike_location}
 use Rattle.m11_asm_lines.proofs.Gathering.{all_joined}
 use Rattle.m11_asm_lines.proofs.LinesAlike.{firm_alike}
 use Rattle.m11_asm_lines.proofs.LinesTaken.{changes_as, line_used, line_written}
@@ -48,8 +48,8 @@ use Rattle.m11_asm_passes.specs.Refusals.{given_by, labels_fault, line_fault, us
 
 told_alike : (one other : Table) → Alike one other → known_after_labels one ≡ known_after_labels other
 told_alike one other alike =
-    alike_known (firm_table one) (firm_table other) (firm_alike one other alike) empty_map LocalOnly (place one)
-    ∙ ap (λ (p : ℕ). firm_known other p) (alike_place one other alike)
+    alike_known (firm_table one) (firm_table other) (firm_alike one other alike) empty_map LocalOnly (location one)
+    ∙ ap (λ (p : ℕ). firm_known other p) (alike_location one other alike)
 
 -- ---- limits
 

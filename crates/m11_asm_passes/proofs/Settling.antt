@@ -11,7 +11,7 @@ use Rattle.m11_scan.specs.declared.radix.Radix.{Radix}
 use Rattle.m11_scan_statements.specs.declared.labels.Label.{Label}
 use Rattle.m11_scan_statements.specs.declared.labels.LabelKind.{LabelKind}
 use Rattle.m11_scan_statements.specs.declared.labels.LabelKind.TheVariants as label
-use Rattle.m11_asm_rules.specs.Alignment.{gap, place_for}
+use Rattle.m11_asm_rules.specs.Alignment.{gap, location_for}
 use Rattle.m11_asm_rules.specs.Assigning as assigning
 use Rattle.m11_asm_rules.specs.Changes.{Change, Keeps, Counts, Selects, Assigns, Numbers, Exports, Sets, changed, number_or_next, with_new}
 use Rattle.m11_asm_rules.specs.Control as control
@@ -24,12 +24,12 @@ use Rattle.m11_asm_rules.specs.Labels.{global_if, label_name, with_kind, with_la
 use Rattle.m11_asm_rules.specs.Lines.{Action, NoAction, Assign, SetCounter, Operate, change_of}
 use Rattle.m11_asm_rules.specs.Meanings.{Map}
 use Rattle.m11_asm_rules.specs.Operators.{is_even}
-use Rattle.m11_asm_rules.specs.Places.{Goes}
+use Rattle.m11_asm_rules.specs.Locations.{Goes}
 use Rattle.m11_asm_rules.specs.Psects as sections
 use Rattle.m11_asm_rules.specs.Relocations.{is_here}
 use Rattle.m11_asm_rules.specs.Sections.{number_of, section}
 use Rattle.m11_asm_rules.specs.declared.sections.Section.{Section}
-use Rattle.m11_asm_rules.specs.Tables.{Table, place}
+use Rattle.m11_asm_rules.specs.Tables.{Table, location}
 use Rattle.m11_asm_rules.specs.declared.modes.Modes.{Modes}
 use Rattle.m11_asm_rules.specs.declared.operators.Directive.{Directive}
 use Rattle.m11_asm_rules.specs.declared.operators.Directive.TheVariants as word
@@ -225,7 +225,7 @@ change_modest table line arguments (SetCounter start) =
     let value = assigning.counter_value table line start in
     choice_modest (is_here table value.kind) table.modes (Counts (Goes value.number)) Keeps tt tt
 change_modest table line arguments (Operate operator start) =
-    operator_modest table (gap (is_even operator) (place table)) (place_for (is_even operator) (place table)) line start arguments
+    operator_modest table (gap (is_even operator) (location table)) (location_for (is_even operator) (location table)) line start arguments
     operator
 
 -- ---- the table after a change

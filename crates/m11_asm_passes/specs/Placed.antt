@@ -8,9 +8,9 @@ use Rattle.m11_unfold_rules.specs.Taking.{Live}
 use Rattle.m11_unfold_rules.specs.Unfolding.{Given}
 use Rattle.m11_asm_rules.specs.Contents.{Put}
 use Rattle.m11_asm_rules.specs.Items.{assigned_items, is_shown}
-use Rattle.m11_asm_rules.specs.Lines.{after_line, action, flags, line_put, put_place, stands}
+use Rattle.m11_asm_rules.specs.Lines.{after_line, action, flags, line_put, put_location, stands}
 use Rattle.m11_asm_rules.specs.Meanings.{Map}
-use Rattle.m11_asm_rules.specs.Tables.{Table, place, section_name}
+use Rattle.m11_asm_rules.specs.Tables.{Table, location, section_name}
 use Rattle.m11_asm_lines.specs.Actions.{action_seen}
 use Rattle.m11_asm_lines.specs.Moved.{moved_flags}
 use Rattle.m11_asm_passes.specs.declared.placed.LiveLine.{LiveLine}
@@ -24,7 +24,7 @@ pub record IsLive (given : Given) (live : LiveLine) : Type 0 where
   pub live_is : live_in live ≡ given.live
   pub action_is : action_seen live.action ≡ action given.is_own given.live.line.text
 
--- the flags of a line, and P where a label of it has another place than the map says
+-- the flags of a line, and P where a label of it has another location than the map says
 abbrev pub all_flags : Map → Table → Given → ℕ
 all_flags map table given =
     bit_or (flags map table given) (moved_flags map given.live.line.text table (labels_at given.live.line.text))
@@ -34,9 +34,9 @@ pub record IsPlaced (map : Map) (table : Table) (given : Given) (placed : Placed
   pub is_live : IsLive given placed.live
   pub flags_are : bits_of placed.flags ≡ all_flags map table given
   pub section_is : placed.section ≡ section_name (stands table given)
-  pub place_is : placed.place ≡ put_place (stands table given) (action given.is_own given.live.line.text)
+  pub location_is : placed.location ≡ put_location (stands table given) (action given.is_own given.live.line.text)
   pub contents_are : put.contents ≡ (line_put map (stands table given) given).contents
   -- what a listing shows of it
-  pub counter_is : placed.counter ≡ place (stands table given)
+  pub counter_is : placed.counter ≡ location (stands table given)
   pub assigned_is : option_to_list placed.assigned ≡ assigned_items map table given
   pub shown_is : placed.is_shown ≡ is_shown (after_line map table given).modes given.live.is_expanded

@@ -115,5 +115,5 @@ fn act_under(
     ensures acts { steps.Acts (known_after_labels table.now) line.now.text unfolder.old.stage unfolder.new.stage result }
     ensures goes_on { IfOk result (λ _. unfolder.new.fault ≡ None) }
 {
-    unfolder.act(line, operator, &FirmNames::new(table, table.place()))
+    unfolder.act(line, operator, &FirmNames::new(table, table.location()))
 }

@@ -46,7 +46,7 @@ pub(crate) fn place_blank(
     placed.flags = statement.label_flags.with(rest_flags(&placed.live.line, 0));
     placed.section = section_name(pass);
     placed.counter = counter(pass);
-    placed.place = placed.counter;
+    placed.location = placed.counter;
     placed.assigned = None;
     placed.is_shown = is_shown(pass, placed.live.is_expanded);
 }

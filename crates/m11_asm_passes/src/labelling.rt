@@ -18,7 +18,7 @@ use m11_asm_table::Map;
 use m11_scan::Line;
 use m11_scan_statements::{Label, labels_of};
 
-// Defines the labels of a line, by the place after the last one, and counts their names.
+// Defines the labels of a line, by the column after the last one, and counts their names.
 pub(crate) fn define_labels(
     pass: &mut Pass,
     counting: &mut Counting,

@@ -9,8 +9,8 @@ ghost use Rattle.m11_asm_instructions.specs.Reading.{operator_fields};
 ghost use Rattle.m11_asm_rules.specs.Effects.{operator_change};
 ghost use Rattle.m11_asm_rules.specs.Items.{action_items, is_shown, number_items};
 ghost use Rattle.m11_asm_rules.specs.Limits.{most_defined_names, most_names, most_sections};
-ghost use Rattle.m11_asm_rules.specs.Lines.{put_by, put_place};
-ghost use Rattle.m11_asm_rules.specs.Tables.{Table as LineTable, firm_table, place, section_name};
+ghost use Rattle.m11_asm_rules.specs.Lines.{put_by, put_location};
+ghost use Rattle.m11_asm_rules.specs.Tables.{Table as LineTable, firm_table, location, section_name};
 ghost use Rattle.m11_asm_lines.specs.Counting.{names_counted, with_counted};
 ghost use Rattle.m11_asm_lines.specs.Actions.{AreActionTerms, IsWithin, action_fields, action_seen, is_listed};
 ghost use Rattle.m11_asm_rules.specs.SymbolUses.{symbol_use};
@@ -27,7 +27,7 @@ use m11_asm_listing::Item;
 use m11_asm_operands::{Fields, is_even};
 use m11_asm_rules::{Context, Operator};
 use m11_asm_table::Map;
-use m11_asm_values::{Put, place_for};
+use m11_asm_values::{Put, location_for};
 use m11_base::Name;
 use m11_scan::Line;
 use m11_unfold_arguments::Notes;
@@ -250,9 +250,9 @@ pub(crate) fn section_name(pass: &Pass) -> Name
 
 // Where the counter of the section that lines go into stands.
 pub(crate) fn counter(pass: &Pass) -> u16
-    ensures { result ≡ place pass.now.table }
+    ensures { result ≡ location pass.now.table }
 {
-    pass.table().place()
+    pass.table().location()
 }
 
 // Whether the levels of listing show a line.
@@ -262,13 +262,13 @@ pub(crate) fn is_shown(pass: &Pass, is_expanded: bool) -> bool
     m11_asm_lines::is_shown(&pass.table().modes(), is_expanded)
 }
 
-// The place at which the operator of a line puts.
-pub(crate) fn put_place(pass: &Pass, action: &Action) -> u16
-    ensures { result ≡ put_place pass.now.table (action_seen action.now) }
+// The location at which the operator of a line puts.
+pub(crate) fn put_location(pass: &Pass, action: &Action) -> u16
+    ensures { result ≡ put_location pass.now.table (action_seen action.now) }
 {
-    let place = pass.table().place();
+    let location = pass.table().location();
     match *action {
-        Action::Operate(operator, _) => place_for(is_even(operator), place),
-        _ => place,
+        Action::Operate(operator, _) => location_for(is_even(operator), location),
+        _ => location,
     }
 }

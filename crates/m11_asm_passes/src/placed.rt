@@ -38,12 +38,12 @@ impl LiveLine {
 pub struct PlacedLine {
     /// The line, and what stands after its labels.
     pub live: LiveLine,
-    /// Its flags, with P where a label of it has another place than the map says.
+    /// Its flags, with P where a label of it has another location than the map says.
     pub flags: ErrorFlags,
     /// The section that it stands in.
     pub section: Name,
-    /// The place in that section where it puts what it puts.
-    pub place: u16,
+    /// The location in that section where it puts what it puts.
+    pub location: u16,
     /// Where the counter of that section stands before it.
     pub counter: u16,
     /// What a listing shows of what it assigns.
@@ -61,7 +61,7 @@ impl PlacedLine {
             live: LiveLine::new(),
             flags: ErrorFlags::none(),
             section,
-            place: 0,
+            location: 0,
             counter: 0,
             assigned: None,
             is_shown: false,

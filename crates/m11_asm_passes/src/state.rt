@@ -22,7 +22,7 @@ ghost use Rattle.m11_asm_passes.specs.Turns.{IsEmpty, IsNext, Places, SaysLive, 
 use crate::begun::Begun;
 use crate::blank::{is_blank, place_blank};
 use crate::operating::{
-    change_line, count_line, counter, is_shown, put_line, put_place, section_name,
+    change_line, count_line, counter, is_shown, put_line, put_location, section_name,
 };
 use crate::placed::{LiveLine, PlacedLine};
 use crate::turns::Turn;
@@ -132,7 +132,7 @@ impl State {
         }
         let begun = self.begin(map, &mut placed.live, &statement)?;
         placed.section = section_name(&self.pass);
-        placed.place = put_place(&self.pass, &placed.live.action);
+        placed.location = put_location(&self.pass, &placed.live.action);
         placed.counter = counter(&self.pass);
         put_line(
             &mut self.put,

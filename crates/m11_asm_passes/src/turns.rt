@@ -7,6 +7,6 @@ pub enum Turn {
     NeedLine,
     /// `.END` became live.
     End,
-    /// A line became live, and its place is found.
+    /// A line became live, and its location is found.
     Line,
 }

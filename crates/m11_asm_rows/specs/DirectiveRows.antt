@@ -19,9 +19,9 @@ word_rows =
     (word 0 0 ∷ [])
     ∷ []
 
--- even and odd places
-abbrev pub place_rows : List Row
-place_rows =
+-- even and odd locations
+abbrev pub location_rows : List Row
+location_rows =
     row (codes ".BYTE 1" ∷ codes ".WORD 2" ∷ []) (codes "" ∷ codes "B" ∷ []) (byte 0 1 ∷ word 2 2 ∷ [])
     ∷ row (codes ".BYTE 1" ∷ codes "A: .WORD .,A" ∷ []) (codes "" ∷ codes "B" ∷ [])
     (byte 0 1 ∷ moved_word 2 Internal 2 ∷ moved_word 4 Internal 1 ∷ [])

@@ -14,9 +14,9 @@ operand_rows =
     ∷ row (codes "MUL #3,R1" ∷ []) (codes "" ∷ []) (word 0 0o070127 ∷ word 2 3 ∷ [])
     ∷ []
 
--- a relative operand has how far its target lies from the place after the word
-abbrev pub place_rows : List Row
-place_rows =
+-- a relative operand has how far its target lies from the location after the word
+abbrev pub location_rows : List Row
+location_rows =
     row (codes "A: MOV A,A" ∷ []) (codes "" ∷ []) (word 0 0o016767 ∷ word 2 0o177774 ∷ word 4 0o177772 ∷ [])
     ∷ row (codes "CLR @#." ∷ []) (codes "" ∷ []) (word 0 0o005037 ∷ moved_word 2 Internal 0 ∷ [])
     ∷ row (codes "CLR L" ∷ codes "L=R3" ∷ []) (codes "R" ∷ codes "" ∷ [])

@@ -1,4 +1,4 @@
--- Sources of a few lines, with what they put at their places. (MACRO-11 Language Reference Manual, "Source program format".)
+-- Sources of a few lines, with what they put at their locations. (MACRO-11 Language Reference Manual, "Source program format".)
 use Rattle.std.specs.Prelude.{ℕ, false, List, [], map, None}
 use Rattle.std.specs.List.{flat_map}
 use Rattle.m11_unfold_arguments.specs.Notes.{no_notes}
@@ -69,13 +69,13 @@ expected row = record { flags = row.flags; pieces = row.pieces }
 -- ---- pieces of the blank section
 
 abbrev pub word : ℕ → ℕ → Piece
-word place number = piece blank_name place (fixed_word number)
+word location number = piece blank_name location (fixed_word number)
 
 abbrev pub byte : ℕ → ℕ → Piece
-byte place number = piece blank_name place (fixed_byte number)
+byte location number = piece blank_name location (fixed_byte number)
 
 abbrev pub moved_word : ℕ → RelocationKind → ℕ → Piece
-moved_word place kind constant = piece blank_name place (Word (record { constant = constant; kind = kind }))
+moved_word location kind constant = piece blank_name location (Word (record { constant = constant; kind = kind }))
 
 abbrev pub moved_byte : ℕ → RelocationKind → ℕ → Piece
-moved_byte place kind constant = piece blank_name place (Byte (record { constant = constant; kind = kind }))
+moved_byte location kind constant = piece blank_name location (Byte (record { constant = constant; kind = kind }))

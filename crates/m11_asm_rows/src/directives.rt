@@ -1,7 +1,7 @@
 //! Directives as they were worked by hand. (MACRO-11 Language Reference Manual, "General assembler directives".)
 
 ghost use Rattle.std.specs.Prelude.{◌≡◌, map};
-ghost use Rattle.m11_asm_rows.specs.DirectiveRows.{place_rows, mode_rows, text_rows, word_rows};
+ghost use Rattle.m11_asm_rows.specs.DirectiveRows.{location_rows, mode_rows, text_rows, word_rows};
 ghost use Rattle.m11_asm_rows.specs.ItemRows.{found_items, found_listed, worked_items, worked_listed};
 ghost use Rattle.m11_asm_rows.specs.Worked.{found, expected};
 
@@ -10,9 +10,9 @@ pub fn words_are_as_worked()
     ensures { map found word_rows ≡ map expected word_rows }
 {}
 
-/// Even and odd places, room that is left, and the counter.
-pub fn places_are_as_worked()
-    ensures { map found place_rows ≡ map expected place_rows }
+/// Even and odd locations, room that is left, and the counter.
+pub fn locations_are_as_worked()
+    ensures { map found location_rows ≡ map expected location_rows }
 {}
 
 /// Texts, and what stands in brackets in them.

@@ -1,7 +1,7 @@
 //! Instructions as they were worked by hand. (PDP-11/40 Processor Handbook, "Instruction set" and "Addressing modes".)
 
 ghost use Rattle.std.specs.Prelude.{◌≡◌, map};
-ghost use Rattle.m11_asm_rows.specs.InstructionRows.{branch_rows, missing_rows, operand_rows, place_rows, register_rows};
+ghost use Rattle.m11_asm_rows.specs.InstructionRows.{branch_rows, location_rows, missing_rows, operand_rows, register_rows};
 ghost use Rattle.m11_asm_rows.specs.Worked.{found, expected};
 
 /// Operands in registers, by registers and in the words after an instruction.
@@ -9,9 +9,9 @@ pub fn operands_are_as_worked()
     ensures { map found operand_rows ≡ map expected operand_rows }
 {}
 
-/// Relative operands, and places as numbers.
+/// Relative operands, and locations as numbers.
 pub fn relative_operands_are_as_worked()
-    ensures { map found place_rows ≡ map expected place_rows }
+    ensures { map found location_rows ≡ map expected location_rows }
 {}
 
 /// Operands that are missing or not closed, and registers where none may be.

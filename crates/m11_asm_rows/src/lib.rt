@@ -12,7 +12,7 @@ mod directives;
 mod instructions;
 
 pub use directives::{
-    items_are_as_worked, listings_are_as_worked, modes_are_as_worked, places_are_as_worked,
+    items_are_as_worked, listings_are_as_worked, modes_are_as_worked, locations_are_as_worked,
     texts_are_as_worked, words_are_as_worked,
 };
 pub use instructions::{

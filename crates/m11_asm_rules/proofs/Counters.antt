@@ -3,19 +3,19 @@ use Rattle.std.proofs.Common.{◌≡◌, ◌∙◌, ◌≢◌, ℕ, ◌+◌, ◌
 use Rattle.std.specs.Prelude.{◌==◌, if◌then◌else◌}
 use Rattle.std.proofs.Math.Nat.{mod-add-mod}
 use Rattle.std.proofs.lemmas.Bool.Decides.{nat_tests}
-use Rattle.m11_asm_rules.specs.Places.{Move, Moved, Steps, Goes, has_set, in_section, last_set, moves_in, place_after, place_in, sizes_since}
+use Rattle.m11_asm_rules.specs.Locations.{Move, Moved, Steps, Goes, has_set, in_section, last_set, location_after, location_in, moves_in, sizes_since}
 
 -- ---- one section
 
 set_before_steps : (moves : List Move) (size : ℕ) → has_set (moves ++ Steps size ∷ []) ≡ has_set moves
 set_before_steps [] size = refl
 set_before_steps (Steps more ∷ moves) size = set_before_steps moves size
-set_before_steps (Goes place ∷ moves) size = refl
+set_before_steps (Goes location ∷ moves) size = refl
 
 last_before_steps : (moves : List Move) (size : ℕ) → last_set (moves ++ Steps size ∷ []) ≡ last_set moves
 last_before_steps [] size = refl
 last_before_steps (Steps more ∷ moves) size = last_before_steps moves size
-last_before_steps (Goes place ∷ moves) size = rw (set_before_steps moves size, last_before_steps moves size) refl
+last_before_steps (Goes location ∷ moves) size = rw (set_before_steps moves size, last_before_steps moves size) refl
 
 added_by : (is_set : Bool) (more sizes size : ℕ)
     → (if is_set then sizes + size else more + (sizes + size)) ≡ (if is_set then sizes else more + sizes) + size
@@ -26,33 +26,33 @@ sizes_with_steps : (moves : List Move) (size : ℕ) → sizes_since (moves ++ St
 sizes_with_steps [] size = omega arith
 sizes_with_steps (Steps more ∷ moves) size =
     rw (set_before_steps moves size, sizes_with_steps moves size) (added_by (has_set moves) more (sizes_since moves) size)
-sizes_with_steps (Goes place ∷ moves) size = sizes_with_steps moves size
+sizes_with_steps (Goes location ∷ moves) size = sizes_with_steps moves size
 
-steps_in_section : (moves : List Move) (size : ℕ) → place_after (moves ++ Steps size ∷ []) ≡ (place_after moves + size) % 65536
+steps_in_section : (moves : List Move) (size : ℕ) → location_after (moves ++ Steps size ∷ []) ≡ (location_after moves + size) % 65536
 steps_in_section moves size =
     let sum : last_set moves + (sizes_since moves + size) ≡ last_set moves + sizes_since moves + size = omega arith in
     rw (last_before_steps moves size, sizes_with_steps moves size, sum)
     (sym (mod-add-mod (last_set moves + sizes_since moves) 65536 size))
 
-set_before_goes : (moves : List Move) (place : ℕ) → has_set (moves ++ Goes place ∷ []) ≡ true
-set_before_goes [] place = refl
-set_before_goes (Steps size ∷ moves) place = set_before_goes moves place
-set_before_goes (Goes other ∷ moves) place = refl
+set_before_goes : (moves : List Move) (location : ℕ) → has_set (moves ++ Goes location ∷ []) ≡ true
+set_before_goes [] location = refl
+set_before_goes (Steps size ∷ moves) location = set_before_goes moves location
+set_before_goes (Goes other ∷ moves) location = refl
 
-last_at_goes : (moves : List Move) (place : ℕ) → last_set (moves ++ Goes place ∷ []) ≡ place
-last_at_goes [] place = refl
-last_at_goes (Steps size ∷ moves) place = last_at_goes moves place
-last_at_goes (Goes other ∷ moves) place = rw (set_before_goes moves place) (last_at_goes moves place)
+last_at_goes : (moves : List Move) (location : ℕ) → last_set (moves ++ Goes location ∷ []) ≡ location
+last_at_goes [] location = refl
+last_at_goes (Steps size ∷ moves) location = last_at_goes moves location
+last_at_goes (Goes other ∷ moves) location = rw (set_before_goes moves location) (last_at_goes moves location)
 
-no_sizes_at_goes : (moves : List Move) (place : ℕ) → sizes_since (moves ++ Goes place ∷ []) ≡ 0
-no_sizes_at_goes [] place = refl
-no_sizes_at_goes (Steps size ∷ moves) place = rw (set_before_goes moves place) (no_sizes_at_goes moves place)
-no_sizes_at_goes (Goes other ∷ moves) place = no_sizes_at_goes moves place
+no_sizes_at_goes : (moves : List Move) (location : ℕ) → sizes_since (moves ++ Goes location ∷ []) ≡ 0
+no_sizes_at_goes [] location = refl
+no_sizes_at_goes (Steps size ∷ moves) location = rw (set_before_goes moves location) (no_sizes_at_goes moves location)
+no_sizes_at_goes (Goes other ∷ moves) location = no_sizes_at_goes moves location
 
-goes_in_section : (moves : List Move) (place : ℕ) → place_after (moves ++ Goes place ∷ []) ≡ place % 65536
-goes_in_section moves place =
-    let none : place + 0 ≡ place = omega arith in
-    rw (last_at_goes moves place, no_sizes_at_goes moves place, none) refl
+goes_in_section : (moves : List Move) (location : ℕ) → location_after (moves ++ Goes location ∷ []) ≡ location % 65536
+goes_in_section moves location =
+    let none : location + 0 ≡ location = omega arith in
+    rw (last_at_goes moves location, no_sizes_at_goes moves location, none) refl
 
 -- ---- lines of all sections
 
@@ -80,13 +80,13 @@ moves_there section other differs [] move = rw (is_no_other section other differ
 moves_there section other differs (first ∷ moves) move = rw (moves_there section other differs moves move) refl
 
 pub steps_on : (section size : ℕ) (moves : List Moved)
-    → place_in section (moves ++ in_section section (Steps size) ∷ []) ≡ (place_in section moves + size) % 65536
+    → location_in section (moves ++ in_section section (Steps size) ∷ []) ≡ (location_in section moves + size) % 65536
 steps_on section size moves = rw (moves_here section moves (Steps size)) (steps_in_section (moves_in section moves) size)
 
-pub goes_there : (section place : ℕ) (moves : List Moved)
-    → place_in section (moves ++ in_section section (Goes place) ∷ []) ≡ place % 65536
-goes_there section place moves = rw (moves_here section moves (Goes place)) (goes_in_section (moves_in section moves) place)
+pub goes_there : (section location : ℕ) (moves : List Moved)
+    → location_in section (moves ++ in_section section (Goes location) ∷ []) ≡ location % 65536
+goes_there section location moves = rw (moves_here section moves (Goes location)) (goes_in_section (moves_in section moves) location)
 
 pub stays_there : (section other : ℕ) (move : Move) (moves : List Moved) → other ≢ section
-    → place_in section (moves ++ in_section other move ∷ []) ≡ place_in section moves
-stays_there section other move moves differs = ap place_after (moves_there section other differs moves move)
+    → location_in section (moves ++ in_section other move ∷ []) ≡ location_in section moves
+stays_there section other move moves differs = ap location_after (moves_there section other differs moves move)

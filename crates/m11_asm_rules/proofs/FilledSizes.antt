@@ -27,20 +27,20 @@ sizes_add (content ∷ first) next =
 
 -- ---- .WORD, .BYTE
 
-pub words_fill : (map : Map) (table : Table) (line : Bytes) (place : ℕ) (starts : List ℕ)
-    → contents_size (storage.words_from map table line place starts).contents ≡ length starts * 2
-words_fill map table line place [] = refl
-words_fill map table line place (start ∷ starts) =
-    let rest : contents_size (storage.words_from map table line (further place 2) starts).contents ≡ length starts * 2
-    = words_fill map table line (further place 2) starts in
+pub words_fill : (map : Map) (table : Table) (line : Bytes) (location : ℕ) (starts : List ℕ)
+    → contents_size (storage.words_from map table line location starts).contents ≡ length starts * 2
+words_fill map table line location [] = refl
+words_fill map table line location (start ∷ starts) =
+    let rest : contents_size (storage.words_from map table line (further location 2) starts).contents ≡ length starts * 2
+    = words_fill map table line (further location 2) starts in
     omega (arith, rest)
 
-pub bytes_fill : (map : Map) (table : Table) (line : Bytes) (place : ℕ) (starts : List ℕ)
-    → contents_size (storage.bytes_from map table line place starts).contents ≡ length starts
-bytes_fill map table line place [] = refl
-bytes_fill map table line place (start ∷ starts) =
-    let rest : contents_size (storage.bytes_from map table line (further place 1) starts).contents ≡ length starts
-    = bytes_fill map table line (further place 1) starts in
+pub bytes_fill : (map : Map) (table : Table) (line : Bytes) (location : ℕ) (starts : List ℕ)
+    → contents_size (storage.bytes_from map table line location starts).contents ≡ length starts
+bytes_fill map table line location [] = refl
+bytes_fill map table line location (start ∷ starts) =
+    let rest : contents_size (storage.bytes_from map table line (further location 1) starts).contents ≡ length starts
+    = bytes_fill map table line (further location 1) starts in
     omega (arith, rest)
 
 -- ---- texts
@@ -51,22 +51,22 @@ characters_fill (character ∷ text) =
     let rest : contents_size (map fixed_byte text) ≡ length text = characters_fill text in
     omega (arith, rest)
 
-part_fills : (known : Map) (table : Table) (place : ℕ) (line : Bytes) (part : Part) (kind : PartKind)
-    → contents_size (strings.part_bytes known table place line part kind).contents ≡ strings.part_size line part kind
-part_fills known table place line part Text = characters_fill (strings.part_text line part)
-part_fills known table place line part Expression = refl
+part_fills : (known : Map) (table : Table) (location : ℕ) (line : Bytes) (part : Part) (kind : PartKind)
+    → contents_size (strings.part_bytes known table location line part kind).contents ≡ strings.part_size line part kind
+part_fills known table location line part Text = characters_fill (strings.part_text line part)
+part_fills known table location line part Expression = refl
 
-pub parts_fill : (known : Map) (table : Table) (place : ℕ) (line : Bytes) (parts : List Part)
-    → contents_size (strings.parts_bytes known table place line parts).contents ≡ strings.parts_size line parts
-parts_fill known table place line [] = refl
-parts_fill known table place line (part ∷ parts) =
-    sizes_add (strings.part_bytes known table place line part part.kind).contents
-    (strings.parts_bytes known table (further place (strings.part_size line part part.kind)) line parts).contents
+pub parts_fill : (known : Map) (table : Table) (location : ℕ) (line : Bytes) (parts : List Part)
+    → contents_size (strings.parts_bytes known table location line parts).contents ≡ strings.parts_size line parts
+parts_fill known table location line [] = refl
+parts_fill known table location line (part ∷ parts) =
+    sizes_add (strings.part_bytes known table location line part part.kind).contents
+    (strings.parts_bytes known table (further location (strings.part_size line part part.kind)) line parts).contents
     ∙ ap (λ (n : ℕ). n + contents_size
-    (strings.parts_bytes known table (further place (strings.part_size line part part.kind)) line parts).contents)
-    (part_fills known table place line part part.kind)
+    (strings.parts_bytes known table (further location (strings.part_size line part part.kind)) line parts).contents)
+    (part_fills known table location line part part.kind)
     ∙ ap (λ (n : ℕ). strings.part_size line part part.kind + n)
-    (parts_fill known table (further place (strings.part_size line part part.kind)) line parts)
+    (parts_fill known table (further location (strings.part_size line part part.kind)) line parts)
 
 -- ---- .RAD50
 
@@ -103,26 +103,26 @@ packed_fill (first ∷ (second ∷ (third ∷ codes))) =
 
 -- ---- instructions
 
-form_fills : (line_context : LineContext) (place : ℕ) (form : Form)
-    → contents_size (form_words line_context place form).contents ≡ words_of form * 2
-form_fills line_context place Absent = refl
-form_fills line_context place (InRegister kind register) = refl
-form_fills line_context place (Indexed kind register index) = refl
-form_fills line_context place (Unindexed register) = refl
-form_fills line_context place (AfterCounter kind start) = refl
+form_fills : (line_context : LineContext) (location : ℕ) (form : Form)
+    → contents_size (form_words line_context location form).contents ≡ words_of form * 2
+form_fills line_context location Absent = refl
+form_fills line_context location (InRegister kind register) = refl
+form_fills line_context location (Indexed kind register index) = refl
+form_fills line_context location (Unindexed register) = refl
+form_fills line_context location (AfterCounter kind start) = refl
 
-pub forms_fill : (line_context : LineContext) (place : ℕ) (forms : List Form)
-    → 2 + contents_size (words_from line_context place forms).contents ≡ instruction_size forms
-forms_fill line_context place [] = refl
-forms_fill line_context place (form ∷ forms) =
-    let both : contents_size (words_from line_context place (form ∷ forms)).contents
-    ≡ contents_size (form_words line_context place form).contents
-    + contents_size (words_from line_context (further place (words_of form * 2)) forms).contents
-    = sizes_add (form_words line_context place form).contents
-    (words_from line_context (further place (words_of form * 2)) forms).contents in
-    let first : contents_size (form_words line_context place form).contents ≡ words_of form * 2 = form_fills line_context place form in
-    let rest : 2 + contents_size (words_from line_context (further place (words_of form * 2)) forms).contents ≡ instruction_size forms
-    = forms_fill line_context (further place (words_of form * 2)) forms in
+pub forms_fill : (line_context : LineContext) (location : ℕ) (forms : List Form)
+    → 2 + contents_size (words_from line_context location forms).contents ≡ instruction_size forms
+forms_fill line_context location [] = refl
+forms_fill line_context location (form ∷ forms) =
+    let both : contents_size (words_from line_context location (form ∷ forms)).contents
+    ≡ contents_size (form_words line_context location form).contents
+    + contents_size (words_from line_context (further location (words_of form * 2)) forms).contents
+    = sizes_add (form_words line_context location form).contents
+    (words_from line_context (further location (words_of form * 2)) forms).contents in
+    let first : contents_size (form_words line_context location form).contents ≡ words_of form * 2 = form_fills line_context location form in
+    let rest : 2 + contents_size (words_from line_context (further location (words_of form * 2)) forms).contents ≡ instruction_size forms
+    = forms_fill line_context (further location (words_of form * 2)) forms in
     omega (arith, both, first, rest)
 
 -- ---- firm parts

@@ -9,7 +9,7 @@ use Rattle.m11_asm_rules.proofs.FirmNames.{firm_option, last_firm, value_alike}
 use Rattle.m11_asm_rules.specs.Assignments.{all_firm, assigned, standing_of}
 use Rattle.m11_asm_rules.specs.Definitions.{Definition, Key, Named, Numbered, Standing, Unknown, firm_part, firm_standing, last_definition}
 use Rattle.m11_asm_rules.specs.Meanings.{AreFirm, LocalOnly, Map, empty_map, firm_known, is_firm, is_firm_in, known_at}
-use Rattle.m11_asm_rules.specs.Tables.{Table, firm_table, place}
+use Rattle.m11_asm_rules.specs.Tables.{Table, firm_table, location}
 
 found_firm : (found : Option Definition) → is_firm_in (firm_option found) ≡ is_firm_in found
 found_firm (Some definition) = refl
@@ -58,11 +58,11 @@ kept_alike false key one other same = refl
 -- the same, by the firm table alone
 abbrev from_firm : Table → Key → List ℕ → ℕ → Definition
 from_firm table key line start =
-    kept (all_firm table (symbols_at line start)) key (value_at (firm_known table (place table)) line start)
+    kept (all_firm table (symbols_at line start)) key (value_at (firm_known table (location table)) line start)
 
 twice_firm : (table : Table) (line : List ℕ) (start : ℕ) → AreFirm (firm_table table) (symbols_at line start)
-    → value_at (known_at empty_map LocalOnly (firm_table table) (place table)) line start ≡ value_at (firm_known (firm_table table) (place table)) line start
-twice_firm table line start firm = value_alike empty_map LocalOnly (firm_table table) (place table) line start firm
+    → value_at (known_at empty_map LocalOnly (firm_table table) (location table)) line start ≡ value_at (firm_known (firm_table table) (location table)) line start
+twice_firm table line start firm = value_alike empty_map LocalOnly (firm_table table) (location table) line start firm
 
 part_by_firm : (map : Map) (table : Table) (key : Key) (line : List ℕ) (start : ℕ)
     → firm_part (assigned map table key line start) ≡ from_firm (firm_table table) key line start
@@ -70,13 +70,13 @@ part_by_firm map table key line start =
     let symbols : List Symbol = symbols_at line start in
     let same : all_firm (firm_table table) symbols ≡ all_firm table symbols = all_alike table symbols in
     let value : all_firm table symbols ≡ true
-    → value_at (known_at map LocalOnly table (place table)) line start
-    ≡ value_at (firm_known (firm_table table) (place table)) line start
-    = λ all. value_alike map LocalOnly table (place table) line start (are_firm table symbols all)
+    → value_at (known_at map LocalOnly table (location table)) line start
+    ≡ value_at (firm_known (firm_table table) (location table)) line start
+    = λ all. value_alike map LocalOnly table (location table) line start (are_firm table symbols all)
     ∙ twice_firm table line start (are_firm (firm_table table) symbols (same ∙ all)) in
-    kept_alike (all_firm table symbols) key (value_at (known_at map LocalOnly table (place table)) line start)
-    (value_at (firm_known (firm_table table) (place table)) line start) value
-    ∙ ap (λ (b : Bool). kept b key (value_at (firm_known (firm_table table) (place table)) line start)) (sym same)
+    kept_alike (all_firm table symbols) key (value_at (known_at map LocalOnly table (location table)) line start)
+    (value_at (firm_known (firm_table table) (location table)) line start) value
+    ∙ ap (λ (b : Bool). kept b key (value_at (firm_known (firm_table table) (location table)) line start)) (sym same)
 
 pub part_alike : (one other : Map) (first second : Table) (key : Key) (line : List ℕ) (start : ℕ)
     → firm_table first ≡ firm_table second

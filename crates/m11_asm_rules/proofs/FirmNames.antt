@@ -45,24 +45,24 @@ meaning_alike : (key : Key) (doubly_defined : List Key) (definitions : List Defi
 meaning_alike key doubly_defined definitions one other firm =
     rw (last_firm key definitions) (firm_alike key doubly_defined one other (last_definition key definitions) firm)
 
-pub symbol_alike : (map : Map) (context : Context) (table : Table) (place : ℕ) (symbol : Symbol) → is_firm table symbol ≡ true
-    → stands_for map context table place symbol ≡ stands_for empty_map LocalOnly (firm_table table) place symbol
-symbol_alike map context table place (Ordinary name) firm =
+pub symbol_alike : (map : Map) (context : Context) (table : Table) (location : ℕ) (symbol : Symbol) → is_firm table symbol ≡ true
+    → stands_for map context table location symbol ≡ stands_for empty_map LocalOnly (firm_table table) location symbol
+symbol_alike map context table location (Ordinary name) firm =
     meaning_alike (Named name) table.doubly_defined table.definitions
     (defined_or (Named name) map.doubly_defined (undefined context (Ordinary name)) (last_definition (Named name) map.definitions))
     (undefined LocalOnly (Ordinary name)) firm
-symbol_alike map context table place (Local number) firm =
+symbol_alike map context table location (Local number) firm =
     meaning_alike (Numbered table.modes.block number) table.doubly_defined table.definitions
     (defined_or (Numbered table.modes.block number) map.doubly_defined (undefined context (Local number))
     (last_definition (Numbered table.modes.block number) map.definitions))
     (undefined LocalOnly (Local number)) firm
-symbol_alike map context table place Counter firm = refl
+symbol_alike map context table location Counter firm = refl
 
-symbols_alike : (map : Map) (context : Context) (table : Table) (place : ℕ) (symbols : List Symbol) → AreFirm table symbols
-    → AgreeOn symbols (stands_for map context table place) (stands_for empty_map LocalOnly (firm_table table) place)
-symbols_alike map context table place [] firm = tt
-symbols_alike map context table place (symbol ∷ symbols) firm =
-    (symbol_alike map context table place symbol firm.0, symbols_alike map context table place symbols firm.1)
+symbols_alike : (map : Map) (context : Context) (table : Table) (location : ℕ) (symbols : List Symbol) → AreFirm table symbols
+    → AgreeOn symbols (stands_for map context table location) (stands_for empty_map LocalOnly (firm_table table) location)
+symbols_alike map context table location [] firm = tt
+symbols_alike map context table location (symbol ∷ symbols) firm =
+    (symbol_alike map context table location symbol firm.0, symbols_alike map context table location symbols firm.1)
 
 -- ---- expressions
 
@@ -77,11 +77,11 @@ items_agree first second (token ∷ tokens) agree =
     ∙ ap (λ (l : List Item). item second token ∷ l)
     (items_agree first second tokens (others_agree first second read (expressions.symbols_in tokens) agree))
 
-pub value_alike : (map : Map) (context : Context) (table : Table) (place : ℕ) (line : List ℕ) (start : ℕ)
+pub value_alike : (map : Map) (context : Context) (table : Table) (location : ℕ) (line : List ℕ) (start : ℕ)
     → AreFirm table (expressions.symbols_at line start)
-    → expressions.value_at (known_at map context table place) line start ≡ expressions.value_at (firm_known table place) line start
-value_alike map context table place line start firm =
+    → expressions.value_at (known_at map context table location) line start ≡ expressions.value_at (firm_known table location) line start
+value_alike map context table location line start firm =
     ap (λ (l : List Item). value_of table.modes.radix l)
-    (items_agree (stands_for map context table place) (stands_for empty_map LocalOnly (firm_table table) place)
+    (items_agree (stands_for map context table location) (stands_for empty_map LocalOnly (firm_table table) location)
     (expressions.expression_in (tokens_from line start))
-    (symbols_alike map context table place (expressions.symbols_at line start) firm))
+    (symbols_alike map context table location (expressions.symbols_at line start) firm))

@@ -7,7 +7,7 @@ mod FirmLabels
 mod FirmLines
 pub mod FirmNames
 mod Forms
-mod LabelPlaces
+mod LabelLocations
 mod LinesFill
 pub mod NamesDefined
 mod PieceSizes

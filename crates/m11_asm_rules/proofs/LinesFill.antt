@@ -5,7 +5,7 @@ use Rattle.m11_base.specs.Devices.{Bytes}
 use Rattle.m11_base_instructions.specs.declared.instruction.Op.{Op}
 use Rattle.m11_unfold_rules.specs.Unfolding.{Given}
 use Rattle.m11_asm_rules.proofs.FilledSizes.{bytes_fill, forms_fill, packed_fill, parts_count, parts_fill, sizes_add, table_twice, words_fill}
-use Rattle.m11_asm_rules.specs.Alignment.{gap, place_for}
+use Rattle.m11_asm_rules.specs.Alignment.{gap, location_for}
 use Rattle.m11_asm_rules.specs.Changes.{Change, Counts}
 use Rattle.m11_asm_rules.specs.Contents.{contents_size, fixed_byte, further}
 use Rattle.m11_asm_rules.specs.Effects.{change_by, directive_change, directive_put, operator_put}
@@ -21,9 +21,9 @@ use Rattle.m11_asm_rules.specs.declared.operators.Operator.TheVariants as operat
 use Rattle.m11_asm_rules.specs.Operators.{is_even}
 use Rattle.m11_asm_rules.specs.declared.operators.Directive.TheVariants as word
 use Rattle.m11_asm_rules.specs.Operands.{instruction_size}
-use Rattle.m11_asm_rules.specs.Places.{Steps}
+use Rattle.m11_asm_rules.specs.Locations.{Steps}
 use Rattle.m11_asm_rules.specs.Strings as strings
-use Rattle.m11_asm_rules.specs.Tables.{Table, firm_table, place}
+use Rattle.m11_asm_rules.specs.Tables.{Table, firm_table, location}
 
 -- the step of an operator that puts something
 abbrev step : ℕ → ℕ → Change
@@ -52,13 +52,13 @@ directive_fills : (map : Map) (firm table : Table) (passed here : ℕ) (line : B
     → Fills passed (directive_put map table here line start arguments directive).contents
     (directive_change firm passed here line start arguments directive)
 directive_fills map firm table passed here line start arguments word.Word =
-    inr (same_step passed (length (elements_at line start).places * 2)
+    inr (same_step passed (length (elements_at line start).columns * 2)
     (contents_size (directive_put map table here line start arguments word.Word).contents)
-    (sym (words_fill map table line here (elements_at line start).places)))
+    (sym (words_fill map table line here (elements_at line start).columns)))
 directive_fills map firm table passed here line start arguments word.Byte =
-    inr (same_step passed (length (elements_at line start).places)
+    inr (same_step passed (length (elements_at line start).columns)
     (contents_size (directive_put map table here line start arguments word.Byte).contents)
-    (sym (bytes_fill map table line here (elements_at line start).places)))
+    (sym (bytes_fill map table line here (elements_at line start).columns)))
 directive_fills map firm table passed here line start arguments word.Ascii =
     inr (same_step passed (strings.ascii_size line start)
     (contents_size (directive_put map table here line start arguments word.Ascii).contents)
@@ -131,7 +131,7 @@ action_fills map table line arguments NoAction = inl refl
 action_fills map table line arguments (Assign name is_global start) = inl refl
 action_fills map table line arguments (SetCounter start) = inl refl
 action_fills map table line arguments (Operate operator start) =
-    operator_fills map table (gap (is_even operator) (place table)) (place_for (is_even operator) (place table)) line start
+    operator_fills map table (gap (is_even operator) (location table)) (location_for (is_even operator) (location table)) line start
     arguments operator
 
 pub lines_fill : (map : Map) (table : Table) (given : Given)

@@ -10,14 +10,14 @@ use Rattle.m11_scan_statements.specs.declared.parts.PartKind.{PartKind}
 use Rattle.m11_scan_statements.specs.declared.parts.PartKind.TheVariants.{Text, Expression}
 use Rattle.m11_unfold_rules.specs.Unfolding.{Given}
 use Rattle.m11_asm_rules.proofs.FirmLines.{line_alike, stands_alike}
-use Rattle.m11_asm_rules.specs.Alignment.{place_for}
+use Rattle.m11_asm_rules.specs.Alignment.{location_for}
 use Rattle.m11_asm_rules.specs.Codes as codes
 use Rattle.m11_asm_rules.specs.Contents.{content_size, fixed_byte, further, pieces_from}
 use Rattle.m11_asm_rules.specs.Effects.{directive_put, operator_put}
 use Rattle.m11_asm_rules.specs.Elements.{elements_at}
 use Rattle.m11_asm_rules.specs.Fields.{fields_at, forms_of}
 use Rattle.m11_asm_rules.specs.Instructions as instructions
-use Rattle.m11_asm_rules.specs.Lines.{Assign, Action, Operate, NoAction, SetCounter, after_line, action, line_put, pieces, put_by, put_place, stands}
+use Rattle.m11_asm_rules.specs.Lines.{Assign, Action, Operate, NoAction, SetCounter, after_line, action, line_put, pieces, put_by, put_location, stands}
 use Rattle.m11_asm_rules.specs.Meanings.{LocalOnly, Map, empty_map, known_at}
 use Rattle.m11_asm_rules.specs.declared.operands.Form.{Form}
 use Rattle.m11_asm_rules.specs.declared.operands.Form.TheVariants.{Absent, InRegister, Indexed, Unindexed, AfterCounter}
@@ -31,7 +31,7 @@ use Rattle.m11_asm_rules.specs.Placements.{placed_from, placement}
 use Rattle.m11_asm_rules.specs.Shapes.{Shape, shape_of, shapes_in}
 use Rattle.m11_asm_rules.specs.Storage as storage
 use Rattle.m11_asm_rules.specs.Strings as strings
-use Rattle.m11_asm_rules.specs.Tables.{Table, firm_table, first_table, place, section_name}
+use Rattle.m11_asm_rules.specs.Tables.{Table, firm_table, first_table, location, section_name}
 
 abbrev sizes : List PieceContent → List ℕ
 sizes contents = map content_size contents
@@ -151,8 +151,8 @@ forms_sized line_context here (form ∷ forms) =
 -- ---- by the firm table alone
 
 abbrev directive_sizes : Bytes → ℕ → Directive → List ℕ
-directive_sizes line start word.Word = twos (elements_at line start).places
-directive_sizes line start word.Byte = ones (elements_at line start).places
+directive_sizes line start word.Word = twos (elements_at line start).columns
+directive_sizes line start word.Byte = ones (elements_at line start).columns
 directive_sizes line start word.Ascii = parts_ones line (strings.parts_at line start).list
 directive_sizes line start word.Asciz = parts_ones line (strings.parts_at line start).list ++ 1 ∷ []
 directive_sizes line start word.Rad50 = triples (parts_ones line (strings.parts_at line start).list)
@@ -161,8 +161,8 @@ directive_sizes line start other = []
 
 directive_sized : (known : Map) (table : Table) (here : ℕ) (line : Bytes) (start : ℕ) (arguments : Option ℕ) (directive : Directive)
     → sizes (directive_put known table here line start arguments directive).contents ≡ directive_sizes line start directive
-directive_sized known table here line start arguments word.Word = words_sized known table line here (elements_at line start).places
-directive_sized known table here line start arguments word.Byte = bytes_sized known table line here (elements_at line start).places
+directive_sized known table here line start arguments word.Word = words_sized known table line here (elements_at line start).columns
+directive_sized known table here line start arguments word.Byte = bytes_sized known table line here (elements_at line start).columns
 directive_sized known table here line start arguments word.Ascii =
     parts_sized known table here line (strings.parts_at line start).list
 directive_sized known table here line start arguments word.Asciz =
@@ -213,7 +213,7 @@ action_sizes firm line NoAction = []
 action_sizes firm line (Assign name is_global start) = []
 action_sizes firm line (SetCounter start) = []
 action_sizes firm line (Operate operator start) =
-    operator_sizes firm (place_for (is_even operator) (place firm)) line start operator
+    operator_sizes firm (location_for (is_even operator) (location firm)) line start operator
 
 action_sized : (known : Map) (table : Table) (line : Bytes) (arguments : Option ℕ) (does : Action)
     → sizes (put_by known table line arguments does).contents ≡ action_sizes (firm_table table) line does
@@ -221,7 +221,7 @@ action_sized known table line arguments NoAction = refl
 action_sized known table line arguments (Assign name is_global start) = refl
 action_sized known table line arguments (SetCounter start) = refl
 action_sized known table line arguments (Operate operator start) =
-    operator_sized known table (place_for (is_even operator) (place table)) line start arguments operator
+    operator_sized known table (location_for (is_even operator) (location table)) line start arguments operator
 
 line_sized : (known : Map) (stood : Table) (given : Given)
     → sizes (line_put known stood given).contents
@@ -233,7 +233,7 @@ line_sized known stood given =
 -- ---- shapes
 
 abbrev shape : Name → ℕ → ℕ → Shape
-shape section here size = record { section = section; place = here; size = size }
+shape section here size = record { section = section; location = here; size = size }
 
 abbrev shapes : Name → ℕ → List ℕ → List Shape
 shapes section here [] = []
@@ -247,9 +247,9 @@ shaped section here (content ∷ contents) =
     (shaped section (further here (content_size content)) contents)
 
 abbrev firm_shapes : Table → Bytes → Action → List Shape
-firm_shapes firm line does = shapes (section_name firm) (put_place firm does) (action_sizes firm line does)
+firm_shapes firm line does = shapes (section_name firm) (put_location firm does) (action_sizes firm line does)
 
-start_firm : (table : Table) (does : Action) → put_place table does ≡ put_place (firm_table table) does
+start_firm : (table : Table) (does : Action) → put_location table does ≡ put_location (firm_table table) does
 start_firm table NoAction = refl
 start_firm table (Assign name is_global start) = refl
 start_firm table (SetCounter start) = refl
@@ -259,10 +259,10 @@ line_shaped : (known : Map) (table : Table) (given : Given)
     → map shape_of (pieces known table given)
     ≡ firm_shapes (firm_table (stands table given)) given.live.line.text (action given.is_own given.live.line.text)
 line_shaped known table given =
-    shaped (section_name (stands table given)) (put_place (stands table given) (action given.is_own given.live.line.text))
+    shaped (section_name (stands table given)) (put_location (stands table given) (action given.is_own given.live.line.text))
     (line_put known (stands table given) given).contents
     ∙ ap (λ (l : List ℕ). shapes (section_name (stands table given))
-    (put_place (stands table given) (action given.is_own given.live.line.text)) l)
+    (put_location (stands table given) (action given.is_own given.live.line.text)) l)
     (line_sized known (stands table given) given)
     ∙ ap (λ (n : ℕ). shapes (section_name (stands table given)) n
     (action_sizes (firm_table (stands table given)) given.live.line.text (action given.is_own given.live.line.text)))

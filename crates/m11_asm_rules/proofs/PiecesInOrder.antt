@@ -1,4 +1,4 @@
--- In a section where no place is set, and which doesn't pass the end of the addresses, pieces lie in the order of lines.
+-- In a section where no location is set, and which doesn't pass the end of the addresses, pieces lie in the order of lines.
 use Rattle.std.proofs.Common.{◌≡◌, ◌∙◌, ℕ, ◌+◌, ◌%◌, ◌≤◌, Bool, true, false, List, [], ◌∷◌, ◌++◌, refl, sym, ap, subst, arith, inl, inr, true≢false}
 use Rattle.std.proofs.lemmas.Bool.Decides.{nat_tests}
 use Rattle.std.proofs.lemmas.List.{append-nil}
@@ -7,7 +7,7 @@ use Rattle.m11_base.specs.Rad50.{Name}
 use Rattle.m11_obj_texts.specs.declared.pieces.Piece.{Piece}
 use Rattle.m11_obj_texts.specs.declared.pieces.PieceContent.{PieceContent}
 use Rattle.m11_unfold_rules.specs.Unfolding.{Given}
-use Rattle.m11_asm_rules.proofs.LabelPlaces.{Standing, labels_stay}
+use Rattle.m11_asm_rules.proofs.LabelLocations.{Standing, labels_stay}
 use Rattle.m11_asm_rules.proofs.LinesFill.{lines_fill}
 use Rattle.m11_asm_rules.specs.Alignment.{gap}
 use Rattle.m11_asm_rules.specs.Assignments.{assigned}
@@ -16,19 +16,19 @@ use Rattle.m11_asm_rules.specs.Contents.{content_size, contents_size, further, p
 use Rattle.m11_asm_rules.specs.Definitions.{Definition, Named, is_labelled}
 use Rattle.m11_asm_rules.specs.Filling.{Fills, gap_before}
 use Rattle.m11_asm_rules.specs.Labels.{global_if, with_definition, with_doubly_defined}
-use Rattle.m11_asm_rules.specs.Lines.{Assign, Action, Operate, NoAction, SetCounter, after_line, action, line_change, line_put, pieces, put_place, stands}
+use Rattle.m11_asm_rules.specs.Lines.{Assign, Action, Operate, NoAction, SetCounter, after_line, action, line_change, line_put, pieces, put_location, stands}
 use Rattle.m11_asm_rules.specs.Meanings.{Map}
 use Rattle.m11_asm_rules.specs.Order.{LieFrom, pieces_if, pieces_in}
 use Rattle.m11_asm_rules.specs.Placements.{after_lines}
-use Rattle.m11_asm_rules.specs.Places.{Goes, Move, Moved, Steps, has_set, in_section, last_set, moves_in, sizes_since}
-use Rattle.m11_asm_rules.specs.Tables.{Table, firm_table, first_table, place, section_name}
+use Rattle.m11_asm_rules.specs.Locations.{Goes, Move, Moved, Steps, has_set, in_section, last_set, moves_in, sizes_since}
+use Rattle.m11_asm_rules.specs.Tables.{Table, firm_table, first_table, location, section_name}
 
--- ---- moves of one section without a set place
+-- ---- moves of one section without a set location
 
 unset_front : (moves more : List Move) → has_set (moves ++ more) ≡ false → has_set moves ≡ false
 unset_front [] more unset = refl
 unset_front (Steps size ∷ moves) more unset = unset_front moves more unset
-unset_front (Goes place ∷ moves) more unset = unset
+unset_front (Goes location ∷ moves) more unset = unset
 
 sizes_front : (moves more : List Move) → has_set (moves ++ more) ≡ false → sizes_since moves ≤ sizes_since (moves ++ more)
 sizes_front [] more unset = omega arith
@@ -36,12 +36,12 @@ sizes_front (Steps size ∷ moves) more unset =
     let rest : sizes_since moves ≤ sizes_since (moves ++ more) = sizes_front moves more unset in
     let front : has_set moves ≡ false = unset_front moves more unset in
     rw (front, unset) (omega (arith, rest))
-sizes_front (Goes place ∷ moves) more unset = absurd (true≢false unset)
+sizes_front (Goes location ∷ moves) more unset = absurd (true≢false unset)
 
 none_set : (moves : List Move) → has_set moves ≡ false → last_set moves ≡ 0
 none_set [] unset = refl
 none_set (Steps size ∷ moves) unset = none_set moves unset
-none_set (Goes place ∷ moves) unset = absurd (true≢false unset)
+none_set (Goes location ∷ moves) unset = absurd (true≢false unset)
 
 sizes_more : (moves : List Move) (size : ℕ) → has_set moves ≡ false
     → sizes_since (moves ++ Steps size ∷ []) ≡ sizes_since moves + size
@@ -54,8 +54,8 @@ sizes_more (Steps first ∷ moves) size unset =
     unset_more : (moves : List Move) (size : ℕ) → has_set moves ≡ false → has_set (moves ++ Steps size ∷ []) ≡ false
     unset_more [] size unset = refl
     unset_more (Steps first ∷ moves) size unset = unset_more moves size unset
-    unset_more (Goes place ∷ moves) size unset = absurd (true≢false unset)
-sizes_more (Goes place ∷ moves) size unset = absurd (true≢false unset)
+    unset_more (Goes location ∷ moves) size unset = absurd (true≢false unset)
+sizes_more (Goes location ∷ moves) size unset = absurd (true≢false unset)
 
 -- ---- moves of all sections
 
@@ -119,54 +119,54 @@ change_moves map line (Sets modes) table = sym (append-nil table.moves)
 
 -- ---- the pieces of one line
 
--- pieces that lie one after the other from a place on, and end no later than another
+-- pieces that lie one after the other from a location on, and end no later than another
 abbrev LieWithin : ℕ → ℕ → List Piece → Type 0
-LieWithin place end [] = place ≤ end
-LieWithin place end (piece ∷ pieces) =
-    (place ≤ piece.place) × LieWithin (piece.place + content_size piece.content) end pieces
+LieWithin location end [] = location ≤ end
+LieWithin location end (piece ∷ pieces) =
+    (location ≤ piece.location) × LieWithin (piece.location + content_size piece.content) end pieces
 
 lie_later : (one other : ℕ) (pieces : List Piece) → one ≤ other → LieFrom other pieces → LieFrom one pieces
 lie_later one other [] later lie = tt
 lie_later one other (piece ∷ pieces) later lie =
-    let begins : other ≤ piece.place = lie.0 in
+    let begins : other ≤ piece.location = lie.0 in
     (omega (arith, later, begins), lie.1)
 
-lie_on : (place end : ℕ) (first next : List Piece) → LieWithin place end first → LieFrom end next → LieFrom place (first ++ next)
-lie_on place end [] next within lie = lie_later place end next within lie
-lie_on place end (piece ∷ first) next within lie =
-    (within.0, lie_on (piece.place + content_size piece.content) end first next within.1 lie)
+lie_on : (location end : ℕ) (first next : List Piece) → LieWithin location end first → LieFrom end next → LieFrom location (first ++ next)
+lie_on location end [] next within lie = lie_later location end next within lie
+lie_on location end (piece ∷ first) next within lie =
+    (within.0, lie_on (piece.location + content_size piece.content) end first next within.1 lie)
 
 within_later : (one other end : ℕ) (pieces : List Piece) → one ≤ other → LieWithin other end pieces → LieWithin one end pieces
 within_later one other end [] later within =
     let ends : other ≤ end = within in
     omega (arith, later, ends)
 within_later one other end (piece ∷ pieces) later within =
-    let begins : other ≤ piece.place = within.0 in
+    let begins : other ≤ piece.location = within.0 in
     (omega (arith, later, begins), within.1)
 
-further_is : (place size : ℕ) → place + size ≤ 65535 → further place size ≡ place + size
-further_is place size fits = omega (arith, fits)
+further_is : (location size : ℕ) → location + size ≤ 65535 → further location size ≡ location + size
+further_is location size fits = omega (arith, fits)
 
-pieces_lie : (section : Name) (place : ℕ) (contents : List PieceContent) → place + contents_size contents ≤ 65535
-    → LieWithin place (place + contents_size contents) (pieces_from section place contents)
-pieces_lie section place [] fits = omega arith
-pieces_lie section place (content ∷ contents) fits =
-    let all : place + (content_size content + contents_size contents) ≤ 65535 = fits in
-    let next : further place (content_size content) ≡ place + content_size content
-    = further_is place (content_size content) (omega (arith, all)) in
-    let P : ℕ → Type 0 = λ n. LieWithin (place + content_size content) n
-    (pieces_from section (place + content_size content) contents) in
-    let Q : ℕ → Type 0 = λ n. LieWithin (place + content_size content) (place + (content_size content + contents_size contents))
+pieces_lie : (section : Name) (location : ℕ) (contents : List PieceContent) → location + contents_size contents ≤ 65535
+    → LieWithin location (location + contents_size contents) (pieces_from section location contents)
+pieces_lie section location [] fits = omega arith
+pieces_lie section location (content ∷ contents) fits =
+    let all : location + (content_size content + contents_size contents) ≤ 65535 = fits in
+    let next : further location (content_size content) ≡ location + content_size content
+    = further_is location (content_size content) (omega (arith, all)) in
+    let P : ℕ → Type 0 = λ n. LieWithin (location + content_size content) n
+    (pieces_from section (location + content_size content) contents) in
+    let Q : ℕ → Type 0 = λ n. LieWithin (location + content_size content) (location + (content_size content + contents_size contents))
     (pieces_from section n contents) in
-    let sum : place + content_size content + contents_size contents ≡ place + (content_size content + contents_size contents)
+    let sum : location + content_size content + contents_size contents ≡ location + (content_size content + contents_size contents)
     = omega arith in
-    let rest : LieWithin (place + content_size content) (place + content_size content + contents_size contents)
-    (pieces_from section (place + content_size content) contents)
-    = pieces_lie section (place + content_size content) contents (omega (arith, all)) in
+    let rest : LieWithin (location + content_size content) (location + content_size content + contents_size contents)
+    (pieces_from section (location + content_size content) contents)
+    = pieces_lie section (location + content_size content) contents (omega (arith, all)) in
     (omega arith, subst Q (sym next) (subst P sum rest))
 
 -- where a line puts what it puts
-start_is : (table : Table) (does : Action) → put_place table does ≡ (place table + gap_before table does) % 65536
+start_is : (table : Table) (does : Action) → put_location table does ≡ (location table + gap_before table does) % 65536
 start_is table NoAction = omega arith
 start_is table (Assign name is_global start) = omega arith
 start_is table (SetCounter start) = omega arith
@@ -185,10 +185,10 @@ record Lies (section end : ℕ) (before : Table) (found : List Piece) : Type 0 w
   unset : IsUnset section before
   within : LieWithin (sizes section before) end found
 
--- the place of a section that was never set
-place_is : (section : ℕ) (table : Table) → table.modes.section ≡ section → IsUnset section table → sizes section table ≤ 65535
-    → place table ≡ sizes section table
-place_is section table here unset fits =
+-- the location of a section that was never set
+location_is : (section : ℕ) (table : Table) → table.modes.section ≡ section → IsUnset section table → sizes section table ≤ 65535
+    → location table ≡ sizes section table
+location_is section table here unset fits =
     let P : ℕ → Type 0 = λ n. (last_set (moves_in n table.moves) + sizes_since (moves_in n table.moves)) % 65536 ≡ sizes section table in
     let none : last_set (moves_in section table.moves) ≡ 0 = none_set (moves_in section table.moves) unset in
     subst P (sym here) (rw none (omega (arith, fits)))
@@ -236,7 +236,7 @@ empty_lies section before after more grows unset =
 filled_lies : (section gap start : ℕ) (name : Name) (contents : List PieceContent) (before after : Table)
     → moves_in section after.moves ≡ moves_in section before.moves ++ Steps (gap + contents_size contents) ∷ []
     → before.modes.section ≡ section → IsUnset section after → sizes section after ≤ 65535
-    → start ≡ (place before + gap) % 65536
+    → start ≡ (location before + gap) % 65536
     → Lies section (sizes section after) before (pieces_from name start contents)
 filled_lies section gap start name contents before after grows here unset fits begins =
     let P : List Move → Type 0 = λ l. has_set l ≡ false in
@@ -245,7 +245,7 @@ filled_lies section gap start name contents before after grows here unset fits b
     = unset_front (moves_in section before.moves) (Steps (gap + contents_size contents) ∷ []) whole in
     let ends : sizes section after ≡ sizes section before + (gap + contents_size contents)
     = ap sizes_since grows ∙ sizes_more (moves_in section before.moves) (gap + contents_size contents) front in
-    let at : place before ≡ sizes section before = place_is section before here front (omega (arith, fits, ends)) in
+    let at : location before ≡ sizes section before = location_is section before here front (omega (arith, fits, ends)) in
     let first : start ≡ sizes section before + gap = omega (arith, begins, at, ends, fits) in
     let lie : LieWithin (sizes section before + gap) (sizes section before + gap + contents_size contents)
     (pieces_from name (sizes section before + gap) contents)
@@ -270,7 +270,7 @@ none_of false = refl
 line_by : (is_here : Bool) (section gap start : ℕ) (name : Name) (contents : List PieceContent) (change : Change) (before after : Table)
     → (before.modes.section == section) ≡ is_here
     → moves_in section after.moves ≡ moves_in section before.moves ++ added is_here change
-    → IsUnset section after → sizes section after ≤ 65535 → start ≡ (place before + gap) % 65536 → Fills gap contents change
+    → IsUnset section after → sizes section after ≤ 65535 → start ≡ (location before + gap) % 65536 → Fills gap contents change
     → Lies section (sizes section after) before (pieces_if is_here (pieces_from name start contents))
 line_by is_here section gap start name contents change before after where_it_is grows unset fits begins (inl empty) =
     let P : List PieceContent → Type 0 = λ l.
@@ -291,7 +291,7 @@ line_lies : (map : Map) (section : ℕ) (table : Table) (given : Given) → IsUn
 line_lies map section table given unset fits =
     line_by ((stands table given).modes.section == section) section
     (gap_before (stands table given) (action given.is_own given.live.line.text))
-    (put_place (stands table given) (action given.is_own given.live.line.text)) (section_name (stands table given))
+    (put_location (stands table given) (action given.is_own given.live.line.text)) (section_name (stands table given))
     (line_put map (stands table given) given).contents (line_change (firm_table (stands table given)) given) (stands table given)
     (after_line map table given) refl
     (line_grows map given.live.line.text (line_change (firm_table (stands table given)) given) section (stands table given))
@@ -299,12 +299,12 @@ line_lies map section table given unset fits =
 
 -- ---- all lines
 
-within_ends : (place end : ℕ) (pieces : List Piece) → LieWithin place end pieces → place ≤ end
-within_ends place end [] within = within
-within_ends place end (piece ∷ pieces) within =
-    let begins : place ≤ piece.place = within.0 in
-    let ends : piece.place + content_size piece.content ≤ end
-    = within_ends (piece.place + content_size piece.content) end pieces within.1 in
+within_ends : (location end : ℕ) (pieces : List Piece) → LieWithin location end pieces → location ≤ end
+within_ends location end [] within = within
+within_ends location end (piece ∷ pieces) within =
+    let begins : location ≤ piece.location = within.0 in
+    let ends : piece.location + content_size piece.content ≤ end
+    = within_ends (piece.location + content_size piece.content) end pieces within.1 in
     omega (arith, begins, ends)
 
 record AllLie (section : ℕ) (table : Table) (found : List Piece) : Type 0 where

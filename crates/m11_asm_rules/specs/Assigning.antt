@@ -20,11 +20,11 @@ use Rattle.m11_asm_rules.specs.Contents.{register_flags}
 use Rattle.m11_asm_rules.specs.Definitions.{Definition, Named, Standing, Known, Unknown, is_labelled, last_definition}
 use Rattle.m11_asm_rules.specs.Labels.{flag_M}
 use Rattle.m11_asm_rules.specs.Meanings.{LocalOnly, Map, firm_known, known_at}
-use Rattle.m11_asm_rules.specs.Places.{Goes}
+use Rattle.m11_asm_rules.specs.Locations.{Goes}
 use Rattle.m11_asm_rules.specs.Relocations.{is_here}
-use Rattle.m11_asm_rules.specs.Tables.{Table, place}
+use Rattle.m11_asm_rules.specs.Tables.{Table, location}
 
--- Q for what stands after the expression at a place
+-- Q for what stands after the expression at a column
 abbrev pub after_expression : Bytes → ℕ → ℕ
 after_expression line start = flag_if (has_token (tokens_from line (expression_end line start))) flag_Q
 
@@ -77,12 +77,12 @@ target_flags map table None = 0
 abbrev pub assignment_flags : Map → Table → Bytes → Span → ℕ → ℕ
 assignment_flags map table line name start =
     bit_or (target_flags map table (target line name))
-    (bit_or (value_at (known_at map LocalOnly table (place table)) line start).flags (after_expression line start))
+    (bit_or (value_at (known_at map LocalOnly table (location table)) line start).flags (after_expression line start))
 
 -- ---- .=e: asked of firm names
 
 abbrev pub counter_value : Table → Bytes → ℕ → Quantity
-counter_value table line start = value_at (firm_known table (place table)) line start
+counter_value table line start = value_at (firm_known table (location table)) line start
 
 abbrev pub counter_to : Table → Quantity → Change
 counter_to table value = if is_here table value.kind then Counts (Goes value.number) else Keeps

@@ -9,7 +9,7 @@ use Rattle.m11_scan_values.specs.Quantities.{Quantity}
 use Rattle.m11_asm_rules.specs.Definitions.{Definition, Key, Standing, Known, Unknown, is_labelled}
 use Rattle.m11_asm_rules.specs.Labels.{with_definition, with_doubly_defined}
 use Rattle.m11_asm_rules.specs.Meanings.{LocalOnly, Map, is_firm, known_at}
-use Rattle.m11_asm_rules.specs.Tables.{Table, place}
+use Rattle.m11_asm_rules.specs.Tables.{Table, location}
 
 -- a value with an unknown name is unknown
 abbrev pub standing_of : Quantity → Standing
@@ -19,11 +19,11 @@ abbrev pub all_firm : Table → List Symbol → Bool
 all_firm table [] = true
 all_firm table (symbol ∷ symbols) = is_firm table symbol && all_firm table symbols
 
--- what the expression at a place of a line gives a key
+-- what the expression at a column of a line gives a key
 abbrev pub assigned : Map → Table → Key → Bytes → ℕ → Definition
 assigned map table key line start = record {
   key = key;
-  standing = standing_of (value_at (known_at map LocalOnly table (place table)) line start);
+  standing = standing_of (value_at (known_at map LocalOnly table (location table)) line start);
   is_firm = all_firm table (symbols_at line start);
   label = None;
 }

@@ -8,32 +8,32 @@ use Rattle.m11_scan_statements.specs.Statements.{flag_if}
 use Rattle.m11_asm_rules.specs.Relocations.{distance, is_here}
 use Rattle.m11_asm_rules.specs.Tables.{Table}
 
--- 128 words back to 127 on, from the place after the branch
+-- 128 words back to 127 on, from the location after the branch
 abbrev pub in_reach : ℕ → Bool
 in_reach bytes = bytes % 2 == 0 && (nat_le bytes 0o376 || nat_le 0o177400 bytes)
 
--- a branch at a place reaches a target of its section
+-- a branch at a location reaches a target of its section
 abbrev pub branch_reaches : Table → ℕ → Quantity → Bool
-branch_reaches table place target = is_here table target.kind && in_reach (distance place target.number)
+branch_reaches table location target = is_here table target.kind && in_reach (distance location target.number)
 
 -- the words to go, as eight bits
 abbrev pub branch_offset : Table → ℕ → Quantity → ℕ
-branch_offset table place target =
-    if branch_reaches table place target then distance place target.number / 2 % 256 else 0
+branch_offset table location target =
+    if branch_reaches table location target then distance location target.number / 2 % 256 else 0
 
--- how far back a target lies from the place after a word, modulo 65536
+-- how far back a target lies from the location after a word, modulo 65536
 abbrev pub back : ℕ → ℕ → ℕ
-back place target = (65536 - distance place target) % 65536
+back location target = (65536 - distance location target) % 65536
 
--- SOB at a place reaches a target of its section: 0 to 63 words back, from the place after it
+-- SOB at a location reaches a target of its section: 0 to 63 words back, from the location after it
 abbrev pub loop_reaches : Table → ℕ → Quantity → Bool
-loop_reaches table place target =
-    is_here table target.kind && (back place target.number % 2 == 0 && nat_le (back place target.number) 0o176)
+loop_reaches table location target =
+    is_here table target.kind && (back location target.number % 2 == 0 && nat_le (back location target.number) 0o176)
 
 -- the words to go back for SOB
 abbrev pub loop_offset : Table → ℕ → Quantity → ℕ
-loop_offset table place target =
-    if loop_reaches table place target then back place target.number / 2 else 0
+loop_offset table location target =
+    if loop_reaches table location target then back location target.number / 2 else 0
 
 -- A for a target that isn't reached
 abbrev pub target_flags : Bool → ℕ

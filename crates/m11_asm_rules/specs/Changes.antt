@@ -9,7 +9,7 @@ use Rattle.m11_asm_rules.specs.Definitions.{Definition, Known, Named, is_labelle
 use Rattle.m11_asm_rules.specs.Elements.{listed_names}
 use Rattle.m11_asm_rules.specs.Labels.{global_if, with_definition, with_doubly_defined}
 use Rattle.m11_asm_rules.specs.Meanings.{Map}
-use Rattle.m11_asm_rules.specs.Places.{Move, in_section}
+use Rattle.m11_asm_rules.specs.Locations.{Move, in_section}
 use Rattle.m11_asm_rules.specs.Sections.{Section, number_of, section}
 use Rattle.m11_asm_rules.specs.Tables.{Modes, Table}
 
@@ -20,11 +20,11 @@ pub data Change : Type 0 where
   Counts : Move → Change
   -- a section is selected; where its name is new it has these attributes
   Selects : Name → ℕ → Change
-  -- a name is assigned the expression at a place, and made global or not
+  -- a name is assigned the expression at a column, and made global or not
   Assigns : Name → Bool → ℕ → Change
   -- a name is assigned a number that no name decides
   Numbers : Name → ℕ → Change
-  -- the names of the list at a place become global
+  -- the names of the list at a column become global
   Exports : ℕ → Change
   -- the radix, or what is listed
   Sets : Modes → Change

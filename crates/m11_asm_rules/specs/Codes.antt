@@ -38,7 +38,7 @@ use Rattle.m11_asm_rules.specs.Tables.{Table}
 -- objects
 pub record LineContext : Type 0 where
   pub table : Table
-  pub place : ℕ
+  pub location : ℕ
   pub known : Known
   pub refers : Known
   pub line : Bytes
@@ -74,21 +74,21 @@ form_flags line_context (Indexed kind start index) = registered_flags line_conte
 form_flags line_context (Unindexed start) = registered_flags line_context start
 form_flags line_context (AfterCounter kind start) = 0
 
--- the modes of PC that find a place by how far it lies
+-- the modes of PC that find an address by how far it lies
 abbrev pub is_relative : Mode → Bool
 is_relative mode.Index = true
 is_relative mode.IndexDeferred = true
 is_relative kind = false
 
--- the word after the instruction, at a place of its own; `.` in it is the place of the instruction
+-- the word after the instruction, at a location of its own; `.` in it is the location of the instruction
 abbrev pub form_words : LineContext → ℕ → Form → Put
-form_words line_context place Absent = nothing 0
-form_words line_context place (InRegister kind start) = nothing 0
-form_words line_context place (Indexed kind start index) =
-    word line_context.table false place (value_at line_context.refers line_context.line index)
-form_words line_context place (Unindexed start) = put (fixed_word 0 ∷ []) 0
-form_words line_context place (AfterCounter kind start) =
-    word line_context.table (is_relative kind) place (value_at line_context.refers line_context.line start)
+form_words line_context location Absent = nothing 0
+form_words line_context location (InRegister kind start) = nothing 0
+form_words line_context location (Indexed kind start index) =
+    word line_context.table false location (value_at line_context.refers line_context.line index)
+form_words line_context location (Unindexed start) = put (fixed_word 0 ∷ []) 0
+form_words line_context location (AfterCounter kind start) =
+    word line_context.table (is_relative kind) location (value_at line_context.refers line_context.line start)
 
 -- ---- fields
 
@@ -104,11 +104,11 @@ abbrev pub target_at : LineContext → ℕ → Quantity
 target_at line_context start = value_at line_context.known line_context.line start
 
 abbrev pub branch_in : LineContext → List Field → ℕ
-branch_in line_context (Targeted start ∷ fields) = branch_offset line_context.table line_context.place (target_at line_context start)
+branch_in line_context (Targeted start ∷ fields) = branch_offset line_context.table line_context.location (target_at line_context start)
 branch_in line_context fields = 0
 
 abbrev pub loop_in : LineContext → List Field → ℕ
-loop_in line_context (Targeted start ∷ fields) = loop_offset line_context.table line_context.place (target_at line_context start)
+loop_in line_context (Targeted start ∷ fields) = loop_offset line_context.table line_context.location (target_at line_context start)
 loop_in line_context fields = 0
 
 -- cut to the bits that the code has for it
@@ -143,8 +143,8 @@ instruction line_context (op.Codes operation codes) fields = insn.Condition oper
 
 -- A for a target that an operation doesn't reach
 abbrev pub reach_flags : LineContext → Op → ℕ → ℕ
-reach_flags line_context op.Sob start = target_flags (loop_reaches line_context.table line_context.place (target_at line_context start))
-reach_flags line_context operation start = target_flags (branch_reaches line_context.table line_context.place (target_at line_context start))
+reach_flags line_context op.Sob start = target_flags (loop_reaches line_context.table line_context.location (target_at line_context start))
+reach_flags line_context operation start = target_flags (branch_reaches line_context.table line_context.location (target_at line_context start))
 
 -- T for a number that the code has no bits for
 abbrev pub limit_flags : Op → ℕ → ℕ
@@ -174,9 +174,9 @@ fields_flags line_context operation (field ∷ fields) =
 
 -- the words after that of the code, one after the other
 abbrev pub words_from : LineContext → ℕ → List Form → Put
-words_from line_context place [] = nothing 0
-words_from line_context place (form ∷ forms) =
-    followed_by (form_words line_context place form) (words_from line_context (further place (words_of form * 2)) forms)
+words_from line_context location [] = nothing 0
+words_from line_context location (form ∷ forms) =
+    followed_by (form_words line_context location form) (words_from line_context (further location (words_of form * 2)) forms)
 
 -- the instruction's own word
 abbrev pub code : LineContext → Op → List Field → Put

@@ -1,4 +1,4 @@
--- What a line puts at its places, one after the other, with its flags. (MACRO-11 Language Reference Manual, "Expressions" and
+-- What a line puts at its locations, one after the other, with its flags. (MACRO-11 Language Reference Manual, "Expressions" and
 -- "Diagnostic error message summary", R and T.)
 use Rattle.std.specs.Prelude.{ℕ, ◌+◌, ◌/◌, ◌%◌, ◌==◌, ◌||◌, not, Bool, false, if◌then◌else◌, List, [], ◌∷◌, ◌++◌, length}
 use Rattle.std.specs.Int.RustNames.{bit_or}
@@ -36,7 +36,7 @@ followed_by first next = put (first.contents ++ next.contents) (bit_or first.fla
 abbrev pub with_flags : ℕ → Put → Put
 with_flags flags what = put what.contents (bit_or flags what.flags)
 
--- ---- sizes and places
+-- ---- sizes and locations
 
 abbrev pub content_size : PieceContent → ℕ
 content_size content = length (content_bytes content)
@@ -45,24 +45,24 @@ abbrev pub contents_size : List PieceContent → ℕ
 contents_size [] = 0
 contents_size (content ∷ contents) = content_size content + contents_size contents
 
--- the place that is a number of bytes after another
+-- the location that is a number of bytes after another
 abbrev pub further : ℕ → ℕ → ℕ
-further place size = (place + size) % 65536
+further location size = (location + size) % 65536
 
 abbrev pub piece : Name → ℕ → PieceContent → Piece
-piece section place content = record { section = section; place = place; content = content }
+piece section location content = record { section = section; location = location; content = content }
 
--- what is put from a place of a section on: each piece stands after the one before it
+-- what is put from a location of a section on: each piece stands after the one before it
 abbrev pub pieces_from : Name → ℕ → List PieceContent → List Piece
-pieces_from section place [] = []
-pieces_from section place (content ∷ contents) =
-    piece section place content ∷ pieces_from section (further place (content_size content)) contents
+pieces_from section location [] = []
+pieces_from section location (content ∷ contents) =
+    piece section location content ∷ pieces_from section (further location (content_size content)) contents
 
 -- ---- values
 
 -- an empty element counts as 0
 abbrev pub element_value : Known → Bytes → ℕ → Quantity
-element_value known line place = if has_expression line place then value_at known line place else absolute 0 0
+element_value known line location = if has_expression line location then value_at known line location else absolute 0 0
 
 -- R for a register where none may be
 abbrev pub register_flags : Kind → ℕ
@@ -76,15 +76,15 @@ is_byte_high number = number == 0 || number == 0o377
 abbrev pub byte_flags : ℕ → ℕ
 byte_flags number = flag_if (not (is_byte_high (number / 256))) flag_T
 
--- a value as a word, relative to the place after it or not
+-- a value as a word, relative to the location after it or not
 abbrev pub word : Table → Bool → ℕ → Quantity → Put
-word table is_relative place value =
-    put (Word (stored table is_relative place value) ∷ []) (bit_or value.flags (register_flags value.kind))
+word table is_relative location value =
+    put (Word (stored table is_relative location value) ∷ []) (bit_or value.flags (register_flags value.kind))
 
 -- a value as a byte: its number is asked, whatever it counts from
 abbrev pub byte : Table → ℕ → Quantity → Put
-byte table place value =
-    put (Byte (stored table false place value) ∷ [])
+byte table location value =
+    put (Byte (stored table false location value) ∷ [])
     (bit_or (bit_or value.flags (register_flags value.kind)) (byte_flags value.number))
 
 abbrev pub fixed_word : ℕ → PieceContent

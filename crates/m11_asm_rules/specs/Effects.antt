@@ -4,7 +4,7 @@ use Rattle.std.specs.Prelude.{ℕ, ◌+◌, Option}
 use Rattle.std.specs.Int.RustNames.{bit_or}
 use Rattle.m11_unfold_arguments.specs.LeftOvers.{left_over}
 use Rattle.m11_base.specs.Devices.{Bytes}
-use Rattle.m11_asm_rules.specs.Alignment.{gap, place_for, to_even, to_odd}
+use Rattle.m11_asm_rules.specs.Alignment.{gap, location_for, to_even, to_odd}
 use Rattle.m11_asm_rules.specs.Assigning.{number_flags}
 use Rattle.m11_asm_rules.specs.Changes.{Change, Counts, Exports, Keeps}
 use Rattle.m11_asm_rules.specs.Contents.{Put, nothing}
@@ -18,11 +18,11 @@ use Rattle.m11_asm_rules.specs.declared.operators.Operator.{Operator}
 use Rattle.m11_asm_rules.specs.declared.operators.Operator.TheVariants as operators
 use Rattle.m11_asm_rules.specs.Operators.{is_even}
 use Rattle.m11_asm_rules.specs.declared.operators.Directive.TheVariants as word
-use Rattle.m11_asm_rules.specs.Places.{Steps}
+use Rattle.m11_asm_rules.specs.Locations.{Steps}
 use Rattle.m11_asm_rules.specs.Psects as sections
 use Rattle.m11_asm_rules.specs.Storage as storage
 use Rattle.m11_asm_rules.specs.Strings as strings
-use Rattle.m11_asm_rules.specs.Tables.{Table, place}
+use Rattle.m11_asm_rules.specs.Tables.{Table, location}
 
 -- ---- what changes: asked of firm names alone, and of no map
 
@@ -30,7 +30,8 @@ use Rattle.m11_asm_rules.specs.Tables.{Table, place}
 abbrev pub steps : ℕ → ℕ → Change
 steps passed size = Counts (Steps (passed + size))
 
--- what a directive changes that stands at a place, after some bytes that are passed over. Its arguments begin at a place of its line, and
+-- what a directive changes that stands at a location, after some bytes that are passed over. Its arguments begin at a column of its line,
+-- and
 -- `arguments` is the number of actuals of the macro around it
 abbrev pub directive_change : Table → ℕ → ℕ → Bytes → ℕ → Option ℕ → Directive → Change
 directive_change table passed here line start arguments word.Word = steps passed (storage.word_size line start)
@@ -69,10 +70,10 @@ change_by table passed here line start arguments (operators.Instruction operatio
 change_by table passed here line start arguments (operators.Directive directive) =
     directive_change table passed here line start arguments directive
 
--- what an operator changes, whose name ends at a place of its line
+-- what an operator changes, whose name ends at a column of its line
 abbrev pub operator_change : Table → Bytes → ℕ → Option ℕ → Operator → Change
 operator_change table line start arguments operator =
-    change_by table (gap (is_even operator) (place table)) (place_for (is_even operator) (place table)) line start arguments operator
+    change_by table (gap (is_even operator) (location table)) (location_for (is_even operator) (location table)) line start arguments operator
 
 -- ---- what is put, with the flags: under a map
 
@@ -110,7 +111,7 @@ directive_put map table here line start arguments word.Nchr =
     nothing (bit_or (counts.nchr_flags line start) (number_flags map table (counts.nchr line start)))
 directive_put map table here line start arguments word.End = nothing (exports.end_flags map table line start)
 
--- what an operator puts at a place, whose name ends at a place of its line
+-- what an operator puts at a location, whose name ends at a column of its line
 abbrev pub operator_put : Map → Table → ℕ → Bytes → ℕ → Option ℕ → Operator → Put
 operator_put map table here line start arguments (operators.Instruction operation) =
     instructions.words map table here line start operation

@@ -12,9 +12,9 @@ use Rattle.m11_scan_statements.specs.Listed.{listed_name}
 use Rattle.m11_scan_statements.specs.declared.listed.ListedName.{ListedName}
 use Rattle.m11_scan_statements.specs.declared.spans.Span.{Span}
 
--- the place after the comma that stands next
+-- the column after the comma that stands next
 abbrev pub next_element : Bytes → ℕ → Option ℕ
-next_element line place = after_comma (tokens_from line place)
+next_element line column = after_comma (tokens_from line column)
 
 -- a line has no more elements than characters, and one
 abbrev pub most_elements : Bytes → ℕ
@@ -22,34 +22,34 @@ most_elements line = suc (length line)
 
 -- ---- expressions
 
--- the places of the elements of a list, and the place after it
+-- the columns of the elements of a list, and the column after it
 pub record Elements : Type 0 where
-  pub places : List ℕ
+  pub columns : List ℕ
   pub end : ℕ
 
 abbrev pub last_element : ℕ → ℕ → Elements
-last_element place end = record { places = place ∷ []; end = end }
+last_element column end = record { columns = column ∷ []; end = end }
 
 abbrev pub element_before : ℕ → Elements → Elements
-element_before place more = record { places = place ∷ more.places; end = more.end }
+element_before column more = record { columns = column ∷ more.columns; end = more.end }
 
 abbrev pub elements_by : (ℕ → Elements) → ℕ → ℕ → Option ℕ → Elements
-elements_by more place end None = last_element place end
-elements_by more place end (Some next) = element_before place (more next)
+elements_by more column end None = last_element column end
+elements_by more column end (Some next) = element_before column (more next)
 
 abbrev pub elements_within : ℕ → Bytes → ℕ → Elements
-elements_within zero line place = record { places = []; end = place }
-elements_within (suc bound) line place =
-    elements_by (λ next. elements_within bound line next) place (expression_end line place)
-    (next_element line (expression_end line place))
+elements_within zero line column = record { columns = []; end = column }
+elements_within (suc bound) line column =
+    elements_by (λ next. elements_within bound line next) column (expression_end line column)
+    (next_element line (expression_end line column))
 
--- the elements of a list that begins at a place: one at least
+-- the elements of a list that begins at a column: one at least
 abbrev pub elements_at : Bytes → ℕ → Elements
-elements_at line place = elements_within (most_elements line) line place
+elements_at line column = elements_within (most_elements line) line column
 
 -- ---- names
 
--- the elements of a list of names, where one that is no name is none, and the place after it
+-- the elements of a list of names, where one that is no name is none, and the column after it
 pub record Names : Type 0 where
   pub list : List (Option Span)
   pub end : ℕ
@@ -64,13 +64,13 @@ abbrev pub names_by : (ℕ → Names) → ListedName → Names
 names_by more element = if element.goes_on then name_before element (more element.end) else last_name element
 
 abbrev pub names_within : ℕ → Bytes → ℕ → Names
-names_within zero line place = record { list = []; end = place }
-names_within (suc bound) line place =
-    names_by (λ next. names_within bound line next) (listed_name place (tokens_from line place))
+names_within zero line column = record { list = []; end = column }
+names_within (suc bound) line column =
+    names_by (λ next. names_within bound line next) (listed_name column (tokens_from line column))
 
--- the names of a list that begins at a place: one element at least
+-- the names of a list that begins at a column: one element at least
 abbrev pub names_at : Bytes → ℕ → Names
-names_at line place = names_within (most_elements line) line place
+names_at line column = names_within (most_elements line) line column
 
 -- the six characters of each name
 abbrev pub texts_of : Bytes → List (Option Span) → List Bytes
@@ -87,7 +87,7 @@ abbrev pub names_of : List Bytes → List Name
 names_of [] = []
 names_of (text ∷ texts) = with_name (name_of text) (names_of texts)
 
--- the names of a list that begins at a place
+-- the names of a list that begins at a column
 abbrev pub listed_names : Bytes → ℕ → List Name
 listed_names line start = names_of (texts_of line (names_at line start).list)
 

@@ -11,7 +11,7 @@ use Rattle.m11_asm_rules.specs.Placements.{table_after}
 abbrev pub is_label_or_firm : Definition → Bool
 is_label_or_firm definition = is_some definition.label || definition.is_firm
 
--- a label with its section and its place, or a firm value. Of any other definition nothing is asked
+-- a label with its section and its location, or a firm value. Of any other definition nothing is asked
 abbrev pub label_or_value : Option Definition → Option Definition
 label_or_value (Some definition) = if is_label_or_firm definition then Some (firm_part definition) else None
 label_or_value None = None

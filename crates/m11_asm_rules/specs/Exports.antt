@@ -22,7 +22,7 @@ use Rattle.m11_asm_rules.specs.Contents.{register_flags}
 use Rattle.m11_asm_rules.specs.Elements.{Names, bad_flags, names_at}
 use Rattle.m11_asm_rules.specs.Meanings.{LocalOnly, Map, known_at}
 use Rattle.m11_asm_rules.specs.Strings.{character_flags, part_text, six_codes}
-use Rattle.m11_asm_rules.specs.Tables.{Table, place}
+use Rattle.m11_asm_rules.specs.Tables.{Table, location}
 
 -- ---- .GLOBL n,.. and .WEAK n,..
 
@@ -91,7 +91,7 @@ ident_flags line start = ident_flags_of line start (next_part line start true)
 
 abbrev pub transfer : Map → Table → Bytes → ℕ → Option Quantity
 transfer map table line start =
-    if has_expression line start then Some (value_at (known_at map LocalOnly table (place table)) line start) else None
+    if has_expression line start then Some (value_at (known_at map LocalOnly table (location table)) line start) else None
 
 -- A, D, R and U
 abbrev pub decided_by_names : ℕ

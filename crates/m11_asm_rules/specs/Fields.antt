@@ -12,32 +12,32 @@ use Rattle.m11_scan.specs.ErrorFlags.{flag_A}
 use Rattle.m11_asm_rules.specs.Elements.{next_element}
 use Rattle.m11_asm_rules.specs.declared.fields.Field.{Field}
 use Rattle.m11_asm_rules.specs.declared.fields.Field.TheVariants.{Formed, Registered, Targeted, Numbered, Missing}
-use Rattle.m11_asm_rules.specs.declared.fields.FieldPlace.{FieldPlace}
-use Rattle.m11_asm_rules.specs.declared.fields.FieldPlace.TheVariants.{Operand, Register, Target, Number}
+use Rattle.m11_asm_rules.specs.declared.fields.FieldKind.{FieldKind}
+use Rattle.m11_asm_rules.specs.declared.fields.FieldKind.TheVariants.{Operand, Register, Target, Number}
 use Rattle.m11_asm_rules.specs.declared.operands.Form.{Form}
 use Rattle.m11_asm_rules.specs.declared.operands.Form.TheVariants.{Absent}
 use Rattle.m11_asm_rules.specs.Operands.{Read, operand_at}
 
 -- ---- which fields an instruction has, in the order in which they are written
 
-abbrev pub places_of : Op → List FieldPlace
-places_of (op.Double operation size) = Operand ∷ Operand ∷ []
-places_of (op.Extended operation) = Operand ∷ Register ∷ []
-places_of (op.Register operation) = Register ∷ Operand ∷ []
-places_of op.Sob = Register ∷ Target ∷ []
-places_of (op.Single operation size) = Operand ∷ []
-places_of op.Rts = Register ∷ []
-places_of (op.Number operation) = Number ∷ []
-places_of (op.Bare operation) = []
-places_of (op.Condition operation) = []
-places_of (op.Branch operation) = Target ∷ []
-places_of op.Call = Operand ∷ []
-places_of op.Return = []
-places_of (op.Codes operation codes) = []
+abbrev pub kinds_of : Op → List FieldKind
+kinds_of (op.Double operation size) = Operand ∷ Operand ∷ []
+kinds_of (op.Extended operation) = Operand ∷ Register ∷ []
+kinds_of (op.Register operation) = Register ∷ Operand ∷ []
+kinds_of op.Sob = Register ∷ Target ∷ []
+kinds_of (op.Single operation size) = Operand ∷ []
+kinds_of op.Rts = Register ∷ []
+kinds_of (op.Number operation) = Number ∷ []
+kinds_of (op.Bare operation) = []
+kinds_of (op.Condition operation) = []
+kinds_of (op.Branch operation) = Target ∷ []
+kinds_of op.Call = Operand ∷ []
+kinds_of op.Return = []
+kinds_of (op.Codes operation codes) = []
 
 -- ---- what stands in them
 
--- a field, the place after it, and its flags
+-- a field, the column after it, and its flags
 pub record FieldRead : Type 0 where
   pub field : Field
   pub end : ℕ
@@ -54,57 +54,57 @@ abbrev pub expression_read : Field → ℕ → Bytes → ℕ → FieldRead
 expression_read field flags line start =
     if has_expression line start then field_read field (expression_end line start) 0 else field_read Missing start flags
 
-abbrev pub field_at : Known → Bytes → ℕ → FieldPlace → FieldRead
+abbrev pub field_at : Known → Bytes → ℕ → FieldKind → FieldRead
 field_at firm line start Operand = operand_read (operand_at firm line start)
 field_at firm line start Register = expression_read (Registered start) flag_A line start
 field_at firm line start Target = expression_read (Targeted start) flag_A line start
 field_at firm line start Number = expression_read (Numbered start) 0 line start
 
 -- a field before which its comma is missing
-abbrev pub missing_field : FieldPlace → FieldRead
+abbrev pub missing_field : FieldKind → FieldRead
 missing_field Operand = field_read (Formed Absent) 0 flag_A
 missing_field Register = field_read Missing 0 flag_A
 missing_field Target = field_read Missing 0 flag_A
 missing_field Number = field_read Missing 0 0
 
--- fields, the place after them, and their flags
+-- fields, the column after them, and their flags
 pub record Fields : Type 0 where
   pub list : List Field
   pub end : ℕ
   pub flags : ℕ
 
 abbrev pub no_fields : ℕ → Fields
-no_fields place = record { list = []; end = place; flags = 0 }
+no_fields column = record { list = []; end = column; flags = 0 }
 
 abbrev pub before : FieldRead → Fields → Fields
 before first more =
     record { list = first.field ∷ more.list; end = more.end; flags = bit_or first.flags more.flags }
 
 -- fields without their commas
-abbrev pub missing_fields : ℕ → List FieldPlace → Fields
+abbrev pub missing_fields : ℕ → List FieldKind → Fields
 missing_fields end [] = no_fields end
-missing_fields end (place ∷ places) = before (missing_field place) (missing_fields end places)
+missing_fields end (kind ∷ kinds) = before (missing_field kind) (missing_fields end kinds)
 
 -- a comma stands before each field but the first
 abbrev pub after_comma_by : (ℕ → Fields) → Fields → Option ℕ → Fields
 after_comma_by more missing (Some next) = more next
 after_comma_by more missing None = missing
 
-abbrev pub fields_after : Known → Bytes → ℕ → List FieldPlace → Fields
+abbrev pub fields_after : Known → Bytes → ℕ → List FieldKind → Fields
 fields_after firm line end [] = no_fields end
-fields_after firm line end (place ∷ places) =
+fields_after firm line end (kind ∷ kinds) =
     after_comma_by
-    (λ next. before (field_at firm line next place) (fields_after firm line (field_at firm line next place).end places))
-    (missing_fields end (place ∷ places)) (next_element line end)
+    (λ next. before (field_at firm line next kind) (fields_after firm line (field_at firm line next kind).end kinds))
+    (missing_fields end (kind ∷ kinds)) (next_element line end)
 
-abbrev pub fields_in : Known → Bytes → ℕ → List FieldPlace → Fields
+abbrev pub fields_in : Known → Bytes → ℕ → List FieldKind → Fields
 fields_in firm line start [] = no_fields start
-fields_in firm line start (place ∷ places) =
-    before (field_at firm line start place) (fields_after firm line (field_at firm line start place).end places)
+fields_in firm line start (kind ∷ kinds) =
+    before (field_at firm line start kind) (fields_after firm line (field_at firm line start kind).end kinds)
 
--- the fields of an operation, which begin at a place of a line. Their forms are asked of firm names
+-- the fields of an operation, which begin at a column of a line. Their forms are asked of firm names
 abbrev pub fields_at : Known → Bytes → ℕ → Op → Fields
-fields_at firm line start operation = fields_in firm line start (places_of operation)
+fields_at firm line start operation = fields_in firm line start (kinds_of operation)
 
 -- the forms of operands among them
 abbrev pub with_form : Field → List Form → List Form

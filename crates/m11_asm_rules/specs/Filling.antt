@@ -6,15 +6,15 @@ use Rattle.m11_asm_rules.specs.Changes.{Change, Counts}
 use Rattle.m11_asm_rules.specs.Contents.{contents_size}
 use Rattle.m11_asm_rules.specs.Lines.{Action, NoAction, Assign, SetCounter, Operate}
 use Rattle.m11_asm_rules.specs.Operators.{is_even}
-use Rattle.m11_asm_rules.specs.Places.{Steps}
-use Rattle.m11_asm_rules.specs.Tables.{Table, place}
+use Rattle.m11_asm_rules.specs.Locations.{Steps}
+use Rattle.m11_asm_rules.specs.Tables.{Table, location}
 
 -- the bytes that are passed over before what a line puts
 abbrev pub gap_before : Table → Action → ℕ
 gap_before table NoAction = 0
 gap_before table (Assign name is_global start) = 0
 gap_before table (SetCounter start) = 0
-gap_before table (Operate operator start) = gap (is_even operator) (place table)
+gap_before table (Operate operator start) = gap (is_even operator) (location table)
 
 -- nothing is put, or the counter goes on by the gap and by as many bytes as are put
 abbrev pub Fills : ℕ → List PieceContent → Change → Type 0

@@ -13,18 +13,18 @@ use Rattle.m11_asm_rules.specs.Operands.{instruction_size}
 use Rattle.m11_asm_rules.specs.Tables.{Table}
 
 abbrev pub fields : Table → ℕ → Bytes → ℕ → Op → Fields
-fields table place line start operation = fields_at (firm_known table place) line start operation
+fields table location line start operation = fields_at (firm_known table location) line start operation
 
--- the bytes of an instruction at a place, whose fields begin at a place of its line
+-- the bytes of an instruction at a location, whose fields begin at a column of its line
 abbrev pub size : Table → ℕ → Bytes → ℕ → Op → ℕ
-size table place line start operation = instruction_size (forms_of (fields table place line start operation).list)
+size table location line start operation = instruction_size (forms_of (fields table location line start operation).list)
 
 abbrev pub line_context : Map → Table → ℕ → Bytes → LineContext
-line_context map table place line = record {
+line_context map table location line = record {
   table = table;
-  place = place;
-  known = known_at map LocalOnly table place;
-  refers = known_at map MayBeGlobal table place;
+  location = location;
+  known = known_at map LocalOnly table location;
+  refers = known_at map MayBeGlobal table location;
   line = line;
 }
 
@@ -36,9 +36,9 @@ line_flags line start fields =
 abbrev pub assembled : LineContext → ℕ → Op → Fields → Put
 assembled line_context start operation fields =
     with_flags (line_flags line_context.line start fields)
-    (followed_by (code line_context operation fields.list) (words_from line_context (further line_context.place 2) (forms_of fields.list)))
+    (followed_by (code line_context operation fields.list) (words_from line_context (further line_context.location 2) (forms_of fields.list)))
 
 -- the words of an instruction
 abbrev pub words : Map → Table → ℕ → Bytes → ℕ → Op → Put
-words map table place line start operation =
-    assembled (line_context map table place line) start operation (fields table place line start operation)
+words map table location line start operation =
+    assembled (line_context map table location line) start operation (fields table location line start operation)

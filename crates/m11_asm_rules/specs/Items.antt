@@ -20,9 +20,9 @@ use Rattle.m11_scan_values.specs.Quantities.{Quantity}
 use Rattle.m11_asm_rules.specs.Changes.{Change, Numbers}
 use Rattle.m11_asm_rules.specs.Lines.{Assign, Action, Operate, NoAction, SetCounter, action, line_change, line_put, stands}
 use Rattle.m11_asm_rules.specs.Meanings.{LocalOnly, Map, known_at}
-use Rattle.m11_asm_rules.specs.Tables.{Modes, Table, firm_table, place}
+use Rattle.m11_asm_rules.specs.Tables.{Modes, Table, firm_table, location}
 
--- ---- what is put: the constant, by what the place is relocated by
+-- ---- what is put: the constant, by what the location is relocated by
 
 abbrev pub mark_of : RelocationKind → Mark
 mark_of relocation.Fixed = Unmarked
@@ -59,7 +59,7 @@ number_items other = []
 abbrev pub action_items : Map → Table → Bytes → Change → Action → List Item
 action_items map table line change NoAction = []
 action_items map table line change (Assign name is_global start) =
-    value_items (value_at (known_at map LocalOnly table (place table)) line start)
+    value_items (value_at (known_at map LocalOnly table (location table)) line start)
 action_items map table line change (SetCounter start) = []
 action_items map table line change (Operate operator start) = number_items change
 

@@ -11,17 +11,17 @@ use Rattle.m11_scan_statements.specs.declared.labels.Label.{Label}
 use Rattle.m11_scan_statements.specs.declared.labels.LabelKind.{LabelKind}
 use Rattle.m11_scan_statements.specs.declared.labels.LabelKind.TheVariants as label
 use Rattle.m11_asm_rules.specs.Definitions.{Definition, Key, Named, Numbered, Known, is_defined}
-use Rattle.m11_asm_rules.specs.Tables.{Modes, Table, kind_here, place, section_name}
+use Rattle.m11_asm_rules.specs.Tables.{Modes, Table, kind_here, location, section_name}
 
 -- the set of the flag M
 abbrev pub flag_M : ℕ
 flag_M = 0o100
 
--- a label keeps its section. Its place is firm as soon as it stands
+-- a label keeps its section. Its location is firm as soon as it stands
 abbrev pub labelled : Table → Key → Definition
 labelled table key = record {
   key = key;
-  standing = Known (place table) (kind_here table);
+  standing = Known (location table) (kind_here table);
   is_firm = true;
   label = Some (section_name table);
 }

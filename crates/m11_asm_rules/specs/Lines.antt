@@ -1,4 +1,4 @@
--- What a line of a source does: the pieces that it puts at its places, its flags, and what holds after it. (MACRO-11 Language Reference
+-- What a line of a source does: the pieces that it puts at its locations, its flags, and what holds after it. (MACRO-11 Language Reference
 -- Manual, "Source program format", "Operator field" and ".WORD directive". That a line which unfolding has done places nothing, is this
 -- project's own.)
 use Rattle.std.specs.Prelude.{ℕ, Bool, if◌then◌else◌, List, length, Option, Some, None}
@@ -14,7 +14,7 @@ use Rattle.m11_scan_statements.specs.declared.bodies.Body.{Body}
 use Rattle.m11_scan_statements.specs.declared.bodies.Body.TheVariants as body
 use Rattle.m11_scan_statements.specs.declared.spans.Span.{Span}
 use Rattle.m11_unfold_rules.specs.Unfolding.{Given}
-use Rattle.m11_asm_rules.specs.Alignment.{gap_flags, place_for}
+use Rattle.m11_asm_rules.specs.Alignment.{gap_flags, location_for}
 use Rattle.m11_asm_rules.specs.Assigning.{assignment, assignment_flags, counter_change, counter_flags}
 use Rattle.m11_asm_rules.specs.Changes.{Change, Keeps, changed}
 use Rattle.m11_asm_rules.specs.Contents.{Put, nothing, pieces_from, with_flags}
@@ -25,7 +25,7 @@ use Rattle.m11_asm_rules.specs.declared.operators.Operator.{Operator}
 use Rattle.m11_asm_rules.specs.declared.operators.Operator.TheVariants as operators
 use Rattle.m11_asm_rules.specs.Operators.{is_even, operator_named}
 use Rattle.m11_asm_rules.specs.declared.operators.Directive.TheVariants as word
-use Rattle.m11_asm_rules.specs.Tables.{Table, firm_table, place, section_name}
+use Rattle.m11_asm_rules.specs.Tables.{Table, firm_table, location, section_name}
 
 -- ---- what stands after the labels of a line
 
@@ -36,10 +36,10 @@ pub data Action : Type 0 where
   Assign : Span → Bool → ℕ → Action
   -- `.=`, and where the expression begins
   SetCounter : ℕ → Action
-  -- an operator, and the place after its name
+  -- an operator, and the column after its name
   Operate : Operator → ℕ → Action
 
--- all of the text from a place on, as if `.WORD` stood before it
+-- all of the text from a column on, as if `.WORD` stood before it
 abbrev pub implied_words : ℕ → Action
 implied_words start = Operate (operators.Directive word.Word) start
 
@@ -85,8 +85,8 @@ after_line map table given = after_operator map (stands table given) given
 
 abbrev pub operation_put : Map → Table → Bytes → Option ℕ → Operator → ℕ → Put
 operation_put map table line arguments operator start =
-    with_flags (gap_flags (is_even operator) (place table))
-    (operator_put map table (place_for (is_even operator) (place table)) line start arguments operator)
+    with_flags (gap_flags (is_even operator) (location table))
+    (operator_put map table (location_for (is_even operator) (location table)) line start arguments operator)
 
 abbrev pub put_by : Map → Table → Bytes → Option ℕ → Action → Put
 put_by map table line arguments NoAction = nothing 0
@@ -99,17 +99,17 @@ line_put map stood given =
     put_by map stood given.live.line.text given.arguments (action given.is_own given.live.line.text)
 
 -- where the operator of a line puts what it puts
-abbrev pub put_place : Table → Action → ℕ
-put_place table NoAction = place table
-put_place table (Assign name is_global start) = place table
-put_place table (SetCounter start) = place table
-put_place table (Operate operator start) = place_for (is_even operator) (place table)
+abbrev pub put_location : Table → Action → ℕ
+put_location table NoAction = location table
+put_location table (Assign name is_global start) = location table
+put_location table (SetCounter start) = location table
+put_location table (Operate operator start) = location_for (is_even operator) (location table)
 
 -- the pieces of a line
 abbrev pub pieces : Map → Table → Given → List Piece
 pieces map table given =
     pieces_from (section_name (stands table given))
-    (put_place (stands table given) (action given.is_own given.live.line.text))
+    (put_location (stands table given) (action given.is_own given.live.line.text))
     (line_put map (stands table given) given).contents
 
 -- ---- flags

@@ -54,21 +54,21 @@ meaning_of map other table key =
     defined_or key table.doubly_defined (defined_or key map.doubly_defined other (last_definition key map.definitions))
     (last_definition key table.definitions)
 
--- what a symbol stands for where `.` is a place
+-- what a symbol stands for where `.` is a location
 abbrev pub stands_for : Map → Context → Table → ℕ → Symbol → Quantity
-stands_for map context table place (Ordinary name) =
+stands_for map context table location (Ordinary name) =
     meaning_of map (undefined context (Ordinary name)) table (Named name)
-stands_for map context table place (Local number) =
+stands_for map context table location (Local number) =
     meaning_of map (undefined context (Local number)) table (Numbered table.modes.block number)
-stands_for map context table place Counter = record { number = place; kind = kind_here table; flags = 0 }
+stands_for map context table location Counter = record { number = location; kind = kind_here table; flags = 0 }
 
 abbrev pub known_at : Map → Context → Table → ℕ → expressions.Known
-known_at map context table place =
-    expressions.known_by table.modes.radix (stands_for map context table place)
+known_at map context table location =
+    expressions.known_by table.modes.radix (stands_for map context table location)
 
--- what sizes, places, conditions and repeats see: firm names of the lines before alone. Any other counts as 0, with U
+-- what sizes, locations, conditions and repeats see: firm names of the lines before alone. Any other counts as 0, with U
 abbrev pub firm_known : Table → ℕ → expressions.Known
-firm_known table place = known_at empty_map LocalOnly (firm_table table) place
+firm_known table location = known_at empty_map LocalOnly (firm_table table) location
 
 -- ---- which symbols are firm
 

@@ -29,7 +29,7 @@ words_of (Indexed kind register index) = 1
 words_of (Unindexed register) = 1
 words_of (AfterCounter kind start) = 1
 
--- a form, the place after it, and its flags
+-- a form, the column after it, and its flags
 pub record Read : Type 0 where
   pub form : Form
   pub end : ℕ
@@ -94,7 +94,7 @@ abbrev pub bracketed : Bool → Bytes → ℕ → Read
 bracketed is_deferred line register =
     bracketed_by is_deferred register (expression_end line register) (tokens_from line (expression_end line register))
 
--- an expression without `(`: a register, or a place
+-- an expression without `(`: a register, or an address
 abbrev pub plain : Known → Bool → Bytes → ℕ → Form
 plain firm is_deferred line start =
     if is_register (value_at firm line start).kind then InRegister (direct is_deferred) start
@@ -141,7 +141,7 @@ abbrev pub operand_in : Known → Bytes → ℕ → List Lexeme → Read
 operand_in firm line start [] = read Absent start flag_A
 operand_in firm line start (token ∷ tokens) = operand_by firm line start token.sort token.end tokens
 
--- the operand at a place of a line. Whether it is a register is asked of firm names: others count as 0
+-- the operand at a column of a line. Whether it is a register is asked of firm names: others count as 0
 abbrev pub operand_at : Known → Bytes → ℕ → Read
 operand_at firm line start = operand_in firm line start (tokens_from line start)
 

@@ -61,7 +61,7 @@ operator_named name =
     directive_or (find (λ row. bytes_eq row.name name) directive_rows)
     (instruction_in (or_else (named_in rows name) (named_in other_names name)))
 
--- the directives that put words stand at even places; so do instructions
+-- the directives that put words stand at even locations; so do instructions
 abbrev pub is_even_directive : Directive → Bool
 is_even_directive word.Word = true
 is_even_directive word.Rad50 = true

@@ -7,10 +7,10 @@ use Rattle.m11_asm_rules.specs.Lines.{after_line, pieces, stands}
 use Rattle.m11_asm_rules.specs.Meanings.{Map}
 use Rattle.m11_asm_rules.specs.Tables.{Table}
 
--- each piece begins no earlier than the one before it ends, and the first no earlier than a place
+-- each piece begins no earlier than the one before it ends, and the first no earlier than a location
 abbrev pub LieFrom : ℕ → List Piece → Type 0
-LieFrom place [] = ⊤
-LieFrom place (piece ∷ pieces) = (place ≤ piece.place) × LieFrom (piece.place + content_size piece.content) pieces
+LieFrom location [] = ⊤
+LieFrom location (piece ∷ pieces) = (location ≤ piece.location) × LieFrom (piece.location + content_size piece.content) pieces
 
 abbrev pub pieces_if : Bool → List Piece → List Piece
 pieces_if true pieces = pieces

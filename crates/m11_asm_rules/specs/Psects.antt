@@ -73,7 +73,7 @@ differing_flags known (name ∷ names) =
 
 -- ---- the name of a section
 
--- none, a name and the place after it, or what is none
+-- none, a name and the column after it, or what is none
 pub data SectionAt : Type 0 where
   Unnamed : SectionAt
   NamedAt : Name → ℕ → SectionAt
@@ -115,7 +115,8 @@ known_section name sections = section_of (number_of name sections) sections
 
 -- ---- flags
 
--- the flags of a section's attributes, from the place after its name on: A for what is no name, is no attribute or differs, and what is left over
+-- the flags of a section's attributes, from the column after its name on: A for what is no name, is no attribute or differs, and what is
+-- left over
 abbrev pub attributes_flags : Bytes → Option Section → ℕ → Names → ℕ
 attributes_flags line known end names =
     bit_or (bit_or (bad_flags names.list) (differing_flags known (texts_of line names.list)))

@@ -1,4 +1,4 @@
--- What a linker does to the values that a line puts at its places. (MACRO-11 Language Reference Manual, "Relocation and linking"; RT-11
+-- What a linker does to the values that a line puts at its locations. (MACRO-11 Language Reference Manual, "Relocation and linking"; RT-11
 -- Volume and File Formats Manual, "Object file format", RLD block. Which command stands for which value is this project's own.)
 use Rattle.std.specs.Prelude.{ℕ, ◌+◌, ◌-◌, ◌%◌, not, Bool, true, false, if◌then◌else◌}
 use Rattle.m11_base.specs.Rad50.{Name, is_same_name}
@@ -57,23 +57,23 @@ relocation_by is_relative is_moved row =
 abbrev pub relocation_of : Table → Bool → Kind → RelocationKind
 relocation_of table is_relative kind = relocation_by is_relative (is_moved table) (row_of (origin_of table kind))
 
--- how far a target lies from the place after a word, modulo 65536
+-- how far a target lies from the location after a word, modulo 65536
 abbrev pub distance : ℕ → ℕ → ℕ
-distance place target = (target + 131072 - (place + 2)) % 65536
+distance location target = (target + 131072 - (location + 2)) % 65536
 
 -- a relative operand that no linker changes has its distance; any other value its number
 abbrev pub constant : Bool → RelocationKind → ℕ → ℕ → ℕ
-constant true relocation.Fixed place number = distance place number
-constant is_relative other place number = number
+constant true relocation.Fixed location number = distance location number
+constant is_relative other location number = number
 
 abbrev pub stored_as : Bool → RelocationKind → ℕ → ℕ → Stored
-stored_as is_relative kind place number =
-    record { constant = constant is_relative kind place number; kind = kind }
+stored_as is_relative kind location number =
+    record { constant = constant is_relative kind location number; kind = kind }
 
--- what stands at a place for a value
+-- what stands at a location for a value
 abbrev pub stored : Table → Bool → ℕ → Quantity → Stored
-stored table is_relative place value =
-    stored_as is_relative (relocation_of table is_relative value.kind) place value.number
+stored table is_relative location value =
+    stored_as is_relative (relocation_of table is_relative value.kind) location value.number
 
 -- a number that stands as it is
 abbrev pub fixed : ℕ → Stored

@@ -38,7 +38,7 @@ numbered number sections = slice_index_or sections number (section blank_name of
 abbrev pub is_relocatable : Section → Bool
 is_relocatable known = not (bit_and known.attributes 0o040 == 0)
 
--- what a place of a section counts from: a place of one with ABS is absolute
-abbrev pub place_kind : ℕ → List Section → Kind
-place_kind number sections =
+-- what a location of a section counts from: a location of one with ABS is absolute
+abbrev pub location_kind : ℕ → List Section → Kind
+location_kind number sections =
     if is_relocatable (numbered number sections) then kind.Section (numbered number sections).name else kind.Absolute

@@ -5,14 +5,14 @@ use Rattle.m11_obj_texts.specs.declared.pieces.Piece.{Piece}
 use Rattle.m11_asm_rules.specs.Contents.{content_size}
 use Rattle.m11_asm_rules.specs.Placements.{Placed}
 
--- a piece by its section, its place and its size
+-- a piece by its section, its location and its size
 pub record Shape : Type 0 where
   pub section : Name
-  pub place : ℕ
+  pub location : ℕ
   pub size : ℕ
 
 abbrev pub shape_of : Piece → Shape
-shape_of piece = record { section = piece.section; place = piece.place; size = content_size piece.content }
+shape_of piece = record { section = piece.section; location = piece.location; size = content_size piece.content }
 
 -- the shapes of the pieces of a placed line
 abbrev pub shapes_in : Placed → List Shape

@@ -17,7 +17,7 @@ use Rattle.m11_asm_rules.specs.declared.operators.Operator.TheVariants as operat
 use Rattle.m11_asm_rules.specs.declared.operators.Directive.TheVariants as word
 use Rattle.m11_asm_rules.specs.Tables.{Table, first_table}
 
--- a directive, and the place after its name
+-- a directive, and the column after its name
 pub record Directed : Type 0 where
   pub directive : Directive
   pub start : ℕ

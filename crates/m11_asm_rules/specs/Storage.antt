@@ -20,39 +20,39 @@ end_flags line start end = bit_or (skip_flags line start end) (left_over line en
 -- ---- .WORD e,..
 
 abbrev pub word_size : Bytes → ℕ → ℕ
-word_size line start = length (elements_at line start).places * 2
+word_size line start = length (elements_at line start).columns * 2
 
--- each element has its own place, which is `.` in it
+-- each element has its own location, which is `.` in it
 abbrev pub words_from : Map → Table → Bytes → ℕ → List ℕ → Put
-words_from map table line place [] = nothing 0
-words_from map table line place (start ∷ starts) =
-    followed_by (word table false place (element_value (known_at map MayBeGlobal table place) line start))
-    (words_from map table line (further place 2) starts)
+words_from map table line location [] = nothing 0
+words_from map table line location (start ∷ starts) =
+    followed_by (word table false location (element_value (known_at map MayBeGlobal table location) line start))
+    (words_from map table line (further location 2) starts)
 
 abbrev pub words_of : Map → Table → ℕ → Bytes → ℕ → Elements → Put
-words_of map table place line start elements =
-    with_flags (end_flags line start elements.end) (words_from map table line place elements.places)
+words_of map table location line start elements =
+    with_flags (end_flags line start elements.end) (words_from map table line location elements.columns)
 
 abbrev pub words : Map → Table → ℕ → Bytes → ℕ → Put
-words map table place line start = words_of map table place line start (elements_at line start)
+words map table location line start = words_of map table location line start (elements_at line start)
 
 -- ---- .BYTE e,..
 
 abbrev pub byte_size : Bytes → ℕ → ℕ
-byte_size line start = length (elements_at line start).places
+byte_size line start = length (elements_at line start).columns
 
 abbrev pub bytes_from : Map → Table → Bytes → ℕ → List ℕ → Put
-bytes_from map table line place [] = nothing 0
-bytes_from map table line place (start ∷ starts) =
-    followed_by (byte table place (element_value (known_at map MayBeGlobal table place) line start))
-    (bytes_from map table line (further place 1) starts)
+bytes_from map table line location [] = nothing 0
+bytes_from map table line location (start ∷ starts) =
+    followed_by (byte table location (element_value (known_at map MayBeGlobal table location) line start))
+    (bytes_from map table line (further location 1) starts)
 
 abbrev pub bytes_of : Map → Table → ℕ → Bytes → ℕ → Elements → Put
-bytes_of map table place line start elements =
-    with_flags (end_flags line start elements.end) (bytes_from map table line place elements.places)
+bytes_of map table location line start elements =
+    with_flags (end_flags line start elements.end) (bytes_from map table line location elements.columns)
 
 abbrev pub bytes : Map → Table → ℕ → Bytes → ℕ → Put
-bytes map table place line start = bytes_of map table place line start (elements_at line start)
+bytes map table location line start = bytes_of map table location line start (elements_at line start)
 
 -- ---- .LIMIT
 
@@ -65,17 +65,17 @@ limits line start = put (Limits ∷ []) (left_over line start)
 -- ---- .BLKB e, .BLKW e: 1 without e, which is asked of firm names
 
 abbrev pub block_count : Table → ℕ → Bytes → ℕ → ℕ
-block_count table place line start =
-    if has_expression line start then number_at (firm_known table place) line start else 1
+block_count table location line start =
+    if has_expression line start then number_at (firm_known table location) line start else 1
 
 abbrev pub block_flags : Table → ℕ → Bytes → ℕ → ℕ
-block_flags table place line start =
+block_flags table location line start =
     if has_expression line start then
-    bit_or (number_flags (firm_known table place) line start) (left_over line (expression_end line start))
+    bit_or (number_flags (firm_known table location) line start) (left_over line (expression_end line start))
     else left_over line start
 
 abbrev pub blkb_size : Table → ℕ → Bytes → ℕ → ℕ
-blkb_size table place line start = block_count table place line start
+blkb_size table location line start = block_count table location line start
 
 abbrev pub blkw_size : Table → ℕ → Bytes → ℕ → ℕ
-blkw_size table place line start = block_count table place line start * 2
+blkw_size table location line start = block_count table location line start * 2

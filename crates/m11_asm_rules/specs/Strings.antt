@@ -24,7 +24,7 @@ use Rattle.m11_asm_rules.specs.Tables.{Table}
 
 -- ---- the parts of a text
 
--- parts one after the other, and the place after them
+-- parts one after the other, and the column after them
 pub record Parts : Type 0 where
   pub list : List Part
   pub end : ℕ
@@ -34,16 +34,16 @@ part_before part more = record { list = part ∷ more.list; end = more.end }
 
 -- a part without its end is the last
 abbrev pub parts_by : (ℕ → Parts) → ℕ → Option Part → Parts
-parts_by more place None = record { list = []; end = place }
-parts_by more place (Some part) =
+parts_by more column None = record { list = []; end = column }
+parts_by more column (Some part) =
     if part.is_closed then part_before part (more part.end) else record { list = part ∷ []; end = part.end }
 
 abbrev pub parts_within : ℕ → Bytes → Bool → ℕ → Parts
-parts_within zero line is_first place = record { list = []; end = place }
-parts_within (suc bound) line is_first place =
-    parts_by (λ next. parts_within bound line false next) place (next_part line place is_first)
+parts_within zero line is_first column = record { list = []; end = column }
+parts_within (suc bound) line is_first column =
+    parts_by (λ next. parts_within bound line false next) column (next_part line column is_first)
 
--- the parts from a place of a line on: it has no more of them than characters
+-- the parts from a column of a line on: it has no more of them than characters
 abbrev pub parts_at : Bytes → ℕ → Parts
 parts_at line start = parts_within (suc (length line)) line true start
 
@@ -57,14 +57,14 @@ inside_flags line part Text = 0
 inside_flags line part Expression = skip_flags line part.inside.start part.end
 
 abbrev pub skipped_flags : Bytes → ℕ → Part → ℕ
-skipped_flags line place part =
-    bit_or (skip_flags line place (part.inside.start - 1)) (inside_flags line part part.kind)
+skipped_flags line column part =
+    bit_or (skip_flags line column (part.inside.start - 1)) (inside_flags line part part.kind)
 
--- flags of parts that begin after a place: what is skipped, and missing ends
+-- flags of parts that begin after a column: what is skipped, and missing ends
 abbrev pub parts_flags : Bytes → ℕ → List Part → ℕ
-parts_flags line place [] = 0
-parts_flags line place (part ∷ parts) =
-    bit_or (bit_or (skipped_flags line place part) (part_flags part)) (parts_flags line part.end parts)
+parts_flags line column [] = 0
+parts_flags line column (part ∷ parts) =
+    bit_or (bit_or (skipped_flags line column part) (part_flags part)) (parts_flags line part.end parts)
 
 abbrev pub is_empty : List Part → Bool
 is_empty [] = true
@@ -93,25 +93,25 @@ ascii_size line start = parts_size line (parts_at line start).list
 abbrev pub asciz_size : Bytes → ℕ → ℕ
 asciz_size line start = ascii_size line start + 1
 
--- an expression is a byte as an element of `.BYTE` is, and `.` in it is its own place
+-- an expression is a byte as an element of `.BYTE` is, and `.` in it is its own location
 abbrev pub part_bytes : Map → Table → ℕ → Bytes → Part → PartKind → Put
-part_bytes known table place line part Text = put (map fixed_byte (part_text line part)) 0
-part_bytes known table place line part Expression =
-    byte table place (value_at (known_at known MayBeGlobal table place) line part.inside.start)
+part_bytes known table location line part Text = put (map fixed_byte (part_text line part)) 0
+part_bytes known table location line part Expression =
+    byte table location (value_at (known_at known MayBeGlobal table location) line part.inside.start)
 
 abbrev pub parts_bytes : Map → Table → ℕ → Bytes → List Part → Put
-parts_bytes known table place line [] = nothing 0
-parts_bytes known table place line (part ∷ parts) =
-    followed_by (part_bytes known table place line part part.kind)
-    (parts_bytes known table (further place (part_size line part part.kind)) line parts)
+parts_bytes known table location line [] = nothing 0
+parts_bytes known table location line (part ∷ parts) =
+    followed_by (part_bytes known table location line part part.kind)
+    (parts_bytes known table (further location (part_size line part part.kind)) line parts)
 
 abbrev pub ascii : Map → Table → ℕ → Bytes → ℕ → Put
-ascii known table place line start =
+ascii known table location line start =
     with_flags (text_flags line start (parts_at line start))
-    (parts_bytes known table place line (parts_at line start).list)
+    (parts_bytes known table location line (parts_at line start).list)
 
 abbrev pub asciz : Map → Table → ℕ → Bytes → ℕ → Put
-asciz known table place line start = followed_by (ascii known table place line start) (put (fixed_byte 0 ∷ []) 0)
+asciz known table location line start = followed_by (ascii known table location line start) (put (fixed_byte 0 ∷ []) 0)
 
 -- ---- .RAD50
 
@@ -169,9 +169,9 @@ abbrev pub rad50_words : ℕ → Codes → Put
 rad50_words flags found = put (packed_words found.codes) (bit_or flags found.flags)
 
 abbrev pub rad50 : Map → Table → ℕ → Bytes → ℕ → Put
-rad50 known table place line start =
+rad50 known table location line start =
     rad50_words (text_flags line start (parts_at line start))
-    (parts_codes (known_at known LocalOnly table place) line (parts_at line start).list)
+    (parts_codes (known_at known LocalOnly table location) line (parts_at line start).list)
 
 -- ---- .IDENT /text/: six characters of one text, filled with blanks
 

@@ -15,7 +15,7 @@ use Rattle.m11_scan_statements.specs.declared.parts.PartKind.TheVariants.{Text, 
 use Rattle.m11_unfold_rules.specs.Unfolding.{Given}
 use Rattle.m11_scan_values.specs.declared.names.Symbol.{Symbol}
 use Rattle.m11_scan_values.specs.declared.names.Symbol.TheVariants.{Ordinary, Local}
-use Rattle.m11_asm_rules.specs.Alignment.{place_for}
+use Rattle.m11_asm_rules.specs.Alignment.{location_for}
 use Rattle.m11_asm_rules.specs.Assigning.{target}
 use Rattle.m11_asm_rules.specs.Changes.{Change, Numbers}
 use Rattle.m11_asm_rules.specs.Counts as counts
@@ -33,7 +33,7 @@ use Rattle.m11_asm_rules.specs.declared.operators.Operator.{Operator}
 use Rattle.m11_asm_rules.specs.declared.operators.Operator.TheVariants as operators
 use Rattle.m11_asm_rules.specs.declared.operators.Directive.TheVariants as word
 use Rattle.m11_asm_rules.specs.Strings.{parts_at}
-use Rattle.m11_asm_rules.specs.Tables.{Table, place}
+use Rattle.m11_asm_rules.specs.Tables.{Table, location}
 
 -- a symbol, and whether a name that no line defines is a reference there
 pub record SymbolUse : Type 0 where
@@ -43,7 +43,7 @@ pub record SymbolUse : Type 0 where
 abbrev pub symbol_use : Context → Symbol → SymbolUse
 symbol_use context symbol = record { symbol = symbol; context = context }
 
--- the symbols that the expression at a place reads
+-- the symbols that the expression at a column reads
 abbrev pub read_at : Context → Bytes → ℕ → List SymbolUse
 read_at context line start = map (symbol_use context) (symbols_at line start)
 
@@ -86,7 +86,7 @@ field_uses line Missing = []
 -- ---- directives
 
 abbrev pub element_uses : Bytes → ℕ → List SymbolUse
-element_uses line start = flat_map (read_at MayBeGlobal line) (elements_at line start).places
+element_uses line start = flat_map (read_at MayBeGlobal line) (elements_at line start).columns
 
 abbrev pub part_use : Context → Bytes → Part → PartKind → List SymbolUse
 part_use context line part Text = []
@@ -119,7 +119,7 @@ directive_uses line start arguments other = []
 abbrev pub operator_uses : Table → Bytes → ℕ → Option ℕ → Operator → List SymbolUse
 operator_uses table line start arguments (operators.Instruction operation) =
     flat_map (field_uses line)
-    (instructions.fields table (place_for true (place table)) line start operation).list
+    (instructions.fields table (location_for true (location table)) line start operation).list
 operator_uses table line start arguments (operators.Directive directive) = directive_uses line start arguments directive
 
 abbrev pub action_uses : Table → Bytes → Option ℕ → Action → List SymbolUse

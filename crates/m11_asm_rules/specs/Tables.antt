@@ -6,8 +6,8 @@ use Rattle.m11_scan.specs.declared.radix.Radix.TheVariants.{Octal}
 use Rattle.m11_scan_values.specs.declared.kinds.Kind.{Kind}
 pub use Rattle.m11_asm_rules.specs.declared.modes.Modes.{Modes}
 use Rattle.m11_asm_rules.specs.Definitions.{Definition, Key, firm_parts, registers}
-use Rattle.m11_asm_rules.specs.Places.{Moved, place_in}
-use Rattle.m11_asm_rules.specs.Sections.{Section, first_number, first_sections, numbered, place_kind}
+use Rattle.m11_asm_rules.specs.Locations.{Moved, location_in}
+use Rattle.m11_asm_rules.specs.Sections.{Section, first_number, first_sections, location_kind, numbered}
 
 abbrev pub first_modes : Modes
 first_modes = record {
@@ -46,14 +46,14 @@ abbrev pub section_name : Table → Name
 section_name table = (numbered table.modes.section table.sections).name
 
 -- where the counter stands
-abbrev pub place : Table → ℕ
-place table = place_in table.modes.section table.moves
+abbrev pub location : Table → ℕ
+location table = location_in table.modes.section table.moves
 
--- what places of the section count from
+-- what locations of the section count from
 abbrev pub kind_here : Table → Kind
-kind_here table = place_kind table.modes.section table.sections
+kind_here table = location_kind table.modes.section table.sections
 
--- a table as far as it is firm: sizes, places and conditions are asked of it
+-- a table as far as it is firm: sizes, locations and conditions are asked of it
 abbrev pub firm_table : Table → Table
 firm_table table = record {
   definitions = firm_parts table.definitions;

@@ -8,11 +8,11 @@ use Rattle.m11_unfold_rules.specs.Stages.{Stage}
 use Rattle.m11_unfold_rules.specs.Unfolding.{Given, Unfolds}
 use Rattle.m11_asm_rules.specs.Lines.{after_line, stands}
 use Rattle.m11_asm_rules.specs.Meanings.{Map, firm_known}
-use Rattle.m11_asm_rules.specs.Tables.{Table, first_table, place}
+use Rattle.m11_asm_rules.specs.Tables.{Table, first_table, location}
 
 -- what conditions, repeats and macros know when the labels of their line are defined
 abbrev pub known_after_labels : Table → Known
-known_after_labels stood = firm_known stood (place stood)
+known_after_labels stood = firm_known stood (location stood)
 
 -- each line knows what the lines before it say
 abbrev pub KnowLinesBefore : Map → Table → List Given → Type 0

@@ -30,6 +30,7 @@ pub struct Definition {
     pub standing: Standing,
     /// Whether no later line decides its value.
     pub is_firm: bool,
-    /// The section in which it stands, where it is that of a label: its place there is the number that it stands for. An assignment has none.
+    /// The section in which it stands, where it is that of a label: its location there is the number that it stands for. An assignment has
+    /// none.
     pub label: Option<Name>,
 }

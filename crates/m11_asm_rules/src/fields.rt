@@ -4,7 +4,7 @@ use crate::operands::Form;
 
 /// What may stand in a field.
 #[derive(Clone, Copy)]
-pub enum FieldPlace {
+pub enum FieldKind {
     /// An operand of any form.
     Operand,
     /// A register.
@@ -20,11 +20,11 @@ pub enum FieldPlace {
 pub enum Field {
     /// An operand, by its form.
     Formed(Form),
-    /// A register: the place where its expression begins.
+    /// A register: the column where its expression begins.
     Registered(u8),
-    /// A target: the place where its expression begins.
+    /// A target: the column where its expression begins.
     Targeted(u8),
-    /// A number: the place where its expression begins.
+    /// A number: the column where its expression begins.
     Numbered(u8),
     /// Nothing.
     #[default]

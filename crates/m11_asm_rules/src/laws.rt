@@ -15,10 +15,10 @@ ghost use Rattle.m11_asm_rules.specs.Operands.{words_of};
 ghost use Rattle.m11_asm_rules.specs.declared.operands.Form.{Form};
 ghost use Rattle.m11_asm_rules.specs.Order.{LieFrom, pieces_in};
 ghost use Rattle.m11_asm_rules.specs.Placements.{placement, program_map, table_after};
-ghost use Rattle.m11_asm_rules.specs.Places.{Goes, Move, Moved, Steps, has_set, in_section, moves_in, place_in, sizes_since};
+ghost use Rattle.m11_asm_rules.specs.Locations.{Goes, Move, Moved, Steps, has_set, in_section, location_in, moves_in, sizes_since};
 ghost use Rattle.m11_asm_rules.specs.Shapes.{shapes_in};
 ghost use Rattle.m11_asm_rules.specs.Strings.{parts_at};
-ghost use Rattle.m11_asm_rules.specs.Tables.{Table, firm_table, first_table, place};
+ghost use Rattle.m11_asm_rules.specs.Tables.{Table, firm_table, first_table, location};
 ghost use Rattle.m11_asm_rules.specs.Unfolded.{AreLines};
 ghost use Rattle.m11_scan_statements.specs.Parts.{AreParts};
 ghost use Rattle.m11_unfold_rules.specs.Stages.{Stage};
@@ -27,25 +27,25 @@ ghost use Rattle.m11_unfold_rules.specs.Unfolding.{Given};
 /// After a line that goes on, the counter of its section stands as many bytes further, modulo 65536.
 #[tactic(auto, using(crate::proofs::Counters::steps_on))]
 pub fn a_line_steps_the_counter()
-    ensures { (section size : ℕ) (moves : List Moved) → place_in section (moves ++ in_section section (Steps size) ∷ [])
-        ≡ (place_in section moves + size) % 65536 }
+    ensures { (section size : ℕ) (moves : List Moved) → location_in section (moves ++ in_section section (Steps size) ∷ [])
+        ≡ (location_in section moves + size) % 65536 }
 {}
 
-/// After a line that sets the counter of its section, it stands at that place, whatever stood before.
+/// After a line that sets the counter of its section, it stands at that location, whatever stood before.
 #[tactic(auto, using(crate::proofs::Counters::goes_there))]
 pub fn a_line_sets_the_counter()
-    ensures { (section place : ℕ) (moves : List Moved) → place_in section (moves ++ in_section section (Goes place) ∷ [])
-        ≡ place % 65536 }
+    ensures { (section location : ℕ) (moves : List Moved) → location_in section (moves ++ in_section section (Goes location) ∷ [])
+        ≡ location % 65536 }
 {}
 
 /// A line leaves the counters of other sections where they stand.
 #[tactic(auto, using(crate::proofs::Counters::stays_there))]
 pub fn other_sections_keep_their_counter()
     ensures { (section other : ℕ) (move : Move) (moves : List Moved) → other ≢ section
-        → place_in section (moves ++ in_section other move ∷ []) ≡ place_in section moves }
+        → location_in section (moves ++ in_section other move ∷ []) ≡ location_in section moves }
 {}
 
-/// An expression whose symbols are all firm has the same value under every map: the one that sizes and places are asked of. So no
+/// An expression whose symbols are all firm has the same value under every map: the one that sizes and locations are asked of. So no
 /// map, and nothing that stands later in the source, decides it.
 pub fn firm_values_are_those_of_every_map()
     ensures { (map : Map) (context : Context) (table : Table) (here : ℕ) (line : Bytes) (start : ℕ)
@@ -53,9 +53,9 @@ pub fn firm_values_are_those_of_every_map()
         → value_at (known_at map context table here) line start ≡ value_at (firm_known table here) line start }
 {}
 
-/// All labels of a line stand at one place: they leave the counter where it stands.
+/// All labels of a line stand at one location: they leave the counter where it stands.
 pub fn labels_keep_the_counter()
-    ensures { (table : Table) (line : Bytes) → place (labels_stand table line) ≡ place table }
+    ensures { (table : Table) (line : Bytes) → location (labels_stand table line) ≡ location table }
 {}
 
 /// An operand has at most one word after its instruction.
@@ -70,7 +70,7 @@ pub fn firm_assignments_are_those_of_every_map()
         → firm_part (assigned one first key line start) ≡ firm_part (assigned other second key line start) }
 {}
 
-/// Any two maps place live lines alike: after them the tables are the same as far as they are firm, so sections, the places of their
+/// Any two maps place live lines alike: after them the tables are the same as far as they are firm, so sections, the locations of their
 /// counters, sizes, labels and firm values are the same. The lines are any, so this holds after each line of a source.
 pub fn placements_are_the_same_under_every_map()
     ensures { (one other : Map) (lines : List Given)
@@ -85,13 +85,13 @@ pub fn a_line_fills_what_it_steps_by()
         (line_change (firm_table table) given) }
 {}
 
-/// The map of a source solves its equation: the placement under it gives again each label with its place, and each firm value. It is
+/// The map of a source solves its equation: the placement under it gives again each label with its location, and each firm value. It is
 /// asked of no other name.
 pub fn the_map_of_a_source_solves_it()
     ensures { (lines : List Given) → Solves (program_map lines) lines }
 {}
 
-/// Every map that solves a source has the labels of the source's own map, with their places, and its firm values, whatever else it has.
+/// Every map that solves a source has the labels of the source's own map, with their locations, and its firm values, whatever else it has.
 pub fn solutions_are_alike()
     ensures { (map : Map) (lines : List Given) → Solves map lines → AreAlike map (program_map lines) }
 {}
@@ -102,8 +102,8 @@ pub fn sources_have_the_same_lines_under_every_map()
         → AreLines one source lines stage → AreLines other source lines stage }
 {}
 
-/// In a section where no place is set, and whose sizes don't pass the end of the addresses, pieces lie in the order of the lines, and none
-/// begins before the one before it ends.
+/// In a section where no location is set, and whose sizes don't pass the end of the addresses, pieces lie in the order of the lines, and
+/// none begins before the one before it ends.
 pub fn pieces_lie_in_the_order_of_lines()
     ensures { (map : Map) (lines : List Given) (section : ℕ)
         → has_set (moves_in section (table_after map lines).moves) ≡ false
@@ -111,7 +111,7 @@ pub fn pieces_lie_in_the_order_of_lines()
         → LieFrom 0 (pieces_in section map first_table lines) }
 {}
 
-/// The pieces of each line lie in the same sections, at the same places and with the same sizes under every map: a map says only what
+/// The pieces of each line lie in the same sections, at the same locations and with the same sizes under every map: a map says only what
 /// they hold.
 pub fn pieces_lie_alike_under_every_map()
     ensures { (one other : Map) (lines : List Given) → map shapes_in (placement one lines) ≡ map shapes_in (placement other lines) }

@@ -1,5 +1,5 @@
 //! Where lines of a source lie, what they define, what symbols stand for there, and what each instruction and directive puts at its
-//! places. Here stand definitions with their laws, and the types that they speak of. (MACRO-11 Language Reference Manual, "Symbols and
+//! locations. Here stand definitions with their laws, and the types that they speak of. (MACRO-11 Language Reference Manual, "Symbols and
 //! expressions", "Addressing modes" and "General assembler directives".)
 #![tactic(auto)]
 
@@ -22,7 +22,7 @@ mod fields;
 mod operands;
 mod operators;
 
-pub use fields::{Field, FieldPlace};
+pub use fields::{Field, FieldKind};
 pub use operands::Form;
 pub use operators::{Directive, DirectiveRow, Operator};
 

@@ -2,7 +2,7 @@
 
 use m11_base_instructions::Mode;
 
-/// A form of an operand, with the places of its line where its expressions begin.
+/// A form of an operand, with the columns of its line where its expressions begin.
 #[derive(Clone, Copy)]
 pub enum Form {
     /// Nothing stands there. It counts as R0.

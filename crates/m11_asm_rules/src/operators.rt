@@ -73,7 +73,7 @@ pub struct DirectiveRow {
 /// What stands in an operator's place.
 #[derive(Clone, Copy)]
 pub enum Operator {
-    /// An instruction. It stands at an even place.
+    /// An instruction. It stands at an even location.
     Instruction(Op),
     /// A directive.
     Directive(Directive),

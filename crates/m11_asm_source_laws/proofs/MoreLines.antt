@@ -49,8 +49,8 @@ module _ (more : List SourceLine) where
 
   fault_by_on : (stage : Stage) (operation : Operation) → fault_by (with_more more stage) operation ≡ fault_by stage operation
   fault_by_on stage Foreign = refl
-  fault_by_on stage (Calls macro place) = same_depth stage.left
-  fault_by_on stage (OwnDirective directive place) = refl
+  fault_by_on stage (Calls macro location) = same_depth stage.left
+  fault_by_on stage (OwnDirective directive location) = refl
 
   pub act_fault_on : (stage : Stage) (text : Bytes) → act_fault (with_more more stage) text ≡ act_fault stage text
   act_fault_on stage text = fault_by_on stage (operation stage.conditions stage.macros text)

@@ -7,7 +7,7 @@ use Rattle.m11_unfold_arguments.specs.declared.macros.NameAt.{NameAt}
 use Rattle.m11_base.proofs.SameNames.{same_name_itself}
 use Rattle.m11_base.specs.Devices.{Bytes}
 use Rattle.m11_base.specs.Rad50.{Name, is_same_name}
-use Rattle.m11_asm_rules.specs.Alignment.{gap, place_for}
+use Rattle.m11_asm_rules.specs.Alignment.{gap, location_for}
 use Rattle.m11_asm_rules.specs.Assigning as assigning
 use Rattle.m11_asm_rules.specs.Changes.{Change, Keeps, Counts, Selects, Assigns, Numbers, Exports, Sets}
 use Rattle.m11_asm_rules.specs.Control as control
@@ -20,10 +20,10 @@ use Rattle.m11_asm_rules.specs.Limits.{is_counted, with_uses, with_symbol}
 use Rattle.m11_asm_rules.specs.Lines.{Action, NoAction, Assign, SetCounter, Operate, change_of}
 use Rattle.m11_asm_rules.specs.SymbolUses.{SymbolUse, action_uses, defined, directive_uses, symbol_use, named, numbered_use, operator_uses, read_at}
 use Rattle.m11_asm_rules.specs.Operators.{is_even}
-use Rattle.m11_asm_rules.specs.Places.{Goes}
+use Rattle.m11_asm_rules.specs.Locations.{Goes}
 use Rattle.m11_asm_rules.specs.Psects as sections
 use Rattle.m11_asm_rules.specs.Relocations.{is_here}
-use Rattle.m11_asm_rules.specs.Tables.{Table, place}
+use Rattle.m11_asm_rules.specs.Tables.{Table, location}
 use Rattle.m11_asm_rules.specs.declared.meanings.Context.TheVariants.{LocalOnly}
 use Rattle.m11_asm_rules.specs.declared.operators.Directive.{Directive}
 use Rattle.m11_asm_rules.specs.declared.operators.Directive.TheVariants as word
@@ -185,4 +185,4 @@ action_noted stood firm line arguments (SetCounter start) =
     let value = assigning.counter_value firm line start in
     choice_noted (read_at LocalOnly line start) (is_here firm value.kind) (Counts (Goes value.number)) Keeps tt tt
 action_noted stood firm line arguments (Operate operator start) =
-    operator_noted stood firm (gap (is_even operator) (place firm)) (place_for (is_even operator) (place firm)) line start arguments operator
+    operator_noted stood firm (gap (is_even operator) (location firm)) (location_for (is_even operator) (location firm)) line start arguments operator

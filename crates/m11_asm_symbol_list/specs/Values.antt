@@ -11,15 +11,15 @@ use Rattle.m11_asm_rules.specs.Sections.{number_of}
 use Rattle.m11_scan_values.specs.declared.kinds.Kind.{Kind}
 use Rattle.m11_scan_values.specs.declared.kinds.Kind.TheVariants as kind
 
--- a place is shown with the number of its section. Each section of a definition is one of the table
-abbrev pub place_value : ℕ → Option ℕ → SymbolValue
-place_value number (Some section) = shown.Relocatable number section
-place_value number None = shown.Absolute number
+-- a location is shown with the number of its section. Each section of a definition is one of the table
+abbrev pub location_value : ℕ → Option ℕ → SymbolValue
+location_value number (Some section) = shown.Relocatable number section
+location_value number None = shown.Absolute number
 
 -- no definition has the kind of a reference: in an assignment a name without a definition is unknown
 abbrev pub known_value : List Section → ℕ → Kind → SymbolValue
 known_value sections number kind.Absolute = shown.Absolute number
-known_value sections number (kind.Section name) = place_value number (number_of name sections)
+known_value sections number (kind.Section name) = location_value number (number_of name sections)
 known_value sections number kind.Register = shown.Register number
 known_value sections number (kind.Reference name) = shown.Absolute number
 

@@ -10,14 +10,14 @@ use m11_asm_table::Table;
 use m11_base::Name;
 use m11_scan_values::Kind;
 
-// A place, with the number of its section.
-fn place_value(table: &Table, number: u16, name: Name) -> SymbolValue
-    ensures { result ≡ spec.place_value number (number_of name table.now.sections) }
+// A location, with the number of its section.
+fn location_value(table: &Table, number: u16, name: Name) -> SymbolValue
+    ensures { result ≡ spec.location_value number (number_of name table.now.sections) }
 {
     table.sections_are_within_the_limit();
     match table.section_number(name) {
         Some(section) => SymbolValue::Relocatable {
-            place: number,
+            location: number,
             section: section as u8,
         },
         None => SymbolValue::Absolute(number),
@@ -28,7 +28,7 @@ fn known_value(table: &Table, number: u16, kind: Kind) -> SymbolValue
     ensures { result ≡ spec.known_value table.now.sections number kind }
 {
     match kind {
-        Kind::Section(name) => place_value(table, number, name),
+        Kind::Section(name) => location_value(table, number, name),
         Kind::Register => SymbolValue::Register(number),
         Kind::Absolute | Kind::Reference(_) => SymbolValue::Absolute(number),
     }

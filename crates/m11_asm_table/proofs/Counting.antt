@@ -1,7 +1,7 @@
 -- Where the counter of a section stands, by the list of all counters.
 use Rattle.std.proofs.Common.{◌≡◌, ◌∙◌, ℕ, zero, suc, ◌+◌, ◌<◌, ◌==◌, true, false, List, [], ◌∷◌, Option, Some, None, slice_get, refl, sym, ap, arith}
 use Rattle.std.proofs.lemmas.Bool.Decides.{nat_tests}
-use Rattle.m11_asm_rules.specs.Places.{Goes, Move, moves_in, place_after, place_in}
+use Rattle.m11_asm_rules.specs.Locations.{Goes, Move, location_after, location_in, moves_in}
 use Rattle.m11_asm_table.specs.Entries.{counter_or, counters_from}
 
 abbrev pub move_of : Option ℕ → List Move
@@ -41,15 +41,15 @@ counter_moves (suc number) first (counter ∷ counters) =
     (ap (λ (n : ℕ). moves_in n (counters_from (first + 1) counters)) (moved_on first number)
     ∙ counter_moves number (first + 1) counters)
 
-place_of_move : (found : Option ℕ) → counter_or found < 65536 → counter_or found ≡ place_after (move_of found)
-place_of_move (Some counter) h = sym (omega (arith, h))
-place_of_move None h = refl
+location_of_move : (found : Option ℕ) → counter_or found < 65536 → counter_or found ≡ location_after (move_of found)
+location_of_move (Some counter) h = sym (omega (arith, h))
+location_of_move None h = refl
 
 from_zero : (number : ℕ) → 0 + number ≡ number
 from_zero number = omega (arith)
 
-pub counter_place : (number : ℕ) (counters : List ℕ) → counter_or (slice_get counters number) < 65536
-    → counter_or (slice_get counters number) ≡ place_in number (counters_from 0 counters)
-counter_place number counters h =
-    place_of_move (slice_get counters number) h ∙ sym (ap place_after (counter_moves number 0 counters))
-    ∙ ap (λ (n : ℕ). place_in n (counters_from 0 counters)) (from_zero number)
+pub counter_location : (number : ℕ) (counters : List ℕ) → counter_or (slice_get counters number) < 65536
+    → counter_or (slice_get counters number) ≡ location_in number (counters_from 0 counters)
+counter_location number counters h =
+    location_of_move (slice_get counters number) h ∙ sym (ap location_after (counter_moves number 0 counters))
+    ∙ ap (λ (n : ℕ). location_in n (counters_from 0 counters)) (from_zero number)

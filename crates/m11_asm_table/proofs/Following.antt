@@ -12,7 +12,7 @@ use Rattle.m11_asm_rules.specs.declared.definitions.Key.{Key}
 use Rattle.m11_asm_rules.specs.declared.definitions.Key.TheVariants.{Named, Numbered}
 use Rattle.m11_asm_rules.specs.Definitions.{has_key, is_same, last_definition}
 use Rattle.m11_asm_rules.specs.Labels.{with_definition, with_doubly_defined}
-use Rattle.m11_asm_rules.specs.Places.{place_in}
+use Rattle.m11_asm_rules.specs.Locations.{location_in}
 use Rattle.m11_asm_rules.specs.Tables.{Table}
 use Rattle.m11_asm_table.specs.declared.entries.Entry.{Entry}
 use Rattle.m11_asm_table.specs.Alike.{Follows}
@@ -101,7 +101,7 @@ with_definitions old new found last doubly_defined globals sections moves modes 
   doubly_defined = λ key. ap (has_key key) doubly_defined ∙ alike.doubly_defined key;
   globals = λ name. ap (list_any (λ global. is_same_name global name)) globals ∙ alike.globals name;
   sections = sections ∙ alike.sections;
-  counters = λ number. ap (place_in number) moves ∙ alike.counters number;
+  counters = λ number. ap (location_in number) moves ∙ alike.counters number;
   modes = modes ∙ alike.modes;
 }
 
@@ -168,7 +168,7 @@ with_key_doubly_defined old new other has definitions globals sections moves mod
       ∙ sym (has_one_more key table.doubly_defined other);
   globals = λ name. ap (list_any (λ global. is_same_name global name)) globals ∙ alike.globals name;
   sections = sections ∙ alike.sections;
-  counters = λ number. ap (place_in number) moves ∙ alike.counters number;
+  counters = λ number. ap (location_in number) moves ∙ alike.counters number;
   modes = modes ∙ alike.modes;
 }
 

@@ -4,8 +4,8 @@ use Rattle.std.proofs.lemmas.Bool.{eq-eqb, eqb-true}
 use Rattle.m11_base.specs.Rad50.{Name}
 use Rattle.m11_asm_rules.specs.declared.modes.Modes.{Modes}
 use Rattle.m11_asm_rules.specs.Changes.{with_move}
-use Rattle.m11_asm_rules.specs.Places.{Goes, Moved, Steps, in_section, place_after, place_in}
-use Rattle.m11_asm_rules.specs.Tables.{Table, place}
+use Rattle.m11_asm_rules.specs.Locations.{Goes, Moved, Steps, in_section, location_after, location_in}
+use Rattle.m11_asm_rules.specs.Tables.{Table, location}
 use Rattle.m11_asm_rules.proofs.Counters.{goes_there, stays_there, steps_on}
 use Rattle.m11_asm_table.specs.declared.entries.Entry.{Entry}
 use Rattle.m11_asm_table.specs.Alike.{Alike, Follows}
@@ -41,11 +41,11 @@ from_zero : (number : ℕ) → 0 + number ≡ number
 from_zero number = omega (arith)
 
 pub counter_placed : (number : ℕ) (counters : List ℕ)
-    → place_in number (counters_from 0 counters) ≡ place_after (move_of (slice_get counters number))
+    → location_in number (counters_from 0 counters) ≡ location_after (move_of (slice_get counters number))
 counter_placed number counters =
-    ap (λ (n : ℕ). place_in n (counters_from 0 counters)) (sym (from_zero number)) ∙ ap place_after (counter_moves number 0 counters)
+    ap (λ (n : ℕ). location_in n (counters_from 0 counters)) (sym (from_zero number)) ∙ ap location_after (counter_moves number 0 counters)
 
-just_set : (new : ℕ) → place_after (Goes new ∷ []) ≡ new % 65536
+just_set : (new : ℕ) → location_after (Goes new ∷ []) ≡ new % 65536
 just_set new = omega (arith)
 
 not_equal : (number other : ℕ) → (number == other) ≡ false → number ≢ other
@@ -55,18 +55,18 @@ swapped : (number other : ℕ) → number ≢ other → other ≢ number
 swapped number other h e = h (sym e)
 
 set_by : (counters : List ℕ) (number new other : ℕ) (moves : List Moved) (is_this : Bool) → (number == other) ≡ is_this
-    → number < length counters → place_in other (counters_from 0 counters) ≡ place_in other moves
-    → place_in other (counters_from 0 (slice_set counters number new)) ≡ place_in other (moves ++ in_section number (Goes new) ∷ [])
+    → number < length counters → location_in other (counters_from 0 counters) ≡ location_in other moves
+    → location_in other (counters_from 0 (slice_set counters number new)) ≡ location_in other (moves ++ in_section number (Goes new) ∷ [])
 set_by counters number new other moves true e h alike =
-    let P : ℕ → Type 0 = λ n. place_in n (counters_from 0 (slice_set counters number new))
-    ≡ place_in n (moves ++ in_section number (Goes new) ∷ []) in
+    let P : ℕ → Type 0 = λ n. location_in n (counters_from 0 (slice_set counters number new))
+    ≡ location_in n (moves ++ in_section number (Goes new) ∷ []) in
     subst P (eqb-true number other e)
     (counter_placed number (slice_set counters number new)
-    ∙ ap (λ (o : Option ℕ). place_after (move_of o)) (set_there counters number new h)
+    ∙ ap (λ (o : Option ℕ). location_after (move_of o)) (set_there counters number new h)
     ∙ just_set new ∙ sym (goes_there number new moves))
 set_by counters number new other moves false e h alike =
     counter_placed other (slice_set counters number new)
-    ∙ ap (λ (o : Option ℕ). place_after (move_of o))
+    ∙ ap (λ (o : Option ℕ). location_after (move_of o))
     (set_elsewhere counters number other new (swapped number other (not_equal number other e)))
     ∙ sym (counter_placed other counters) ∙ alike
     ∙ sym (stays_there other number (Goes new) moves (not_equal number other e))
@@ -84,7 +84,7 @@ module _ (names : List (Name × Entry)) (symbols : List ((ℕ × ℕ) × Entry))
     globals = alike.globals;
     sections = alike.sections;
     counters = λ other. set_by counters modes.section new other table.moves (modes.section == other) refl h (alike.counters other)
-        ∙ ap (λ (s : Modes). place_in other (table.moves ++ in_section s.section (Goes new) ∷ [])) alike.modes;
+        ∙ ap (λ (s : Modes). location_in other (table.moves ++ in_section s.section (Goes new) ∷ [])) alike.modes;
     modes = alike.modes;
   }
 
@@ -101,29 +101,29 @@ module _ (names : List (Name × Entry)) (symbols : List ((ℕ × ℕ) × Entry))
       let R : ℕ → Type 0 = λ n. n < length counters in
       subst P told (subst Q (sym e) (set_follows new (subst R e h)))
 
--- ---- a step is a place that is set
+-- ---- a step is a location that is set
 
-at_place : (new size before : ℕ) → new ≡ (before + size) % 65536 → new % 65536 ≡ (before + size) % 65536
-at_place new size before e = omega (arith, e)
+at_location : (new size before : ℕ) → new ≡ (before + size) % 65536 → new % 65536 ≡ (before + size) % 65536
+at_location new size before e = omega (arith, e)
 
 steps_by : (section new size other : ℕ) (moves : List Moved) (is_this : Bool) → (section == other) ≡ is_this
-    → new ≡ (place_in section moves + size) % 65536
-    → place_in other (moves ++ in_section section (Goes new) ∷ []) ≡ place_in other (moves ++ in_section section (Steps size) ∷ [])
+    → new ≡ (location_in section moves + size) % 65536
+    → location_in other (moves ++ in_section section (Goes new) ∷ []) ≡ location_in other (moves ++ in_section section (Steps size) ∷ [])
 steps_by section new size other moves true e is =
-    let P : ℕ → Type 0 = λ n. place_in n (moves ++ in_section section (Goes new) ∷ [])
-    ≡ place_in n (moves ++ in_section section (Steps size) ∷ []) in
+    let P : ℕ → Type 0 = λ n. location_in n (moves ++ in_section section (Goes new) ∷ [])
+    ≡ location_in n (moves ++ in_section section (Steps size) ∷ []) in
     subst P (eqb-true section other e)
-    (goes_there section new moves ∙ at_place new size (place_in section moves) is ∙ sym (steps_on section size moves))
+    (goes_there section new moves ∙ at_location new size (location_in section moves) is ∙ sym (steps_on section size moves))
 steps_by section new size other moves false e is =
     stays_there other section (Goes new) moves (not_equal section other e)
     ∙ sym (stays_there other section (Steps size) moves (not_equal section other e))
 
-pub step_follows : (old after : Table) (new size : ℕ) → new ≡ (place old + size) % 65536 → Follows old after (with_move (Goes new))
+pub step_follows : (old after : Table) (new size : ℕ) → new ≡ (location old + size) % 65536 → Follows old after (with_move (Goes new))
     → Follows old after (with_move (Steps size))
 step_follows old after new size e follows table alike =
     let went : Alike after (with_move (Goes new) table) = follows table alike in
-    let same : place old ≡ place table = alike.counters old.modes.section
-    ∙ ap (λ (s : Modes). place_in s.section table.moves) alike.modes in
+    let same : location old ≡ location table = alike.counters old.modes.section
+    ∙ ap (λ (s : Modes). location_in s.section table.moves) alike.modes in
     record {
       definitions = went.definitions;
       doubly_defined = went.doubly_defined;

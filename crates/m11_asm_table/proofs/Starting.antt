@@ -4,7 +4,7 @@ use Rattle.m11_base.specs.Names.{absolute_name, blank_name}
 use Rattle.m11_base.specs.Rad50.{Name}
 use Rattle.std.specs.Option.{unwrap_or}
 use Rattle.m11_base.proofs.NameWords.{absolute_words}
-use Rattle.m11_asm_rules.specs.Places.{place_after, place_in}
+use Rattle.m11_asm_rules.specs.Locations.{location_after, location_in}
 use Rattle.m11_asm_rules.specs.Sections.{number_of, of_absolute, of_program, section}
 use Rattle.m11_asm_rules.specs.declared.sections.Section.{Section}
 use Rattle.m11_asm_rules.specs.Tables.{Table, first_table}
@@ -13,14 +13,14 @@ use Rattle.m11_asm_table.specs.Entries.{counters_from, no_counters, empty_table,
 use Rattle.m11_asm_table.proofs.Counting.{move_of}
 use Rattle.m11_asm_table.proofs.Moving.{counter_placed}
 
-zero_there : (count number : ℕ) → place_after (move_of (slice_get (replicate count 0) number)) ≡ 0
+zero_there : (count number : ℕ) → location_after (move_of (slice_get (replicate count 0) number)) ≡ 0
 zero_there zero number = refl
 zero_there (suc count) zero = refl
 zero_there (suc count) (suc number) = zero_there count number
 
-no_place : (number : ℕ) → place_in number (counters_from 0 no_counters) ≡ 0
+no_location : (number : ℕ) → location_in number (counters_from 0 no_counters) ≡ 0
 unfolding no_counters
-no_place number = counter_placed number (replicate 64 0) ∙ zero_there 64 number
+no_location number = counter_placed number (replicate 64 0) ∙ zero_there 64 number
 
 abbrev nothing_defined : Table
 nothing_defined = record first_table { definitions = [] }
@@ -35,7 +35,7 @@ empty_alike = record {
   doubly_defined = λ key. refl;
   globals = λ name. refl;
   sections = refl;
-  counters = λ number. no_place number;
+  counters = λ number. no_location number;
   modes = refl;
 }
 

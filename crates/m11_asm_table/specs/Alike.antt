@@ -5,7 +5,7 @@ use Rattle.std.specs.List.{list_any}
 use Rattle.m11_base.specs.Rad50.{Name, is_same_name}
 use Rattle.m11_asm_rules.specs.declared.definitions.Key.{Key}
 use Rattle.m11_asm_rules.specs.Definitions.{has_key, last_definition}
-use Rattle.m11_asm_rules.specs.Places.{place_in}
+use Rattle.m11_asm_rules.specs.Locations.{location_in}
 use Rattle.m11_asm_rules.specs.Tables.{Table}
 
 pub record Alike (one other : Table) : Type 0 where
@@ -15,7 +15,7 @@ pub record Alike (one other : Table) : Type 0 where
   pub globals : (name : Name) → list_any (λ global. is_same_name global name) one.globals
       ≡ list_any (λ global. is_same_name global name) other.globals
   pub sections : one.sections ≡ other.sections
-  pub counters : (number : ℕ) → place_in number one.moves ≡ place_in number other.moves
+  pub counters : (number : ℕ) → location_in number one.moves ≡ location_in number other.moves
   pub modes : one.modes ≡ other.modes
 
 -- what changes a table so leaves it alike each table to which the same was done, if it was alike that before

@@ -9,27 +9,27 @@ use Rattle.m11_asm_rules.specs.Meanings.{Map, flag_D, quantity_of}
 use Rattle.m11_asm_rules.specs.Tables.{Table}
 use Rattle.m11_asm_table.specs.declared.entries.Entry.{Entry}
 
--- the map and the table, where the symbol stands, and the place that `.` is
+-- the map and the table, where the symbol stands, and the location that `.` is
 pub record Asked : Type 0 where
   pub map : Map
   pub context : Context
   pub table : Table
-  pub place : ℕ
+  pub location : ℕ
 
 abbrev pub asked : Map → Context → Table → ℕ → Asked
-asked map context table place = record { map = map; context = context; table = table; place = place }
+asked map context table location = record { map = map; context = context; table = table; location = location }
 
 -- a question that firm names alone answer
 pub record FirmAsked : Type 0 where
   pub table : Table
-  pub place : ℕ
+  pub location : ℕ
 
 abbrev pub firm_asked : Table → ℕ → FirmAsked
-firm_asked table place = record { table = table; place = place }
+firm_asked table location = record { table = table; location = location }
 
 -- what `.` stands for
 abbrev pub counted : ℕ → Kind → Quantity
-counted place kind = record { number = place; kind = kind; flags = 0 }
+counted location kind = record { number = location; kind = kind; flags = 0 }
 
 -- what is kept of a key gives a value, with D where the key is doubly defined; where nothing is kept there is something else
 abbrev pub given_by : Bool → Quantity → Option Entry → Quantity

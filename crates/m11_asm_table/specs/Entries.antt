@@ -9,7 +9,7 @@ use Rattle.m11_asm_rules.specs.declared.sections.Section.{Section}
 use Rattle.m11_asm_rules.specs.declared.modes.Modes.{Modes}
 use Rattle.m11_asm_rules.specs.Definitions.{registers}
 use Rattle.m11_asm_rules.specs.Labels.{with_definition}
-use Rattle.m11_asm_rules.specs.Places.{Goes, Moved, in_section}
+use Rattle.m11_asm_rules.specs.Locations.{Goes, Moved, in_section}
 use Rattle.m11_asm_rules.specs.Tables.{Table, first_modes}
 use Rattle.m11_asm_table.specs.declared.entries.Entry.{Entry}
 

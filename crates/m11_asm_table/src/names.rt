@@ -20,13 +20,13 @@ use m11_scan::{ErrorFlags, Radix};
 use m11_scan_values::{Kind, Names, Symbol, Value};
 use std::marker::Model;
 
-/// What symbols stand for where `.` is a place: the last definition before the line, or else that of the map.
+/// What symbols stand for where `.` is a location: the last definition before the line, or else that of the map.
 #[derive(Drop)]
 pub struct NamesAt<'a> {
     map: &'a Map<'a>,
     context: Context,
     table: &'a Table,
-    place: u16,
+    location: u16,
 }
 
 impl<'a> Model for NamesAt<'a> {
@@ -34,19 +34,19 @@ impl<'a> Model for NamesAt<'a> {
 
     ghost Value = { Asked };
 
-    ghost view = { λ n. asked n.map.now n.context n.table.now n.place };
+    ghost view = { λ n. asked n.map.now n.context n.table.now n.location };
 }
 
 impl<'a> NamesAt<'a> {
-    /// Names where `.` is a place, in a word or elsewhere.
-    pub fn new(map: &'a Map<'a>, context: Context, table: &'a Table, place: u16) -> NamesAt<'a>
-        ensures { result ≡ asked map.now context table.now place }
+    /// Names where `.` is a location, in a word or elsewhere.
+    pub fn new(map: &'a Map<'a>, context: Context, table: &'a Table, location: u16) -> NamesAt<'a>
+        ensures { result ≡ asked map.now context table.now location }
     {
         NamesAt {
             map,
             context,
             table,
-            place,
+            location,
         }
     }
 }
@@ -54,7 +54,7 @@ impl<'a> NamesAt<'a> {
 impl<'a> Names for NamesAt<'a> {
     ghost base = { λ n. n.table.modes.radix };
 
-    ghost stands_for = { λ n symbol. stands_for n.map n.context n.table n.place symbol };
+    ghost stands_for = { λ n symbol. stands_for n.map n.context n.table n.location symbol };
 
     fn radix(&self) -> Radix {
         self.table.modes().radix
@@ -73,16 +73,16 @@ impl<'a> Names for NamesAt<'a> {
                 let block = self.table.modes().block;
                 meaning_of(self.map, other, self.table, &Key::Numbered(block, number))
             }
-            Symbol::Counter => counter_value(self.table, self.place),
+            Symbol::Counter => counter_value(self.table, self.location),
         }
     }
 }
 
-/// What sizes, places, conditions and repeats see: firm names of the lines before alone. Any other counts as 0, with U.
+/// What sizes, locations, conditions and repeats see: firm names of the lines before alone. Any other counts as 0, with U.
 #[derive(Drop)]
 pub struct FirmNames<'a> {
     table: &'a Table,
-    place: u16,
+    location: u16,
 }
 
 impl<'a> Model for FirmNames<'a> {
@@ -90,22 +90,22 @@ impl<'a> Model for FirmNames<'a> {
 
     ghost Value = { FirmAsked };
 
-    ghost view = { λ n. firm_asked n.table.now n.place };
+    ghost view = { λ n. firm_asked n.table.now n.location };
 }
 
 impl<'a> FirmNames<'a> {
-    /// Firm names where `.` is a place.
-    pub fn new(table: &'a Table, place: u16) -> FirmNames<'a>
-        ensures { result ≡ firm_asked table.now place }
+    /// Firm names where `.` is a location.
+    pub fn new(table: &'a Table, location: u16) -> FirmNames<'a>
+        ensures { result ≡ firm_asked table.now location }
     {
-        FirmNames { table, place }
+        FirmNames { table, location }
     }
 }
 
 impl<'a> Names for FirmNames<'a> {
     ghost base = { λ n. n.table.modes.radix };
 
-    ghost stands_for = { λ n symbol. stands_for empty_map LocalOnly (firm_table n.table) n.place symbol };
+    ghost stands_for = { λ n symbol. stands_for empty_map LocalOnly (firm_table n.table) n.location symbol };
 
     fn radix(&self) -> Radix {
         self.table.modes().radix
@@ -120,17 +120,17 @@ impl<'a> Names for FirmNames<'a> {
                 let block = self.table.modes().block;
                 firm_meaning_of(self.table, &Key::Numbered(block, number))
             }
-            Symbol::Counter => counter_value(self.table, self.place),
+            Symbol::Counter => counter_value(self.table, self.location),
         }
     }
 }
 
 // What `.` stands for.
-fn counter_value(table: &Table, place: u16) -> Value
-    ensures { quantity result ≡ counted place (kind_here table.now) }
+fn counter_value(table: &Table, location: u16) -> Value
+    ensures { quantity result ≡ counted location (kind_here table.now) }
 {
     Value {
-        number: place,
+        number: location,
         kind: table.kind_here(),
         flags: ErrorFlags::none(),
     }

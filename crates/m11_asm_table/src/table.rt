@@ -10,11 +10,11 @@ ghost use Rattle.m11_asm_rules.specs.Definitions.{has_key, is_defined, is_labell
 ghost use Rattle.m11_asm_rules.specs.Labels.{with_block, with_definition, with_doubly_defined, with_global};
 ghost use Rattle.m11_asm_rules.specs.Limits.{most_sections};
 ghost use Rattle.m11_asm_rules.specs.Meanings.{is_firm, is_firm_in};
-ghost use Rattle.m11_asm_rules.specs.Places.{Goes, Steps};
+ghost use Rattle.m11_asm_rules.specs.Locations.{Goes, Steps};
 ghost use Rattle.m11_asm_rules.specs.Psects.{known_section};
 ghost use Rattle.m11_asm_rules.specs.Relocations.{is_here, is_moved};
 ghost use Rattle.m11_asm_rules.specs.Sections.{number_of, numbered, of_program, section};
-ghost use Rattle.m11_asm_rules.specs.Tables.{first_table, kind_here, place, section_name};
+ghost use Rattle.m11_asm_rules.specs.Tables.{first_table, kind_here, location, section_name};
 ghost use Rattle.m11_asm_rules.specs.declared.definitions.Key.TheVariants.{Named, Numbered};
 ghost use Rattle.m11_asm_table.specs.Alike.{Alike, Follows};
 ghost use Rattle.m11_asm_table.specs.Entries as entries;
@@ -238,13 +238,13 @@ impl Table {
     }
 
     /// Where the counter of the section stands.
-    pub fn place(&self) -> u16
-        ensures { result ≡ place self.now }
+    pub fn location(&self) -> u16
+        ensures { result ≡ location self.now }
     {
         counter_at(&self.counters, self.modes.section)
     }
 
-    /// What places of the section count from.
+    /// What locations of the section count from.
     pub fn kind_here(&self) -> Kind
         ensures { result ≡ kind_here self.now }
     {
@@ -493,12 +493,12 @@ impl Table {
         self.modes = modes;
     }
 
-    /// Sets the counter of the section to a place.
-    pub fn go_to(&mut self, place: u16)
+    /// Sets the counter of the section to a location.
+    pub fn go_to(&mut self, location: u16)
         requires { self.old.modes.section < 64 }
-        ensures { Follows self.old self.new (with_move (Goes place)) }
+        ensures { Follows self.old self.new (with_move (Goes location)) }
     {
-        self.counters[usize::from(self.modes.section)] = place;
+        self.counters[usize::from(self.modes.section)] = location;
     }
 
     /// Moves the counter of the section on by some bytes, modulo 65536.
@@ -506,8 +506,8 @@ impl Table {
         requires { self.old.modes.section < 64 }
         ensures { Follows self.old self.new (with_move (Steps size)) }
     {
-        let place = (u64::from(self.place()) + u64::from(size)) % 65536;
-        self.go_to(place as u16);
+        let location = (u64::from(self.location()) + u64::from(size)) % 65536;
+        self.go_to(location as u16);
     }
 }
 

@@ -16,26 +16,26 @@ pub(crate) fn name(characters: &[u8; 6]) -> Result<Name, Fail> {
     Ok(Name::pack(characters).ok_or("characters with codes")?)
 }
 
-pub(crate) fn word(section: Name, place: u16, constant: u16, kind: RelocationKind) -> Piece {
+pub(crate) fn word(section: Name, location: u16, constant: u16, kind: RelocationKind) -> Piece {
     Piece {
         section,
-        place,
+        location,
         content: PieceContent::Word(Stored { constant, kind }),
     }
 }
 
-pub(crate) fn byte(section: Name, place: u16, constant: u16, kind: RelocationKind) -> Piece {
+pub(crate) fn byte(section: Name, location: u16, constant: u16, kind: RelocationKind) -> Piece {
     Piece {
         section,
-        place,
+        location,
         content: PieceContent::Byte(Stored { constant, kind }),
     }
 }
 
-pub(crate) fn limit_pair(section: Name, place: u16) -> Piece {
+pub(crate) fn limit_pair(section: Name, location: u16) -> Piece {
     Piece {
         section,
-        place,
+        location,
         content: PieceContent::Limits,
     }
 }

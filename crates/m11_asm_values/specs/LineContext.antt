@@ -12,15 +12,15 @@ use Rattle.m11_asm_rules.specs.Tables.{Table}
 pub record Standpoint : Type 0 where
   pub map : Map
   pub table : Table
-  pub place : ℕ
+  pub location : ℕ
   pub line : Bytes
 
 abbrev pub standpoint : Map → Table → ℕ → Bytes → Standpoint
-standpoint map table place line = record { map = map; table = table; place = place; line = line }
+standpoint map table location line = record { map = map; table = table; location = location; line = line }
 
 abbrev pub line_context_of : Standpoint → LineContext
-line_context_of here = line_context here.map here.table here.place here.line
+line_context_of here = line_context here.map here.table here.location here.line
 
--- the fields of an instruction, the place after them, and their flags
+-- the fields of an instruction, the column after them, and their flags
 abbrev pub fields_of : List Field → ℕ → ℕ → Fields
 fields_of list end flags = record { list = list; end = end; flags = flags }

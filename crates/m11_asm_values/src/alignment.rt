@@ -1,4 +1,5 @@
-//! Even and odd places. (MACRO-11 Language Reference Manual, "Diagnostic error message summary", B; ".EVEN directive" and ".ODD directive".)
+//! Even and odd locations. (MACRO-11 Language Reference Manual, "Diagnostic error message summary", B; ".EVEN directive" and ".ODD
+//! directive".)
 
 ghost use Rattle.std.specs.Prelude.{◌≡◌, ◌≤◌};
 ghost use Rattle.m11_asm_rules.specs.Alignment as spec;
@@ -6,40 +7,40 @@ ghost use Rattle.m11_scan.specs.Views.{bits_of};
 
 use m11_scan::ErrorFlags;
 
-/// How many bytes a place lies before the next even one: 0 or 1.
-pub fn to_even(place: u16) -> u16
-    ensures bytes { result ≡ spec.to_even place }
+/// How many bytes a location lies before the next even one: 0 or 1.
+pub fn to_even(location: u16) -> u16
+    ensures bytes { result ≡ spec.to_even location }
     ensures most { result ≤ 1 }
 {
-    place % 2
+    location % 2
 }
 
-/// How many bytes a place lies before the next odd one: 0 or 1.
-pub fn to_odd(place: u16) -> u16
-    ensures bytes { result ≡ spec.to_odd place }
+/// How many bytes a location lies before the next odd one: 0 or 1.
+pub fn to_odd(location: u16) -> u16
+    ensures bytes { result ≡ spec.to_odd location }
     ensures most { result ≤ 1 }
 {
-    1 - place % 2
+    1 - location % 2
 }
 
-/// The bytes that are passed over before what has to stand at an even place: 0 or 1.
-pub fn gap(is_even: bool, place: u16) -> u16
-    ensures bytes { result ≡ spec.gap is_even place }
+/// The bytes that are passed over before what has to stand at an even location: 0 or 1.
+pub fn gap(is_even: bool, location: u16) -> u16
+    ensures bytes { result ≡ spec.gap is_even location }
     ensures most { result ≤ 1 }
 {
-    if is_even { to_even(place) } else { 0 }
+    if is_even { to_even(location) } else { 0 }
 }
 
 /// Where it stands.
-pub fn place_for(is_even: bool, place: u16) -> u16
-    ensures { result ≡ spec.place_for is_even place }
+pub fn location_for(is_even: bool, location: u16) -> u16
+    ensures { result ≡ spec.location_for is_even location }
 {
-    place.wrapping_add(gap(is_even, place))
+    location.wrapping_add(gap(is_even, location))
 }
 
 /// B where bytes were passed over.
-pub fn gap_flags(is_even: bool, place: u16) -> ErrorFlags
-    ensures { bits_of result ≡ spec.gap_flags is_even place }
+pub fn gap_flags(is_even: bool, location: u16) -> ErrorFlags
+    ensures { bits_of result ≡ spec.gap_flags is_even location }
 {
-    ErrorFlags::B.when(gap(is_even, place) == 1)
+    ErrorFlags::B.when(gap(is_even, location) == 1)
 }

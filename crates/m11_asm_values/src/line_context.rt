@@ -13,12 +13,12 @@ use m11_scan_values::{Names, Value, term_value};
 use m11_unfold_arguments::value_at;
 use std::marker::Model;
 
-/// Where a line stands: what a whole source gives its names in the end, what the lines before say, the place, and the line.
+/// Where a line stands: what a whole source gives its names in the end, what the lines before say, the location, and the line.
 #[derive(Drop)]
 pub struct LineContext<'a> {
     map: &'a Map<'a>,
     table: &'a Table,
-    place: u16,
+    location: u16,
     line: &'a Line,
 }
 
@@ -27,30 +27,30 @@ impl<'a> Model for LineContext<'a> {
 
     ghost Value = { Standpoint };
 
-    ghost view = { λ s. standpoint s.map.now s.table.now s.place s.line.now.text };
+    ghost view = { λ s. standpoint s.map.now s.table.now s.location s.line.now.text };
 }
 
 impl<'a> LineContext<'a> {
-    /// A line at a place.
-    pub fn new(map: &'a Map<'a>, table: &'a Table, place: u16, line: &'a Line) -> LineContext<'a>
-        ensures { result ≡ standpoint map.now table.now place line.now.text }
+    /// A line at a location.
+    pub fn new(map: &'a Map<'a>, table: &'a Table, location: u16, line: &'a Line) -> LineContext<'a>
+        ensures { result ≡ standpoint map.now table.now location line.now.text }
     {
         LineContext {
             map,
             table,
-            place,
+            location,
             line,
         }
     }
 
-    /// The context at another place of the line.
-    pub fn at(&self, place: u16) -> LineContext<'a>
-        ensures { result ≡ standpoint self.now.map self.now.table place self.now.line }
+    /// The context at another location of the line.
+    pub fn at(&self, location: u16) -> LineContext<'a>
+        ensures { result ≡ standpoint self.now.map self.now.table location self.now.line }
     {
         LineContext {
             map: self.map,
             table: self.table,
-            place,
+            location,
             line: self.line,
         }
     }
@@ -69,11 +69,11 @@ impl<'a> LineContext<'a> {
         self.table
     }
 
-    /// The place of the line.
-    pub fn place(&self) -> u16
-        ensures { result ≡ self.now.place }
+    /// The location of the line.
+    pub fn location(&self) -> u16
+        ensures { result ≡ self.now.location }
     {
-        self.place
+        self.location
     }
 
     /// The line.
@@ -83,42 +83,42 @@ impl<'a> LineContext<'a> {
         self.line
     }
 
-    /// The value of the expression at a place of the line, in a register, a target or a number.
+    /// The value of the expression at a column of the line, in a register, a target or a number.
     pub fn value(&self, start: u8) -> Value
         ensures { quantity result ≡ expressions.value_at (line_context_of self.now).known self.now.line start }
     {
-        let names = NamesAt::new(self.map, Context::LocalOnly, self.table, self.place);
+        let names = NamesAt::new(self.map, Context::LocalOnly, self.table, self.location);
         value_from(self.line, start, &names)
     }
 
-    /// The value of the expression at a place of the line, with its one token where it was found to be one term.
+    /// The value of the expression at a column of the line, with its one token where it was found to be one term.
     pub fn value_by(&self, start: u8, term: Option<Token>) -> Value
         requires { IfSome term (λ term. IsAlone self.now.line start term) }
         ensures { quantity result ≡ expressions.value_at (line_context_of self.now).known self.now.line start }
     {
-        let names = NamesAt::new(self.map, Context::LocalOnly, self.table, self.place);
+        let names = NamesAt::new(self.map, Context::LocalOnly, self.table, self.location);
         value_by_term(self.line, start, term, &names)
     }
 
-    /// The value of the expression at a place of the line, in a word: it may refer to other objects.
+    /// The value of the expression at a column of the line, in a word: it may refer to other objects.
     pub fn reference(&self, start: u8) -> Value
         ensures { quantity result ≡ expressions.value_at (line_context_of self.now).refers self.now.line start }
     {
-        let names = NamesAt::new(self.map, Context::MayBeGlobal, self.table, self.place);
+        let names = NamesAt::new(self.map, Context::MayBeGlobal, self.table, self.location);
         value_from(self.line, start, &names)
     }
 
-    /// The value of the expression at a place of the line, in a word, with its one token where it was found to be one term.
+    /// The value of the expression at a column of the line, in a word, with its one token where it was found to be one term.
     pub fn reference_by(&self, start: u8, term: Option<Token>) -> Value
         requires { IfSome term (λ term. IsAlone self.now.line start term) }
         ensures { quantity result ≡ expressions.value_at (line_context_of self.now).refers self.now.line start }
     {
-        let names = NamesAt::new(self.map, Context::MayBeGlobal, self.table, self.place);
+        let names = NamesAt::new(self.map, Context::MayBeGlobal, self.table, self.location);
         value_by_term(self.line, start, term, &names)
     }
 }
 
-// The value of the expression at a place of a line. After its end there is none, as at its end.
+// The value of the expression at a column of a line. After its end there is none, as at its end.
 pub(crate) fn value_from<N: Names>(line: &Line, start: u8, names: &N) -> Value
     ensures { quantity result
         ≡ expressions.value_at (known_by (N.base names.now) (N.stands_for names.now)) line.now.text start }

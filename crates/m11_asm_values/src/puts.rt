@@ -11,7 +11,7 @@ use m11_scan::ErrorFlags;
 use std::alloc::{AllocError, Global};
 use std::marker::Model;
 
-/// What stands at places, one after the other, and flags. Each call that puts something adds its own.
+/// What stands at locations, one after the other, and flags. Each call that puts something adds its own.
 #[derive(Drop)]
 pub struct Put {
     contents: Vec<PieceContent>,

@@ -1,4 +1,4 @@
-//! What a linker does to the values that a line puts at its places. (MACRO-11 Language Reference Manual, "Relocation and linking"; RT-11
+//! What a linker does to the values that a line puts at its locations. (MACRO-11 Language Reference Manual, "Relocation and linking"; RT-11
 //! Volume and File Formats Manual, "Object file format", RLD block.)
 
 ghost use Rattle.std.specs.Prelude.{◌≡◌};
@@ -75,7 +75,7 @@ impl Row {
         }
     }
 
-    // What a linker does to the value, relative to its place or not, in a section that is moved or not.
+    // What a linker does to the value, relative to its location or not, in a section that is moved or not.
     pub(crate) fn relocation(self, is_relative: bool, is_moved: bool) -> RelocationKind
         ensures { result ≡ spec.relocation_by is_relative is_moved self }
     {
@@ -116,32 +116,32 @@ fn relocation_of(table: &Table, is_relative: bool, kind: Kind) -> RelocationKind
     row_of(table, &kind).relocation(is_relative, table.is_moved())
 }
 
-// What stands at a place for a value.
+// What stands at a location for a value.
 pub(crate) fn stored(
     line_context: &LineContext,
     is_relative: bool,
-    place: u16,
+    location: u16,
     value: Value,
 ) -> Stored
-    ensures { result ≡ spec.stored line_context.now.table is_relative place (quantity value) }
+    ensures { result ≡ spec.stored line_context.now.table is_relative location (quantity value) }
 {
     let kind = relocation_of(line_context.table(), is_relative, value.kind);
-    stored_as(is_relative, kind, place, value.number)
+    stored_as(is_relative, kind, location, value.number)
 }
 
-/// How far a target lies from the place after a word, in bytes, modulo 65536.
-pub fn distance(place: u16, target: u16) -> u16
-    ensures { result ≡ spec.distance place target }
+/// How far a target lies from the location after a word, in bytes, modulo 65536.
+pub fn distance(location: u16, target: u16) -> u16
+    ensures { result ≡ spec.distance location target }
 {
-    ((u32::from(target) + 131072 - (u32::from(place) + 2)) % 65536) as u16
+    ((u32::from(target) + 131072 - (u32::from(location) + 2)) % 65536) as u16
 }
 
-// A value at a place with what a linker does to it. A relative operand that no linker changes has its distance.
-pub(crate) fn stored_as(is_relative: bool, kind: RelocationKind, place: u16, number: u16) -> Stored
-    ensures { result ≡ spec.stored_as is_relative kind place number }
+// A value at a location with what a linker does to it. A relative operand that no linker changes has its distance.
+pub(crate) fn stored_as(is_relative: bool, kind: RelocationKind, location: u16, number: u16) -> Stored
+    ensures { result ≡ spec.stored_as is_relative kind location number }
 {
     match kind {
-        RelocationKind::Fixed if is_relative => fixed(distance(place, number)),
+        RelocationKind::Fixed if is_relative => fixed(distance(location, number)),
         _ => Stored {
             constant: number,
             kind,

@@ -14,11 +14,11 @@ use m11_scan::ErrorFlags;
 use m11_scan_values::Value;
 use std::alloc::AllocError;
 
-/// The place `size` bytes after another, modulo 65536.
-pub fn further(place: u16, size: u16) -> u16
-    ensures { result ≡ spec.further place size }
+/// The location `size` bytes after another, modulo 65536.
+pub fn further(location: u16, size: u16) -> u16
+    ensures { result ≡ spec.further location size }
 {
-    place.wrapping_add(size)
+    location.wrapping_add(size)
 }
 
 // T for a byte whose high byte is neither 000 nor 377.
@@ -34,34 +34,34 @@ fn is_byte_high(number: u16) -> bool
     number == 0 || number == 0o377
 }
 
-/// A value as a word, relative to the place after it or not. Error: memory may be refused.
+/// A value as a word, relative to the location after it or not. Error: memory may be refused.
 pub fn put_word(
     put: &mut Put,
     line_context: &LineContext,
     is_relative: bool,
-    place: u16,
+    location: u16,
     value: Value,
 ) -> Result<(), AllocError>
     ensures { IfOk result (λ _. put.new ≡ followed_by put.old
-        (spec.word line_context.now.table is_relative place (quantity value))) }
+        (spec.word line_context.now.table is_relative location (quantity value))) }
 {
     let flags = value.flags.with(register_flags(value.kind));
-    put.add_word(stored(line_context, is_relative, place, value), flags)
+    put.add_word(stored(line_context, is_relative, location, value), flags)
 }
 
 /// A value as a byte: its number is asked, whatever it counts from. Error: memory may be refused.
 pub fn put_byte(
     put: &mut Put,
     line_context: &LineContext,
-    place: u16,
+    location: u16,
     value: Value,
 ) -> Result<(), AllocError>
     ensures { IfOk result (λ _. put.new ≡ followed_by put.old
-        (spec.byte line_context.now.table place (quantity value))) }
+        (spec.byte line_context.now.table location (quantity value))) }
 {
     let flags = value
         .flags
         .with(register_flags(value.kind))
         .with(byte_flags(value.number));
-    put.add_byte(stored(line_context, false, place, value), flags)
+    put.add_byte(stored(line_context, false, location, value), flags)
 }

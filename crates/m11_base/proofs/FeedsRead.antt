@@ -17,7 +17,7 @@ pub record SoFar {F : Type 0} (text : F → Option Text) (faults : F → ℕ) (i
   pub given : GiveAll text done sources
   pub unfailed : NoneFailed faults done done_now
 
--- the place of an element in a list of two parts
+-- the index of an element in a list of two parts
 split_part : {F : Type 0} (done left : List F) (i : ℕ) → length done ≡ i → i < length (done ++ left)
     → (x : F) × (rest : List F) × (left ≡ x ∷ rest)
 split_part [] [] i e h = absurd (omega arith)
@@ -112,7 +112,7 @@ module _ {F : Type 0} (text : F → Option Text) (faults : F → ℕ) where
         move_given initial s.done sources initial-is s.given,
       )
 
-  -- one more feed, at the place that the loop has reached
+  -- one more feed, at the index that the loop has reached
   module _ (initial now : List F) (index : ℕ) (sources : List (List ℕ))
       (s : SoFar text faults initial now index sources)
       (inside : index < length now) (d x z : F) (x-is : x ≡ get_or now index d) where

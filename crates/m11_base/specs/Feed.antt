@@ -96,7 +96,7 @@ abbrev pub BeginsWith : Option Text → Bytes → Type 0
 BeginsWith None bytes = ⊤
 BeginsWith (Some t) bytes = (rest : Bytes) × (t.bytes ≡ bytes ++ rest)
 
--- each feed's text is the list of bytes at its place
+-- each feed's text is the list of bytes at its index
 abbrev pub GiveAll : {F : Type 0} → (F → Option Text) → List F → List Bytes → Type 0
 GiveAll text [] [] = ⊤
 GiveAll text [] (source ∷ sources) = ⊥

@@ -11,9 +11,9 @@ is_name_character byte = (nat_le 0o101 byte && nat_le byte 0o132) || ((nat_le 0o
 abbrev pub folded : ℕ → ℕ
 folded byte = if nat_le 0o141 byte && nat_le byte 0o172 then byte - 0o40 else byte
 
--- a text's character at a place, folded; a blank after its end
+-- a text's character at an index, folded; a blank after its end
 abbrev pub character_at : List ℕ → ℕ → ℕ
-character_at text place = if nat_lt place (length text) then folded (slice_index text place) else 0o40
+character_at text index = if nat_lt index (length text) then folded (slice_index text index) else 0o40
 
 -- the six characters that count
 abbrev pub six_of : List ℕ → List ℕ

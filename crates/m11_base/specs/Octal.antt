@@ -33,9 +33,9 @@ octal_of (first ∷ rest) =
     if list_all is_octal_digit (first ∷ rest) then word_of_number (octal_value (first ∷ rest))
     else Err BadDigit
 
--- the digit of a word at a place
+-- the digit of a word at an index
 abbrev pub octal_digit : ℕ → ℕ → ℕ
-octal_digit word place = 0o60 + word / 8 ^ place % 8
+octal_digit word index = 0o60 + word / 8 ^ index % 8
 
 -- a word as six octal digits
 abbrev pub octal_text : ℕ → List ℕ

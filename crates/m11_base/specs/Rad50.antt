@@ -3,7 +3,7 @@
 -- as `%` and that no character gives it, is this project's own.
 use Rattle.std.specs.Prelude.{◌≢◌, ℕ, ◌+◌, ◌*◌, ◌/◌, ◌%◌, ◌<◌, List, [], ◌∷◌, ◌++◌, codes, slice_index, position, All, Option, Some, None, nat_lt, Bool, ◌==◌, ◌&&◌, if◌then◌else◌}
 
--- the characters, each at the place of its code
+-- the characters, each at the index of its code
 unfoldable pub alphabet : List ℕ
 alphabet = codes " ABCDEFGHIJKLMNOPQRSTUVWXYZ$.%0123456789"
 
@@ -26,11 +26,11 @@ word_of_codes (Some first) (Some second) None = None
 word_of_codes (Some first) None third = None
 word_of_codes None second third = None
 
--- the word of the three characters from a place of a text on, if each has a code
+-- the word of the three characters from an index of a text on, if each has a code
 abbrev pub packed_at : List ℕ → ℕ → Option ℕ
-packed_at text place =
-    word_of_codes (code_of (slice_index text place)) (code_of (slice_index text (place + 1)))
-    (code_of (slice_index text (place + 2)))
+packed_at text index =
+    word_of_codes (code_of (slice_index text index)) (code_of (slice_index text (index + 1)))
+    (code_of (slice_index text (index + 2)))
 
 -- the three characters of a word: those of its digits in base 40
 abbrev pub characters_of : ℕ → List ℕ

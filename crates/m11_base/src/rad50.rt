@@ -7,7 +7,7 @@ ghost use Rattle.m11_base.specs.Rad50.{code_of, character_of, packed_at, unpacke
 
 use std::marker::Model;
 
-// The characters, each at the place of its code.
+// The characters, each at the index of its code.
 const ALPHABET: &[u8; 40] = b" ABCDEFGHIJKLMNOPQRSTUVWXYZ$.%0123456789";
 
 // Words from this one on have no characters.

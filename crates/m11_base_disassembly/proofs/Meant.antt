@@ -21,7 +21,7 @@ use Rattle.m11_base_instructions.specs.declared.operand.Operand.{Operand}
 use Rattle.m11_base_disassembly.proofs.NamedRows.{IsNamed, found_of, is_blank, is_coded, is_condition, is_other, is_own, is_sound, others_coded, others_named, rows_named, rows_sound, word_near, word_same}
 use Rattle.m11_base_disassembly.proofs.Written.{both_are, first_are, operand_again}
 use Rattle.m11_base_disassembly.specs.Arguments.{operand_meant, words_of}
-use Rattle.m11_base_disassembly.specs.Instructions.{first_argument, named_row, place_after, operands_of, row_named, second_argument, size_by, size_of, statement_by, statement_of, words_after}
+use Rattle.m11_base_disassembly.specs.Instructions.{first_argument, named_row, location_after, operands_of, row_named, second_argument, size_by, size_of, statement_by, statement_of, words_after}
 use Rattle.m11_base_disassembly.specs.Meaning.{AreWords, IsMeant, Means, first_words, second_words}
 use Rattle.m11_base_disassembly.specs.Statements.{Nothing, Named}
 use Rattle.m11_base_disassembly.specs.Texts.{bare_name}
@@ -46,54 +46,54 @@ low_digits : (word : ℕ) → word % 64 < 64
 low_digits word = omega arith
 
 -- one operand, by its instruction
-with_one : (place : ℕ) (more : List ℕ) (word : ℕ) (o : Operand) (of : Operand → Insn) → AreWords more → words_of o ≤ length more
+with_one : (location : ℕ) (more : List ℕ) (word : ℕ) (o : Operand) (of : Operand → Insn) → AreWords more → words_of o ≤ length more
     → code_of (of o) ≡ word
     → take (1 + words_of o) (word ∷ more)
-    ≡ code_of (of (operand_meant (first_argument place more o))) ∷ first_words place (first_argument place more o)
-with_one place more word o of all there code =
-    let first = first_argument place more o in
+    ≡ code_of (of (operand_meant (first_argument location more o))) ∷ first_words location (first_argument location more o)
+with_one location more word o of all there code =
+    let first = first_argument location more o in
     take_one (words_of o) word more
-    ∙ joined word (code_of (of (operand_meant first))) (take (words_of o) more) (first_words place first)
-    (sym (ap (λ (x : Operand). code_of (of x)) (operand_again o (place_after place 4) (slice_index more 0)) ∙ code))
-    (sym (first_are place more o all there))
+    ∙ joined word (code_of (of (operand_meant first))) (take (words_of o) more) (first_words location first)
+    (sym (ap (λ (x : Operand). code_of (of x)) (operand_again o (location_after location 4) (slice_index more 0)) ∙ code))
+    (sym (first_are location more o all there))
 
-own_meant : (o : Op) (place word : ℕ) (more : List ℕ) → AreWords more → is_own o ≡ true → code_of (with_fields o word) ≡ word
+own_meant : (o : Op) (location word : ℕ) (more : List ℕ) → AreWords more → is_own o ≡ true → code_of (with_fields o word) ≡ word
     → words_after (with_fields o word) ≤ length more
-    → Means o (operands_of place more (with_fields o word)) place (take (1 + words_after (with_fields o word)) (word ∷ more))
-own_meant (op.Double operation size) place word more all own code there =
+    → Means o (operands_of location more (with_fields o word)) location (take (1 + words_after (with_fields o word)) (word ∷ more))
+own_meant (op.Double operation size) location word more all own code there =
     let s = operand_of (word / 64 % 64) in
     let d = operand_of (word % 64) in
-    let first = first_argument place more s in
-    let second = second_argument place more s d in
+    let first = first_argument location more s in
+    let second = second_argument location more s d in
     take_one (words_of s + words_of d) word more
     ∙ joined word (code_of (insn.Double operation size (operand_meant first) (operand_meant second)))
-    (take (words_of s + words_of d) more) (first_words place first ++ second_words place first second)
+    (take (words_of s + words_of d) more) (first_words location first ++ second_words location first second)
     (sym (ap₂ (λ (x y : Operand). code_of (insn.Double operation size x y))
-    (operand_again s (place_after place 4) (slice_index more 0))
-    (operand_again d (place_after place (4 + 2 * words_of s)) (slice_index more (words_of s))) ∙ code))
-    (sym (both_are place more s d all there))
-own_meant (op.Extended operation) place word more all own code there =
-    with_one place more word (operand_of (word % 64)) (λ x. insn.Extended operation (register_of (word / 64 % 8)) x) all there code
-own_meant (op.Register operation) place word more all own code there =
-    with_one place more word (operand_of (word % 64)) (λ x. insn.Register operation (register_of (word / 64 % 8)) x) all there code
-own_meant op.Sob place word more all own code there =
+    (operand_again s (location_after location 4) (slice_index more 0))
+    (operand_again d (location_after location (4 + 2 * words_of s)) (slice_index more (words_of s))) ∙ code))
+    (sym (both_are location more s d all there))
+own_meant (op.Extended operation) location word more all own code there =
+    with_one location more word (operand_of (word % 64)) (λ x. insn.Extended operation (register_of (word / 64 % 8)) x) all there code
+own_meant (op.Register operation) location word more all own code there =
+    with_one location more word (operand_of (word % 64)) (λ x. insn.Register operation (register_of (word / 64 % 8)) x) all there code
+own_meant op.Sob location word more all own code there =
     (word % 64, low_digits word, refl, ap (λ (w : ℕ). w ∷ []) (sym code))
-own_meant (op.Single operation size) place word more all own code there =
-    with_one place more word (operand_of (word % 64)) (λ x. insn.Single operation size x) all there code
-own_meant op.Rts place word more all own code there = ap (λ (w : ℕ). w ∷ []) (sym code)
-own_meant (op.Number operation) place word more all own code there =
+own_meant (op.Single operation size) location word more all own code there =
+    with_one location more word (operand_of (word % 64)) (λ x. insn.Single operation size x) all there code
+own_meant op.Rts location word more all own code there = ap (λ (w : ℕ). w ∷ []) (sym code)
+own_meant (op.Number operation) location word more all own code there =
     (number_fits operation word, ap (λ (w : ℕ). w ∷ []) (sym code))
-own_meant (op.Bare operation) place word more all own code there = ap (λ (w : ℕ). w ∷ []) (sym code)
-own_meant (op.Condition operation) place word more all own code there = absurd (false≢true own)
-own_meant (op.Branch operation) place word more all own code there = (
+own_meant (op.Bare operation) location word more all own code there = ap (λ (w : ℕ). w ∷ []) (sym code)
+own_meant (op.Condition operation) location word more all own code there = absurd (false≢true own)
+own_meant (op.Branch operation) location word more all own code there = (
   cast_signed w8 (word % 256),
   sfits_to_z {w = w8} {n = word % 256} (Fits-of_lt {w = w8} {n = word % 256} (low_byte word)),
   refl,
   ap (λ (w : ℕ). w ∷ []) (sym code),
 )
-own_meant op.Call place word more all own code there = absurd (false≢true own)
-own_meant op.Return place word more all own code there = absurd (false≢true own)
-own_meant (op.Codes operation condition_codes) place word more all own code there = absurd (false≢true own)
+own_meant op.Call location word more all own code there = absurd (false≢true own)
+own_meant op.Return location word more all own code there = absurd (false≢true own)
+own_meant (op.Codes operation condition_codes) location word more all own code there = absurd (false≢true own)
 
 -- ---- a line of a row
 
@@ -119,7 +119,7 @@ not_so false e = refl
 
 -- the line of a word, and how many words it means
 abbrev IsMeantBy : ℕ → ℕ → List ℕ → Option Row → Type 0
-IsMeantBy place word more row = IsMeant place (statement_by row place word more) (take (size_by row word) (word ∷ more))
+IsMeantBy location word more row = IsMeant location (statement_by row location word more) (take (size_by row word) (word ∷ more))
 
 -- no other name has a code from 240 to 277
 no_other : (mask value word : ℕ) → word < 65536 → ((mask == 65535 && value == 135) || nat_le 192 value) ≡ true
@@ -137,43 +137,43 @@ no_other mask value word fits coded is least most =
         let small = eqb-true value 135 parts.1 in omega (arith, same, small, least)
 
 -- a name of condition codes has no operands, and its code is the word
-coded_meant : (o : Op) (mask value place word : ℕ) → word < 65536 → is_coded o mask value ≡ true → bit_and word mask ≡ value
-    → 160 ≤ word → word ≤ 191 → Means o Nothing place (word ∷ [])
-coded_meant (op.Codes operation condition_codes) mask value place word fits coded is least most =
+coded_meant : (o : Op) (mask value location word : ℕ) → word < 65536 → is_coded o mask value ≡ true → bit_and word mask ≡ value
+    → 160 ≤ word → word ≤ 191 → Means o Nothing location (word ∷ [])
+coded_meant (op.Codes operation condition_codes) mask value location word fits coded is least most =
     let parts = and_parts (mask == 65535) (value == code_of (insn.Condition operation condition_codes)) coded in
     let P : ℕ → Type 0 = λ m. bit_and word m ≡ value in
     let same = word_same word value fits (subst P (eqb-true mask 65535 parts.0) is) in
     ap (λ (w : ℕ). w ∷ [])
     (same ∙ eqb-true value (code_of (insn.Condition operation condition_codes)) parts.1)
-coded_meant other mask value place word fits coded is least most =
+coded_meant other mask value location word fits coded is least most =
     absurd (no_other mask value word fits coded is least most)
 
-module _ (place word : ℕ) (more : List ℕ) (fits : word < 65536) (all : AreWords more)
+module _ (location word : ℕ) (more : List ℕ) (fits : word < 65536) (all : AreWords more)
     (there : words_after (instruction_of word) ≤ length more) where
-  own_row : (row : Row) → row_of word ≡ Some row → is_blank row ≡ false → IsMeantBy place word more (Some row)
+  own_row : (row : Row) → row_of word ≡ Some row → is_blank row ≡ false → IsMeantBy location word more (Some row)
   own_row row e named =
       let is = instruction_is word row e in
       let own = otherwise (is_blank row) _ (is_own row.operation)
       (found_of (is_of word) (λ r. is_sound r ≡ true) rows row rows_sound (in_rows word row e)).0 named in
-      let P : Insn → Type 0 = λ i. Means row.operation (operands_of place more i) place (take (1 + words_after i) (word ∷ more)) in
+      let P : Insn → Type 0 = λ i. Means row.operation (operands_of location more i) location (take (1 + words_after i) (word ∷ more)) in
       let Q : Insn → Type 0 = λ i. words_after i ≤ length more in (
         row.operation,
         (found_of (is_of word) IsNamed rows row rows_named (in_rows word row e)).0 named,
-        subst P is (own_meant row.operation place word more all own (ap code_of is ∙ code_again word fits) (subst Q (sym is) there)),
+        subst P is (own_meant row.operation location word more all own (ap code_of is ∙ code_again word fits) (subst Q (sym is) there)),
       )
 
   -- the rows without names are those of condition codes
   no_operands : (o : Op) → is_condition o ≡ true → with_fields o word ≡ instruction_of word → (name : List ℕ) (other : Op)
-      → operation_named (bare_name name) ≡ Some other → Means other Nothing place (word ∷ [])
-      → IsMeant place (Named name (operands_of place more (instruction_of word)))
+      → operation_named (bare_name name) ≡ Some other → Means other Nothing location (word ∷ [])
+      → IsMeant location (Named name (operands_of location more (instruction_of word)))
       (take (1 + words_after (instruction_of word)) (word ∷ more))
   no_operands (op.Condition operation) so is name other named means =
-      let P : Insn → Type 0 = λ i. IsMeant place (Named name (operands_of place more i)) (take (1 + words_after i) (word ∷ more)) in
+      let P : Insn → Type 0 = λ i. IsMeant location (Named name (operands_of location more i)) (take (1 + words_after i) (word ∷ more)) in
       subst P is (other, named, means)
   no_operands other so is name o named means = absurd (false≢true so)
 
   other_row : (row other : Row) → row_of word ≡ Some row → is_blank row ≡ true → find (is_of word) other_names ≡ Some other
-      → IsMeantBy place word more (Some other)
+      → IsMeantBy location word more (Some other)
   other_row row other e blank f =
       let found = found_of (is_of word) (λ r. is_sound r ≡ true) rows row rows_sound (in_rows word row e) in
       let so = then_so (is_blank row) (is_condition row.operation && (row.mask == 65520 && (nat_le 160 row.value && nat_le row.value 176)))
@@ -188,32 +188,32 @@ module _ (place word : ℕ) (more : List ℕ) (fits : word < 65536) (all : AreWo
       let coded = and_parts (not (is_blank other)) (is_coded other.operation other.mask other.value) given.0 in
       let named = (found_of (is_of word) IsNamed other_names other others_named f).0 (not_so (is_blank other) coded.0) in
       no_operands row.operation parts.0 (instruction_is word row e) other.name other.operation named
-      (coded_meant other.operation other.mask other.value place word fits coded.1
+      (coded_meant other.operation other.mask other.value location word fits coded.1
       (eqb-true (bit_and word other.mask) other.value given.1)
       (omega (arith, near.0, leb-true 160 row.value range.0)) (omega (arith, near.1, leb-true row.value 176 range.1)))
 
   blank_row : (row : Row) → row_of word ≡ Some row → is_blank row ≡ true → (found : Option Row)
-      → find (is_of word) other_names ≡ found → IsMeantBy place word more found
+      → find (is_of word) other_names ≡ found → IsMeantBy location word more found
   blank_row row e blank None f = refl
   blank_row row e blank (Some other) f = other_row row other e blank f
 
   any_row : (row : Row) → row_of word ≡ Some row → (b : Bool) → is_blank row ≡ b
-      → IsMeantBy place word more (if b then find (is_of word) other_names else Some row)
+      → IsMeantBy location word more (if b then find (is_of word) other_names else Some row)
   any_row row e true blank = blank_row row e blank (find (is_of word) other_names) refl
   any_row row e false named = own_row row e named
 
-  named_meant : (row : Option Row) → row_of word ≡ row → IsMeantBy place word more (named_row row word)
+  named_meant : (row : Option Row) → row_of word ≡ row → IsMeantBy location word more (named_row row word)
   named_meant None e = refl
   named_meant (Some row) e = any_row row e (is_blank row) refl
 
-whole_meant : (place word : ℕ) (more : List ℕ) → word < 65536 → AreWords more → (b : Bool)
-    → nat_le (words_after (instruction_of word)) (length more) ≡ b → IsMeantBy place word more (if b then row_named word else None)
-whole_meant place word more fits all true whole =
-    named_meant place word more fits all (leb-true (words_after (instruction_of word)) (length more) whole) (row_of word) refl
-whole_meant place word more fits all false part = refl
+whole_meant : (location word : ℕ) (more : List ℕ) → word < 65536 → AreWords more → (b : Bool)
+    → nat_le (words_after (instruction_of word)) (length more) ≡ b → IsMeantBy location word more (if b then row_named word else None)
+whole_meant location word more fits all true whole =
+    named_meant location word more fits all (leb-true (words_after (instruction_of word)) (length more) whole) (row_of word) refl
+whole_meant location word more fits all false part = refl
 
--- the line of a word at a place, with the words that follow it, means as many of these as it stands for
-pub line_meant : (place word : ℕ) (more : List ℕ) → word < 65536 → AreWords more
-    → IsMeant place (statement_of place word more) (take (size_of word more) (word ∷ more))
-line_meant place word more fits all =
-    whole_meant place word more fits all (nat_le (words_after (instruction_of word)) (length more)) refl
+-- the line of a word at a location, with the words that follow it, means as many of these as it stands for
+pub line_meant : (location word : ℕ) (more : List ℕ) → word < 65536 → AreWords more
+    → IsMeant location (statement_of location word more) (take (size_of word more) (word ∷ more))
+line_meant location word more fits all =
+    whole_meant location word more fits all (nat_le (words_after (instruction_of word)) (length more)) refl

@@ -7,7 +7,7 @@ use Rattle.m11_base_instructions.specs.declared.operand.Operand.{Operand}
 use Rattle.m11_base_instructions.specs.declared.operand.Register.{Register}
 use Rattle.m11_base_instructions.specs.declared.operand.Register.TheVariants.{R0, R1, R2, R3, R4, R5, Sp, Pc}
 use Rattle.m11_base_disassembly.specs.Arguments.{argument, argument_by, by_counter, by_register, coded, distance, operand_meant, words_by, words_meant, words_of}
-use Rattle.m11_base_disassembly.specs.Instructions.{first_argument, place_after, second_argument}
+use Rattle.m11_base_disassembly.specs.Instructions.{first_argument, location_after, second_argument}
 use Rattle.m11_base_disassembly.specs.Meaning.{AreWords, first_words, second_words}
 
 each_register : (P : Register → Type 0) → P R0 → P R1 → P R2 → P R3 → P R4 → P R5 → P Sp → P Pc → (r : Register) → P r
@@ -109,27 +109,27 @@ word_there (suc n) zero (word ∷ more) few there =
 word_there (suc n) (suc k) [] few there = absurd (omega arith)
 word_there (suc n) (suc k) (word ∷ more) few there = word_there (suc n) k more few (omega arith)
 
-place_below : (place bytes : ℕ) → place_after place bytes < 65536
-place_below place bytes = omega arith
+location_below : (location bytes : ℕ) → location_after location bytes < 65536
+location_below location bytes = omega arith
 
-pub first_are : (place : ℕ) (more : List ℕ) (o : Operand) → AreWords more → words_of o ≤ length more
-    → first_words place (first_argument place more o) ≡ take (words_of o) more
-first_are place more o all there =
-    words_again o.mode o.register (place_after place 4) (slice_index more 0) (place_below place 4) (below more 0 all)
+pub first_are : (location : ℕ) (more : List ℕ) (o : Operand) → AreWords more → words_of o ≤ length more
+    → first_words location (first_argument location more o) ≡ take (words_of o) more
+first_are location more o all there =
+    words_again o.mode o.register (location_after location 4) (slice_index more 0) (location_below location 4) (below more 0 all)
     ∙ word_there (words_of o) 0 more (few o.mode o.register) (omega arith)
 
-pub both_are : (place : ℕ) (more : List ℕ) (o p : Operand) → AreWords more → words_of o + words_of p ≤ length more
-    → first_words place (first_argument place more o)
-    ++ second_words place (first_argument place more o) (second_argument place more o p) ≡ take (words_of o + words_of p) more
-both_are place more o p all there =
+pub both_are : (location : ℕ) (more : List ℕ) (o p : Operand) → AreWords more → words_of o + words_of p ≤ length more
+    → first_words location (first_argument location more o)
+    ++ second_words location (first_argument location more o) (second_argument location more o p) ≡ take (words_of o + words_of p) more
+both_are location more o p all there =
     let k = words_of o in
-    let first = first_are place more o all (omega arith) in
-    let long : length (first_words place (first_argument place more o)) ≡ k =
+    let first = first_are location more o all (omega arith) in
+    let long : length (first_words location (first_argument location more o)) ≡ k =
     ap length first ∙ length-take-le k more (omega arith) in
-    let at = place_after place (4 + 2 * k) in
-    let second : words_meant at (second_argument place more o p) ≡ take (words_of p) (drop k more) =
-    words_again p.mode p.register at (slice_index more k) (place_below place (4 + 2 * k)) (below more k all)
+    let at = location_after location (4 + 2 * k) in
+    let second : words_meant at (second_argument location more o p) ≡ take (words_of p) (drop k more) =
+    words_again p.mode p.register at (slice_index more k) (location_below location (4 + 2 * k)) (below more k all)
     ∙ word_there (words_of p) k more (few p.mode p.register) there in
-    let P : ℕ → Type 0 = λ n. words_meant (place_after place (4 + 2 * n)) (second_argument place more o p)
+    let P : ℕ → Type 0 = λ n. words_meant (location_after location (4 + 2 * n)) (second_argument location more o p)
     ≡ take (words_of p) (drop k more) in
     ap₂ (λ (a b : List ℕ). a ++ b) first (subst P (sym long) second) ∙ sym (take-add k (words_of p) more)

@@ -33,7 +33,7 @@ by_register mode.AutodecrementDeferred register word = DeferredBackward register
 by_register mode.Index register word = Indexed word register
 by_register mode.IndexDeferred register word = DeferredIndexed word register
 
--- the operand of a mode and the program counter, of which four modes have a form of their own; `after` is the place after the
+-- the operand of a mode and the program counter, of which four modes have a form of their own; `after` is the location after the
 -- word that the mode takes
 abbrev pub by_counter : Mode → ℕ → ℕ → Argument
 by_counter mode.Autoincrement after word = Immediate word
@@ -89,11 +89,11 @@ operand_meant (Absolute number) = coded mode.AutoincrementDeferred Pc
 operand_meant (Relative address) = coded mode.Index Pc
 operand_meant (DeferredRelative address) = coded mode.IndexDeferred Pc
 
--- how far an address lies from a place
+-- how far an address lies from a location
 abbrev pub distance : ℕ → ℕ → ℕ
 distance after address = (address + 65536 - after) % 65536
 
--- the word that it puts after the code; a relative address counts from the place after that word
+-- the word that it puts after the code; a relative address counts from the location after that word
 abbrev pub words_meant : ℕ → Argument → List ℕ
 words_meant after (Plain register) = []
 words_meant after (Deferred register) = []

@@ -1,4 +1,4 @@
--- The line of source of an instruction that lies at a place. (PDP-11/40 Processor Handbook, "Instruction set" and "Addressing modes".)
+-- The line of source of an instruction that lies at a location. (PDP-11/40 Processor Handbook, "Instruction set" and "Addressing modes".)
 -- Codes that no name of a source stands for, and instructions of which not all words are there, are words of data.
 use Rattle.std.specs.Prelude.{ℕ, ℤ, pos, ◌+◌, ◌-◌, ◌*◌, ◌%◌, ◌==◌, nat_le, if◌then◌else◌, List, length, find, slice_index, Option, Some, None}
 use Rattle.std.specs.Int.{cast_unsigned, w16}
@@ -37,13 +37,13 @@ whole_row word more = if nat_le (words_after (instruction_of word)) (length more
 
 -- ---- targets
 
--- the place so many bytes after another: places begin again after 177777
-abbrev pub place_after : ℕ → ℕ → ℕ
-place_after place bytes = (place + bytes) % 65536
+-- the location so many bytes after another: locations begin again after 177777
+abbrev pub location_after : ℕ → ℕ → ℕ
+location_after location bytes = (location + bytes) % 65536
 
 -- where a branch leads: its offset counts words from the next instruction
 abbrev pub branch_target : ℕ → ℤ → ℕ
-branch_target place offset = (place + 2 + 2 * cast_unsigned w16 offset) % 65536
+branch_target location offset = (location + 2 + 2 * cast_unsigned w16 offset) % 65536
 
 abbrev pub offset_of : Insn → ℤ
 offset_of (insn.Branch operation offset) = offset
@@ -51,46 +51,46 @@ offset_of other = pos 0
 
 -- SOB leads back
 abbrev pub loop_target : ℕ → ℕ → ℕ
-loop_target place count = (place + 65538 - 2 * count) % 65536
+loop_target location count = (location + 65538 - 2 * count) % 65536
 
 -- ---- the line
 
 -- the operand of which the word, if it takes one, is the first after the code
 abbrev pub first_argument : ℕ → List ℕ → Operand → Argument
-first_argument place more operand = argument operand (place_after place 4) (slice_index more 0)
+first_argument location more operand = argument operand (location_after location 4) (slice_index more 0)
 
 -- the operand after another one
 abbrev pub second_argument : ℕ → List ℕ → Operand → Operand → Argument
-second_argument place more first operand =
-    argument operand (place_after place (4 + 2 * words_of first)) (slice_index more (words_of first))
+second_argument location more first operand =
+    argument operand (location_after location (4 + 2 * words_of first)) (slice_index more (words_of first))
 
 -- what follows the name of an instruction
 abbrev pub operands_of : ℕ → List ℕ → Insn → Operands
-operands_of place more (insn.Double operation size source destination) =
-    Two (first_argument place more source) (second_argument place more source destination)
-operands_of place more (insn.Extended operation register source) = Two (first_argument place more source) (Plain register)
-operands_of place more (insn.Register operation register destination) =
-    Two (Plain register) (first_argument place more destination)
-operands_of place more (insn.Sob register count) = Loop register (loop_target place count)
-operands_of place more (insn.Single operation size operand) = One (first_argument place more operand)
-operands_of place more (insn.Rts register) = One (Plain register)
-operands_of place more (insn.Number operation number) = Number number
-operands_of place more (insn.Bare operation) = Nothing
-operands_of place more (insn.Condition operation condition_codes) = Nothing
-operands_of place more (insn.Branch operation offset) = Target (branch_target place offset)
-operands_of place more (insn.Reserved word) = Nothing
+operands_of location more (insn.Double operation size source destination) =
+    Two (first_argument location more source) (second_argument location more source destination)
+operands_of location more (insn.Extended operation register source) = Two (first_argument location more source) (Plain register)
+operands_of location more (insn.Register operation register destination) =
+    Two (Plain register) (first_argument location more destination)
+operands_of location more (insn.Sob register count) = Loop register (loop_target location count)
+operands_of location more (insn.Single operation size operand) = One (first_argument location more operand)
+operands_of location more (insn.Rts register) = One (Plain register)
+operands_of location more (insn.Number operation number) = Number number
+operands_of location more (insn.Bare operation) = Nothing
+operands_of location more (insn.Condition operation condition_codes) = Nothing
+operands_of location more (insn.Branch operation offset) = Target (branch_target location offset)
+operands_of location more (insn.Reserved word) = Nothing
 
 abbrev pub statement_by : Option Row → ℕ → ℕ → List ℕ → Statement
-statement_by None place word more = DataWord word
-statement_by (Some row) place word more = Named row.name (operands_of place more (instruction_of word))
+statement_by None location word more = DataWord word
+statement_by (Some row) location word more = Named row.name (operands_of location more (instruction_of word))
 
 abbrev pub size_by : Option Row → ℕ → ℕ
 size_by None word = 1
 size_by (Some row) word = 1 + words_after (instruction_of word)
 
--- the line of the instruction whose code is a word at a place, with the words that follow it there
+-- the line of the instruction whose code is a word at a location, with the words that follow it there
 abbrev pub statement_of : ℕ → ℕ → List ℕ → Statement
-statement_of place word more = statement_by (whole_row word more) place word more
+statement_of location word more = statement_by (whole_row word more) location word more
 
 -- how many words that instruction has
 abbrev pub size_of : ℕ → List ℕ → ℕ

@@ -1,4 +1,4 @@
--- What a line of source means to an assembler at a place of an absolute section: the words that it makes there. (MACRO-11 Language
+-- What a line of source means to an assembler at a location of an absolute section: the words that it makes there. (MACRO-11 Language
 -- Reference Manual, "Addressing modes", "Branch instruction addressing", "Permanent symbol table".)
 use Rattle.std.specs.Prelude.{◌≡◌, ℕ, ℤ, ◌+◌, ◌*◌, ◌<◌, List, [], ◌∷◌, ◌++◌, FitsSigned, length, Some}
 use Rattle.std.specs.Int.{w8}
@@ -9,7 +9,7 @@ use Rattle.m11_base_instructions.specs.declared.instruction.Insn.TheVariants as 
 use Rattle.m11_base_instructions.specs.declared.instruction.Op.{Op}
 use Rattle.m11_base_instructions.specs.declared.instruction.Op.TheVariants as op
 use Rattle.m11_base_disassembly.specs.Arguments.{Argument, Plain, operand_meant, words_meant}
-use Rattle.m11_base_disassembly.specs.Instructions.{branch_target, loop_target, place_after}
+use Rattle.m11_base_disassembly.specs.Instructions.{branch_target, location_after, loop_target}
 use Rattle.m11_base_disassembly.specs.Statements.{Operands, Nothing, One, Two, Target, Loop, Number, Statement, Named, DataWord, DataByte}
 use Rattle.m11_base_disassembly.specs.Texts.{bare_name}
 
@@ -19,37 +19,37 @@ AreWords words = AllByRecursion (λ word. word < 65536) words
 
 -- the words after the code, of a first operand and of one after it
 abbrev pub first_words : ℕ → Argument → List ℕ
-first_words place first = words_meant (place_after place 4) first
+first_words location first = words_meant (location_after location 4) first
 
 abbrev pub second_words : ℕ → Argument → Argument → List ℕ
-second_words place first second = words_meant (place_after place (4 + 2 * length (first_words place first))) second
+second_words location first second = words_meant (location_after location (4 + 2 * length (first_words location first))) second
 
--- the words of an operation with what follows its name; a target is one that a branch or SOB at this place reaches
+-- the words of an operation with what follows its name; a target is one that a branch or SOB at this location reaches
 abbrev pub Means : Op → Operands → ℕ → List ℕ → Type 0
-Means (op.Double operation size) (Two first second) place words =
+Means (op.Double operation size) (Two first second) location words =
     words ≡ code_of (insn.Double operation size (operand_meant first) (operand_meant second))
-    ∷ (first_words place first ++ second_words place first second)
-Means (op.Extended operation) (Two first (Plain register)) place words =
-    words ≡ code_of (insn.Extended operation register (operand_meant first)) ∷ first_words place first
-Means (op.Register operation) (Two (Plain register) second) place words =
-    words ≡ code_of (insn.Register operation register (operand_meant second)) ∷ first_words place second
-Means op.Sob (Loop register address) place words = (count : ℕ) × (count < 0o100) × (address ≡ loop_target place count)
+    ∷ (first_words location first ++ second_words location first second)
+Means (op.Extended operation) (Two first (Plain register)) location words =
+    words ≡ code_of (insn.Extended operation register (operand_meant first)) ∷ first_words location first
+Means (op.Register operation) (Two (Plain register) second) location words =
+    words ≡ code_of (insn.Register operation register (operand_meant second)) ∷ first_words location second
+Means op.Sob (Loop register address) location words = (count : ℕ) × (count < 0o100) × (address ≡ loop_target location count)
     × (words ≡ code_of (insn.Sob register count) ∷ [])
-Means (op.Single operation size) (One first) place words =
-    words ≡ code_of (insn.Single operation size (operand_meant first)) ∷ first_words place first
-Means op.Rts (One (Plain register)) place words = words ≡ code_of (insn.Rts register) ∷ []
-Means (op.Number operation) (Number number) place words =
+Means (op.Single operation size) (One first) location words =
+    words ≡ code_of (insn.Single operation size (operand_meant first)) ∷ first_words location first
+Means op.Rts (One (Plain register)) location words = words ≡ code_of (insn.Rts register) ∷ []
+Means (op.Number operation) (Number number) location words =
     (number < number_limit operation) × (words ≡ code_of (insn.Number operation number) ∷ [])
-Means (op.Bare operation) Nothing place words = words ≡ code_of (insn.Bare operation) ∷ []
-Means (op.Branch operation) (Target address) place words = (offset : ℤ) × FitsSigned w8 offset
-    × (address ≡ branch_target place offset) × (words ≡ code_of (insn.Branch operation offset) ∷ [])
-Means (op.Codes operation condition_codes) Nothing place words =
+Means (op.Bare operation) Nothing location words = words ≡ code_of (insn.Bare operation) ∷ []
+Means (op.Branch operation) (Target address) location words = (offset : ℤ) × FitsSigned w8 offset
+    × (address ≡ branch_target location offset) × (words ≡ code_of (insn.Branch operation offset) ∷ [])
+Means (op.Codes operation condition_codes) Nothing location words =
     words ≡ code_of (insn.Condition operation condition_codes) ∷ []
-Means operation operands place words = ⊥
+Means operation operands location words = ⊥
 
 -- the words of a line: its name stands for the operation; a line of data is its word
 abbrev pub IsMeant : ℕ → Statement → List ℕ → Type 0
-IsMeant place (Named name operands) words = (operation : Op) × (operation_named (bare_name name) ≡ Some operation)
-    × Means operation operands place words
-IsMeant place (DataWord word) words = words ≡ word ∷ []
-IsMeant place (DataByte byte) words = ⊥
+IsMeant location (Named name operands) words = (operation : Op) × (operation_named (bare_name name) ≡ Some operation)
+    × Means operation operands location words
+IsMeant location (DataWord word) words = words ≡ word ∷ []
+IsMeant location (DataByte byte) words = ⊥

@@ -100,7 +100,7 @@ fn put_by_counter(line: &mut Source, mode: Mode, after: u16, word: u16)
     }
 }
 
-/// Adds an operand. The word after the code is its own, if it takes one; the place after that word is `after`.
+/// Adds an operand. The word after the code is its own, if it takes one; the location after that word is `after`.
 pub(crate) fn put_argument(line: &mut Source, operand: Operand, after: u16, word: u16)
     requires { array_vec_len line.old ≤ 23 }
     ensures text { line.new.items ≡ line.old.items ++ spec.argument_text (argument operand after word) }

@@ -14,7 +14,7 @@ use crate::numbers::put_number;
 use crate::source::{Source, put};
 use m11_base_instructions::{Insn, Operand, Register, Row, decode};
 
-/// What words at a place are in a source.
+/// What words at a location are in a source.
 #[derive(Clone, Debug, Drop)]
 pub struct Disassembly {
     /// The line of source, without a line feed.
@@ -34,19 +34,19 @@ fn word_at(more: &[u16], index: usize) -> u16
 }
 
 // Where a branch leads.
-fn branch_target(place: u16, offset: i8) -> u16
-    ensures { result ≡ spec.branch_target place offset }
+fn branch_target(location: u16, offset: i8) -> u16
+    ensures { result ≡ spec.branch_target location offset }
 {
-    place
+    location
         .wrapping_add(2)
         .wrapping_add(i16::from(offset).cast_unsigned().wrapping_mul(2))
 }
 
 // Where SOB leads back to.
-fn loop_target(place: u16, count: u8) -> u16
-    ensures { result ≡ spec.loop_target place count }
+fn loop_target(location: u16, count: u8) -> u16
+    ensures { result ≡ spec.loop_target location count }
 {
-    place.wrapping_add(2).wrapping_sub(2 * u16::from(count))
+    location.wrapping_add(2).wrapping_sub(2 * u16::from(count))
 }
 
 // How many words after its code an instruction has.
@@ -70,26 +70,26 @@ fn words_after(instruction: &Insn) -> usize
 }
 
 // The operand of which the word, if it takes one, is the first after the code.
-fn put_first(line: &mut Source, place: u16, more: &[u16], operand: Operand)
+fn put_first(line: &mut Source, location: u16, more: &[u16], operand: Operand)
     requires { array_vec_len line.old ≤ 23 }
-    ensures text { line.new.items ≡ line.old.items ++ argument_text (spec.first_argument place more.now operand) }
+    ensures text { line.new.items ≡ line.old.items ++ argument_text (spec.first_argument location more.now operand) }
     ensures room { array_vec_len line.new ≤ array_vec_len line.old + 12 }
 {
-    put_argument(line, operand, place.wrapping_add(4), word_at(more, 0));
+    put_argument(line, operand, location.wrapping_add(4), word_at(more, 0));
 }
 
 // The operand after another one.
-fn put_second(line: &mut Source, place: u16, more: &[u16], first: Operand, operand: Operand)
+fn put_second(line: &mut Source, location: u16, more: &[u16], first: Operand, operand: Operand)
     requires { array_vec_len line.old ≤ 23 }
     ensures text { line.new.items ≡ line.old.items
-        ++ argument_text (spec.second_argument place more.now first operand) }
+        ++ argument_text (spec.second_argument location more.now first operand) }
     ensures room { array_vec_len line.new ≤ array_vec_len line.old + 12 }
 {
     let before = words_of(first);
     put_argument(
         line,
         operand,
-        place.wrapping_add(4 + 2 * before as u16),
+        location.wrapping_add(4 + 2 * before as u16),
         word_at(more, before),
     );
 }
@@ -113,26 +113,26 @@ pub fn byte_source(byte: u8) -> Source
 }
 
 // An operation on two operands.
-fn put_double(line: &mut Source, place: u16, more: &[u16], source: Operand, destination: Operand)
+fn put_double(line: &mut Source, location: u16, more: &[u16], source: Operand, destination: Operand)
     requires { array_vec_len line.old ≤ 10 }
     ensures text { line.new.items ≡ line.old.items
-        ++ (argument_text (spec.first_argument place more.now source)
-        ++ 44 ∷ argument_text (spec.second_argument place more.now source destination)) }
+        ++ (argument_text (spec.first_argument location more.now source)
+        ++ 44 ∷ argument_text (spec.second_argument location more.now source destination)) }
     ensures room { array_vec_len line.new ≤ array_vec_len line.old + 25 }
 {
-    put_first(line, place, more, source);
+    put_first(line, location, more, source);
     put(line, b",");
-    put_second(line, place, more, source, destination);
+    put_second(line, location, more, source, destination);
 }
 
 // An operation on an operand and a register.
-fn put_extended(line: &mut Source, place: u16, more: &[u16], register: Register, source: Operand)
+fn put_extended(line: &mut Source, location: u16, more: &[u16], register: Register, source: Operand)
     requires { array_vec_len line.old ≤ 10 }
     ensures text { line.new.items ≡ line.old.items
-        ++ (argument_text (spec.first_argument place more.now source) ++ 44 ∷ register_text register) }
+        ++ (argument_text (spec.first_argument location more.now source) ++ 44 ∷ register_text register) }
     ensures room { array_vec_len line.new ≤ array_vec_len line.old + 25 }
 {
-    put_first(line, place, more, source);
+    put_first(line, location, more, source);
     put(line, b",");
     put(line, register_text(register));
 }
@@ -140,19 +140,19 @@ fn put_extended(line: &mut Source, place: u16, more: &[u16], register: Register,
 // An operation on a register and an operand.
 fn put_with_register(
     line: &mut Source,
-    place: u16,
+    location: u16,
     more: &[u16],
     register: Register,
     destination: Operand,
 )
     requires { array_vec_len line.old ≤ 10 }
     ensures text { line.new.items ≡ line.old.items
-        ++ (register_text register ++ 44 ∷ argument_text (spec.first_argument place more.now destination)) }
+        ++ (register_text register ++ 44 ∷ argument_text (spec.first_argument location more.now destination)) }
     ensures room { array_vec_len line.new ≤ array_vec_len line.old + 25 }
 {
     put(line, register_text(register));
     put(line, b",");
-    put_first(line, place, more, destination);
+    put_first(line, location, more, destination);
 }
 
 // A register and an address.
@@ -177,38 +177,38 @@ fn offset_of(instruction: Insn) -> i8
 }
 
 // The address to which a branch leads.
-fn target_of(place: u16, instruction: Insn) -> u16
-    ensures { result ≡ spec.branch_target place (spec.offset_of instruction) }
+fn target_of(location: u16, instruction: Insn) -> u16
+    ensures { result ≡ spec.branch_target location (spec.offset_of instruction) }
 {
-    branch_target(place, offset_of(instruction))
+    branch_target(location, offset_of(instruction))
 }
 
 // An instruction with this name.
-fn put_named(line: &mut Source, name: &[u8; 6], place: u16, more: &[u16], instruction: Insn)
+fn put_named(line: &mut Source, name: &[u8; 6], location: u16, more: &[u16], instruction: Insn)
     requires { array_vec_len line.old ≤ 3 }
     ensures { line.new.items ≡ line.old.items
-        ++ statement_text (Named name.now (spec.operands_of place more.now instruction)) }
+        ++ statement_text (Named name.now (spec.operands_of location more.now instruction)) }
 {
     match instruction {
         Insn::Double(_, _, source, destination) => {
             put_name(line, name);
-            put_double(line, place, more, source, destination);
+            put_double(line, location, more, source, destination);
         }
         Insn::Extended(_, register, source) => {
             put_name(line, name);
-            put_extended(line, place, more, register, source);
+            put_extended(line, location, more, register, source);
         }
         Insn::Register(_, register, destination) => {
             put_name(line, name);
-            put_with_register(line, place, more, register, destination);
+            put_with_register(line, location, more, register, destination);
         }
         Insn::Sob(register, count) => {
             put_name(line, name);
-            put_loop(line, register, loop_target(place, count));
+            put_loop(line, register, loop_target(location, count));
         }
         Insn::Single(_, _, operand) => {
             put_name(line, name);
-            put_first(line, place, more, operand);
+            put_first(line, location, more, operand);
         }
         Insn::Rts(register) => {
             put_name(line, name);
@@ -220,18 +220,18 @@ fn put_named(line: &mut Source, name: &[u8; 6], place: u16, more: &[u16], instru
         }
         Insn::Branch(..) => {
             put_name(line, name);
-            put_number(line, target_of(place, instruction));
+            put_number(line, target_of(location, instruction));
         }
         Insn::Bare(_) | Insn::Condition(..) | Insn::Reserved(_) => put_bare_name(line, name),
     }
 }
 
 // The line of an instruction with this name.
-fn named_source(name: &[u8; 6], place: u16, more: &[u16], instruction: Insn) -> Source
-    ensures { result.items ≡ statement_text (Named name.now (spec.operands_of place more.now instruction)) }
+fn named_source(name: &[u8; 6], location: u16, more: &[u16], instruction: Insn) -> Source
+    ensures { result.items ≡ statement_text (Named name.now (spec.operands_of location more.now instruction)) }
 {
     let mut line = Source::new();
-    put_named(&mut line, name, place, more, instruction);
+    put_named(&mut line, name, location, more, instruction);
     line
 }
 
@@ -246,11 +246,11 @@ fn whole_row(word: u16, more: &[u16]) -> Option<Row>
     }
 }
 
-/// What a word at a place is in a source, with the words that follow it there, of which two are enough: the instruction that it is the
+/// What a word at a location is in a source, with the words that follow it there, of which two are enough: the instruction that it is the
 /// code of; or a word of data, where no name of a source stands for it or some words of the instruction aren't there. An assembler
-/// makes just these words of the line, where it stands at that place of an absolute section.
-pub fn disassembled(place: u16, word: u16, more: &[u16]) -> Disassembly
-    ensures source { result.source.items ≡ statement_text (spec.statement_of place word more.now) }
+/// makes just these words of the line, where it stands at that location of an absolute section.
+pub fn disassembled(location: u16, word: u16, more: &[u16]) -> Disassembly
+    ensures source { result.source.items ≡ statement_text (spec.statement_of location word more.now) }
     ensures words { result.words ≡ spec.size_of word more.now }
     ensures some { 0 < result.words }
     ensures there { result.words ≤ 1 + length more.now }
@@ -259,7 +259,7 @@ pub fn disassembled(place: u16, word: u16, more: &[u16]) -> Disassembly
         Some(row) => {
             let instruction = decode(word);
             Disassembly {
-                source: named_source(&row.name, place, more, instruction),
+                source: named_source(&row.name, location, more, instruction),
                 words: 1 + words_after(&instruction),
             }
         }

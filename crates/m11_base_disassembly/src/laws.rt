@@ -6,12 +6,12 @@ ghost use Rattle.m11_base_disassembly.specs.Instructions.{size_of, statement_of}
 ghost use Rattle.m11_base_disassembly.specs.Meaning.{AreWords, IsMeant};
 ghost use Rattle.m11_base_disassembly.specs.Numbers.{number_text};
 
-/// The line of source of words at a place means to an assembler there just the words that it stands for: its name is that of an
+/// The line of source of words at a location means to an assembler there just the words that it stands for: its name is that of an
 /// operation whose code, with the operands as they are written, is the first of them, and the operands put the others. The digits of
 /// its numbers spell them.
 #[tactic(auto, using(crate::proofs::Meant::line_meant, crate::proofs::Spelled::number_spelled))]
 pub fn a_line_means_its_words()
-    ensures line { (place word : ℕ) (more : List ℕ) → word < 65536 → AreWords more
-        → IsMeant place (statement_of place word more) (take (size_of word more) (word ∷ more)) }
+    ensures line { (location word : ℕ) (more : List ℕ) → word < 65536 → AreWords more
+        → IsMeant location (statement_of location word more) (take (size_of word more) (word ∷ more)) }
     ensures numbers { (number : ℕ) → number < 65536 → octal_value (number_text number) ≡ number }
 {}

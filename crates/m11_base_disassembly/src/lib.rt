@@ -1,4 +1,4 @@
-//! The lines of source of instructions in memory: for words at a place, the line from which an assembler makes the same words there.
+//! The lines of source of instructions in memory: for words at a location, the line from which an assembler makes the same words there.
 //! (MACRO-11 Language Reference Manual, "Addressing modes"; PDP-11/40 Processor Handbook, "Instruction set".) No memory is taken.
 #![tactic(auto)]
 

@@ -1,4 +1,4 @@
--- What is kept of a file that was created stands at the first place with its path.
+-- What is kept of a file that was created stands at the first index with its path.
 use Rattle.std.proofs.Common.{◌≡◌, ◌∙◌, sym, ap, refl, ℕ, ◌+◌, ◌<◌, zero, suc, Bool, true, false, cond, List, [], ◌∷◌, map, Option, Some, None, position, length, arith, slice_index_or, slice_set}
 use Rattle.std.proofs.lemmas.Iterator.Adapters.{position_from-zero}
 use Rattle.std.proofs.lemmas.List.Quantifiers.{position-Some}
@@ -7,28 +7,28 @@ use Rattle.m11_base_files.specs.Opens.{kept_among}
 use Rattle.m11_base_files.specs.MemoryFiles.{has_path, made_of}
 use Rattle.m11_base_files.specs.declared.memory_files.MadeFile.{MadeFile}
 
-kept_there : (path : List ℕ) (made : List MadeFile) (place : ℕ) (d file : MadeFile) (text : Option (List ℕ))
-    → made_of file ≡ record (made_of (slice_index_or made place d)) { kept = text } → place < length made
-    → has_path path (slice_index_or made place d) ≡ true
-    → ((k : ℕ) → k < place → has_path path (slice_index_or made k d) ≡ false)
-    → map made_of (slice_set made place file) ≡ kept_among path text (map made_of made)
-kept_there path [] place d file text is lt here before = absurd (omega arith)
+kept_there : (path : List ℕ) (made : List MadeFile) (index : ℕ) (d file : MadeFile) (text : Option (List ℕ))
+    → made_of file ≡ record (made_of (slice_index_or made index d)) { kept = text } → index < length made
+    → has_path path (slice_index_or made index d) ≡ true
+    → ((k : ℕ) → k < index → has_path path (slice_index_or made k d) ≡ false)
+    → map made_of (slice_set made index file) ≡ kept_among path text (map made_of made)
+kept_there path [] index d file text is lt here before = absurd (omega arith)
 kept_there path (first ∷ more) zero d file text is lt here before =
     rw here (ap (λ written. written ∷ map made_of more) is)
-kept_there path (first ∷ more) (suc place) d file text is lt here before =
+kept_there path (first ∷ more) (suc index) d file text is lt here before =
     rw (before 0 (omega arith))
     (ap (λ rest. made_of first ∷ rest)
-    (kept_there path more place d file text is (omega arith) here (λ k under. before (suc k) (omega arith))))
+    (kept_there path more index d file text is (omega arith) here (λ k under. before (suc k) (omega arith))))
 
-pub kept_at : (path : List ℕ) (made : List MadeFile) (place : ℕ) (d file : MadeFile) (text : Option (List ℕ))
-    → made_of file ≡ record (made_of (slice_index_or made place d)) { kept = text }
-    → position (has_path path) made ≡ Some place
-    → map made_of (slice_set made place file) ≡ kept_among path text (map made_of made)
-kept_at path made place d file text is found =
-    let first = position-Some (has_path path) made place d found in
-    kept_there path made place d file text is first.0 first.1 first.2
+pub kept_at : (path : List ℕ) (made : List MadeFile) (index : ℕ) (d file : MadeFile) (text : Option (List ℕ))
+    → made_of file ≡ record (made_of (slice_index_or made index d)) { kept = text }
+    → position (has_path path) made ≡ Some index
+    → map made_of (slice_set made index file) ≡ kept_among path text (map made_of made)
+kept_at path made index d file text is found =
+    let first = position-Some (has_path path) made index d found in
+    kept_there path made index d file text is first.0 first.1 first.2
 
--- where the first place is none, it is none of the others either
+-- where the first index is none, it is none of the others either
 none_of : (here : Bool) (i : ℕ) (rest : Option ℕ) → cond here (Some i) rest ≡ None
     → (here ≡ false) × (rest ≡ None)
 none_of true i rest h = cc

@@ -117,13 +117,13 @@ fn stored_at<'a>(stored: &'a [MemoryFile], path: &str) -> Option<&'a MemoryFile>
 fn keep_at(made: &mut [MadeFile], path: &str, bytes: Vec<u8>)
     ensures { map made_of made.new ≡ kept_among path.now (Some bytes.items) (map made_of made.old) }
 {
-    if let Some(place) = place_of(made, path) {
-        made[place].kept = Some(bytes);
+    if let Some(index) = index_of(made, path) {
+        made[index].kept = Some(bytes);
     }
 }
 
-// The place of the first file that was created at a path.
-fn place_of(made: &[MadeFile], path: &str) -> Option<usize>
+// The index of the first file that was created at a path.
+fn index_of(made: &[MadeFile], path: &str) -> Option<usize>
     ensures { result ≡ position (has_path path.now) made.now }
 {
     made.iter().position(|file| file.path.as_str() == path)

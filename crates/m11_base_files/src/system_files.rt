@@ -54,7 +54,7 @@ impl<'a, R: Files + AllocGlobal> Opens for SystemFiles<'a, R> {
         buffered(self.rt, file)
     }
 
-    // A pipe, a socket and a terminal give their bytes once, and have no place that is known: only what has one is read again.
+    // A pipe, a socket and a terminal give their bytes once, and have no position that is known: only what has one is read again.
     fn open_twice(
         &mut self,
         path: &str,

@@ -1,4 +1,4 @@
--- The codes of instructions: an operation's bits with its fields at their places.
+-- The codes of instructions: an operation's bits with its fields at their positions.
 -- (PDP-11/40 Processor Handbook, "Instruction set".)
 use Rattle.std.specs.Prelude.{ℕ, ◌+◌, ◌*◌, ◌<◌, Bool, true, false, nat_lt, is_none, FitsSigned, ⊤}
 use Rattle.std.specs.Int.{cast_unsigned, from_bool, w8}
@@ -128,7 +128,7 @@ code_of (insn.Condition operation codes) = condition_value operation + condition
 code_of (insn.Branch operation offset) = branch_value operation + cast_unsigned w8 offset
 code_of (insn.Reserved word) = word
 
--- ---- what fits: an operation that the list has in this size, and fields that their places can hold
+-- ---- what fits: an operation that the list has in this size, and fields that their bits can hold
 
 abbrev pub has_double : DoubleOp → Size → Bool
 has_double Add Byte = false

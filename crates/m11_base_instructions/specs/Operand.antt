@@ -7,12 +7,12 @@ use Rattle.m11_base_instructions.specs.declared.operand.Register.{Register}
 use Rattle.m11_base_instructions.specs.declared.operand.Register.TheVariants.{R0, R1, R2, R3, R4, R5, Sp, Pc}
 use Rattle.m11_base_instructions.specs.declared.operand.Operand.{Operand}
 
--- the modes, each at the place of its code
+-- the modes, each at the index of its code
 abbrev pub modes : List Mode
 modes = mode.Register ∷ mode.RegisterDeferred ∷ mode.Autoincrement ∷ mode.AutoincrementDeferred
     ∷ mode.Autodecrement ∷ mode.AutodecrementDeferred ∷ mode.Index ∷ mode.IndexDeferred ∷ []
 
--- the registers, each at the place of its number
+-- the registers, each at the index of its number
 abbrev pub registers : List Register
 registers = R0 ∷ R1 ∷ R2 ∷ R3 ∷ R4 ∷ R5 ∷ Sp ∷ Pc ∷ []
 

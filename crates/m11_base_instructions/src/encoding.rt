@@ -10,12 +10,12 @@ use crate::operand::Size;
 
 impl Insn {
     /// Whether the instruction has a code: the list has its operation in its size, and each field fits
-    /// its place. A reserved code fits where the list has it in no row.
+    /// its bits. A reserved code fits where the list has it in no row.
     pub fn fits(&self) -> bool
         ensures fits { result ≡ fits self.now }
         ensures has_code { IsTrue result ↔ HasCode self.now }
     {
-        fits_places(self)
+        fits_fields(self)
     }
 }
 
@@ -28,8 +28,8 @@ pub fn encode(instruction: &Insn) -> u16
     code(instruction)
 }
 
-// Whether the list has the operation in its size, and each field fits its place.
-fn fits_places(instruction: &Insn) -> bool
+// Whether the list has the operation in its size, and each field fits its bits.
+fn fits_fields(instruction: &Insn) -> bool
     ensures fits { result ≡ fits instruction.now }
     ensures held { IsHeld instruction.now }
 {
@@ -49,7 +49,7 @@ fn fits_places(instruction: &Insn) -> bool
     }
 }
 
-// The bits of the operation with the fields at their places.
+// The bits of the operation with the fields at their positions.
 fn code(instruction: &Insn) -> u16
     requires { IsTrue (fits instruction.now) }
     ensures code { result ≡ code_of instruction.now }

@@ -51,10 +51,10 @@ fn six_characters(text: &[u8]) -> [u8; 6]
     ]
 }
 
-fn character_at(text: &[u8], place: usize) -> u8
-    ensures { result ≡ character_at text.now place }
+fn character_at(text: &[u8], index: usize) -> u8
+    ensures { result ≡ character_at text.now index }
 {
-    match text.get(place) {
+    match text.get(index) {
         Some(byte) => byte.to_ascii_uppercase(),
         None => b' ',
     }

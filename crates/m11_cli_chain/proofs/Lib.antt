@@ -2,7 +2,7 @@ mod Assembling
 mod Feeding
 mod FirstSection
 mod Joined
-mod LivePlaces
+mod LiveLocations
 mod Loading
 mod ObjectOfTexts
 mod Outputs

@@ -22,7 +22,7 @@ use Rattle.m11_base_writes.specs.Writes.{gained}
 use Rattle.m11_cli_chain.specs.Assemblies.{AssemblyYields, WritesObject}
 use Rattle.m11_cli_chain.specs.Sources.{source_of}
 use Rattle.m11_cli_chain.proofs.FirstSection.{begins_with_absolute}
-use Rattle.m11_cli_chain.proofs.LivePlaces.{pieces_at_words}
+use Rattle.m11_cli_chain.proofs.LiveLocations.{pieces_at_words}
 
 -- what is known of the object of an assembly
 abbrev pub ObjectLaw : Type 0
@@ -38,7 +38,7 @@ source_fits : (lines : List Numbered)
     → AllFit (object_contents (program_after lines).rows (pieces_in (program_after lines).map lines)) → SourceFits (source_of lines)
 source_fits lines fit = record {
   records = fit;
-  places = pieces_at_words (program_map (givens lines)) lines;
+  locations = pieces_at_words (program_map (givens lines)) lines;
   others = (begins_with_absolute lines).0;
   absolute = (begins_with_absolute lines).1;
 }

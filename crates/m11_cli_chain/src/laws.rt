@@ -23,15 +23,15 @@ use m11_asm_outcome_laws::{
 };
 use m11_base::Feed;
 
-/// Whatever its lines are, the first section of a source is `. ABS.`, and each of its pieces lies at a place below 65,536.
+/// Whatever its lines are, the first section of a source is `. ABS.`, and each of its pieces lies at a location below 65,536.
 pub fn live_lines_begin_with_the_absolute_section()
     ensures first { (lines : List Numbered) → (others : List Section)
         × ((source_of lines).facts.table.sections ≡ section absolute_name of_absolute ∷ others) }
-    ensures places { (lines : List Numbered) → AllByRecursion LiesAtWord (source_of lines).pieces }
+    ensures locations { (lines : List Numbered) → AllByRecursion LiesAtWord (source_of lines).pieces }
 {}
 
 /// Where both passes get the same known texts, an assembly that is Ok appended to its object exactly the object of the source that the live
-/// lines of the texts are, and that source fits: the fields of its records fit their places and its records their blocks. Any other assembly
+/// lines of the texts are, and that source fits: the fields of its records fit their room and its records their blocks. Any other assembly
 /// was stopped by a device or for want of memory, or its fault is the first refusal of the texts.
 pub fn known_sources_decide_the_assembly<F: Feed>()
     ensures { (first again second later : List F) (texts : List Bytes) (old new : Outputs) (returned : Result AsmDone AsmFault)

@@ -94,11 +94,11 @@ fn chain_of(
 
 // The memory of a machine is of so many words, and has these bytes from 1000 on.
 fn has(rt: &impl Abort, name: &str, machine: &Machine, words: u16, bytes: &[u8]) {
-    let mut place: u16 = 0o1000;
+    let mut address: u16 = 0o1000;
     for byte in bytes {
-        assert!(rt; machine.has_byte(place), "{name}: no byte at {place}");
-        assert!(rt; machine.byte(place) == *byte, "{name}: the byte at {place}");
-        place = place.wrapping_add(1);
+        assert!(rt; machine.has_byte(address), "{name}: no byte at {address}");
+        assert!(rt; machine.byte(address) == *byte, "{name}: the byte at {address}");
+        address = address.wrapping_add(1);
     }
     let end = words.wrapping_mul(2);
     assert!(rt; !machine.has_byte(end), "{name}: a byte past the memory");

@@ -68,20 +68,20 @@ module _ (found : Findings) (addresses : Addresses) (are : AreFound found addres
       ≡ byte_of (map (placed addresses index) (first ∷ rest)) address
   one_text index before first rest e le =
       let pieces : List Piece = first ∷ rest in
-      let text = placed_text found index first.section first.place (text_bytes pieces) in
+      let text = placed_text found index first.section first.location (text_bytes pieces) in
       let own : ℕ = addresses.base index first.section in
       let some = some_bytes first.content in
       let size = length-append (content_bytes first.content) (text_bytes rest) in
       let lt : 0 < length (text_bytes pieces) = omega (arith, some, size) in
-      let near : own + (first.place + length (text_bytes pieces)) ≤ 65536 = omega (arith, le) in
-      let within : first.place + length (text_bytes pieces) ≤ 65536 = omega (arith, le) in
+      let near : own + (first.location + length (text_bytes pieces)) ≤ 65536 = omega (arith, le) in
+      let within : first.location + length (text_bytes pieces) ≤ 65536 = omega (arith, le) in
       ap₂ (λ (start : ℕ) (bytes : Bytes). byte_within (start, bytes) address)
       (address_kept found text (relocations_of pieces)) (pieces_stored found addresses text pieces are refl)
-      ∙ ap (λ (base : ℕ). byte_within (modulo (base + first.place), bytes_from addresses index base (modulo (base + first.place)) pieces) address)
+      ∙ ap (λ (base : ℕ). byte_within (modulo (base + first.location), bytes_from addresses index base (modulo (base + first.location)) pieces) address)
       (sym (are.bases_are index first.section))
       ∙ ap (λ (start : ℕ). byte_within (start, bytes_from addresses index own start pieces) address)
-      (plain (own + first.place) (length (text_bytes pieces)) lt le)
-      ∙ pieces_placed addresses index first.section address pieces first.place (runs_of first rest e within) near
+      (plain (own + first.location) (length (text_bytes pieces)) lt le)
+      ∙ pieces_placed addresses index first.section address pieces first.location (runs_of first rest e within) near
 
   some_texts : (index : ℕ) (before : Option Name) (fronts : List (List Piece)) → AllByRecursion IsRun fronts
       → AllByRecursion (Ends addresses) (map (text_in index) (texts_after before fronts))

@@ -12,7 +12,7 @@ use Rattle.m11_asm_directory.specs.Rows.{directory_rows}
 use Rattle.m11_link_layout.proofs.Walking.{head_none, rest_none}
 use Rattle.m11_link_modules.specs.Grammar.{directory_parts}
 use Rattle.m11_link_modules.specs.Parts.{Part, Directory, Entry, EndOfDirectory, Text, Relocations, Relocated, EndOfModule, EndOfFile, parts_of}
-use Rattle.m11_link_modules.specs.Places.{current_section, ends_module, known_of, section_after, section_by, section_in, sections_in, selected_by, size_known, stage_after, this_module}
+use Rattle.m11_link_modules.specs.Positions.{current_section, ends_module, known_of, section_after, section_by, section_in, sections_in, selected_by, size_known, stage_after, this_module}
 use Rattle.m11_link_modules.specs.Rules.{fault_known, fault_of, first_fault, may_stand, text_fault}
 use Rattle.m11_link_modules.specs.declared.fault.ModuleFault.{ModuleFault}
 use Rattle.m11_link_modules.specs.declared.fault.ModuleFault.TheVariants.{BadOrder, TextOutside}
@@ -40,17 +40,17 @@ use Rattle.m11_cli_image.proofs.ReadTexts.{selects_same, whole_split}
 abbrev Entered : Type 0
 Entered = List (Name × ℕ)
 
--- bytes from a place on end within a section of those that were entered
+-- bytes from a location on end within a section of those that were entered
 abbrev pub EndsWithin : Entered → Name → ℕ → List ℕ → Type 0
-EndsWithin entered section place bytes = place + length bytes ≤ unwrap_or (size_known entered section) 0
+EndsWithin entered section location bytes = location + length bytes ≤ unwrap_or (size_known entered section) 0
 
 -- ---- texts without a fault
 
 -- each text ends within its section, these being entered, and this one selected, before the first part
 abbrev pub Bounded : Entered → Name → List Part → Type 0
 Bounded entered section [] = ⊤
-Bounded entered section (Text place bytes ∷ parts) =
-    EndsWithin entered section place bytes × Bounded entered section parts
+Bounded entered section (Text location bytes ∷ parts) =
+    EndsWithin entered section location bytes × Bounded entered section parts
 Bounded entered section (Entry entry ∷ parts) =
     Bounded (entered ++ cons_option (section_by entry.kind entry) []) section parts
 Bounded entered section (Relocated relocation ∷ parts) =
@@ -58,12 +58,12 @@ Bounded entered section (Relocated relocation ∷ parts) =
 Bounded entered section (EndOfModule ∷ parts) = Bounded [] absolute_name parts
 Bounded entered section (part ∷ parts) = Bounded entered section parts
 
-within : (place count size : ℕ) → text_fault size place count ≡ None → place + count ≤ size
-within place count size e = by (nat_lt size (place + count)) refl e
+within : (location count size : ℕ) → text_fault size location count ≡ None → location + count ≤ size
+within location count size e = by (nat_lt size (location + count)) refl e
   where
-    by : (b : Bool) → nat_lt size (place + count) ≡ b → (if b then Some TextOutside else None) ≡ None → place + count ≤ size
+    by : (b : Bool) → nat_lt size (location + count) ≡ b → (if b then Some TextOutside else None) ≡ None → location + count ≤ size
     by true f e = absurd cc
-    by false f e = ltb-false size (place + count) f
+    by false f e = ltb-false size (location + count) f
 
 unless_bad : (b : Bool) (fault : Option ModuleFault) → (if b then fault else Some BadOrder) ≡ None → fault ≡ None
 unless_bad true fault e = e
@@ -72,11 +72,11 @@ unless_bad false fault e = absurd cc
 abbrev After : List Part → List Part → Type 0
 After before parts = Bounded (sections_in (this_module before)) (current_section (this_module before)) parts
 
-text_within : (before : List Part) (place : ℕ) (bytes : List ℕ) → fault_of before (Text place bytes) ≡ None
-    → EndsWithin (sections_in (this_module before)) (current_section (this_module before)) place bytes
+text_within : (before : List Part) (location : ℕ) (bytes : List ℕ) → fault_of before (Text location bytes) ≡ None
+    → EndsWithin (sections_in (this_module before)) (current_section (this_module before)) location bytes
 unfolding fault_known known_of
-text_within before place bytes e =
-    within place (length bytes) _ (unless_bad (may_stand (Text place bytes) (stage_after before)) _ e)
+text_within before location bytes e =
+    within location (length bytes) _ (unless_bad (may_stand (Text location bytes) (stage_after before)) _ e)
 
 goes_on : (before : List Part) (part : Part) (parts : List Part) → ends_module part ≡ false
     → After (before ++ part ∷ []) parts
@@ -105,8 +105,8 @@ ended before parts h =
 
 part_bounded : (before : List Part) (part : Part) (parts : List Part) → fault_of before part ≡ None
     → After (before ++ part ∷ []) parts → After before (part ∷ parts)
-part_bounded before (Text place bytes) parts e h =
-    (text_within before place bytes e, enters_none before _ parts (goes_on before (Text place bytes) parts refl h))
+part_bounded before (Text location bytes) parts e h =
+    (text_within before location bytes e, enters_none before _ parts (goes_on before (Text location bytes) parts refl h))
 part_bounded before (Entry entry) parts e h = goes_on before (Entry entry) parts refl h
 part_bounded before (Relocated relocation) parts e h =
     enters_none before _ parts (goes_on before (Relocated relocation) parts refl h)
@@ -171,13 +171,13 @@ relocations_bounded entered section (first ∷ relocations) rest h =
     (subst P (selects_same section first.target) h)
 
 abbrev ReadWithin : Entered → ReadText → Type 0
-ReadWithin entered text = EndsWithin entered text.section text.place text.bytes
+ReadWithin entered text = EndsWithin entered text.section text.location text.bytes
 
 body_bounded : (entered : Entered) (section : Name) (contents : List Content) → AllByRecursion IsBody contents
     → (rest : List Part) → Bounded entered section (flat_map parts_of contents ++ EndOfModule ∷ rest)
     → AllByRecursion (ReadWithin entered) (texts_read section contents) × Bounded [] absolute_name rest
 body_bounded entered section [] b rest h = (tt, h)
-body_bounded entered section (records.Text place bytes ∷ contents) b rest h =
+body_bounded entered section (records.Text location bytes ∷ contents) b rest h =
     let more = body_bounded entered section contents b.1 rest h.1 in ((h.0, more.0), more.1)
 body_bounded entered section (records.Relocations relocations ∷ contents) b rest h =
     let parts = map (λ relocation. Relocated relocation) relocations in
@@ -194,7 +194,7 @@ rows_sections (first ∷ rows) =
     ap (cons_option (section_by (entry_of first).kind (entry_of first))) (rows_sections rows)
 
 abbrev pub TextWithin : Source → TextParts → Type 0
-TextWithin source text = EndsWithin (map size_entered (sections_of source)) text.section text.place text.bytes
+TextWithin source text = EndsWithin (map size_entered (sections_of source)) text.section text.location text.bytes
 
 as_read_within : (source : Source) (texts : List TextParts)
     → AllByRecursion (ReadWithin (map size_entered (sections_of source))) (map as_read texts)

@@ -13,7 +13,7 @@ use Rattle.m11_obj_texts.specs.declared.pieces.Piece.{Piece}
 use Rattle.m11_obj_texts.specs.declared.pieces.PieceContent.{PieceContent}
 use Rattle.m11_obj_texts.specs.declared.pieces.PieceContent.TheVariants.{Byte, Word, Limits}
 use Rattle.m11_obj_texts.specs.Fronts.{fronts_by, fronts_of, longest_front}
-use Rattle.m11_obj_texts.specs.Pieces.{content_bytes, last_place, size_of, text_bytes}
+use Rattle.m11_obj_texts.specs.Pieces.{content_bytes, last_location, size_of, text_bytes}
 use Rattle.m11_obj_texts.specs.Texts.{are_contiguous, cutting, follows, is_one_text}
 use Rattle.m11_cpu_tape_laws.specs.Image.{byte_of, byte_within}
 use Rattle.m11_cli_image.specs.Addresses.{Addresses}
@@ -100,11 +100,11 @@ blocks_then (block ∷ some) more address =
 
 -- ---- pieces of one text
 
--- each piece lies where the one before it ends, the first at this place, and all in one section
+-- each piece lies where the one before it ends, the first at this location, and all in one section
 abbrev pub Runs : Name → ℕ → List Piece → Type 0
-Runs section place [] = Unit {0}
-Runs section place (piece ∷ pieces) =
-    (piece.section ≡ section) × (piece.place ≡ place) × Runs section (place + size_of piece) pieces
+Runs section location [] = Unit {0}
+Runs section location (piece ∷ pieces) =
+    (piece.section ≡ section) × (piece.location ≡ location) × Runs section (location + size_of piece) pieces
 
 pub some_bytes : (content : PieceContent) → 0 < length (content_bytes content)
 some_bytes (Byte stored) = omega arith
@@ -119,25 +119,25 @@ same_number : (a b : ℕ) → (a == b) ≡ true → a ≡ b
 same_number a b e = grind (arith, nat_tests)
 
 runs_on : (first : Piece) (rest : List Piece) → are_contiguous first rest ≡ true
-    → first.place + length (text_bytes (first ∷ rest)) ≤ 65536 → Runs first.section (first.place + size_of first) rest
+    → first.location + length (text_bytes (first ∷ rest)) ≤ 65536 → Runs first.section (first.location + size_of first) rest
 runs_on first [] e le = tt
 runs_on first (next ∷ rest) e le =
     let split = both (follows first next) (are_contiguous next rest) e in
-    let here = both (is_same_name next.section first.section) (next.place == last_place first + 1) split.0 in
+    let here = both (is_same_name next.section first.section) (next.location == last_location first + 1) split.0 in
     let size = length-append (content_bytes first.content) (text_bytes (next ∷ rest)) in
     let some = some_bytes first.content in
     let some_next = some_bytes next.content in
     let size_next = length-append (content_bytes next.content) (text_bytes rest) in
-    let same = same_number next.place (last_place first + 1) here.1 in
+    let same = same_number next.location (last_location first + 1) here.1 in
     let section = same_name_equal next.section first.section here.0 in
-    let place : next.place ≡ first.place + size_of first = omega (arith, same, size, size_next, some, some_next, le) in
-    let fits : next.place + length (text_bytes (next ∷ rest)) ≤ 65536 = omega (arith, place, size, le) in
+    let location : next.location ≡ first.location + size_of first = omega (arith, same, size, size_next, some, some_next, le) in
+    let fits : next.location + length (text_bytes (next ∷ rest)) ≤ 65536 = omega (arith, location, size, le) in
     let more = runs_on next rest split.1 fits in
     let P : Name → ℕ → Type 0 = λ s p. Runs s (p + size_of next) rest in
-    (section, place, subst (λ (p : ℕ). P first.section p) place (subst (λ (s : Name). P s next.place) section more))
+    (section, location, subst (λ (p : ℕ). P first.section p) location (subst (λ (s : Name). P s next.location) section more))
 
 pub runs_of : (first : Piece) (rest : List Piece) → are_contiguous first rest ≡ true
-    → first.place + length (text_bytes (first ∷ rest)) ≤ 65536 → Runs first.section first.place (first ∷ rest)
+    → first.location + length (text_bytes (first ∷ rest)) ≤ 65536 → Runs first.section first.location (first ∷ rest)
 runs_of first rest e le = (refl, refl, runs_on first rest e le)
 
 module _ (program : Addresses) (index : ℕ) where
@@ -154,13 +154,13 @@ module _ (program : Addresses) (index : ℕ) where
     below : (start size rest : ℕ) → 0 < size → start + (size + rest) ≤ 65536 → start ≡ modulo start
     below start size rest lt le = omega arith
 
-    pub pieces_placed : (pieces : List Piece) (place : ℕ) → Runs section place pieces
-        → base + (place + length (text_bytes pieces)) ≤ 65536
-        → byte_within (base + place, bytes_from program index base (base + place) pieces) address
+    pub pieces_placed : (pieces : List Piece) (location : ℕ) → Runs section location pieces
+        → base + (location + length (text_bytes pieces)) ≤ 65536
+        → byte_within (base + location, bytes_from program index base (base + location) pieces) address
         ≡ byte_of (map (placed program index) pieces) address
-    pieces_placed [] place r le = nothing_within (base + place) address
-    pieces_placed (piece ∷ pieces) place r le =
-        let start : ℕ = base + place in
+    pieces_placed [] location r le = nothing_within (base + location) address
+    pieces_placed (piece ∷ pieces) location r le =
+        let start : ℕ = base + location in
         let here : Spot = spot index base start in
         let new : Bytes = bytes_at program here piece.content in
         let rest : Bytes = bytes_from program index base (start + size_of piece) pieces in
@@ -168,18 +168,18 @@ module _ (program : Addresses) (index : ℕ) where
         let size = length-append (content_bytes piece.content) (text_bytes pieces) in
         let fits : start + (size_of piece + length (text_bytes pieces)) ≤ 65536 = omega (arith, size, le) in
         let at : start ≡ modulo start = below start (size_of piece) (length (text_bytes pieces)) some fits in
-        let far : start + length new ≡ base + (place + size_of piece) = omega (arith, as_long here piece.content) in
-        let next : start + size_of piece ≡ base + (place + size_of piece) = omega arith in
-        let more : base + (place + size_of piece + length (text_bytes pieces)) ≤ 65536 = omega (arith, fits) in
+        let far : start + length new ≡ base + (location + size_of piece) = omega (arith, as_long here piece.content) in
+        let next : start + size_of piece ≡ base + (location + size_of piece) = omega arith in
+        let more : base + (location + size_of piece + length (text_bytes pieces)) ≤ 65536 = omega (arith, fits) in
         let one : byte_within (start, new) address ≡ byte_within (placed program index piece) address =
         ap (λ (s : ℕ). byte_within (s, new) address) at
         ∙ ap (λ (p : ℕ). byte_within (laid program (spot index base (base + p)) piece.content) address) (sym r.1)
         ∙ ap (λ (s : Name). byte_within
-        (laid program (spot index (program.base index s) (program.base index s + piece.place)) piece.content) address) (sym r.0) in
+        (laid program (spot index (program.base index s) (program.base index s + piece.location)) piece.content) address) (sym r.0) in
         bytes_then start address new rest
         ∙ ap₂ option_or
         (ap₂ (λ (s t : ℕ). byte_within (s, bytes_from program index base t pieces) address) far next
-        ∙ pieces_placed pieces (place + size_of piece) r.2 more)
+        ∙ pieces_placed pieces (location + size_of piece) r.2 more)
         one
 
 -- ---- how pieces are cut

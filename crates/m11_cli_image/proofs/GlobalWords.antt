@@ -13,13 +13,13 @@ use Rattle.m11_obj.specs.Gsd.{EntryFits, has_bits}
 use Rattle.m11_obj.specs.Records as records
 use Rattle.m11_obj.specs.Records.{Content, Fits}
 use Rattle.m11_link_modules.specs.Parts.{Part, Entry, Relocated, parts_of}
-use Rattle.m11_link_modules.specs.Places.{modules_in, this_module}
+use Rattle.m11_link_modules.specs.Positions.{modules_in, this_module}
 use Rattle.m11_link_modules.specs.Rules.{defines}
-use Rattle.m11_link_layout.specs.Globals.{definition_by, definition_in, definition_value, definitions_of, global_value, last_section, place_in, place_of, place_value}
+use Rattle.m11_link_layout.specs.Globals.{definition_by, definition_in, definition_value, definitions_of, global_value, last_section, location_in, location_of, location_value}
 use Rattle.m11_link_layout.specs.Modules.{reported_after}
 use Rattle.m11_link_layout.specs.declared.definition.Definition.{Definition}
-use Rattle.m11_link_layout.specs.declared.definition.GlobalPlace.{GlobalPlace}
-use Rattle.m11_link_layout.specs.declared.definition.GlobalPlace.TheVariants.{Absolute, In}
+use Rattle.m11_link_layout.specs.declared.definition.GlobalLocation.{GlobalLocation}
+use Rattle.m11_link_layout.specs.declared.definition.GlobalLocation.TheVariants.{Absolute, In}
 
 -- the number of an entry is a word
 abbrev pub IsWordPart : Part → Type 0
@@ -63,28 +63,28 @@ may_add : {X : Type 0} (P : X → Type 0) (b : Bool) (x : X) (xs : List X) → P
 may_add P true x xs p h = (p, h)
 may_add P false x xs p h = h
 
-abbrev IsWordPlace : GlobalPlace → Type 0
-IsWordPlace (Absolute value) = value < 65536
-IsWordPlace (In section value) = value < 65536
+abbrev IsWordLocation : GlobalLocation → Type 0
+IsWordLocation (Absolute value) = value < 65536
+IsWordLocation (In section value) = value < 65536
 
 abbrev IsWordDefinition : Name × Definition → Type 0
-IsWordDefinition definition = IsWordPlace definition.1.place
+IsWordDefinition definition = IsWordLocation definition.1.location
 
-in_word : (section : Option Name) (value : ℕ) → value < 65536 → IsWordPlace (place_in section value)
+in_word : (section : Option Name) (value : ℕ) → value < 65536 → IsWordLocation (location_in section value)
 in_word None value lt = lt
 in_word (Some section) value lt = lt
 
-place_by : (b : Bool) (section : Option Name) (value : ℕ) → value < 65536
-    → IsWordPlace (if b then place_in section value else Absolute value)
-place_by true section value lt = in_word section value lt
-place_by false section value lt = lt
+location_by : (b : Bool) (section : Option Name) (value : ℕ) → value < 65536
+    → IsWordLocation (if b then location_in section value else Absolute value)
+location_by true section value lt = in_word section value lt
+location_by false section value lt = lt
 
 defined_word : (kind : GsdKind) (entry : GsdEntry) (modules : ℕ) (section : Option Name) (others : List (Name × Definition))
     → entry.value < 65536 → AllByRecursion IsWordDefinition others
     → AllByRecursion IsWordDefinition (cons_option (definition_by kind entry modules section) others)
 defined_word GlobalSymbol entry modules section others lt h =
-    may_add IsWordDefinition (defines entry) (entry.name, record { module_index = modules; place = place_of section entry }) others
-    (place_by (has_bits 0o40 entry.flags) section entry.value lt) h
+    may_add IsWordDefinition (defines entry) (entry.name, record { module_index = modules; location = location_of section entry }) others
+    (location_by (has_bits 0o40 entry.flags) section entry.value lt) h
 defined_word kind entry modules section others lt h = h
 
 definitions_word : (before parts : List Part) → AreWordParts parts
@@ -97,14 +97,14 @@ definitions_word before (Entry entry ∷ parts) h =
 definitions_word before (part ∷ parts) h = definitions_word (before ++ part ∷ []) parts h.1
 
 module _ (bottom : ℕ) (parts : List Part) where
-  place_word : (index : ℕ) (place : GlobalPlace) → IsWordPlace place → place_value bottom parts index place < 65536
-  place_word index (Absolute value) lt = lt
-  place_word index (In section value) lt = omega arith
+  location_word : (index : ℕ) (location : GlobalLocation) → IsWordLocation location → location_value bottom parts index location < 65536
+  location_word index (Absolute value) lt = lt
+  location_word index (In section value) lt = omega arith
 
-  looked_word : (b : Bool) (definition : Definition) (found : Option Definition) → IsWordPlace definition.place
+  looked_word : (b : Bool) (definition : Definition) (found : Option Definition) → IsWordLocation definition.location
       → unwrap_or (option_map (definition_value bottom parts) found) 0 < 65536
       → unwrap_or (option_map (definition_value bottom parts) (cond b (Some definition) found)) 0 < 65536
-  looked_word true definition found p h = place_word definition.module_index definition.place p
+  looked_word true definition found p h = location_word definition.module_index definition.location p
   looked_word false definition found p h = h
 
   value_word : (name : Name) (definitions : List (Name × Definition)) → AllByRecursion IsWordDefinition definitions

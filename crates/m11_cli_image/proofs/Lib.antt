@@ -8,7 +8,7 @@ pub mod ReadDirectories
 pub mod ReadRecords
 pub mod YieldedParts
 pub mod LinkedSources
-pub mod LinkedPlaces
+pub mod LinkedLocations
 pub mod LinkedTexts
 pub mod BoundedTexts
 pub mod TextsInside

@@ -11,7 +11,7 @@ use Rattle.m11_link_layout.specs.Transfers.{transfer_in, transfers_of}
 use Rattle.m11_link_laws.specs.LinkedTexts.{object_texts}
 use Rattle.m11_link_modules.specs.Grammar.{directory_parts}
 use Rattle.m11_link_modules.specs.Parts.{Part, Entry, EndOfDirectory, Relocated, EndOfModule, EndOfFile, parts_of}
-use Rattle.m11_link_modules.specs.Places.{sections_in}
+use Rattle.m11_link_modules.specs.Positions.{sections_in}
 use Rattle.m11_obj.specs.declared.gsd.GsdEntry.{GsdEntry}
 use Rattle.m11_obj.specs.declared.relocations.Relocation.{Relocation}
 use Rattle.m11_obj.specs.Records.{Content}
@@ -63,7 +63,7 @@ past_relocations modules (relocation ∷ relocations) rest = past_relocations mo
 past_body : (modules : ℕ) (contents : List Content) → AllByRecursion IsBody contents → (rest : List Part)
     → modules_from modules (flat_map parts_of contents ++ rest) ≡ modules_from modules rest
 past_body modules [] h rest = refl
-past_body modules (records.Text place bytes ∷ contents) h rest = past_body modules contents h.1 rest
+past_body modules (records.Text location bytes ∷ contents) h rest = past_body modules contents h.1 rest
 past_body modules (records.Relocations relocations ∷ contents) h rest =
     ap (modules_from modules)
     (append_assoc (map (λ relocation. Relocated relocation) relocations) (flat_map parts_of contents) rest)

@@ -23,7 +23,7 @@ use Rattle.m11_base_writes.specs.Writes.{gained}
 use Rattle.m11_cli_image.specs.Links.{AreLinked, all_transfers, beginning, beginning_at}
 use Rattle.m11_cli_image.specs.Objects.{SourceFits, link_parts, object_of}
 use Rattle.m11_cli_image.specs.Sources.{Source}
-use Rattle.m11_cli_image.proofs.LinkedPlaces.{module_same}
+use Rattle.m11_cli_image.proofs.LinkedLocations.{module_same}
 use Rattle.m11_cli_image.proofs.LinkedSources.{transfers_linked}
 use Rattle.m11_cli_image.proofs.LinkedTexts.{source_texts_linked}
 use Rattle.m11_cli_image.proofs.YieldedParts.{yields_parts}

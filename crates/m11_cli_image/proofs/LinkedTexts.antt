@@ -15,8 +15,8 @@ use Rattle.m11_cli_image.specs.Sources.{Source}
 use Rattle.m11_cli_image.proofs.LinkedSources.{texts_linked}
 
 selects_or_stores : (target : Target) → not (only_selects target) ≡ stores target
-selects_or_stores (LocationCounterDefinition name place) = refl
-selects_or_stores (LocationCounterModification place) = refl
+selects_or_stores (LocationCounterDefinition name location) = refl
+selects_or_stores (LocationCounterModification location) = refl
 selects_or_stores target = refl
 
 -- the first relocation is stored, or it changes nothing

@@ -8,7 +8,7 @@ use Rattle.m11_link_layout.specs.Globals.{definition_in, definitions_of, last_se
 use Rattle.m11_link_layout.specs.Sections.{attributes_in}
 use Rattle.m11_link_layout.specs.Transfers.{transfer_in, transfers_of}
 use Rattle.m11_link_laws.specs.LinkedTexts.{object_texts}
-use Rattle.m11_link_modules.specs.Places.{current_section, modules_in, sections_in, this_module}
+use Rattle.m11_link_modules.specs.Positions.{current_section, modules_in, sections_in, this_module}
 use Rattle.m11_obj.specs.declared.gsd.GsdEntry.{GsdEntry}
 use Rattle.m11_obj_texts.specs.Directory.{entry_of}
 use Rattle.m11_obj_texts.proofs.InRecords.{holds_rows}

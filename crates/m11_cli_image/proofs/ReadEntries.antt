@@ -9,7 +9,7 @@ use Rattle.m11_link_layout.specs.declared.definition.Transfer.{Transfer}
 use Rattle.m11_base.specs.Rad50.{Name}
 use Rattle.m11_link_modules.specs.Grammar.{BodyRecord, Module, RelocationRecord, TextRecord, body_parts, directory_parts, module_parts}
 use Rattle.m11_link_modules.specs.Parts.{Part, Entry, EndOfDirectory, Relocated, EndOfModule}
-use Rattle.m11_link_modules.specs.Places.{section_by, section_in}
+use Rattle.m11_link_modules.specs.Positions.{section_by, section_in}
 use Rattle.m11_obj.specs.declared.gsd.GsdEntry.{GsdEntry}
 use Rattle.m11_obj.specs.declared.relocations.Relocation.{Relocation}
 use Rattle.m11_obj_texts.specs.Fronts.{joined}

@@ -12,8 +12,8 @@ use Rattle.m11_asm_directory.specs.References.{reference_rows, references}
 use Rattle.m11_asm_directory.specs.Rows.{all_section_rows, directory_rows, identification_rows, module_row, references_under, rows_under, section_rows}
 use Rattle.m11_asm_directory.specs.Transfers.{transfer_row}
 use Rattle.m11_link_layout.specs.declared.definition.Definition as layout
-use Rattle.m11_link_layout.specs.declared.definition.GlobalPlace.{GlobalPlace}
-use Rattle.m11_link_layout.specs.declared.definition.GlobalPlace.TheVariants.{Absolute, In}
+use Rattle.m11_link_layout.specs.declared.definition.GlobalLocation.{GlobalLocation}
+use Rattle.m11_link_layout.specs.declared.definition.GlobalLocation.TheVariants.{Absolute, In}
 use Rattle.m11_link_modules.specs.Parts.{Entry}
 use Rattle.m11_obj_texts.specs.declared.directory.DirectoryRow.{DirectoryRow}
 use Rattle.m11_obj_texts.specs.declared.directory.DirectoryRow.TheVariants as row
@@ -101,7 +101,7 @@ relocatable_said : (b : Bool) (seen : Seen) (section other name : Name) (value :
     ≡ map (in_source seen.modules) (cons_option (if b then Some (name, In other value) else None) [])
     ++ defined_by (under seen section) rows
 relocatable_said true seen section other name value rows same =
-    ap (λ (place : Name). (name, record { module_index = seen.modules; place = In place value })
+    ap (λ (location : Name). (name, record { module_index = seen.modules; location = In location value })
     ∷ defined_by (under seen section) rows) (sym (same refl))
 relocatable_said false seen section other name value rows same = refl
 
@@ -131,7 +131,7 @@ definition_is seen section name (Some definition) rows = standing_said seen sect
 definition_is seen section name None rows = refl
 
 module _ (facts : DirectoryFacts) where
-  joined_one : (modules : ℕ) (found : Option (Name × GlobalPlace)) (more : List (Name × GlobalPlace))
+  joined_one : (modules : ℕ) (found : Option (Name × GlobalLocation)) (more : List (Name × GlobalLocation))
       → map (in_source modules) (cons_option found []) ++ map (in_source modules) more
       ≡ map (in_source modules) (cons_option found more)
   joined_one modules None more = refl

@@ -34,7 +34,7 @@ both [] ys h k = k
 both (x ∷ xs) ys h k = (h.0, both xs ys h.1 k)
 
 selects : (b : Bool) (text : TextParts)
-    → AllByRecursion IsBody (if b then [] else selection text.section text.place ∷ [])
+    → AllByRecursion IsBody (if b then [] else selection text.section text.location ∷ [])
 selects true text = tt
 selects false text = (tt, tt)
 
@@ -46,7 +46,7 @@ texts_are_body : (texts : List TextParts) → AllByRecursion IsBody (flat_map re
 texts_are_body [] = tt
 texts_are_body (text ∷ texts) =
     both (records_of text) (flat_map records_of texts)
-    (both _ (Text text.place text.bytes ∷ relocation_records text.relocations)
+    (both _ (Text text.location text.bytes ∷ relocation_records text.relocations)
     (selects (is_in_section text.before text.section) text) (tt, relocates text.relocations))
     (texts_are_body texts)
 

@@ -9,7 +9,7 @@ use Rattle.m11_base.specs.Rad50.{Name}
 use Rattle.m11_link_layout.specs.Globals.{last_of, last_section}
 use Rattle.m11_link_layout.specs.Modules.{reported_after}
 use Rattle.m11_link_modules.specs.Parts.{Part, Directory, Entry, EndOfDirectory, Text, Relocations, Relocated, EndOfModule, EndOfFile}
-use Rattle.m11_link_modules.specs.Places.{current_section, ends_module, modules_in, section_after, section_by, section_in, sections_in, selected_by, this_module}
+use Rattle.m11_link_modules.specs.Positions.{current_section, ends_module, modules_in, section_after, section_by, section_in, sections_in, selected_by, this_module}
 use Rattle.m11_link_modules.proofs.KnownAfter.{this_module_ended, this_module_goes_on}
 
 -- ---- what parts leave for the next one

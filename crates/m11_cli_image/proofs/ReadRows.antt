@@ -13,7 +13,7 @@ use Rattle.m11_link_layout.specs.Sections.{attributes_by}
 use Rattle.m11_link_layout.specs.Transfers.{transfer_by}
 use Rattle.m11_link_layout.specs.declared.definition.Transfer.{Transfer}
 use Rattle.m11_link_modules.specs.Parts.{Entry}
-use Rattle.m11_link_modules.specs.Places.{section_by}
+use Rattle.m11_link_modules.specs.Positions.{section_by}
 use Rattle.m11_obj.specs.declared.gsd.GsdEntry.{GsdEntry}
 use Rattle.m11_obj_texts.specs.declared.directory.DirectoryRow.{DirectoryRow}
 use Rattle.m11_obj_texts.specs.declared.directory.DirectoryRow.TheVariants as row

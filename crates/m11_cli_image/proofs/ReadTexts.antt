@@ -10,7 +10,7 @@ use Rattle.m11_link.specs.Written.{relocations_after}
 use Rattle.m11_link_laws.specs.LinkedTexts.{ObjectText, texts_after}
 use Rattle.m11_link_modules.specs.Grammar.{directory_parts}
 use Rattle.m11_link_modules.specs.Parts.{Part, Entry, EndOfDirectory, Text, Relocated, EndOfModule, parts_of}
-use Rattle.m11_link_modules.specs.Places.{current_section, modules_in, selected_by, this_module}
+use Rattle.m11_link_modules.specs.Positions.{current_section, modules_in, selected_by, this_module}
 use Rattle.m11_obj.specs.declared.gsd.GsdEntry.{GsdEntry}
 use Rattle.m11_obj.specs.declared.relocations.Relocation.{Relocation}
 use Rattle.m11_obj.specs.declared.relocations.Target.{Target}
@@ -80,7 +80,7 @@ directory_passes modules section (entries ∷ cuts) rest =
 -- ---- relocations select sections, and stand after their text
 
 pub selects_same : (section : Name) (target : Target) → selected_by section target ≡ selected section target
-selects_same section (LocationCounterDefinition name place) = refl
+selects_same section (LocationCounterDefinition name location) = refl
 selects_same section target = refl
 
 abbrev relocated : List Relocation → List Part
@@ -103,7 +103,7 @@ stored_after : (contents : List Content) → AllByRecursion IsBody contents → 
     → filter is_stored (relocations_after (flat_map parts_of contents ++ EndOfModule ∷ rest))
     ≡ read.relocations_after contents
 stored_after [] h rest = refl
-stored_after (records.Text place bytes ∷ contents) h rest = refl
+stored_after (records.Text location bytes ∷ contents) h rest = refl
 stored_after (records.Relocations relocations ∷ contents) h rest =
     let more = flat_map parts_of contents ++ EndOfModule ∷ rest in
     ap (λ parts. filter is_stored (relocations_after parts))
@@ -119,7 +119,7 @@ abbrev read_in : ℕ → ReadText → ObjectText
 read_in modules text = record {
   module_index = modules;
   section = text.section;
-  address = text.place;
+  address = text.location;
   bytes = text.bytes;
   relocations = text.relocations;
 }
@@ -130,11 +130,11 @@ body_texts : (contents : List Content) → AllByRecursion IsBody contents
     ≡ map (read_in modules) (texts_read section contents)
     ++ map stored_alone (texts_from (modules + 1) absolute_name rest)
 body_texts [] h modules section rest = refl
-body_texts (records.Text place bytes ∷ contents) h modules section rest =
+body_texts (records.Text location bytes ∷ contents) h modules section rest =
     ap₂ (λ relocations more. record {
       module_index = modules;
       section = section;
-      address = place;
+      address = location;
       bytes = bytes;
       relocations = relocations;
     } ∷ more) (stored_after contents h.1 rest) (body_texts contents h.1 modules section rest)

@@ -28,7 +28,7 @@ use Rattle.m11_cli_image.specs.Sources.{Source}
 use Rattle.m11_cli_image.proofs.AbsoluteSection.{lies_at_zero}
 use Rattle.m11_cli_image.proofs.BlocksGiven.{Ends, HoldsPieces, all_sources, with_data}
 use Rattle.m11_cli_image.proofs.GlobalWords.{AreWordParts, IsWordPart, all_then, global_word, records_words}
-use Rattle.m11_cli_image.proofs.LinkedPlaces.{lies_by_sources}
+use Rattle.m11_cli_image.proofs.LinkedLocations.{lies_by_sources}
 use Rattle.m11_cli_image.proofs.LinkedTapes.{are_linked}
 use Rattle.m11_cli_image.proofs.ReadDirectories.{has_texts}
 use Rattle.m11_cli_image.proofs.StartsFound.{start_found}

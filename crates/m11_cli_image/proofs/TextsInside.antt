@@ -11,11 +11,11 @@ use Rattle.m11_asm_directory.specs.Rows.{directory_rows}
 use Rattle.m11_link_layout.specs.Sections.{base_entered, contribution_base, first_attributes, is_overlaid, is_relocatable, is_too_large, module_base, names_before, offset_after, room_of, rounded, section_base, section_size, sizes_of}
 use Rattle.m11_link_layout.specs.Modules.{module_at, modules_before}
 use Rattle.m11_link_laws.specs.LinkedTexts.{ObjectText}
-use Rattle.m11_link_laws.specs.Places.{size_entered as entered_in}
+use Rattle.m11_link_laws.specs.Spans.{size_entered as entered_in}
 use Rattle.m11_link_laws.proofs.Contributions.{ends_low, is_section, overlaid_fits, overlaid_together, they_lie_within}
 use Rattle.m11_link_text.specs.Relocation.{modulo}
 use Rattle.m11_link_modules.specs.Parts.{Part, EndOfFile}
-use Rattle.m11_link_modules.specs.Places.{current_section, section_by, section_names, sections_in, this_module}
+use Rattle.m11_link_modules.specs.Positions.{current_section, section_by, section_names, sections_in, this_module}
 use Rattle.m11_link_modules.specs.Rules.{first_fault}
 use Rattle.m11_obj.specs.declared.gsd.GsdEntry.{GsdEntry}
 use Rattle.m11_obj.specs.declared.gsd.GsdKind.{GsdKind}
@@ -32,7 +32,7 @@ use Rattle.m11_cli_image.specs.Objects.{SourceFits, link_parts, source_parts, te
 use Rattle.m11_cli_image.specs.Sections.{all_sections, attributes_of, base_of, contribution, sections_of, size_entered, sizes_of as own_sizes, source_at}
 use Rattle.m11_cli_image.specs.Sources.{Source}
 use Rattle.m11_cli_image.proofs.BoundedTexts.{Bounded, TextWithin, bounded, source_bounded}
-use Rattle.m11_cli_image.proofs.LinkedPlaces.{module_same, own_same}
+use Rattle.m11_cli_image.proofs.LinkedLocations.{module_same, own_same}
 use Rattle.m11_cli_image.proofs.ReadRows.{row_sections}
 
 -- ---- sizes are words
@@ -154,22 +154,22 @@ module _ (bottom : ℕ) (sources : List Source) (index : ℕ) (name : Name) wher
   not_entered e = none_is_zero entered
       (base_of bottom sources name + offset_after (attributes_of sources name) (own_sizes (take index sources) name)) e
 
-  past : (place : ℕ) (bytes : List ℕ) (found : Option ℕ) → is_too_large bottom parts ≡ false → entered ≡ found
+  past : (location : ℕ) (bytes : List ℕ) (found : Option ℕ) → is_too_large bottom parts ≡ false → entered ≡ found
       → ((size : ℕ) → found ≡ Some size → size < 2 ^ 16)
-      → place + length bytes ≤ unwrap_or (option_or found (if is_same_name name absolute_name then Some 0 else None)) 0
-      → contribution bottom sources index name + place + length bytes ≤ 65536
-  past place bytes (Some size) n e s h =
-      ends (contribution bottom sources index name) size place (length bytes) (contribution_ends size n e (s size refl)) h
+      → location + length bytes ≤ unwrap_or (option_or found (if is_same_name name absolute_name then Some 0 else None)) 0
+      → contribution bottom sources index name + location + length bytes ≤ 65536
+  past location bytes (Some size) n e s h =
+      ends (contribution bottom sources index name) size location (length bytes) (contribution_ends size n e (s size refl)) h
     where
-      ends : (base size place count : ℕ) → base + size ≤ 65536 → place + count ≤ size → base + place + count ≤ 65536
-      ends base size place count h k = omega arith
-  past place bytes None n e s h =
-      ends (contribution bottom sources index name) place (length bytes) (is_same_name name absolute_name) (not_entered e) h
+      ends : (base size location count : ℕ) → base + size ≤ 65536 → location + count ≤ size → base + location + count ≤ 65536
+      ends base size location count h k = omega arith
+  past location bytes None n e s h =
+      ends (contribution bottom sources index name) location (length bytes) (is_same_name name absolute_name) (not_entered e) h
     where
-      ends : (base place count : ℕ) (b : Bool) → base ≡ 0 → place + count ≤ unwrap_or (if b then Some 0 else None) 0
-          → base + place + count ≤ 65536
-      ends base place count true e h = omega arith
-      ends base place count false e h = omega arith
+      ends : (base location count : ℕ) (b : Bool) → base ≡ 0 → location + count ≤ unwrap_or (if b then Some 0 else None) 0
+          → base + location + count ≤ 65536
+      ends base location count true e h = omega arith
+      ends base location count false e h = omega arith
 
 -- ---- all texts
 
@@ -179,7 +179,7 @@ module _ (bottom : ℕ) (sources : List Source) (n : is_too_large bottom (link_p
       → AllByRecursion (EndsInside bottom sources) (map (text_in index) texts)
   texts_end index source at fits [] h = tt
   texts_end index source at fits (text ∷ texts) h = (
-    past bottom sources index text.section text.place text.bytes
+    past bottom sources index text.section text.location text.bytes
         (lookup (is_same_name text.section) (map size_entered (sections_of source))) n
         (ap (λ these. lookup (is_same_name text.section) (map size_entered (all_sections these))) at
         ∙ ap (λ these. lookup (is_same_name text.section) (map size_entered these)) (append-nil (sections_of source)))

@@ -10,8 +10,8 @@ use Rattle.m11_asm_directory.specs.Definitions.{lies_in}
 use Rattle.m11_asm_directory.specs.FirstPass.{DirectoryFacts}
 use Rattle.m11_asm_directory.specs.Names.{ordered}
 use Rattle.m11_link_layout.specs.declared.definition.Definition as layout
-use Rattle.m11_link_layout.specs.declared.definition.GlobalPlace.{GlobalPlace}
-use Rattle.m11_link_layout.specs.declared.definition.GlobalPlace.TheVariants.{Absolute, In}
+use Rattle.m11_link_layout.specs.declared.definition.GlobalLocation.{GlobalLocation}
+use Rattle.m11_link_layout.specs.declared.definition.GlobalLocation.TheVariants.{Absolute, In}
 use Rattle.m11_link_text.specs.Relocation.{modulo}
 use Rattle.m11_asm_rules.specs.declared.definitions.Definition.{Definition}
 use Rattle.m11_asm_rules.specs.declared.definitions.Key.TheVariants.{Named}
@@ -28,37 +28,37 @@ use Rattle.m11_cli_image.specs.Sources.{Source}
 -- ---- of one source
 
 -- so many bytes after what the source contributes to a section, or a number
-abbrev pub place_of : ℕ → Kind → GlobalPlace
-place_of number (kind.Section section) = In section number
-place_of number other = Absolute number
+abbrev pub location_of : ℕ → Kind → GlobalLocation
+location_of number (kind.Section section) = In section number
+location_of number other = Absolute number
 
-abbrev pub global_known : Name → Name → ℕ → Kind → Option (Name × GlobalPlace)
+abbrev pub global_known : Name → Name → ℕ → Kind → Option (Name × GlobalLocation)
 global_known section name number kind =
-    if lies_in section kind then Some (name, place_of number kind) else None
+    if lies_in section kind then Some (name, location_of number kind) else None
 
-abbrev pub global_standing : Name → Name → Standing → Option (Name × GlobalPlace)
+abbrev pub global_standing : Name → Name → Standing → Option (Name × GlobalLocation)
 global_standing section name (Known number kind) = global_known section name number kind
 global_standing section name Unknown = None
 
-abbrev pub global_by : Name → Name → Option Definition → Option (Name × GlobalPlace)
+abbrev pub global_by : Name → Name → Option Definition → Option (Name × GlobalLocation)
 global_by section name (Some definition) = global_standing section name definition.standing
 global_by section name None = None
 
 -- a global stands under a section if the value of its last definition is known and lies there
-abbrev pub global_under : Table → Name → Name → Option (Name × GlobalPlace)
+abbrev pub global_under : Table → Name → Name → Option (Name × GlobalLocation)
 global_under table section name = global_by section name (last_definition (Named name) table.definitions)
 
-abbrev pub globals_under : Table → Section → List (Name × GlobalPlace)
+abbrev pub globals_under : Table → Section → List (Name × GlobalLocation)
 globals_under table section = filter_map (global_under table section.name) (ordered table.globals)
 
 -- section by section, and in each by names
-abbrev pub globals_of : DirectoryFacts → List (Name × GlobalPlace)
+abbrev pub globals_of : DirectoryFacts → List (Name × GlobalLocation)
 globals_of facts = flat_map (globals_under facts.table) facts.table.sections
 
 -- ---- of all sources, each with the index of its source
 
-abbrev pub in_source : ℕ → Name × GlobalPlace → Name × layout.Definition
-in_source index global = (global.0, record { module_index = index; place = global.1 })
+abbrev pub in_source : ℕ → Name × GlobalLocation → Name × layout.Definition
+in_source index global = (global.0, record { module_index = index; location = global.1 })
 
 abbrev pub globals_at : ℕ × Source → List (Name × layout.Definition)
 globals_at numbered = map (in_source numbered.0) (globals_of numbered.1.facts)
@@ -68,12 +68,12 @@ all_globals sources = flat_map globals_at (enumerate_from 0 sources)
 
 -- ---- values
 
-abbrev pub address_of : ℕ → List Source → ℕ → GlobalPlace → ℕ
+abbrev pub address_of : ℕ → List Source → ℕ → GlobalLocation → ℕ
 address_of bottom sources index (Absolute number) = number
 address_of bottom sources index (In section number) = modulo (contribution bottom sources index section + number)
 
 abbrev pub definition_value : ℕ → List Source → layout.Definition → ℕ
-definition_value bottom sources definition = address_of bottom sources definition.module_index definition.place
+definition_value bottom sources definition = address_of bottom sources definition.module_index definition.location
 
 -- the first definition of a name counts; a name without one is 0
 unfoldable pub global : ℕ → List Source → Name → ℕ

@@ -18,7 +18,7 @@ use Rattle.m11_link_laws.specs.LinkedTexts.{ObjectText, has_data, linked_text, o
 use Rattle.m11_link_text.specs.Findings.{findings_of}
 use Rattle.m11_link_text.specs.Relocation.{modulo, symbol}
 use Rattle.m11_link_modules.specs.Parts.{Part}
-use Rattle.m11_link_modules.specs.Places.{sections_in}
+use Rattle.m11_link_modules.specs.Positions.{sections_in}
 use Rattle.m11_link_modules.specs.Rules.{first_fault}
 use Rattle.m11_base_writes.specs.Writes.{gained}
 use Rattle.m11_cli_image.specs.Globals.{all_globals, global}

@@ -14,7 +14,7 @@ use Rattle.m11_link_layout.specs.Transfers.{transfers_of}
 use Rattle.m11_link_laws.specs.LinkedTexts.{ObjectText, object_texts}
 use Rattle.m11_link_modules.specs.Grammar.{Module, module_parts}
 use Rattle.m11_link_modules.specs.Parts.{Part, EndOfFile, parts_of}
-use Rattle.m11_link_modules.specs.Places.{sections_in}
+use Rattle.m11_link_modules.specs.Positions.{sections_in}
 use Rattle.m11_obj.specs.Reading.{content_of}
 use Rattle.m11_obj.specs.Records.{Content, Fits, record_data}
 use Rattle.m11_obj_texts.specs.declared.pieces.Piece.{Piece}
@@ -44,12 +44,12 @@ object_of source = flat_map block (data_of source)
 -- ---- what holds of a source that was assembled
 
 abbrev pub LiesAtWord : Piece → Type 0
-LiesAtWord piece = piece.place < 2 ^ 16
+LiesAtWord piece = piece.location < 2 ^ 16
 
 pub record SourceFits (source : Source) : Type 0 where
-  -- the fields of each record fit their places, and its bytes a block
+  -- the fields of each record fit their room, and its bytes a block
   pub records : AllByRecursion Fits (contents_of source)
-  pub places : AllByRecursion LiesAtWord source.pieces
+  pub locations : AllByRecursion LiesAtWord source.pieces
   -- `. ABS.` is the first section
   pub others : List Section
   pub absolute : source.facts.table.sections ≡ section absolute_name of_absolute ∷ others
@@ -88,7 +88,7 @@ pub record HasDirectory (source : Source) : Type 0 where
   pub globals : definitions_of (source_parts source) ≡ map (in_source 0) (globals_of source.facts)
   pub transfer : transfers_of (source_parts source) ≡ transfer_at 0 source.facts.transfer ∷ []
 
--- a text without the commands after it that store nothing, but only select a section and a place
+-- a text without the commands after it that store nothing, but only select a section and a location
 abbrev pub stored_alone : ObjectText → ObjectText
 stored_alone text = record text { relocations = filter is_stored text.relocations }
 
@@ -97,7 +97,7 @@ abbrev pub text_in : ℕ → TextParts → ObjectText
 text_in index text = record {
   module_index = index;
   section = text.section;
-  address = text.place;
+  address = text.location;
   bytes = text.bytes;
   relocations = text.relocations;
 }

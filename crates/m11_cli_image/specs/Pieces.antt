@@ -1,6 +1,6 @@
 -- What stands in a linked program for the pieces of a source, by addresses alone. (MACRO-11 Language Reference Manual, "Relocation and
--- linking" and ".LIMIT directive". That a displaced value is counted from the place after a word is the rule of relative addressing; that a
--- displaced byte is counted from its own place and 2 is this project's own.)
+-- linking" and ".LIMIT directive". That a displaced value is counted from the location after a word is the rule of relative addressing;
+-- that a displaced byte is counted from its own location and 2 is this project's own.)
 use Rattle.std.specs.Prelude.{ℕ, ◌+◌, true, false, List, [], ◌∷◌, ◌++◌}
 use Rattle.m11_base.specs.Devices.{Bytes}
 use Rattle.m11_obj_blocks.specs.Frames.{word_bytes}
@@ -46,11 +46,11 @@ bytes_at program here Limits = word_bytes program.bottom ++ word_bytes program.t
 abbrev pub laid : Addresses → Spot → PieceContent → ℕ × Bytes
 laid program here content = (here.address, bytes_at program here content)
 
--- a piece of the source of an index, which lies its place after the contribution to its section
+-- a piece of the source of an index, which lies its location after the contribution to its section
 abbrev pub placed : Addresses → ℕ → Piece → ℕ × Bytes
 placed program source piece =
     let base = program.base source piece.section in
-    laid program (spot source base (base + piece.place)) piece.content
+    laid program (spot source base (base + piece.location)) piece.content
 
 -- ---- several pieces
 

@@ -10,7 +10,7 @@ use Rattle.m11_base.specs.Rad50.{Name, is_same_name}
 use Rattle.m11_asm_directory.specs.FirstPass.{DirectoryFacts}
 use Rattle.m11_link_layout.specs.Sections.{attribute_bits, base_entered, is_relocatable, names_before, offset_after, size_under, total}
 use Rattle.m11_link_text.specs.Relocation.{modulo}
-use Rattle.m11_link_modules.specs.Places.{distinct}
+use Rattle.m11_link_modules.specs.Positions.{distinct}
 use Rattle.m11_asm_rules.specs.declared.sections.Section.{Section}
 use Rattle.m11_cli_image.specs.Sources.{Source}
 

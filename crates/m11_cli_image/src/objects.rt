@@ -13,13 +13,13 @@ pub fn objects_are_read_back()
 {}
 
 /// The module of a source enters the sections of the source, each with its size and its attributes, in the order of their numbers. It defines
-/// the globals of the source, each at its place, and no others; and it says once where the program begins.
+/// the globals of the source, each at its location, and no others; and it says once where the program begins.
 pub fn directories_are_read_back()
     ensures { (source : Source) → HasDirectory source }
 {}
 
-/// The texts of a source's module are those that the pieces of the source make, in order: each in its section, at its place, with its bytes and
-/// the relocations of them. The pieces of these texts, one after another, are those of the source.
+/// The texts of a source's module are those that the pieces of the source make, in order: each in its section, at its location, with its
+/// bytes and the relocations of them. The pieces of these texts, one after another, are those of the source.
 pub fn texts_are_read_back()
     ensures { (source : Source) → HasTexts source }
 {}

@@ -56,13 +56,13 @@ distance_again d word reach =
     let split = both (d % 2 == 0) (nat_le d 254 || nat_le 65280 d) reach in
     reached d word (nat_le d 254) refl split.0 split.1
 
--- from the place after the code
-leads : (base place number : ℕ) → place < 65536
-    → (((base + place) % 65536 + 2) % 65536 + (number + 131072 - (place + 2)) % 65536) % 65536 ≡ (base + number) % 65536
-leads base place number low = omega arith
+-- from the location after the code
+leads : (base location number : ℕ) → location < 65536
+    → (((base + location) % 65536 + 2) % 65536 + (number + 131072 - (location + 2)) % 65536) % 65536 ≡ (base + number) % 65536
+leads base location number low = omega arith
 
-word_distance : (place number : ℕ) → distance place number < 65536
-word_distance place number = omega arith
+word_distance : (location number : ℕ) → distance location number < 65536
+word_distance location number = omega arith
 
 from_zero : (number : ℕ) → 0 + number ≡ number
 from_zero number = omega arith
@@ -89,16 +89,16 @@ module _ (program : Addresses) (source : ℕ) (table : Table)
       ∙ twice (program.base source name + number)
   here number (kind.Reference name) e = absurd (true≢false (sym e))
 
-  pub branch_leads : (place : ℕ) (value : Quantity) → place < 65536 → branch_reaches table place value ≡ true
-      → modulo (following (address_in program source (section_name table) place) + branch_distance (branch_offset table place value))
+  pub branch_leads : (location : ℕ) (value : Quantity) → location < 65536 → branch_reaches table location value ≡ true
+      → modulo (following (address_in program source (section_name table) location) + branch_distance (branch_offset table location value))
       ≡ modulo (target program source value)
-  branch_leads place value low reach =
-      let split = both (is_here table value.kind) (in_reach (distance place value.number)) reach in
-      ap (λ (b : Bool). modulo (following (address_in program source (section_name table) place)
-      + branch_distance (if b then distance place value.number / 2 % 256 else 0))) reach
-      ∙ (ap (λ (d : ℕ). modulo (following (address_in program source (section_name table) place) + d))
-      (distance_again (distance place value.number) (word_distance place value.number) split.1)
-      ∙ (leads base place value.number low ∙ here value.number value.kind split.0))
+  branch_leads location value low reach =
+      let split = both (is_here table value.kind) (in_reach (distance location value.number)) reach in
+      ap (λ (b : Bool). modulo (following (address_in program source (section_name table) location)
+      + branch_distance (if b then distance location value.number / 2 % 256 else 0))) reach
+      ∙ (ap (λ (d : ℕ). modulo (following (address_in program source (section_name table) location) + d))
+      (distance_again (distance location value.number) (word_distance location value.number) split.1)
+      ∙ (leads base location value.number low ∙ here value.number value.kind split.0))
 
   -- ---- SOB
 
@@ -112,16 +112,16 @@ module _ (program : Addresses) (source : ℕ) (table : Table)
   add_back : (from some other : ℕ) → some % 65536 ≡ other % 65536 → (from + some) % 65536 ≡ (from + other) % 65536
   add_back from some other e = omega arith
 
-  pub loop_leads : (place : ℕ) (value : Quantity) → place < 65536 → loop_reaches table place value ≡ true
-      → modulo (following (address_in program source (section_name table) place) + loop_distance (loop_offset table place value))
+  pub loop_leads : (location : ℕ) (value : Quantity) → location < 65536 → loop_reaches table location value ≡ true
+      → modulo (following (address_in program source (section_name table) location) + loop_distance (loop_offset table location value))
       ≡ modulo (target program source value)
-  loop_leads place value low reach =
-      let split = both (is_here table value.kind) (back place value.number % 2 == 0 && nat_le (back place value.number) 0o176) reach in
-      let inner = both (back place value.number % 2 == 0) (nat_le (back place value.number) 0o176) split.1 in
-      ap (λ (b : Bool). modulo (following (address_in program source (section_name table) place)
-      + loop_distance (if b then back place value.number / 2 else 0))) reach
-      ∙ (add_back (following (address_in program source (section_name table) place)) (loop_distance (back place value.number / 2))
-      (distance place value.number)
-      (back_again (distance place value.number) (word_distance place value.number)
-      (even_number (back place value.number) inner.0) (small_back (back place value.number) inner.1))
-      ∙ (leads base place value.number low ∙ here value.number value.kind split.0))
+  loop_leads location value low reach =
+      let split = both (is_here table value.kind) (back location value.number % 2 == 0 && nat_le (back location value.number) 0o176) reach in
+      let inner = both (back location value.number % 2 == 0) (nat_le (back location value.number) 0o176) split.1 in
+      ap (λ (b : Bool). modulo (following (address_in program source (section_name table) location)
+      + loop_distance (if b then back location value.number / 2 else 0))) reach
+      ∙ (add_back (following (address_in program source (section_name table) location)) (loop_distance (back location value.number / 2))
+      (distance location value.number)
+      (back_again (distance location value.number) (word_distance location value.number)
+      (even_number (back location value.number) inner.0) (small_back (back location value.number) inner.1))
+      ∙ (leads base location value.number low ∙ here value.number value.kind split.0))

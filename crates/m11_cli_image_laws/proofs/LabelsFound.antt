@@ -1,4 +1,4 @@
--- What a label's name stands for in each line of a source: the place and the section of the line that has the label.
+-- What a label's name stands for in each line of a source: the location and the section of the line that has the label.
 use Rattle.std.proofs.Common.{◌≡◌, ◌∙◌, ◌⊎◌, inl, inr, ℕ, ◌+◌, ◌%◌, Bool, true, false, if◌then◌else◌, List, [], ◌∷◌, ◌++◌, Option, Some, None, refl, sym, ap, ap₂, subst, true≢false, arith}
 use Rattle.std.specs.Option.{is_some}
 use Rattle.m11_base.specs.Devices.{Bytes}
@@ -10,10 +10,10 @@ use Rattle.m11_asm_rules.specs.Labels.{global_if, label_name, labelled, with_blo
 use Rattle.m11_asm_rules.specs.Lines.{after_line, line_change, stands}
 use Rattle.m11_asm_rules.specs.Meanings.{Map, defined_or, empty_map, flag_D, quantity_of}
 use Rattle.m11_asm_rules.specs.Placements.{after_lines, program_map, table_after}
-use Rattle.m11_asm_rules.specs.Places.{Moved, last_set, moves_in, place_in, sizes_since}
+use Rattle.m11_asm_rules.specs.Locations.{Moved, last_set, location_in, moves_in, sizes_since}
 use Rattle.m11_asm_rules.specs.Relocations.{is_moved}
-use Rattle.m11_asm_rules.specs.Sections.{place_kind}
-use Rattle.m11_asm_rules.specs.Tables.{Table, firm_table, first_table, kind_here, place, section_name}
+use Rattle.m11_asm_rules.specs.Sections.{location_kind}
+use Rattle.m11_asm_rules.specs.Tables.{Table, firm_table, first_table, kind_here, location, section_name}
 use Rattle.m11_asm_rules.specs.declared.definitions.Definition.{Definition}
 use Rattle.m11_asm_rules.specs.declared.definitions.Key.{Key}
 use Rattle.m11_asm_rules.specs.declared.definitions.Key.TheVariants.{Named, Numbered}
@@ -44,15 +44,15 @@ Frame = List Moved × (ℕ × List Section)
 abbrev pub frame : Table → Frame
 frame table = (table.moves, (table.modes.section, table.sections))
 
-place_by : Frame → ℕ
-place_by f = place_in f.1.0 f.0
+location_by : Frame → ℕ
+location_by f = location_in f.1.0 f.0
 
 kind_by : Frame → Kind
-kind_by f = place_kind f.1.0 f.1.1
+kind_by f = location_kind f.1.0 f.1.1
 
-pub same_place : (one other : Table) → frame one ≡ frame other → place one ≡ place other
-unfolding place_by
-same_place one other e = ap place_by e
+pub same_location : (one other : Table) → frame one ≡ frame other → location one ≡ location other
+unfolding location_by
+same_location one other e = ap location_by e
 
 pub same_kind : (one other : Table) → frame one ≡ frame other → kind_here one ≡ kind_here other
 unfolding kind_by
@@ -107,11 +107,11 @@ module _ (name : Name) where
   mark_at table old new same (Stays e) is = subst (IsAt table) (sym e) is
   mark_at table old new same (Marked other e f) is = inr (old, other, same, f)
 
-  labels_at_place : (table old : Table) (line : Bytes) (labels : List Label) → frame old ≡ frame table → IsAt table (last name old)
+  labels_at_location : (table old : Table) (line : Bytes) (labels : List Label) → frame old ≡ frame table → IsAt table (last name old)
       → IsAt table (last name (with_labels line old labels))
-  labels_at_place table old line [] same is = is
-  labels_at_place table old line (named ∷ labels) same is =
-      labels_at_place table (with_label line old named) line labels
+  labels_at_location table old line [] same is = is
+  labels_at_location table old line (named ∷ labels) same is =
+      labels_at_location table (with_label line old named) line labels
       (kind_frames old (label_name line named) named.kind ∙ same)
       (mark_at table old (with_label line old named) same (kind_marks name old (label_name line named) named.kind) is)
 
@@ -189,7 +189,7 @@ module _ (name : Name) where
   is_labelled lines line has =
       let before = before_line lines line in
       found_at lines line (sym (defined_last (Named name) (at_line lines line).definitions) ∙ has.defined)
-      (labels_at_place before before line.given.live.line.text (labels_at line.given.live.line.text) refl
+      (labels_at_location before before line.given.live.line.text (labels_at line.given.live.line.text) refl
       (inl (none_found (last name before) (sym (defined_last (Named name) before.definitions) ∙ has.new))))
 
   abbrev pub definition_of : (lines : List Given) (line : LineOf lines) → IsLabelled lines line → Definition
@@ -240,30 +240,30 @@ module _ (name : Name) where
 
   pub under_the_empty_map : Alike → (lines : List Given) (line : LineOf lines) (is : IsLabelled lines line)
       → (one : Definition) × (last_definition (Named name) (table_after empty_map lines).definitions ≡ Some one)
-      × (one.standing ≡ Known (place is.at) (kind_here is.at))
+      × (one.standing ≡ Known (location is.at) (kind_here is.at))
   under_the_empty_map alike lines line is =
       let empty = table_after empty_map lines in
       let full = table_after (program_map lines) lines in
       let definition = definition_of lines line is in
-      standing_by (last name empty) definition.standing (place is.at) (kind_here is.at) refl definition refl refl
+      standing_by (last name empty) definition.standing (location is.at) (kind_here is.at) refl definition refl refl
       (sym (last_firm (Named name) empty.definitions)
       ∙ (ap (λ (t : Table). last_definition (Named name) t.definitions) (alike empty_map (program_map lines) lines)
       ∙ (last_firm (Named name) full.definitions ∙ ap firm_option (in_the_end lines line is).0)))
 
 -- ---- addresses
 
-low_place : (moves : ℕ) → moves % 65536 ≡ (0 + moves % 65536) % 65536
-low_place moves = omega arith
+low_location : (moves : ℕ) → moves % 65536 ≡ (0 + moves % 65536) % 65536
+low_location moves = omega arith
 
 module _ (program : Addresses) (source : ℕ) where
   pub kind_lies : (table : Table) (moves : Bool) → is_moved table ≡ moves → (is_moved table ≡ false → program.base source (section_name table) ≡ 0)
-      → target_by program source (place table) (kind_here table) ≡ address_in program source (section_name table) (place table)
+      → target_by program source (location table) (kind_here table) ≡ address_in program source (section_name table) (location table)
   kind_lies table true e absolute =
-      ap (λ (b : Bool). target_by program source (place table) (if b then kind.Section (section_name table) else kind.Absolute)) e
+      ap (λ (b : Bool). target_by program source (location table) (if b then kind.Section (section_name table) else kind.Absolute)) e
   kind_lies table false e absolute =
-      ap (λ (b : Bool). target_by program source (place table) (if b then kind.Section (section_name table) else kind.Absolute)) e
-      ∙ (low_place (last_set (moves_in table.modes.section table.moves) + sizes_since (moves_in table.modes.section table.moves))
-      ∙ ap (λ (base : ℕ). modulo (base + place table)) (sym (absolute e)))
+      ap (λ (b : Bool). target_by program source (location table) (if b then kind.Section (section_name table) else kind.Absolute)) e
+      ∙ (low_location (last_set (moves_in table.modes.section table.moves) + sizes_since (moves_in table.modes.section table.moves))
+      ∙ ap (λ (base : ℕ). modulo (base + location table)) (sym (absolute e)))
 
   -- what a name stands for, by what it is in the line and in the map
   pub meaning_lies : (name : Name) (doubly_defined more : List Key) (other : Quantity) (number : ℕ) (sort : Kind)

@@ -9,7 +9,7 @@ use Rattle.m11_asm_rules.specs.Meanings.{empty_map, undefined}
 use Rattle.m11_asm_rules.specs.Placements.{program_map, table_after}
 use Rattle.m11_asm_rules.specs.Relocations.{is_moved}
 use Rattle.m11_asm_rules.specs.Sections.{numbered}
-use Rattle.m11_asm_rules.specs.Tables.{Table, kind_here, place, section_name}
+use Rattle.m11_asm_rules.specs.Tables.{Table, kind_here, location, section_name}
 use Rattle.m11_asm_rules.specs.declared.definitions.Definition.{Definition}
 use Rattle.m11_asm_rules.specs.declared.definitions.Key.TheVariants.{Named}
 use Rattle.m11_asm_rules.specs.declared.definitions.Standing.TheVariants.{Known}
@@ -26,7 +26,7 @@ use Rattle.m11_cli_image_laws.specs.Lines.{address_in}
 use Rattle.m11_cli_image_laws.specs.Targets.{target, target_by}
 use Rattle.m11_cli_image_laws.proofs.Absolutes.{AllAtZero, LieAtZero, LiesAtZero, all_at_zero, one_of}
 use Rattle.m11_cli_image_laws.proofs.GlobalsLie.{global_lies}
-use Rattle.m11_cli_image_laws.proofs.LabelsFound.{IsLabelled, definition_of, in_a_line, is_labelled, kind_lies, meaning_lies, same_kind, same_place, under_the_empty_map, whole_after}
+use Rattle.m11_cli_image_laws.proofs.LabelsFound.{IsLabelled, definition_of, in_a_line, is_labelled, kind_lies, meaning_lies, same_kind, same_location, under_the_empty_map, whole_after}
 use Rattle.m11_cli_image_laws.proofs.LabelTurns.{last}
 use Rattle.m11_cli_image_laws.proofs.SourcesLie.{Alike, before_lines, zeros_of}
 use Rattle.m11_cli_image_laws.proofs.SourcesLie as sections
@@ -74,25 +74,25 @@ module _ (alike : Alike) (bottom : ℕ) (sources : List Source) where
         (subst (λ (t : Table). LieAtZero program index t.sections)
         (whole_after known lines line.before line.given line.after line.whole) zeros_here)))
 
-    pub place_lies : (line : LineOf lines) → target_by program index (place (at_line lines line)) (kind_here (at_line lines line))
-        ≡ address_in program index (section_name (at_line lines line)) (place (at_line lines line))
-    place_lies line = kind_lies program index (at_line lines line) (is_moved (at_line lines line)) refl (zero_line line)
+    pub location_lies : (line : LineOf lines) → target_by program index (location (at_line lines line)) (kind_here (at_line lines line))
+        ≡ address_in program index (section_name (at_line lines line)) (location (at_line lines line))
+    location_lies line = kind_lies program index (at_line lines line) (is_moved (at_line lines line)) refl (zero_line line)
 
     at_the_line : (line : LineOf lines) (is : IsLabelled name lines line)
-        → target_by program index (place is.at) (kind_here is.at)
-        ≡ address_in program index (section_name (at_line lines line)) (place (at_line lines line))
+        → target_by program index (location is.at) (kind_here is.at)
+        ≡ address_in program index (section_name (at_line lines line)) (location (at_line lines line))
     at_the_line line is =
-        ap₂ (target_by program index) (same_place is.at (at_line lines line) is.same) (same_kind is.at (at_line lines line) is.same)
-        ∙ place_lies line
+        ap₂ (target_by program index) (same_location is.at (at_line lines line) is.same) (same_kind is.at (at_line lines line) is.same)
+        ∙ location_lies line
 
     pub label_lies : (line : LineOf lines) → HasLabel lines line name → (other : LineOf lines) (context : Context) (here : ℕ)
         → target program index (meaning_at lines other context here name)
-        ≡ address_in program index (section_name (at_line lines line)) (place (at_line lines line))
+        ≡ address_in program index (section_name (at_line lines line)) (location (at_line lines line))
     label_lies line has other context here =
         let is = is_labelled name lines line has in
         let one = under_the_empty_map name alike lines line is in
         meaning_lies program index name (at_line lines other).doubly_defined (program_map lines).doubly_defined (undefined context (Ordinary name))
-        (place is.at) (kind_here is.at) (last name (at_line lines other)) (last_definition (Named name) (program_map lines).definitions)
+        (location is.at) (kind_here is.at) (last name (at_line lines other)) (last_definition (Named name) (program_map lines).definitions)
         one.0 (definition_of name lines line is) one.2 refl one.1 (in_a_line name lines line other is)
         ∙ at_the_line line is
 
@@ -100,11 +100,11 @@ module _ (alike : Alike) (bottom : ℕ) (sources : List Source) where
     pub label_known : (line : LineOf lines) → HasLabel lines line name
         → (one : Definition) × (number : ℕ) × (sort : Kind)
         × (last_definition (Named name) (table_after empty_map lines).definitions ≡ Some one) × (one.standing ≡ Known number sort)
-        × (target_by program index number sort ≡ address_in program index (section_name (at_line lines line)) (place (at_line lines line)))
+        × (target_by program index number sort ≡ address_in program index (section_name (at_line lines line)) (location (at_line lines line)))
     label_known line has =
         let is = is_labelled name lines line has in
         let one = under_the_empty_map name alike lines line is in
-        (one.0, place is.at, kind_here is.at, one.1, one.2, at_the_line line is)
+        (one.0, location is.at, kind_here is.at, one.1, one.2, at_the_line line is)
 
 is_of_at : (all : List (List Given)) (sources : List Source) (index : ℕ) (lines : List Given) (source : Source) → AreOf all sources
     → slice_get all index ≡ Some lines → slice_get sources index ≡ Some source → IsOf lines source
@@ -123,7 +123,7 @@ pub global_label_lies : (alike : Alike) (bottom : ℕ) (sources : List Source) (
     (source : Source) (line : LineOf lines) (name : Name) → AreOf all sources → AbsolutesAgree sources → slice_get all index ≡ Some lines
     → HasLabel lines line name → DefinesFirst sources index source name
     → (addresses_of bottom sources).global name
-    ≡ address_in (addresses_of bottom sources) index (section_name (at_line lines line)) (place (at_line lines line))
+    ≡ address_in (addresses_of bottom sources) index (section_name (at_line lines line)) (location (at_line lines line))
 global_label_lies alike bottom sources all index lines source line name are agree own has first =
     let is = is_of_at all sources index lines source are own first.own in
     let known = label_known alike bottom sources all are agree index lines own name line has in

@@ -1,19 +1,19 @@
 -- The pieces of a line lie where what it states lies, and are that.
 use Rattle.std.proofs.Common.{◌≡◌, ℕ, ◌<◌, false, map, refl, arith}
 use Rattle.m11_base.specs.Devices.{Bytes}
-use Rattle.m11_asm_rules.specs.Alignment.{place_for}
+use Rattle.m11_asm_rules.specs.Alignment.{location_for}
 use Rattle.m11_asm_rules.specs.Contents.{further}
 use Rattle.m11_asm_rules.specs.Effects.{directive_put, operator_put}
 use Rattle.m11_asm_rules.specs.Elements.{elements_at}
 use Rattle.m11_asm_rules.specs.Fields.{forms_of}
 use Rattle.m11_asm_rules.specs.Instructions.{fields, line_context}
-use Rattle.m11_asm_rules.specs.Lines.{Action, action, line_put, pieces, put_by, put_place, stands}
+use Rattle.m11_asm_rules.specs.Lines.{Action, action, line_put, pieces, put_by, put_location, stands}
 use Rattle.m11_asm_rules.specs.Lines as lines
 use Rattle.m11_asm_rules.specs.Meanings.{Map, known_at}
 use Rattle.m11_asm_rules.specs.Operators.{is_even}
 use Rattle.m11_asm_rules.specs.Relocations.{is_moved}
 use Rattle.m11_asm_rules.specs.Strings.{parts_at, parts_bytes, parts_codes}
-use Rattle.m11_asm_rules.specs.Tables.{Table, place, section_name}
+use Rattle.m11_asm_rules.specs.Tables.{Table, location, section_name}
 use Rattle.m11_asm_rules.specs.declared.meanings.Context.TheVariants.{LocalOnly}
 use Rattle.m11_asm_rules.specs.declared.operators.Directive.{Directive}
 use Rattle.m11_asm_rules.specs.declared.operators.Directive.TheVariants as word
@@ -23,7 +23,7 @@ use Rattle.m11_unfold_rules.specs.Unfolding.{Given}
 use Rattle.std.specs.Prelude.{Option}
 use Rattle.m11_cli_image.specs.Addresses.{Addresses}
 use Rattle.m11_cli_image.specs.Pieces.{placed}
-use Rattle.m11_cli_image_laws.specs.Lines.{line_lying, line_place}
+use Rattle.m11_cli_image_laws.specs.Lines.{line_location, line_lying}
 use Rattle.m11_cli_image_laws.specs.Stated.{action_stated, directive_stated, line_stated, operator_stated, parts_stated}
 use Rattle.m11_cli_image_laws.proofs.OneThing.{limit_words, plain_word}
 use Rattle.m11_cli_image_laws.proofs.ManyThings.{AllStay, Mean, anywhere, both_stay, bytes_stay, forms_mean, laid_out, packed_stay, parts_stay, words_stay, zero_stays}
@@ -34,9 +34,9 @@ module _ (program : Addresses) (source : ℕ) (table : Table)
       → AllStay program source table absolute (directive_put known table here line start arguments directive).contents
       (directive_stated known table here line start directive)
   directive_stays known here line start arguments word.Word =
-      words_stay program source table absolute known line here (elements_at line start).places
+      words_stay program source table absolute known line here (elements_at line start).columns
   directive_stays known here line start arguments word.Byte =
-      bytes_stay program source table absolute known line here (elements_at line start).places
+      bytes_stay program source table absolute known line here (elements_at line start).columns
   directive_stays known here line start arguments word.Ascii =
       parts_stay program source table absolute known here line (parts_at line start).list
   directive_stays known here line start arguments word.Asciz =
@@ -68,8 +68,8 @@ module _ (program : Addresses) (source : ℕ) (table : Table)
   directive_stays known here line start arguments word.Nchr = tt
   directive_stays known here line start arguments word.End = tt
 
-  further_low : (place size : ℕ) → further place size < 65536
-  further_low place size = omega arith
+  further_low : (location size : ℕ) → further location size < 65536
+  further_low location size = omega arith
 
   operator_means : (known : Map) (here : ℕ) (line : Bytes) (start : ℕ) (arguments : Option ℕ) (operator : Operator)
       → Mean program source table absolute here (operator_put known table here line start arguments operator).contents
@@ -83,16 +83,16 @@ module _ (program : Addresses) (source : ℕ) (table : Table)
       anywhere program source table absolute here _ _ (directive_stays known here line start arguments directive)
 
   action_means : (known : Map) (line : Bytes) (arguments : Option ℕ) (done : Action)
-      → Mean program source table absolute (put_place table done) (put_by known table line arguments done).contents
+      → Mean program source table absolute (put_location table done) (put_by known table line arguments done).contents
       (action_stated known table line done)
   action_means known line arguments lines.NoAction = tt
   action_means known line arguments (lines.Assign name is_global start) = tt
   action_means known line arguments (lines.SetCounter start) = tt
   action_means known line arguments (lines.Operate operator start) =
-      operator_means known (place_for (is_even operator) (place table)) line start arguments operator
+      operator_means known (location_for (is_even operator) (location table)) line start arguments operator
 
   pub stood_lies : (known : Map) (given : Given)
-      → Mean program source table absolute (line_place table given) (line_put known table given).contents (line_stated known table given)
+      → Mean program source table absolute (line_location table given) (line_put known table given).contents (line_stated known table given)
   unfolding line_put line_stated
   stood_lies known given = action_means known given.live.line.text given.arguments (action given.is_own given.live.line.text)
 
@@ -100,6 +100,6 @@ pub line_lies : (program : Addresses) (source : ℕ) (known : Map) (table : Tabl
     → (is_moved (stands table given) ≡ false → program.base source (section_name (stands table given)) ≡ 0)
     → map (placed program source) (pieces known table given) ≡ line_lying program source known (stands table given) given
 line_lies program source known table given absolute =
-    laid_out program source (stands table given) absolute (line_place (stands table given) given)
+    laid_out program source (stands table given) absolute (line_location (stands table given) given)
     (line_put known (stands table given) given).contents (line_stated known (stands table given) given)
     (stood_lies program source (stands table given) absolute known given)

@@ -1,4 +1,4 @@
--- What a line puts from a place on, piece by piece, is what it states from there on.
+-- What a line puts from a location on, piece by piece, is what it states from there on.
 use Rattle.std.proofs.Common.{◌≡◌, ◌∙◌, ℕ, ◌<◌, Bool, true, false, if◌then◌else◌, List, [], ◌∷◌, ◌++◌, map, flat_map, refl, sym, ap, ap₂, subst, arith}
 use Rattle.m11_base.specs.Devices.{Bytes}
 use Rattle.m11_obj_texts.specs.declared.pieces.PieceContent.{PieceContent}
@@ -28,32 +28,32 @@ use Rattle.m11_cli_image_laws.proofs.OneThing.{Means, distance_word, plain_byte,
 module _ (program : Addresses) (source : ℕ) (table : Table)
     (absolute : is_moved table ≡ false → program.base source (section_name table) ≡ 0) where
   abbrev M : ℕ → PieceContent → Stated → Type 0
-  M place content stated = Means program source table absolute place content stated
+  M location content stated = Means program source table absolute location content stated
 
-  -- ---- from a place on
+  -- ---- from a location on
 
   abbrev pub Mean : ℕ → List PieceContent → List Stated → Type 0
-  Mean place [] [] = Unit {0}
-  Mean place [] (stated ∷ more) = ⊥
-  Mean place (content ∷ contents) [] = ⊥
-  Mean place (content ∷ contents) (stated ∷ more) = M place content stated × Mean (further place (content_size content)) contents more
+  Mean location [] [] = Unit {0}
+  Mean location [] (stated ∷ more) = ⊥
+  Mean location (content ∷ contents) [] = ⊥
+  Mean location (content ∷ contents) (stated ∷ more) = M location content stated × Mean (further location (content_size content)) contents more
 
-  pub laid_out : (place : ℕ) (contents : List PieceContent) (stated : List Stated) → Mean place contents stated
-      → map (placed program source) (pieces_from (section_name table) place contents)
-      ≡ lying_from program source (section_name table) place stated
-  laid_out place [] [] mean = refl
-  laid_out place [] (one ∷ more) mean = absurd mean
-  laid_out place (content ∷ contents) [] mean = absurd mean
-  laid_out place (content ∷ contents) (one ∷ more) mean =
-      let address = address_in program source (section_name table) place in
+  pub laid_out : (location : ℕ) (contents : List PieceContent) (stated : List Stated) → Mean location contents stated
+      → map (placed program source) (pieces_from (section_name table) location contents)
+      ≡ lying_from program source (section_name table) location stated
+  laid_out location [] [] mean = refl
+  laid_out location [] (one ∷ more) mean = absurd mean
+  laid_out location (content ∷ contents) [] mean = absurd mean
+  laid_out location (content ∷ contents) (one ∷ more) mean =
+      let address = address_in program source (section_name table) location in
       ap₂ (λ (bytes : Bytes) (rest : List (ℕ × Bytes)). (address, bytes) ∷ rest) mean.0.bytes
-      (laid_out (further place (content_size content)) contents more mean.1
-      ∙ ap (λ (size : ℕ). lying_from program source (section_name table) (further place size) more) mean.0.size)
+      (laid_out (further location (content_size content)) contents more mean.1
+      ∙ ap (λ (size : ℕ). lying_from program source (section_name table) (further location size) more) mean.0.size)
 
-  -- ---- at any place
+  -- ---- at any location
 
   abbrev Stays : PieceContent → Stated → Type 0
-  Stays content stated = (place : ℕ) → M place content stated
+  Stays content stated = (location : ℕ) → M location content stated
 
   abbrev pub AllStay : List PieceContent → List Stated → Type 0
   AllStay [] [] = Unit {0}
@@ -61,12 +61,12 @@ module _ (program : Addresses) (source : ℕ) (table : Table)
   AllStay (content ∷ contents) [] = ⊥
   AllStay (content ∷ contents) (stated ∷ more) = Stays content stated × AllStay contents more
 
-  pub anywhere : (place : ℕ) (contents : List PieceContent) (stated : List Stated) → AllStay contents stated → Mean place contents stated
-  anywhere place [] [] stay = tt
-  anywhere place [] (one ∷ more) stay = stay
-  anywhere place (content ∷ contents) [] stay = stay
-  anywhere place (content ∷ contents) (one ∷ more) stay =
-      (stay.0 place, anywhere (further place (content_size content)) contents more stay.1)
+  pub anywhere : (location : ℕ) (contents : List PieceContent) (stated : List Stated) → AllStay contents stated → Mean location contents stated
+  anywhere location [] [] stay = tt
+  anywhere location [] (one ∷ more) stay = stay
+  anywhere location (content ∷ contents) [] stay = stay
+  anywhere location (content ∷ contents) (one ∷ more) stay =
+      (stay.0 location, anywhere (further location (content_size content)) contents more stay.1)
 
   pub both_stay : (contents others : List PieceContent) (stated more : List Stated) → AllStay contents stated → AllStay others more
       → AllStay (contents ++ others) (stated ++ more)
@@ -78,20 +78,20 @@ module _ (program : Addresses) (source : ℕ) (table : Table)
 
   -- ---- lists of expressions
 
-  pub words_stay : (known : Map) (line : Bytes) (place : ℕ) (starts : List ℕ)
-      → AllStay (words_from known table line place starts).contents (words_stated known table line place starts)
-  words_stay known line place [] = tt
-  words_stay known line place (start ∷ starts) = (
-    λ (at : ℕ). value_word program source table absolute place at (element_value (known_at known MayBeGlobal table place) line start),
-    words_stay known line (further place 2) starts,
+  pub words_stay : (known : Map) (line : Bytes) (location : ℕ) (starts : List ℕ)
+      → AllStay (words_from known table line location starts).contents (words_stated known table line location starts)
+  words_stay known line location [] = tt
+  words_stay known line location (start ∷ starts) = (
+    λ (at : ℕ). value_word program source table absolute location at (element_value (known_at known MayBeGlobal table location) line start),
+    words_stay known line (further location 2) starts,
   )
 
-  pub bytes_stay : (known : Map) (line : Bytes) (place : ℕ) (starts : List ℕ)
-      → AllStay (bytes_from known table line place starts).contents (bytes_stated known table line place starts)
-  bytes_stay known line place [] = tt
-  bytes_stay known line place (start ∷ starts) = (
-    λ (at : ℕ). value_byte program source table absolute place at (element_value (known_at known MayBeGlobal table place) line start),
-    bytes_stay known line (further place 1) starts,
+  pub bytes_stay : (known : Map) (line : Bytes) (location : ℕ) (starts : List ℕ)
+      → AllStay (bytes_from known table line location starts).contents (bytes_stated known table line location starts)
+  bytes_stay known line location [] = tt
+  bytes_stay known line location (start ∷ starts) = (
+    λ (at : ℕ). value_byte program source table absolute location at (element_value (known_at known MayBeGlobal table location) line start),
+    bytes_stay known line (further location 1) starts,
   )
 
   -- ---- texts
@@ -100,19 +100,19 @@ module _ (program : Addresses) (source : ℕ) (table : Table)
   characters_stay [] = tt
   characters_stay (character ∷ text) = (λ (at : ℕ). plain_byte program source table absolute at character, characters_stay text)
 
-  part_stays : (known : Map) (place : ℕ) (line : Bytes) (part : Part) (sort : PartKind)
-      → AllStay (part_bytes known table place line part sort).contents (part_stated known table place line part sort)
-  part_stays known place line part Text = characters_stay (part_text line part)
-  part_stays known place line part Expression =
-      (λ (at : ℕ). value_byte program source table absolute place at (value_at (known_at known MayBeGlobal table place) line part.inside.start), tt)
+  part_stays : (known : Map) (location : ℕ) (line : Bytes) (part : Part) (sort : PartKind)
+      → AllStay (part_bytes known table location line part sort).contents (part_stated known table location line part sort)
+  part_stays known location line part Text = characters_stay (part_text line part)
+  part_stays known location line part Expression =
+      (λ (at : ℕ). value_byte program source table absolute location at (value_at (known_at known MayBeGlobal table location) line part.inside.start), tt)
 
-  pub parts_stay : (known : Map) (place : ℕ) (line : Bytes) (parts : List Part)
-      → AllStay (parts_bytes known table place line parts).contents (parts_stated known table place line parts)
-  parts_stay known place line [] = tt
-  parts_stay known place line (part ∷ parts) =
-      both_stay (part_bytes known table place line part part.kind).contents _ (part_stated known table place line part part.kind) _
-      (part_stays known place line part part.kind)
-      (parts_stay known (further place (part_size line part part.kind)) line parts)
+  pub parts_stay : (known : Map) (location : ℕ) (line : Bytes) (parts : List Part)
+      → AllStay (parts_bytes known table location line parts).contents (parts_stated known table location line parts)
+  parts_stay known location line [] = tt
+  parts_stay known location line (part ∷ parts) =
+      both_stay (part_bytes known table location line part part.kind).contents _ (part_stated known table location line part part.kind) _
+      (part_stays known location line part part.kind)
+      (parts_stay known (further location (part_size line part part.kind)) line parts)
 
   pub zero_stays : AllStay (fixed_byte 0 ∷ []) (PlainByte 0 ∷ [])
   zero_stays = (λ (at : ℕ). plain_byte program source table absolute at 0, tt)
@@ -123,40 +123,40 @@ module _ (program : Addresses) (source : ℕ) (table : Table)
   packed_stay (first ∷ (second ∷ [])) = (λ (at : ℕ). plain_word program source table absolute at _, tt)
   packed_stay (first ∷ (second ∷ (third ∷ packed))) = (λ (at : ℕ). plain_word program source table absolute at _, packed_stay packed)
 
-  -- ---- operands: a relative one is stored for its own place
+  -- ---- operands: a relative one is stored for its own location
 
-  further_low : (place size : ℕ) → further place size < 65536
-  further_low place size = omega arith
+  further_low : (location size : ℕ) → further location size < 65536
+  further_low location size = omega arith
 
-  no_further : (place : ℕ) → place < 65536 → further place 0 ≡ place
-  no_further place low = omega arith
+  no_further : (location : ℕ) → location < 65536 → further location 0 ≡ location
+  no_further location low = omega arith
 
-  after_counter : (place : ℕ) (value : Quantity) (relative : Bool) → place < 65536
-      → M place (Word (stored table relative place value)) (if relative then DistanceWord value else ValueWord value)
-  after_counter place value true low = distance_word program source table absolute place value low
-  after_counter place value false low = value_word program source table absolute place place value
+  after_counter : (location : ℕ) (value : Quantity) (relative : Bool) → location < 65536
+      → M location (Word (stored table relative location value)) (if relative then DistanceWord value else ValueWord value)
+  after_counter location value true low = distance_word program source table absolute location value low
+  after_counter location value false low = value_word program source table absolute location location value
 
-  pub forms_mean : (line_context : LineContext) (place : ℕ) (forms : List Form) → line_context.table ≡ table → place < 65536
-      → Mean place (codes.words_from line_context place forms).contents (flat_map (form_stated line_context) forms)
-  forms_mean line_context place [] same low = tt
-  forms_mean line_context place (Absent ∷ forms) same low =
-      subst (λ (p : ℕ). Mean place (codes.words_from line_context p forms).contents (flat_map (form_stated line_context) forms))
-      (sym (no_further place low)) (forms_mean line_context place forms same low)
-  forms_mean line_context place (InRegister kind start ∷ forms) same low =
-      subst (λ (p : ℕ). Mean place (codes.words_from line_context p forms).contents (flat_map (form_stated line_context) forms))
-      (sym (no_further place low)) (forms_mean line_context place forms same low)
-  forms_mean line_context place (Indexed kind start index ∷ forms) same low = (
-    subst (λ (t : Table). M place (Word (stored t false place (value_at line_context.refers line_context.line index)))
+  pub forms_mean : (line_context : LineContext) (location : ℕ) (forms : List Form) → line_context.table ≡ table → location < 65536
+      → Mean location (codes.words_from line_context location forms).contents (flat_map (form_stated line_context) forms)
+  forms_mean line_context location [] same low = tt
+  forms_mean line_context location (Absent ∷ forms) same low =
+      subst (λ (p : ℕ). Mean location (codes.words_from line_context p forms).contents (flat_map (form_stated line_context) forms))
+      (sym (no_further location low)) (forms_mean line_context location forms same low)
+  forms_mean line_context location (InRegister kind start ∷ forms) same low =
+      subst (λ (p : ℕ). Mean location (codes.words_from line_context p forms).contents (flat_map (form_stated line_context) forms))
+      (sym (no_further location low)) (forms_mean line_context location forms same low)
+  forms_mean line_context location (Indexed kind start index ∷ forms) same low = (
+    subst (λ (t : Table). M location (Word (stored t false location (value_at line_context.refers line_context.line index)))
         (ValueWord (value_at line_context.refers line_context.line index))) (sym same)
-        (value_word program source table absolute place place (value_at line_context.refers line_context.line index)),
-    forms_mean line_context (further place 2) forms same (further_low place 2),
+        (value_word program source table absolute location location (value_at line_context.refers line_context.line index)),
+    forms_mean line_context (further location 2) forms same (further_low location 2),
   )
-  forms_mean line_context place (Unindexed start ∷ forms) same low =
-      (plain_word program source table absolute place 0, forms_mean line_context (further place 2) forms same (further_low place 2))
-  forms_mean line_context place (AfterCounter kind start ∷ forms) same low = (
-    subst (λ (t : Table). M place (Word (stored t (is_relative kind) place (value_at line_context.refers line_context.line start)))
+  forms_mean line_context location (Unindexed start ∷ forms) same low =
+      (plain_word program source table absolute location 0, forms_mean line_context (further location 2) forms same (further_low location 2))
+  forms_mean line_context location (AfterCounter kind start ∷ forms) same low = (
+    subst (λ (t : Table). M location (Word (stored t (is_relative kind) location (value_at line_context.refers line_context.line start)))
         (if is_relative kind then DistanceWord (value_at line_context.refers line_context.line start)
         else ValueWord (value_at line_context.refers line_context.line start))) (sym same)
-        (after_counter place (value_at line_context.refers line_context.line start) (is_relative kind) low),
-    forms_mean line_context (further place 2) forms same (further_low place 2),
+        (after_counter location (value_at line_context.refers line_context.line start) (is_relative kind) low),
+    forms_mean line_context (further location 2) forms same (further_low location 2),
   )

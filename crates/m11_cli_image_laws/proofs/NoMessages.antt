@@ -13,7 +13,7 @@ use Rattle.m11_link.specs.Written.{attributes_agree, defined_names, different_wr
 use Rattle.m11_link_text.specs.Findings.{Findings, findings_of}
 use Rattle.m11_link_text.specs.Lines.{different_line}
 use Rattle.m11_link_modules.specs.Parts.{Part, Directory, Entry, EndOfDirectory, Text, Relocations, Relocated, EndOfModule, EndOfFile}
-use Rattle.m11_link_modules.specs.Places.{modules_in}
+use Rattle.m11_link_modules.specs.Positions.{modules_in}
 use Rattle.m11_obj.specs.declared.gsd.GsdEntry.{GsdEntry}
 use Rattle.m11_obj.specs.declared.gsd.GsdKind.{GsdKind}
 use Rattle.m11_obj.specs.declared.gsd.GsdKind.TheVariants as kind

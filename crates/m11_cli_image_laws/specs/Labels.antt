@@ -4,7 +4,7 @@
 use Rattle.std.specs.Prelude.{◌≡◌, ℕ, true, false, List, ◌∷◌, ◌++◌, take, slice_get, Some, None}
 use Rattle.std.specs.Map.{lookup}
 use Rattle.m11_base.specs.Rad50.{Name, is_same_name}
-use Rattle.m11_link_layout.specs.declared.definition.GlobalPlace.{GlobalPlace}
+use Rattle.m11_link_layout.specs.declared.definition.GlobalLocation.{GlobalLocation}
 use Rattle.m11_asm_rules.specs.Definitions.{is_defined, last_definition}
 use Rattle.m11_asm_rules.specs.Lines.{stands}
 use Rattle.m11_asm_rules.specs.Meanings.{stands_for}
@@ -44,7 +44,7 @@ pub record HasLabel (lines : List Given) (line : LineOf lines) (name : Name) : T
   pub new : is_defined (Named name) (before_line lines line).definitions ≡ false
   pub defined : is_defined (Named name) (at_line lines line).definitions ≡ true
 
--- what a name stands for in a line of the source, where `.` is a place
+-- what a name stands for in a line of the source, where `.` is a location
 abbrev pub meaning_at : (lines : List Given) → LineOf lines → Context → ℕ → Name → Quantity
 meaning_at lines line context here name =
     stands_for (program_map lines) context (at_line lines line) here (Ordinary name)
@@ -55,8 +55,8 @@ meaning_at lines line context here name =
 pub record DefinesFirst (sources : List Source) (index : ℕ) (source : Source) (name : Name) : Type 0 where
   pub own : slice_get sources index ≡ Some source
   pub none_before : lookup (is_same_name name) (all_globals (take index sources)) ≡ None
-  pub place : GlobalPlace
-  pub listed : lookup (is_same_name name) (globals_of source.facts) ≡ Some place
+  pub location : GlobalLocation
+  pub listed : lookup (is_same_name name) (globals_of source.facts) ≡ Some location
 
 -- the value of a name in the table of its source: a number, and what it counts from
 pub record HasValue (source : Source) (name : Name) (number : ℕ) (kind : Kind) : Type 0 where

@@ -6,7 +6,7 @@ use Rattle.m11_base.specs.Devices.{Bytes}
 use Rattle.m11_base.specs.Rad50.{Name}
 use Rattle.m11_link_text.specs.Relocation.{modulo}
 use Rattle.m11_asm_rules.specs.Contents.{further}
-use Rattle.m11_asm_rules.specs.Lines.{after_line, action, put_place, stands}
+use Rattle.m11_asm_rules.specs.Lines.{after_line, action, put_location, stands}
 use Rattle.m11_asm_rules.specs.Meanings.{Map}
 use Rattle.m11_asm_rules.specs.Placements.{program_map}
 use Rattle.m11_asm_rules.specs.Tables.{Table, first_table, section_name}
@@ -15,27 +15,27 @@ use Rattle.m11_cli_image.specs.Addresses.{Addresses}
 use Rattle.m11_cli_image_laws.specs.Stated.{Stated, line_stated, stated_size}
 use Rattle.m11_cli_image_laws.specs.Targets.{stated_bytes}
 
--- where a place of a section of a source lies
+-- where a location of a section of a source lies
 abbrev pub address_in : Addresses → ℕ → Name → ℕ → ℕ
-address_in program source section place = modulo (program.base source section + place)
+address_in program source section location = modulo (program.base source section + location)
 
 abbrev pub lying : Addresses → ℕ → ℕ → Stated → ℕ × Bytes
 lying program source address stated = (address, stated_bytes program source address stated)
 
--- what lines state, one thing after another, the first at a place of a section
+-- what lines state, one thing after another, the first at a location of a section
 abbrev pub lying_from : Addresses → ℕ → Name → ℕ → List Stated → List (ℕ × Bytes)
-lying_from program source section place [] = []
-lying_from program source section place (stated ∷ more) =
-    lying program source (address_in program source section place) stated
-    ∷ lying_from program source section (further place (stated_size stated)) more
+lying_from program source section location [] = []
+lying_from program source section location (stated ∷ more) =
+    lying program source (address_in program source section location) stated
+    ∷ lying_from program source section (further location (stated_size stated)) more
 
 -- where a line puts what it states
-abbrev pub line_place : Table → Given → ℕ
-line_place stood given = put_place stood (action given.is_own given.live.line.text)
+abbrev pub line_location : Table → Given → ℕ
+line_location stood given = put_location stood (action given.is_own given.live.line.text)
 
 abbrev pub line_lying : Addresses → ℕ → Map → Table → Given → List (ℕ × Bytes)
 line_lying program source map stood given =
-    lying_from program source (section_name stood) (line_place stood given) (line_stated map stood given)
+    lying_from program source (section_name stood) (line_location stood given) (line_stated map stood given)
 
 -- line by line, the first after a table
 abbrev pub lines_lying : Addresses → ℕ → Map → Table → List Given → List (ℕ × Bytes)

@@ -1,13 +1,13 @@
--- What a line states at its places, one after another, in the words of its source: numbers, and expressions by their values. What a linker does
--- to them is no matter here. (MACRO-11 Language Reference Manual, "Addressing modes", ".WORD directive", ".BYTE directive", ".ASCII directive",
--- ".RAD50 directive" and ".LIMIT directive".)
+-- What a line states at its locations, one after another, in the words of its source: numbers, and expressions by their values. What a
+-- linker does to them is no matter here. (MACRO-11 Language Reference Manual, "Addressing modes", ".WORD directive", ".BYTE directive",
+-- ".ASCII directive", ".RAD50 directive" and ".LIMIT directive".)
 use Rattle.std.specs.Prelude.{ℕ, ◌+◌, ◌*◌, ◌%◌, if◌then◌else◌, List, [], ◌∷◌, ◌++◌, map}
 use Rattle.std.specs.List.{flat_map}
 use Rattle.m11_unfold_arguments.specs.Expressions.{value_at}
 use Rattle.m11_base.specs.Devices.{Bytes}
 use Rattle.m11_base_instructions.specs.Encoding.{code_of}
 use Rattle.m11_base_instructions.specs.declared.instruction.Op.{Op}
-use Rattle.m11_asm_rules.specs.Alignment.{place_for}
+use Rattle.m11_asm_rules.specs.Alignment.{location_for}
 use Rattle.m11_asm_rules.specs.Codes.{LineContext, instruction, is_relative}
 use Rattle.m11_asm_rules.specs.Contents.{element_value, further}
 use Rattle.m11_asm_rules.specs.Elements.{elements_at}
@@ -18,7 +18,7 @@ use Rattle.m11_asm_rules.specs.Lines as lines
 use Rattle.m11_asm_rules.specs.Meanings.{Map, known_at}
 use Rattle.m11_asm_rules.specs.Operators.{is_even}
 use Rattle.m11_asm_rules.specs.Strings.{part_size, part_text, parts_at, parts_codes}
-use Rattle.m11_asm_rules.specs.Tables.{Table, place}
+use Rattle.m11_asm_rules.specs.Tables.{Table, location}
 use Rattle.m11_asm_rules.specs.declared.fields.Field.{Field}
 use Rattle.m11_asm_rules.specs.declared.meanings.Context.TheVariants.{LocalOnly, MayBeGlobal}
 use Rattle.m11_asm_rules.specs.declared.operands.Form.{Form}
@@ -40,7 +40,7 @@ pub data Stated : Type 0 where
   -- a word that has the value of an expression, or a byte that has the low half of it
   ValueWord : Quantity → Stated
   ValueByte : Quantity → Stated
-  -- a word that says how far the value of an expression lies from the place after that word
+  -- a word that says how far the value of an expression lies from the location after that word
   DistanceWord : Quantity → Stated
   -- two words: the first address of the program, and the first one after it
   LimitWords : Stated
@@ -53,30 +53,30 @@ stated_size (ValueByte value) = 1
 stated_size (DistanceWord value) = 2
 stated_size LimitWords = 4
 
--- ---- lists of expressions: in each `.` is its own place
+-- ---- lists of expressions: in each `.` is its own location
 
 abbrev pub words_stated : Map → Table → Bytes → ℕ → List ℕ → List Stated
-words_stated map table line place [] = []
-words_stated map table line place (start ∷ starts) =
-    ValueWord (element_value (known_at map MayBeGlobal table place) line start) ∷ words_stated map table line (further place 2) starts
+words_stated map table line location [] = []
+words_stated map table line location (start ∷ starts) =
+    ValueWord (element_value (known_at map MayBeGlobal table location) line start) ∷ words_stated map table line (further location 2) starts
 
 abbrev pub bytes_stated : Map → Table → Bytes → ℕ → List ℕ → List Stated
-bytes_stated map table line place [] = []
-bytes_stated map table line place (start ∷ starts) =
-    ValueByte (element_value (known_at map MayBeGlobal table place) line start) ∷ bytes_stated map table line (further place 1) starts
+bytes_stated map table line location [] = []
+bytes_stated map table line location (start ∷ starts) =
+    ValueByte (element_value (known_at map MayBeGlobal table location) line start) ∷ bytes_stated map table line (further location 1) starts
 
 -- ---- texts: characters, and expressions between `<` and `>`
 
 abbrev pub part_stated : Map → Table → ℕ → Bytes → Part → PartKind → List Stated
-part_stated known table place line part Text = map PlainByte (part_text line part)
-part_stated known table place line part Expression =
-    ValueByte (value_at (known_at known MayBeGlobal table place) line part.inside.start) ∷ []
+part_stated known table location line part Text = map PlainByte (part_text line part)
+part_stated known table location line part Expression =
+    ValueByte (value_at (known_at known MayBeGlobal table location) line part.inside.start) ∷ []
 
 abbrev pub parts_stated : Map → Table → ℕ → Bytes → List Part → List Stated
-parts_stated known table place line [] = []
-parts_stated known table place line (part ∷ parts) =
-    part_stated known table place line part part.kind
-    ++ parts_stated known table (further place (part_size line part part.kind)) line parts
+parts_stated known table location line [] = []
+parts_stated known table location line (part ∷ parts) =
+    part_stated known table location line part part.kind
+    ++ parts_stated known table (further location (part_size line part part.kind)) line parts
 
 -- three codes in a word
 abbrev pub packed_stated : List ℕ → List Stated
@@ -104,10 +104,10 @@ instruction_stated line_context operation fields =
 
 -- ---- lines
 
--- what a directive states at a place, whose name ends at a place of its line
+-- what a directive states at a location, whose name ends at a column of its line
 abbrev pub directive_stated : Map → Table → ℕ → Bytes → ℕ → Directive → List Stated
-directive_stated map table here line start word.Word = words_stated map table line here (elements_at line start).places
-directive_stated map table here line start word.Byte = bytes_stated map table line here (elements_at line start).places
+directive_stated map table here line start word.Word = words_stated map table line here (elements_at line start).columns
+directive_stated map table here line start word.Byte = bytes_stated map table line here (elements_at line start).columns
 directive_stated map table here line start word.Ascii = parts_stated map table here line (parts_at line start).list
 directive_stated map table here line start word.Asciz =
     parts_stated map table here line (parts_at line start).list ++ PlainByte 0 ∷ []
@@ -123,7 +123,7 @@ operator_stated map table here line start (operators.Directive directive) = dire
 
 abbrev pub action_stated : Map → Table → Bytes → Action → List Stated
 action_stated map table line (lines.Operate operator start) =
-    operator_stated map table (place_for (is_even operator) (place table)) line start operator
+    operator_stated map table (location_for (is_even operator) (location table)) line start operator
 action_stated map table line other = []
 
 -- what a line states, by the table in which its labels are defined

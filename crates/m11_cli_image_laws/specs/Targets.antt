@@ -1,5 +1,5 @@
 -- What the values of a source are in a linked program: an address in it, or a number. (MACRO-11 Language Reference Manual, "Relocation and
--- linking"; PDP-11/40 Processor Handbook, "Addressing modes": a relative operand is counted from the place after its word.)
+-- linking"; PDP-11/40 Processor Handbook, "Addressing modes": a relative operand is counted from the location after its word.)
 use Rattle.std.specs.Prelude.{ℕ, ◌+◌, ◌%◌, [], ◌∷◌, ◌++◌}
 use Rattle.m11_base.specs.Devices.{Bytes}
 use Rattle.m11_obj_blocks.specs.Frames.{word_bytes}

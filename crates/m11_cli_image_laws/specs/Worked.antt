@@ -8,7 +8,7 @@ use Rattle.m11_base.specs.Devices.{Bytes}
 use Rattle.m11_scan_lines.specs.Line.{line_of}
 use Rattle.m11_asm_rules.specs.Meanings.{empty_map}
 use Rattle.m11_asm_rules.specs.Placements.{placement, program_map, table_after}
-use Rattle.m11_asm_rules.specs.Places.{size_in}
+use Rattle.m11_asm_rules.specs.Locations.{size_in}
 use Rattle.m11_asm_rules.specs.Sources.{source_transfer}
 use Rattle.m11_scan.specs.declared.radix.Radix.TheVariants.{Octal}
 use Rattle.m11_unfold_rules.specs.Unfolding.{Given}

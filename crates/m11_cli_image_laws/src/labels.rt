@@ -4,7 +4,7 @@ ghost use Rattle.std.specs.Prelude.{◌≡◌, ℕ, List, slice_get, Some};
 ghost use Rattle.m11_base.specs.Rad50.{Name};
 ghost use Rattle.m11_cli_image.specs.Image.{addresses_of};
 ghost use Rattle.m11_cli_image.specs.Sources.{Source};
-ghost use Rattle.m11_asm_rules.specs.Tables.{place, section_name};
+ghost use Rattle.m11_asm_rules.specs.Tables.{location, section_name};
 ghost use Rattle.m11_asm_rules.specs.declared.meanings.Context.{Context};
 ghost use Rattle.m11_unfold_rules.specs.Unfolding.{Given};
 ghost use Rattle.m11_scan_values.specs.declared.kinds.Kind.{Kind};
@@ -13,14 +13,14 @@ ghost use Rattle.m11_cli_image_laws.specs.Labels.{DefinesFirst, HasLabel, HasVal
 ghost use Rattle.m11_cli_image_laws.specs.Lines.{address_in};
 ghost use Rattle.m11_cli_image_laws.specs.Targets.{target, target_by};
 
-/// In every line of its source, before the label and after it, the name of a label stands for one address in the program: that of the place at
-/// which the line with the label stands, so of the first byte that the line puts, where it passes over none.
+/// In every line of its source, before the label and after it, the name of a label stands for one address in the program: that of the
+/// location at which the line with the label stands, so of the first byte that the line puts, where it passes over none.
 pub fn labels_lie_where_their_lines_do()
     ensures { (bottom : ℕ) (all : List (List Given)) (sources : List Source) (index : ℕ) (lines : List Given) (line other : LineOf lines)
         (name : Name) (context : Context) (here : ℕ) → AreOf all sources → AbsolutesAgree sources → slice_get all index ≡ Some lines
         → HasLabel lines line name
         → target (addresses_of bottom sources) index (meaning_at lines other context here name)
-        ≡ address_in (addresses_of bottom sources) index (section_name (at_line lines line)) (place (at_line lines line)) }
+        ≡ address_in (addresses_of bottom sources) index (section_name (at_line lines line)) (location (at_line lines line)) }
 {
     m11_asm_rules::placements_are_the_same_under_every_map();
 }
@@ -33,13 +33,13 @@ pub fn globals_lie_where_they_are_defined()
         → (addresses_of bottom sources).global name ≡ target_by (addresses_of bottom sources) index number kind }
 {}
 
-/// If such a name is a label of its source, other sources refer by it to the place at which the line with the label stands.
+/// If such a name is a label of its source, other sources refer by it to the location at which the line with the label stands.
 pub fn globals_of_labels_lie_where_their_lines_do()
     ensures { (bottom : ℕ) (all : List (List Given)) (sources : List Source) (index : ℕ) (lines : List Given) (source : Source)
         (line : LineOf lines) (name : Name) → AreOf all sources → AbsolutesAgree sources → slice_get all index ≡ Some lines
         → HasLabel lines line name → DefinesFirst sources index source name
         → (addresses_of bottom sources).global name
-        ≡ address_in (addresses_of bottom sources) index (section_name (at_line lines line)) (place (at_line lines line)) }
+        ≡ address_in (addresses_of bottom sources) index (section_name (at_line lines line)) (location (at_line lines line)) }
 {
     m11_asm_rules::placements_are_the_same_under_every_map();
 }

@@ -18,7 +18,8 @@ ghost use Rattle.m11_cli_image_laws.specs.Targets.{target};
 
 /// Where no section that one source calls ABS is REL in the program, the image of sources has at each address the byte that their lines state
 /// there: an expression by its value in the program, which is so many bytes after what its source contributes to a section, or after a name of
-/// any source, or a number; a relative operand by how far that value lies from the place after it. A later line counts before an earlier one.
+/// any source, or a number; a relative operand by how far that value lies from the location after it. A later line counts before an
+/// earlier one.
 pub fn images_hold_what_their_lines_state()
     ensures { (bottom : ℕ) (all : List (List Given)) (sources : List Source) → AreOf all sources → AbsolutesAgree sources
         → (address : ℕ) → (image_of bottom sources).byte address ≡ byte_of (all_lying (addresses_of bottom sources) all) address }
@@ -31,17 +32,17 @@ pub fn relative_words_lead_to_their_targets()
     ensures { (address target : ℕ) → modulo (following address + less target (following address)) ≡ modulo target }
 {}
 
-/// A branch, or SOB, that reaches its target goes to it: so many words from the place after it as its offset says. It is in the section of
-/// its target, which an absolute one is in a section with ABS.
+/// A branch, or SOB, that reaches its target goes to it: so many words from the location after it as its offset says. It is in the section
+/// of its target, which an absolute one is in a section with ABS.
 pub fn branches_lead_to_their_targets()
-    ensures branch { (program : Addresses) (source place : ℕ) (table : Table) (value : Quantity)
-        → (is_moved table ≡ false → program.base source (section_name table) ≡ 0) → place < 65536
-        → branch_reaches table place value ≡ true
-        → modulo (following (address_in program source (section_name table) place) + branch_distance (branch_offset table place value))
+    ensures branch { (program : Addresses) (source location : ℕ) (table : Table) (value : Quantity)
+        → (is_moved table ≡ false → program.base source (section_name table) ≡ 0) → location < 65536
+        → branch_reaches table location value ≡ true
+        → modulo (following (address_in program source (section_name table) location) + branch_distance (branch_offset table location value))
         ≡ modulo (target program source value) }
-    ensures sob { (program : Addresses) (source place : ℕ) (table : Table) (value : Quantity)
-        → (is_moved table ≡ false → program.base source (section_name table) ≡ 0) → place < 65536
-        → loop_reaches table place value ≡ true
-        → modulo (following (address_in program source (section_name table) place) + loop_distance (loop_offset table place value))
+    ensures sob { (program : Addresses) (source location : ℕ) (table : Table) (value : Quantity)
+        → (is_moved table ≡ false → program.base source (section_name table) ≡ 0) → location < 65536
+        → loop_reaches table location value ≡ true
+        → modulo (following (address_in program source (section_name table) location) + loop_distance (loop_offset table location value))
         ≡ modulo (target program source value) }
 {}

@@ -6,7 +6,7 @@ use Rattle.m11_obj_blocks.specs.declared.tape_part.TapePart.{TapePart}
 use Rattle.m11_obj_blocks.specs.declared.tape_part.TapePart.TheVariants.{Data, Start}
 use Rattle.m11_obj_blocks.specs.declared.tape_part.TapeStage.{TapeStage}
 use Rattle.m11_obj_blocks.specs.declared.tape_part.TapeStage.TheVariants.{BeforeBlock, InBlock, AtEnd, AfterFault}
-use Rattle.m11_obj_blocks.specs.Limited.{Place, Took, Read, Reads}
+use Rattle.m11_obj_blocks.specs.Limited.{Position, Took, Read, Reads}
 use Rattle.m11_obj_blocks.specs.Tapes.{IsTape, AreRead, total_of, first_part, next_part, data_byte, stage_after, ReadsPart, ReadsNext}
 use Rattle.m11_obj_blocks.proofs.ReadSteps.{bytes_then, rest_is, value_is}
 use Rattle.m11_obj_blocks.proofs.TapeFrames.{tape_framed}
@@ -25,7 +25,7 @@ byte_is (b ∷ given) byte e =
     let empty : given ≡ [] = sym (append-nil given) ∙ none in
     cc
 
-pub byte_took : (old new : Place) (byte : ℕ) → Reads data_byte old new byte → Took old new (byte ∷ [])
+pub byte_took : (old new : Position) (byte : ℕ) → Reads data_byte old new byte → Took old new (byte ∷ [])
 byte_took old new byte r = subst (λ (given : List ℕ). Took old new given) (byte_is r.given byte (r.is [])) r.took
 
 -- ---- one block more
@@ -73,7 +73,7 @@ are_read read (block ∷ blocks) start given last held is =
       are_read (next_part (total_of block.0 block.1)) blocks start held.1 last held.4 is,
     )
 
-pub is_tape : (blocks : List (ℕ × List ℕ)) (start : ℕ) (a b c : Place) (given : List ℕ) → Took a b given
+pub is_tape : (blocks : List (ℕ × List ℕ)) (start : ℕ) (a b c : Position) (given : List ℕ) → Took a b given
     → Hold first_part blocks given
     → (last : Reads (part_after first_part blocks) b c (Start start)) → IsTape blocks start (given ++ last.given)
 is_tape blocks start a b c given took held last =
@@ -89,7 +89,7 @@ StandsBefore (InBlock left total) read = (left ≡ 0) × (read ≡ next_part tot
 StandsBefore (AtEnd address) read = ⊥
 StandsBefore AfterFault read = ⊥
 
-pub next_is : (stage : TapeStage) (read : Reader) (old new : Place) (after : TapeStage)
+pub next_is : (stage : TapeStage) (read : Reader) (old new : Position) (after : TapeStage)
     (result : Result TapePart TapeFault)
     → StandsBefore stage read → ReadsNext stage old new after result
     → ReadsPart (λ part. part) read old new result × (after ≡ stage_after result)

@@ -18,17 +18,17 @@ pub one_put : (address byte : ℕ) (bytes memory : List ℕ) → address + lengt
     → with_byte (address + length bytes) byte (with_bytes address bytes memory)
     ≡ with_bytes address (bytes ++ byte ∷ []) memory
 one_put address byte bytes memory inside =
-    let place : ℕ = address + length bytes in
+    let past : ℕ = address + length bytes in
     let front : List ℕ = take address memory ++ bytes in
-    let rest : List ℕ = drop (suc place) memory in
-    let long : length front ≡ place =
+    let rest : List ℕ = drop (suc past) memory in
+    let long : length front ≡ past =
     omega (arith, length-append (take address memory) bytes, length-take-le address memory (omega arith)) in
-    let next : suc place ≡ address + length (bytes ++ byte ∷ []) = omega (arith, length-append bytes (byte ∷ [])) in
-    ap (λ (l : List ℕ). set l place byte)
-    (sym (append_assoc (take address memory) bytes (drop place memory))
-    ∙ ap (λ (l : List ℕ). front ++ l) (drop-cons memory place 0 inside))
-    ∙ ap (λ (k : ℕ). set (front ++ (get_or memory place 0 ∷ rest)) k byte) (sym long)
-    ∙ set-append_seam front (get_or memory place 0) rest byte
+    let next : suc past ≡ address + length (bytes ++ byte ∷ []) = omega (arith, length-append bytes (byte ∷ [])) in
+    ap (λ (l : List ℕ). set l past byte)
+    (sym (append_assoc (take address memory) bytes (drop past memory))
+    ∙ ap (λ (l : List ℕ). front ++ l) (drop-cons memory past 0 inside))
+    ∙ ap (λ (k : ℕ). set (front ++ (get_or memory past 0 ∷ rest)) k byte) (sym long)
+    ∙ set-append_seam front (get_or memory past 0) rest byte
     ∙ append_assoc (take address memory) bytes (byte ∷ rest)
     ∙ ap (λ (l : List ℕ). take address memory ++ l) (sym (append_assoc bytes (byte ∷ []) rest))
     ∙ ap (λ (k : ℕ). take address memory ++ ((bytes ++ byte ∷ []) ++ drop k memory)) next

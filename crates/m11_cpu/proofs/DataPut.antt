@@ -4,7 +4,7 @@ use Rattle.std.proofs.lemmas.List.{length-append}
 use Rattle.m11_obj_blocks.specs.declared.tape_fault.TapeFault.{TapeFault}
 use Rattle.m11_obj_blocks.specs.declared.tape_part.TapeStage.{TapeStage}
 use Rattle.m11_obj_blocks.specs.declared.tape_part.TapeStage.TheVariants.{InBlock, AfterFault}
-use Rattle.m11_obj_blocks.specs.Limited.{Place, Took, Stops}
+use Rattle.m11_obj_blocks.specs.Limited.{Position, Took, Stops}
 use Rattle.m11_obj_blocks.specs.Tapes.{tape_header, total_of, data_byte, opened, stage_within, left_of, why_of, ReadsPart, ReadsByte}
 use Rattle.m11_obj_blocks.proofs.Limits.{took_nothing, took_then}
 use Rattle.m11_obj_blocks.proofs.TapeFrames.{opened_more, opened_all}
@@ -14,7 +14,7 @@ use Rattle.m11_cpu.proofs.BytesPut.{none_put, one_put, none_inside, one_inside}
 use Rattle.m11_cpu.proofs.BlocksRead.{byte_took}
 
 -- n bytes of the open block were given and put
-pub record Taking (old here : Place) (before now : List ℕ) (address count index : ℕ) (stage : TapeStage)
+pub record Taking (old here : Position) (before now : List ℕ) (address count index : ℕ) (stage : TapeStage)
     (taken : List ℕ) : Type 0 where
   pub long : length taken ≡ index
   pub took : Took old here taken
@@ -23,7 +23,7 @@ pub record Taking (old here : Place) (before now : List ℕ) (address count inde
   pub memory : now ≡ with_bytes address taken before
   pub size : length now ≡ length before
 
-pub none_taken : (old : Place) (before : List ℕ) (address count : ℕ) (stage : TapeStage)
+pub none_taken : (old : Position) (before : List ℕ) (address count : ℕ) (stage : TapeStage)
     → stage ≡ InBlock count (sum (tape_header address count) % 256)
     → Taking old old before before address count 0 stage []
 none_taken old before address count stage begun =
@@ -36,7 +36,7 @@ none_taken old before address count stage begun =
       size = refl;
     }
 
-module _ (old here : Place) (before now : List ℕ) (address count index : ℕ) (stage : TapeStage) (taken : List ℕ)
+module _ (old here : Position) (before now : List ℕ) (address count index : ℕ) (stage : TapeStage) (taken : List ℕ)
     (t : Taking old here before now address count index stage taken) where
   some_left : index < count → left_of (opened address count taken) ≡ 0 → stage ≡ AfterFault
   some_left more none = absurd (omega (arith, t.long))
@@ -44,7 +44,7 @@ module _ (old here : Place) (before now : List ℕ) (address count index : ℕ) 
   pub is_open : index < count → left_of stage ≡ 0 → stage ≡ AfterFault
   is_open more none = some_left more (ap left_of (sym t.stands) ∙ none)
 
-  pub byte_read : (new : Place) (after : TapeStage) (result : Result ℕ TapeFault)
+  pub byte_read : (new : Position) (after : TapeStage) (result : Result ℕ TapeFault)
       → ReadsByte stage here new after result
       → ReadsPart (λ byte. byte) data_byte here new result
       × (after ≡ stage_within (count - length taken) (sum (tape_header address count ++ taken) % 256) result)
@@ -53,12 +53,12 @@ module _ (old here : Place) (before now : List ℕ) (address count index : ℕ) 
   pub some_put : index < count → PutSome old here before now address count taken
   some_put more = record { took = t.took; some = omega (arith, t.long); inside = t.inside; memory = t.memory }
 
-  pub data_stops : index < count → (new : Place) (after : TapeStage) (fault : TapeFault)
+  pub data_stops : index < count → (new : Position) (after : TapeStage) (fault : TapeFault)
       → ReadsByte stage here new after (Err fault)
-      → (middle : Place) × PutSome old middle before now address count taken × Stops data_byte middle new (why_of fault)
+      → (middle : Position) × PutSome old middle before now address count taken × Stops data_byte middle new (why_of fault)
   data_stops more new after fault r = (here, some_put more, (byte_read new after (Err fault) r).0)
 
-  module _ (more : index < count) (new : Place) (after : TapeStage) (byte : ℕ)
+  module _ (more : index < count) (new : Position) (after : TapeStage) (byte : ℕ)
       (r : ReadsByte stage here new after (Ok byte)) where
     given : Took here new (byte ∷ [])
     given = byte_took here new byte (byte_read new after (Ok byte) r).0
@@ -66,11 +66,11 @@ module _ (old here : Place) (before now : List ℕ) (address count index : ℕ) 
     pub byte_outside : length now ≤ address + index → GivesOutside here new (length before) (address + length taken)
     byte_outside outside = (byte, given, omega (arith, t.long, t.size))
 
-    pub one_taken : (place : ℕ) (memory : List ℕ) → place ≡ address + index → place < length now
-        → memory ≡ with_byte place byte now → length memory ≡ length now
+    pub one_taken : (past : ℕ) (memory : List ℕ) → past ≡ address + index → past < length now
+        → memory ≡ with_byte past byte now → length memory ≡ length now
         → Taking old new before memory address count (index + 1) after (taken ++ byte ∷ [])
-    one_taken place memory place_is inside memory_is size =
-        let there : place ≡ address + length taken = omega (arith, t.long) in
+    one_taken past memory past_is inside memory_is size =
+        let there : past ≡ address + length taken = omega (arith, t.long) in
         let fits : address + length taken < length before = omega (arith, t.long, t.size) in record {
           long = omega (arith, length-append taken (byte ∷ []), t.long);
           took = took_then old here new taken (byte ∷ []) t.took given;

@@ -6,7 +6,7 @@ use Rattle.m11_obj_blocks.specs.declared.tape_part.TapePart.{TapePart}
 use Rattle.m11_obj_blocks.specs.declared.tape_part.TapePart.TheVariants.{Data, Start}
 use Rattle.m11_obj_blocks.specs.declared.tape_part.TapeStage.{TapeStage}
 use Rattle.m11_obj_blocks.specs.declared.tape_part.TapeStage.TheVariants.{BeforeBlock, InBlock, AtEnd, AfterFault}
-use Rattle.m11_obj_blocks.specs.Limited.{Place, place, most_bytes, Took, Read, Reads, Stops}
+use Rattle.m11_obj_blocks.specs.Limited.{Position, position, most_bytes, Took, Read, Reads, Stops}
 use Rattle.m11_obj_blocks.specs.Tapes.{total_of, first_part, data_byte, stage_after, left_of, why_of, ReadsPart, ReadsNext}
 use Rattle.m11_base.specs.Feed.{Text}
 use Rattle.m11_obj_blocks.proofs.Limits.{took_nothing, took_then}
@@ -17,13 +17,13 @@ use Rattle.m11_cpu.proofs.BytesPut.{block_put, block_inside}
 use Rattle.m11_cpu.proofs.BlocksRead.{after_more, hold_more, is_tape, StandsBefore, next_is}
 
 -- these blocks were given and put, and the reader stands before the part after them
-pub record Loading (old here : Place) (before now : List ℕ) (stage : TapeStage) (blocks : List (ℕ × List ℕ)) : Type
+pub record Loading (old here : Position) (before now : List ℕ) (stage : TapeStage) (blocks : List (ℕ × List ℕ)) : Type
     0 where
   pub put : PutBlocks old here before now blocks
   pub stands : StandsBefore stage (part_after first_part blocks)
   pub size : length now ≡ length before
 
-pub none_loaded : (old : Place) (before : List ℕ) → Loading old old before before BeforeBlock []
+pub none_loaded : (old : Position) (before : List ℕ) → Loading old old before before BeforeBlock []
 none_loaded old before = record {
   put = record { given = []; took = took_nothing old; hold = refl; inside = tt; memory = refl };
   stands = refl;
@@ -37,12 +37,12 @@ none_left (InBlock left total) blocks stands = stands.0
 none_left (AtEnd address) blocks stands = refl
 none_left AfterFault blocks stands = refl
 
-module _ (old here : Place) (before now : List ℕ) (stage : TapeStage) (blocks : List (ℕ × List ℕ))
+module _ (old here : Position) (before now : List ℕ) (stage : TapeStage) (blocks : List (ℕ × List ℕ))
     (l : Loading old here before now stage blocks) where
   pub block_ended : left_of stage ≡ 0
   block_ended = none_left stage blocks l.stands
 
-  module _ (new : Place) (after : TapeStage) (result : Result TapePart TapeFault)
+  module _ (new : Position) (after : TapeStage) (result : Result TapePart TapeFault)
       (r : ReadsNext stage here new after result) where
     part_read : ReadsPart (λ part. part) (part_after first_part blocks) here new result × (after ≡ stage_after result)
     part_read = next_is stage (part_after first_part blocks) here new after result l.stands r
@@ -74,7 +74,7 @@ module _ (old here : Place) (before now : List ℕ) (stage : TapeStage) (blocks 
       header : Reads (part_after first_part blocks) here new (Data address count)
       header = part_as (Ok (Data address count)) is
 
-      module _ (end : Place) (memory content : List ℕ) where
+      module _ (end : Position) (memory content : List ℕ) where
         pub room_falls : 0 < count → length content ≡ count → Took new end content → end.room < here.room
         room_falls some long took = omega (arith, header.took.room, took.room)
 
@@ -101,7 +101,7 @@ module _ (old here : Place) (before now : List ℕ) (stage : TapeStage) (blocks 
               size = size ∙ l.size;
             }
 
-        inside_block : (middle : Place) → PutSome new middle now memory address count content
+        inside_block : (middle : Position) → PutSome new middle now memory address count content
             → InsideData old middle before memory address content
         inside_block middle part =
             record {
@@ -125,7 +125,7 @@ module _ (old here : Place) (before now : List ℕ) (stage : TapeStage) (blocks 
 -- ---- failures of the feed
 
 -- a part or byte that is not read
-stop_counts : {A : Type 0} (read : List ℕ → Read TapeFault A) (a b : Place) (fault : TapeFault)
+stop_counts : {A : Type 0} (read : List ℕ → Read TapeFault A) (a b : Position) (fault : TapeFault)
     → Stops read a b (why_of fault) → CountsFailure a.faults b.faults (Err (Tape fault))
 stop_counts read a b fault.Device s = rw (sym s.1.1.faults) s.1.2.1
 stop_counts read a b fault.Truncated s = s.1.2.1 ∙ s.1.1.faults
@@ -141,7 +141,7 @@ counts_after : (first here : ℕ) (new : ℕ) (result : Result ℕ LoadFault) �
 counts_after first here new result same counts =
     subst (λ (n : ℕ). CountsFailure n new result) same counts
 
-load_counts : (old new : Place) (before after : List ℕ) (result : Result ℕ LoadFault)
+load_counts : (old new : Position) (before after : List ℕ) (result : Result ℕ LoadFault)
     → Loads old new before after result → CountsFailure old.faults new.faults result
 load_counts old new before after (Ok start) l = l.last.took.faults ∙ l.put.took.faults
 load_counts old new before after (Err (Tape fault)) (inl s) =
@@ -158,4 +158,4 @@ load_counts old new before after (Err OutsideMemory) s =
 pub counts_from : (text text' : Option Text) (faults faults' : ℕ) (before after : List ℕ) (result : Result ℕ LoadFault)
     → LoadsFrom text text' faults faults' before after result → CountsFailure faults faults' result
 counts_from text text' faults faults' before after result l =
-    load_counts (place text faults most_bytes) (place text' faults' l.0) before after result l.1
+    load_counts (position text faults most_bytes) (position text' faults' l.0) before after result l.1

@@ -5,7 +5,7 @@ use Rattle.std.specs.Prelude.{◌≡◌, ℕ, ◌+◌, ◌<◌, ◌≤◌, List,
 use Rattle.std.specs.List.{AllByRecursion}
 use Rattle.m11_base.specs.Devices.{Bytes, Rises}
 use Rattle.m11_base.specs.Feed.{Text}
-use Rattle.m11_obj_blocks.specs.Limited.{Place, place, Took, Read, Reads, Stops, most_bytes}
+use Rattle.m11_obj_blocks.specs.Limited.{Position, position, Took, Read, Reads, Stops, most_bytes}
 use Rattle.m11_obj_blocks.specs.Tapes.{IsTape, total_of, first_part, next_part, data_byte, why_of}
 use Rattle.m11_obj_blocks.specs.declared.tape_fault.TapeFault.{TapeFault}
 use Rattle.m11_obj_blocks.specs.declared.tape_fault.TapeFault.TheVariants as fault
@@ -17,11 +17,11 @@ use Rattle.m11_cpu.specs.declared.fault.LoadFault.TheVariants.{Tape, OutsideMemo
 
 -- ---- what is put into memory
 
--- the memory after bytes were put at an address and the places after it
+-- the memory after bytes were put at an address and the addresses after it
 abbrev pub with_bytes : ℕ → Bytes → Bytes → Bytes
 with_bytes address bytes memory = take address memory ++ (bytes ++ drop (address + length bytes) memory)
 
--- each byte has its place in a memory of this size. The places do not begin again after 177777
+-- each byte has its address in a memory of this size. The addresses do not begin again after 177777
 abbrev pub AreInside : ℕ → ℕ → Bytes → Type 0
 AreInside size address bytes = (index : ℕ) → index < length bytes → address + index < size
 
@@ -47,7 +47,7 @@ Hold read (block ∷ blocks) bytes = (header : Bytes) × (following : Bytes) × 
 -- ---- a load
 
 -- blocks were given, and put into memory, each inside it
-pub record PutBlocks (old new : Place) (before after : Bytes) (blocks : List (ℕ × Bytes)) : Type 0 where
+pub record PutBlocks (old new : Position) (before after : Bytes) (blocks : List (ℕ × Bytes)) : Type 0 where
   pub given : Bytes
   pub took : Took old new given
   pub hold : Hold first_part blocks given
@@ -55,57 +55,57 @@ pub record PutBlocks (old new : Place) (before after : Bytes) (blocks : List (�
   pub memory : after ≡ stored blocks before
 
 -- some of n bytes that belong at an address were given, and put into memory, inside it
-pub record PutSome (old new : Place) (before after : Bytes) (address count : ℕ) (taken : Bytes) : Type 0 where
+pub record PutSome (old new : Position) (before after : Bytes) (address count : ℕ) (taken : Bytes) : Type 0 where
   pub took : Took old new taken
   pub some : length taken < count
   pub inside : AreInside (length before) address taken
   pub memory : after ≡ with_bytes address taken before
 
--- a byte was given whose place is past the memory
-abbrev pub GivesOutside : Place → Place → ℕ → ℕ → Type 0
-GivesOutside old new size place = (byte : ℕ) × Took old new (byte ∷ []) × (size ≤ place)
+-- a byte was given whose address is past the memory
+abbrev pub GivesOutside : Position → Position → ℕ → ℕ → Type 0
+GivesOutside old new size address = (byte : ℕ) × Took old new (byte ∷ []) × (size ≤ address)
 
 -- a whole tape: its blocks, and then its transfer block, after which no byte was given
-pub record LoadsTape (old new : Place) (before after : Bytes) (start : ℕ) : Type 0 where
+pub record LoadsTape (old new : Position) (before after : Bytes) (start : ℕ) : Type 0 where
   pub blocks : List (ℕ × Bytes)
-  pub following : Place
+  pub following : Position
   pub put : PutBlocks old following before after blocks
   pub last : Reads (part_after first_part blocks) following new (Start start)
   pub tape : IsTape blocks start (put.given ++ last.given)
 
 -- some blocks of a tape, after which no part can be read
-pub record StopsAtPart (old new : Place) (before after : Bytes) (fault : TapeFault) : Type 0 where
+pub record StopsAtPart (old new : Position) (before after : Bytes) (fault : TapeFault) : Type 0 where
   pub blocks : List (ℕ × Bytes)
-  pub following : Place
+  pub following : Position
   pub put : PutBlocks old following before after blocks
   pub stops : Stops (part_after first_part blocks) following new (why_of fault)
 
 -- some blocks of a tape, and of one more its header and a beginning of its data
-pub record InsideData (old new : Place) (before after : Bytes) (address : ℕ) (taken : Bytes) : Type 0 where
+pub record InsideData (old new : Position) (before after : Bytes) (address : ℕ) (taken : Bytes) : Type 0 where
   pub blocks : List (ℕ × Bytes)
-  pub following : Place
+  pub following : Position
   pub held : Bytes
   pub put : PutBlocks old following before held blocks
   pub count : ℕ
-  pub opened : Place
+  pub opened : Position
   pub header : Reads (part_after first_part blocks) following opened (Data address count)
   pub part : PutSome opened new held after address count taken
 
 -- what a load yields. After a fault the memory holds what was given before it
-abbrev pub Loads : Place → Place → Bytes → Bytes → Result ℕ LoadFault → Type 0
+abbrev pub Loads : Position → Position → Bytes → Bytes → Result ℕ LoadFault → Type 0
 Loads old new before after (Ok start) = LoadsTape old new before after start
 Loads old new before after (Err (Tape fault)) =
     StopsAtPart old new before after fault
-    ⊎ ((address : ℕ) × (taken : Bytes) × (here : Place) × InsideData old here before after address taken
+    ⊎ ((address : ℕ) × (taken : Bytes) × (here : Position) × InsideData old here before after address taken
     × Stops data_byte here new (why_of fault))
 Loads old new before after (Err OutsideMemory) =
-    (address : ℕ) × (taken : Bytes) × (here : Place) × InsideData old here before after address taken
+    (address : ℕ) × (taken : Bytes) × (here : Position) × InsideData old here before after address taken
     × GivesOutside here new (length before) (address + length taken)
 
 -- what a load of a feed yields; no more bytes are read than a tape may have
 abbrev pub LoadsFrom : Option Text → Option Text → ℕ → ℕ → Bytes → Bytes → Result ℕ LoadFault → Type 0
 LoadsFrom text text' faults faults' before after result =
-    (room : ℕ) × Loads (place text faults most_bytes) (place text' faults' room) before after result
+    (room : ℕ) × Loads (position text faults most_bytes) (position text' faults' room) before after result
 
 -- the feed's count of failures reports one where the load does, and stays where it does not
 abbrev pub CountsFailure : ℕ → ℕ → Result ℕ LoadFault → Type 0
@@ -121,12 +121,12 @@ LoadsInto text text' faults faults' before after result =
 -- ---- one block
 
 -- what the putting of a block's data yields, the header of which was given: `span` is its address and the number of its bytes
-abbrev pub PutsData : {A : Type 0} → Place → Place → Bytes → Bytes → ℕ × ℕ → Bytes → Result A LoadFault → Type 0
+abbrev pub PutsData : {A : Type 0} → Position → Position → Bytes → Bytes → ℕ × ℕ → Bytes → Result A LoadFault → Type 0
 PutsData old new before after span content (Ok done) =
     (length content ≡ span.1) × Took old new content × AreInside (length before) span.0 content
     × (after ≡ with_bytes span.0 content before)
 PutsData old new before after span content (Err (Tape fault)) =
-    (here : Place) × PutSome old here before after span.0 span.1 content × Stops data_byte here new (why_of fault)
+    (here : Position) × PutSome old here before after span.0 span.1 content × Stops data_byte here new (why_of fault)
 PutsData old new before after span content (Err OutsideMemory) =
-    (here : Place) × PutSome old here before after span.0 span.1 content
+    (here : Position) × PutSome old here before after span.0 span.1 content
     × GivesOutside here new (length before) (span.0 + length content)

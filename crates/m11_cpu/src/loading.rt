@@ -2,7 +2,7 @@
 
 ghost use Rattle.std.specs.Prelude.{◌≡◌, ◌<◌, ◌%◌, length, sum, MatchResult, ⊤};
 ghost use Rattle.m11_base.specs.Devices.{Bytes};
-ghost use Rattle.m11_obj_blocks.specs.Limited.{place};
+ghost use Rattle.m11_obj_blocks.specs.Limited.{position};
 ghost use Rattle.m11_obj_blocks.specs.Tapes.{tape_header, total_of};
 ghost use Rattle.m11_obj_blocks.specs.declared.tape_part.TapeStage.TheVariants.{InBlock};
 ghost use Rattle.m11_cpu.specs.Loading.{CountsFailure, LoadsFrom, LoadsInto, PutsData};
@@ -34,16 +34,16 @@ fn load_block<F: Feed>(
 ) -> Result<(), LoadFault>
     requires { reader.old.stage ≡ InBlock count (sum (tape_header address count) % 256) }
     ensures put { (content : Bytes)
-        × PutsData (place (F.text feed.old) (F.faults feed.old) reader.old.room)
-        (place (F.text feed.new) (F.faults feed.new) reader.new.room)
+        × PutsData (position (F.text feed.old) (F.faults feed.old) reader.old.room)
+        (position (F.text feed.new) (F.faults feed.new) reader.new.room)
         memory.old memory.new (address, count) content result
         × MatchResult result (λ _. reader.new.stage ≡ InBlock 0 (total_of address content)) (λ _. ⊤) }
     ensures size { length memory.new ≡ length memory.old }
 {
     'bytes: for index in 0..count {
         let byte = reader.byte(feed)?;
-        match memory.place_past(address, index) {
-            Some(place) => memory.set_byte(place, byte),
+        match memory.address_past(address, index) {
+            Some(past) => memory.set_byte(past, byte),
             None => return Err(LoadFault::OutsideMemory),
         }
     }

@@ -19,9 +19,9 @@ abbrev pub shifted : ℤ → ℤ → ℤ
 shifted number (pos n) = number *ℤ pos (2 ^ n)
 shifted number (negsuc n) = int_div_euclid number (pos (2 ^ suc n))
 
--- the binary digit of a number that stands for 2 to the `place`
+-- the binary digit of a number that stands for 2 to the `power`
 abbrev pub digit : ℤ → ℕ → Bool
-digit number place = modulo 2 (int_div_euclid number (pos (2 ^ place))) == 1
+digit number power = modulo 2 (int_div_euclid number (pos (2 ^ power))) == 1
 
 -- the last bit that left a number of `width` bits
 abbrev pub last_bit : ℕ → ℤ → ℤ → Bool

@@ -79,10 +79,10 @@ fn last_bit(width: u16, number: i64, count: u16) -> bool
     }
 }
 
-// The binary digit of a number that stands for 2 to the `place`.
-fn digit(number: i64, place: u16) -> bool
-    requires { place < 64 }
-    ensures { result ≡ digit number place }
+// The binary digit of a number that stands for 2 to the `power`.
+fn digit(number: i64, power: u16) -> bool
+    requires { power < 64 }
+    ensures { result ≡ digit number power }
 {
-    (number >> place).cast_unsigned() % 2 == 1
+    (number >> power).cast_unsigned() % 2 == 1
 }

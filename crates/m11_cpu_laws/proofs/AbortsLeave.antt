@@ -27,7 +27,7 @@ use Rattle.m11_cpu_machine.specs.Execution.{execute, numbered, on_register, then
 use Rattle.m11_cpu_machine.specs.Extended.{extended}
 use Rattle.m11_cpu_machine.specs.Jumps.{call, enter, push, return_by, target, jump, mark, pop}
 use Rattle.m11_cpu_machine.specs.Machine.{register_of, with_register}
-use Rattle.m11_cpu_machine.specs.Addressing.{fetch, fetch_operand, next_word, place_of, put_result, store, back}
+use Rattle.m11_cpu_machine.specs.Addressing.{fetch, fetch_operand, next_word, location_of, put_result, store, back}
 use Rattle.m11_cpu_machine.specs.SingleOperands.{single_by, change_at, change_single, single, write, test_operand}
 use Rattle.m11_cpu_machine.specs.Steps.{instruction}
 use Rattle.m11_cpu_laws.specs.Writes.{AbortLeaves, IsElseAsBefore}
@@ -97,75 +97,75 @@ module _ (I : Machine → Type 0) where
       (at_cond (is_odd address) (at_comes (left_by I (store_odd address) m i))
       (device_leaves (device_at address) v m i))
 
-  place_leaves : (place : OperandLocation) (size : Size) (v : ℕ) (m : Machine) → I m
-      → Always (store place size v m) (λ y. Leaves I y)
+  location_leaves : (location : OperandLocation) (size : Size) (v : ℕ) (m : Machine) → I m
+      → Always (store location size v m) (λ y. Leaves I y)
   unfolding store
-  place_leaves (InRegister register) Word v m i = at_comes tt
-  place_leaves (InRegister register) Byte v m i = at_comes tt
-  place_leaves (InMemory address) Word v m i = word_leaves address v m i
-  place_leaves (InMemory address) Byte v m i = byte_leaves address (v % 256) m i
+  location_leaves (InRegister register) Word v m i = at_comes tt
+  location_leaves (InRegister register) Byte v m i = at_comes tt
+  location_leaves (InMemory address) Word v m i = word_leaves address v m i
+  location_leaves (InMemory address) Byte v m i = byte_leaves address (v % 256) m i
 
-  moved_leaves : (place : OperandLocation) (size : Size) (v : ℕ) (m : Machine) → I m
-      → Always (store_moved place size v m) (λ y. Leaves I y)
+  moved_leaves : (location : OperandLocation) (size : Size) (v : ℕ) (m : Machine) → I m
+      → Always (store_moved location size v m) (λ y. Leaves I y)
   unfolding store_moved
-  moved_leaves (InRegister register) Word v m i = place_leaves (InRegister register) Word v m i
+  moved_leaves (InRegister register) Word v m i = location_leaves (InRegister register) Word v m i
   moved_leaves (InRegister register) Byte v m i = at_comes tt
-  moved_leaves (InMemory address) size v m i = place_leaves (InMemory address) size v m i
+  moved_leaves (InMemory address) size v m i = location_leaves (InMemory address) size v m i
 
-  move_leaves : (place : OperandLocation) (size : Size) (source : ℕ) (m : Machine) → I m
-      → Always (move_to place size source m) (λ y. Leaves I y)
+  move_leaves : (location : OperandLocation) (size : Size) (source : ℕ) (m : Machine) → I m
+      → Always (move_to location size source m) (λ y. Leaves I y)
   unfolding move_to
-  move_leaves place size source m i =
-      left_last I (store_moved place size source) _ m (moved_leaves place size source m i) (λ u n. at_comes tt)
+  move_leaves location size source m i =
+      left_last I (store_moved location size source) _ m (moved_leaves location size source m i) (λ u n. at_comes tt)
 
-  result_leaves : (place : OperandLocation) (size : Size) (computed : Computed) (m : Machine) → I m
-      → Always (put_result place size computed m) (λ y. Leaves I y)
+  result_leaves : (location : OperandLocation) (size : Size) (computed : Computed) (m : Machine) → I m
+      → Always (put_result location size computed m) (λ y. Leaves I y)
   unfolding put_result
-  result_leaves place size computed m i =
-      left_last I (store place size computed.value) _ m (place_leaves place size computed.value m i)
+  result_leaves location size computed m i =
+      left_last I (store location size computed.value) _ m (location_leaves location size computed.value m i)
       (λ u n. at_comes tt)
 
 -- ---- instructions
 
 module _ (I : Machine → Type 0) (receives : (n : Machine) (r : Receiver) → I n → I (record n { receiver = r }))
     (puts : (register : Register) (n : Machine) (v : ℕ) → I n → I (with_register register v n)) where
-  compare_leaves : (operation : DoubleOp) (place : OperandLocation) (size : Size) (source : ℕ) (m : Machine) → I m
-      → Always (compare operation place size source m) (λ y. Leaves I y)
+  compare_leaves : (operation : DoubleOp) (location : OperandLocation) (size : Size) (source : ℕ) (m : Machine) → I m
+      → Always (compare operation location size source m) (λ y. Leaves I y)
   unfolding compare
-  compare_leaves operation place size source m i =
-      kept_first I (fetch place size) _ m (fetch_keeps I receives puts place size m i) (λ value n j. at_comes tt)
+  compare_leaves operation location size source m i =
+      kept_first I (fetch location size) _ m (fetch_keeps I receives puts location size m i) (λ value n j. at_comes tt)
 
-  double_leaves : (operation : DoubleOp) (place : OperandLocation) (size : Size) (source : ℕ) (m : Machine) → I m
-      → Always (change_double operation place size source m) (λ y. Leaves I y)
+  double_leaves : (operation : DoubleOp) (location : OperandLocation) (size : Size) (source : ℕ) (m : Machine) → I m
+      → Always (change_double operation location size source m) (λ y. Leaves I y)
   unfolding change_double
-  double_leaves operation place size source m i =
-      kept_first I (fetch place size) _ m (fetch_keeps I receives puts place size m i)
-      (λ value n j. result_leaves I place size _ n j)
+  double_leaves operation location size source m i =
+      kept_first I (fetch location size) _ m (fetch_keeps I receives puts location size m i)
+      (λ value n j. result_leaves I location size _ n j)
 
-  use_leaves : (how : DestinationUse) (operation : DoubleOp) (size : Size) (source : ℕ) (place : OperandLocation)
+  use_leaves : (how : DestinationUse) (operation : DoubleOp) (size : Size) (source : ℕ) (location : OperandLocation)
       (m : Machine) → I m
-      → Always (double_by how operation size source place m) (λ y. Leaves I y)
-  use_leaves use_of.Writes operation size source place m i = move_leaves I place size source m i
-  use_leaves use_of.Reads operation size source place m i = compare_leaves operation place size source m i
-  use_leaves use_of.Changes operation size source place m i = double_leaves operation place size source m i
+      → Always (double_by how operation size source location m) (λ y. Leaves I y)
+  use_leaves use_of.Writes operation size source location m i = move_leaves I location size source m i
+  use_leaves use_of.Reads operation size source location m i = compare_leaves operation location size source m i
+  use_leaves use_of.Changes operation size source location m i = double_leaves operation location size source m i
 
   doubles_leave : (operation : DoubleOp) (size : Size) (source destination : Operand) (m : Machine) → I m
       → Always (double operation size source destination m) (λ y. Leaves I y)
   unfolding double double_at
   doubles_leave operation size source destination m i =
       kept_first I (fetch_operand source size) _ m (source_keeps I receives puts source size m i)
-      (λ value n j. kept_first I (place_of destination size) (double_at operation size value) n
+      (λ value n j. kept_first I (location_of destination size) (double_at operation size value) n
       (operand_keeps I receives puts destination size n j)
-      (λ place o k. use_leaves (use_by_double operation) operation size value place o k))
+      (λ location o k. use_leaves (use_by_double operation) operation size value location o k))
 
   exclusive_leaves : (register : Register) (operand : Operand) (m : Machine) → I m
       → Always (exclusive_or register operand m) (λ y. Leaves I y)
   unfolding exclusive_or change_exclusive
   exclusive_leaves register operand m i =
-      kept_first I (place_of operand Word) (change_exclusive (register_of register m)) m
+      kept_first I (location_of operand Word) (change_exclusive (register_of register m)) m
       (operand_keeps I receives puts operand Word m i)
-      (λ place n j. kept_first I (fetch place Word) _ n (fetch_keeps I receives puts place Word n j)
-      (λ value o k. result_leaves I place Word _ o k))
+      (λ location n j. kept_first I (fetch location Word) _ n (fetch_keeps I receives puts location Word n j)
+      (λ value o k. result_leaves I location Word _ o k))
 
   single_use_leaves : (how : Option DestinationUse) (operation : SingleOp) (size : Size) (operand : Operand)
       (m : Machine) → I m
@@ -174,15 +174,15 @@ module _ (I : Machine → Type 0) (receives : (n : Machine) (r : Receiver) → I
   single_use_leaves None operation size operand m i =
       kept_first I (target operand) _ m (jump_target_keeps I receives puts operand m i) (λ address n j. at_comes tt)
   single_use_leaves (Some use_of.Writes) operation size operand m i =
-      kept_first I (place_of operand size) _ m (operand_keeps I receives puts operand size m i)
-      (λ place n j. result_leaves I place size _ n j)
+      kept_first I (location_of operand size) _ m (operand_keeps I receives puts operand size m i)
+      (λ location n j. result_leaves I location size _ n j)
   single_use_leaves (Some use_of.Reads) operation size operand m i =
       kept_first I (fetch_operand operand size) _ m (source_keeps I receives puts operand size m i)
       (λ value n j. at_comes tt)
   single_use_leaves (Some use_of.Changes) operation size operand m i =
-      kept_first I (place_of operand size) (change_at operation size) m (operand_keeps I receives puts operand size m i)
-      (λ place n j. kept_first I (fetch place size) _ n (fetch_keeps I receives puts place size n j)
-      (λ value o k. result_leaves I place size _ o k))
+      kept_first I (location_of operand size) (change_at operation size) m (operand_keeps I receives puts operand size m i)
+      (λ location n j. kept_first I (fetch location size) _ n (fetch_keeps I receives puts location size n j)
+      (λ value o k. result_leaves I location size _ o k))
 
   call_leaves : (register : Register) (operand : Operand) (m : Machine) → I m
       → Always (call register operand m) (λ y. Leaves I y)

@@ -18,7 +18,7 @@ use Rattle.m11_cpu_machine.specs.Dialogue.{Comes, Dialogue, Reply, Gives, Ends, 
 use Rattle.m11_cpu_machine.specs.Execution.{execute, on_register, then_next}
 use Rattle.m11_cpu_machine.specs.Jumps.{address_of, call, enter, jump, push, target}
 use Rattle.m11_cpu_machine.specs.Machine.{register_of, with_register}
-use Rattle.m11_cpu_machine.specs.Addressing.{place_by, place_of}
+use Rattle.m11_cpu_machine.specs.Addressing.{location_by, location_of}
 use Rattle.m11_cpu_machine.specs.SingleOperands.{single}
 use Rattle.m11_cpu_machine.specs.Status.{psw_of}
 use Rattle.m11_cpu_machine.specs.Traps.{push_state, trap, trap_pushed}
@@ -268,19 +268,19 @@ store_byte_traps address v m = traps_where _ _ (store_byte_finds address v m)
 
 pub jump_traps : (size : Size) (operand : Operand) (m : Machine)
     → TrapsThrough10 (insn.Single Jmp size operand) operand m
-unfolding execute single jump target place_of ◌>>=◌
+unfolding execute single jump target location_of ◌>>=◌
 jump_traps size operand m e =
     let P : Mode → Type 0 = λ k.
-    then_next ((place_by k operand.register Word >>= address_of) >>= λ address n. Comes (Ok tt, with_register Pc address n))
+    then_next ((location_by k operand.register Word >>= address_of) >>= λ address n. Comes (Ok tt, with_register Pc address n))
     m ≡ Comes (Err (Traps Reserved), m) in
     subst P (sym e) refl
 
 pub call_traps : (register : Register) (operand : Operand) (m : Machine)
     → TrapsThrough10 (insn.Register Jsr register operand) operand m
-unfolding execute on_register call target place_of ◌>>=◌
+unfolding execute on_register call target location_of ◌>>=◌
 call_traps register operand m e =
     let P : Mode → Type 0 = λ k.
-    then_next ((place_by k operand.register Word >>= address_of) >>= enter register) m ≡ Comes (Err (Traps Reserved), m)
+    then_next ((location_by k operand.register Word >>= address_of) >>= enter register) m ≡ Comes (Err (Traps Reserved), m)
     in
     subst P (sym e) refl
 
@@ -291,9 +291,9 @@ unfolding push
 push_finds v m = store_word_finds (push_address m) v (stack_deepened m)
 
 -- a push leaves the stack pointer, and the memory as large as it was
-same_place : (m n : Machine) → n.registers ≡ (stack_deepened m).registers → length n.memory ≡ length m.memory
+same_location : (m n : Machine) → n.registers ≡ (stack_deepened m).registers → length n.memory ≡ length m.memory
     → no_word_at (push_address n) n ≡ no_word_at (push_address (stack_deepened m)) m
-same_place m n e f =
+same_location m n e f =
     ap₂ (λ (registers : List ℕ) (size : ℕ).
     let a = (slice_index registers 6 + 0o177776) % 0o200000 in
     (a % 2 == 1) || (not (nat_lt a size) && not (has_register a))) e f
@@ -337,7 +337,7 @@ state_finds m =
     let two = no_word_at (push_address (stack_deepened m)) m in
     at_bind (push (psw_of m.status)) _ m (λ y. FirstPush m y.0 y.1) (λ y. StatePushed (cannot_push m) y.0)
     (first_push (psw_of m.status) m) (λ abort n p. first_fails one two abort p.finds)
-    (λ u n p. at_map (finds_as _ _ _ (same_place m n p.registers p.size) (push_finds (register_of Pc n) n))
+    (λ u n p. at_map (finds_as _ _ _ (same_location m n p.registers p.size) (push_finds (register_of Pc n) n))
     (λ y t. second_comes one two y.0 p.finds t))
 
 abbrev FaultsIf : Bool → Turn → Type 0

@@ -7,7 +7,7 @@ use Rattle.m11_base_instructions.specs.declared.operand.Register.TheVariants.{R0
 use Rattle.m11_cpu_machine.specs.Acts.{◌>>=◌}
 use Rattle.m11_cpu_machine.specs.Jumps.{target}
 use Rattle.m11_cpu_machine.specs.Machine.{advanced, register_of}
-use Rattle.m11_cpu_machine.specs.Addressing.{place_of}
+use Rattle.m11_cpu_machine.specs.Addressing.{location_of}
 use Rattle.m11_cpu_machine.specs.Status.{status_of}
 use Rattle.m11_cpu_machine.specs.declared.machine.Machine.{Machine}
 use Rattle.m11_cpu_laws.specs.Returns.{CallIsMade, PlainCallIsMade}
@@ -34,7 +34,7 @@ words low Sp = omega arith
 words low Pc = omega arith
 
 pub call_made : CallIsMade
-unfolding target place_of ◌>>=◌ row_of rows
+unfolding target location_of ◌>>=◌ row_of rows
 call_made = record {
   register = R5;
   operand = record { mode = mode.RegisterDeferred; register = R1 };
@@ -53,7 +53,7 @@ call_made = record {
 }
 
 pub plain_call_made : PlainCallIsMade
-unfolding target place_of ◌>>=◌ row_of rows
+unfolding target location_of ◌>>=◌ row_of rows
 plain_call_made = record {
   operand = record { mode = mode.RegisterDeferred; register = R1 };
   machine = calling 0o311;

@@ -21,18 +21,18 @@ use Rattle.m11_cpu_machine.specs.Execution.{execute, numbered, on_register, then
 use Rattle.m11_cpu_machine.specs.Extended.{extended}
 use Rattle.m11_cpu_machine.specs.Jumps.{call, enter, push, return_by, target}
 use Rattle.m11_cpu_machine.specs.Machine.{register_of}
-use Rattle.m11_cpu_machine.specs.Addressing.{fetch_operand, next_word, place_of}
+use Rattle.m11_cpu_machine.specs.Addressing.{fetch_operand, location_of, next_word}
 use Rattle.m11_cpu_machine.specs.SingleOperands.{change_at, change_single, single, write}
 use Rattle.m11_cpu_machine.specs.Steps.{instruction}
-use Rattle.m11_cpu_laws.specs.Writes.{destination_bytes, one_pushed, operand_bytes, place_bytes, push_address, stack_deepened, written_by, written_bytes}
+use Rattle.m11_cpu_laws.specs.Writes.{destination_bytes, location_bytes, one_pushed, operand_bytes, push_address, stack_deepened, written_by, written_bytes}
 use Rattle.m11_cpu_machine.specs.declared.abort.Abort.{Abort}
 use Rattle.m11_cpu_machine.specs.declared.execution.Ending.TheVariants as ending
 use Rattle.m11_cpu_machine.specs.declared.machine.Machine.{Machine}
 use Rattle.m11_cpu_machine.specs.declared.addressing.OperandLocation.{OperandLocation}
 use Rattle.m11_cpu_laws.proofs.Following.{Follows, follows_bind, follows_now, follows_then}
-use Rattle.m11_cpu_laws.proofs.MemoryKept.{bare_quiet, branched_same, compare_quiet, counted_same, extended_quiet, jump_quiet, Kept, kept_same, mark_quiet, place_quiet, return_quiet, Same, source_quiet, target_quiet, test_quiet, code_quiet}
+use Rattle.m11_cpu_laws.proofs.MemoryKept.{bare_quiet, branched_same, compare_quiet, counted_same, extended_quiet, jump_quiet, Kept, kept_same, mark_quiet, location_quiet, return_quiet, Same, source_quiet, target_quiet, test_quiet, code_quiet}
 use Rattle.m11_cpu_laws.proofs.Parts.{Always, at_bind, at_comes, at_map, Keeps, keeps_bind}
-use Rattle.m11_cpu_laws.proofs.PlacesStored.{double_stores, exclusive_stores, move_stores, result_stores, single_stores, Stores, word_stores, Writes}
+use Rattle.m11_cpu_laws.proofs.LocationsStored.{double_stores, exclusive_stores, move_stores, result_stores, single_stores, Stores, word_stores, Writes}
 
 -- ---- instructions, each beside its destination
 
@@ -44,18 +44,18 @@ quiet_follows memory m k = follows_now (at_map k (λ y e. kept_same _ memory y.1
 -- after the forming of an address
 operand_follows : (operand : Operand) (size : Size) (next : OperandLocation → Act (Unit {0})) (memory : List ℕ) (m : Machine)
     → Same memory m
-    → ((place : OperandLocation) (n : Machine) → Same memory n → Always (next place n)
-    (λ y. Stores (place_bytes place size) memory y))
-    → Follows ((place_of operand size >>= next) m) (operand_bytes operand size m) (Writes memory)
+    → ((location : OperandLocation) (n : Machine) → Same memory n → Always (next location n)
+    (λ y. Stores (location_bytes location size) memory y))
+    → Follows ((location_of operand size >>= next) m) (operand_bytes operand size m) (Writes memory)
 operand_follows operand size next memory m e k =
-    follows_bind (place_of operand size) next _ m (Same memory) (Writes memory) (place_quiet memory operand size m e)
-    (λ abort n f. kept_same _ memory n.memory f) (λ place n f. follows_now (k place n f))
+    follows_bind (location_of operand size) next _ m (Same memory) (Writes memory) (location_quiet memory operand size m e)
+    (λ abort n f. kept_same _ memory n.memory f) (λ location n f. follows_now (k location n f))
 
 -- after a source too
 double_follows_at : (operation : DoubleOp) (size : Size) (source destination : Operand) (memory : List ℕ) (m : Machine)
     → Same memory m
-    → ((value : ℕ) (place : OperandLocation) (n : Machine) → Same memory n
-    → Always (double_at operation size value place n) (λ y. Stores (place_bytes place size) memory y))
+    → ((value : ℕ) (location : OperandLocation) (n : Machine) → Same memory n
+    → Always (double_at operation size value location n) (λ y. Stores (location_bytes location size) memory y))
     → Follows (double operation size source destination m)
     ((fetch_operand source size >>= λ value. operand_bytes destination size) m) (Writes memory)
 unfolding double
@@ -66,15 +66,15 @@ double_follows_at operation size source destination memory m e k =
 
 double_quiet : (operation : DoubleOp) (size : Size) (source destination : Operand) (memory : List ℕ) (m : Machine)
     → Same memory m
-    → ((value : ℕ) (place : OperandLocation) (n : Machine) → Same memory n → Keeps (Same memory)
-    (double_at operation size value place n))
+    → ((value : ℕ) (location : OperandLocation) (n : Machine) → Same memory n → Keeps (Same memory)
+    (double_at operation size value location n))
     → Follows (double operation size source destination m) (Comes (Ok [], m)) (Writes memory)
 unfolding double
 double_quiet operation size source destination memory m e k =
     quiet_follows memory m
     (keeps_bind (Same memory) (fetch_operand source size) _ m (source_quiet memory source size m e)
-    (λ value n f. keeps_bind (Same memory) (place_of destination size) (double_at operation size value) n
-    (place_quiet memory destination size n f) (k value)))
+    (λ value n f. keeps_bind (Same memory) (location_of destination size) (double_at operation size value) n
+    (location_quiet memory destination size n f) (k value)))
 
 double_follows : (operation : DoubleOp) (size : Size) (source destination : Operand) (memory : List ℕ) (m : Machine)
     → Same memory m
@@ -84,32 +84,32 @@ double_follows : (operation : DoubleOp) (size : Size) (source destination : Oper
 unfolding double_at
 double_follows Mov size source destination memory m e =
     double_follows_at Mov size source destination memory m e
-    (λ value place n f. move_stores place size value memory n f)
+    (λ value location n f. move_stores location size value memory n f)
 double_follows Cmp size source destination memory m e =
     double_quiet Cmp size source destination memory m e
-    (λ value place n f. compare_quiet memory Cmp place size value n f)
+    (λ value location n f. compare_quiet memory Cmp location size value n f)
 double_follows Bit size source destination memory m e =
     double_quiet Bit size source destination memory m e
-    (λ value place n f. compare_quiet memory Bit place size value n f)
+    (λ value location n f. compare_quiet memory Bit location size value n f)
 double_follows Bic size source destination memory m e =
     double_follows_at Bic size source destination memory m e
-    (λ value place n f. double_stores Bic place size value memory n f)
+    (λ value location n f. double_stores Bic location size value memory n f)
 double_follows Bis size source destination memory m e =
     double_follows_at Bis size source destination memory m e
-    (λ value place n f. double_stores Bis place size value memory n f)
+    (λ value location n f. double_stores Bis location size value memory n f)
 double_follows Add size source destination memory m e =
     double_follows_at Add size source destination memory m e
-    (λ value place n f. double_stores Add place size value memory n f)
+    (λ value location n f. double_stores Add location size value memory n f)
 double_follows Sub size source destination memory m e =
     double_follows_at Sub size source destination memory m e
-    (λ value place n f. double_stores Sub place size value memory n f)
+    (λ value location n f. double_stores Sub location size value memory n f)
 
 write_follows : (operation : SingleOp) (size : Size) (operand : Operand) (memory : List ℕ) (m : Machine)
     → Same memory m
     → Follows (write operation size operand m) (operand_bytes operand size m) (Writes memory)
 unfolding write
 write_follows operation size operand memory m e =
-    operand_follows operand size _ memory m e (λ place n f. result_stores place size _ memory n f)
+    operand_follows operand size _ memory m e (λ location n f. result_stores location size _ memory n f)
 
 change_follows : (operation : SingleOp) (size : Size) (operand : Operand) (memory : List ℕ) (m : Machine)
     → Same memory m
@@ -117,7 +117,7 @@ change_follows : (operation : SingleOp) (size : Size) (operand : Operand) (memor
 unfolding change_single
 change_follows operation size operand memory m e =
     operand_follows operand size (change_at operation size) memory m e
-    (λ place n f. single_stores operation size place memory n f)
+    (λ location n f. single_stores operation size location memory n f)
 
 single_follows : (operation : SingleOp) (size : Size) (operand : Operand) (memory : List ℕ) (m : Machine)
     → Same memory m
@@ -152,7 +152,7 @@ exclusive_follows : (register : Register) (operand : Operand) (memory : List ℕ
 unfolding exclusive_or
 exclusive_follows register operand memory m e =
     operand_follows operand Word (change_exclusive (register_of register m)) memory m e
-    (λ place n f. exclusive_stores (register_of register m) place memory n f)
+    (λ location n f. exclusive_stores (register_of register m) location memory n f)
 
 number_quiet : (operation : NumberOp) (number : ℕ) (memory : List ℕ) (m : Machine) → Same memory m
     → Keeps (Same memory) (numbered operation number m)

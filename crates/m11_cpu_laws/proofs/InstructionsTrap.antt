@@ -23,7 +23,7 @@ use Rattle.m11_base_instructions.specs.declared.operand.Size.TheVariants.{Word, 
 use Rattle.m11_cpu_arithmetic.specs.declared.results.Computed.{Computed}
 use Rattle.m11_cpu_machine.specs.Access.{load_byte, load_word, store_byte, store_word}
 use Rattle.m11_cpu_machine.specs.Acts.{Act, ◌>>=◌}
-use Rattle.m11_cpu_machine.specs.Addressing.{deferred, fetch, fetch_operand, indexed, next_word, place_by, place_of, put_result, stepped_back, store}
+use Rattle.m11_cpu_machine.specs.Addressing.{deferred, fetch, fetch_operand, indexed, location_by, location_of, next_word, put_result, stepped_back, store}
 use Rattle.m11_cpu_machine.specs.Dialogue.{Comes, Exchange, Leads}
 use Rattle.m11_cpu_machine.specs.DoubleOperands.{change_double, change_exclusive, compare, double, double_at, exclusive_or, move_to, store_moved}
 use Rattle.m11_cpu_machine.specs.Execution.{bare, execute, numbered, on_register, return_from_trap}
@@ -80,34 +80,34 @@ pointer_traps address access m before n e f =
     (one_access (load_word address n) access address m before e (subst P (sym f) (load_word_at address n)))
     (λ word o first h. done_never _ o)
 
-place_by_traps : (by : Mode) (register : Register) (size : Size) (m : Machine)
-    → TrapsAtThese {A = OperandLocation} (place_by by register size m) (pointers_by by register) m
-place_by_traps mode.Register register size m = never_traps _ m (done_never _ _)
-place_by_traps mode.RegisterDeferred register size m = never_traps _ m (done_never _ _)
-place_by_traps mode.Autoincrement register size m = never_traps _ m (done_never _ _)
-place_by_traps mode.AutoincrementDeferred register size m =
+location_by_traps : (by : Mode) (register : Register) (size : Size) (m : Machine)
+    → TrapsAtThese {A = OperandLocation} (location_by by register size m) (pointers_by by register) m
+location_by_traps mode.Register register size m = never_traps _ m (done_never _ _)
+location_by_traps mode.RegisterDeferred register size m = never_traps _ m (done_never _ _)
+location_by_traps mode.Autoincrement register size m = never_traps _ m (done_never _ _)
+location_by_traps mode.AutoincrementDeferred register size m =
     pointer_traps (register_of register m) (word_at_first (register_of register)) m m (advanced register 2 m) refl refl
-place_by_traps mode.Autodecrement register size m = never_traps _ m (done_never _ _)
-place_by_traps mode.AutodecrementDeferred register size m =
+location_by_traps mode.Autodecrement register size m = never_traps _ m (done_never _ _)
+location_by_traps mode.AutodecrementDeferred register size m =
     pointer_traps (stepped_back register 2 m) (word_at_first (stepped_back register 2)) m m
     (with_register register (stepped_back register 2 m) m) refl refl
-place_by_traps mode.Index register size m =
+location_by_traps mode.Index register size m =
     then_quiet (indexed register) _ m m (word_at_first (register_of Pc) ∷ []) (index_traps register m)
     (λ address n first h. done_never _ n)
-place_by_traps mode.IndexDeferred register size m =
+location_by_traps mode.IndexDeferred register size m =
     through_access (indexed register) deferred m (word_at_first (register_of Pc) ∷ []) Word
     (λ address n. Comes (Ok address, n)) (index_traps register m)
     (λ address n. pointer_traps address (record { size = Word; address = λ o. Comes (Ok address, o) }) n n n refl refl)
 
-place_traps : (operand : Operand) (size : Size) (m : Machine)
-    → TrapsAtThese {A = OperandLocation} (place_of operand size m) (pointers operand) m
-unfolding place_of
-place_traps operand size m = place_by_traps operand.mode operand.register size m
+location_traps : (operand : Operand) (size : Size) (m : Machine)
+    → TrapsAtThese {A = OperandLocation} (location_of operand size m) (pointers operand) m
+unfolding location_of
+location_traps operand size m = location_by_traps operand.mode operand.register size m
 
--- ---- a known place
+-- ---- a known location
 
 abbrev access_at : OperandLocation → Size → Access
-access_at place size = record { size = size; address = address_of place }
+access_at location size = record { size = size; address = address_of location }
 
 -- a register is no address
 no_address : (register : Register) (size : Size) (m : Machine) (es : List Exchange)
@@ -129,8 +129,8 @@ in_register register size x m n = record {
   each = λ es s. absurd (some_address register size m es s);
 }
 
-fetch_traps : (place : OperandLocation) (size : Size) (m : Machine)
-    → TrapsAtThese {A = ℕ} (fetch place size m) (access_at place size ∷ []) m
+fetch_traps : (location : OperandLocation) (size : Size) (m : Machine)
+    → TrapsAtThese {A = ℕ} (fetch location size m) (access_at location size ∷ []) m
 unfolding fetch
 fetch_traps (InRegister register) Word m = in_register register Word _ m m
 fetch_traps (InRegister register) Byte m = in_register register Byte _ m m
@@ -139,8 +139,8 @@ fetch_traps (InMemory address) Word m =
 fetch_traps (InMemory address) Byte m =
     one_access (load_byte address m) (access_at (InMemory address) Byte) address m m refl (load_byte_at address m)
 
-store_traps : (place : OperandLocation) (size : Size) (v : ℕ) (m : Machine)
-    → TrapsAtThese {A = Unit {0}} (store place size v m) (access_at place size ∷ []) m
+store_traps : (location : OperandLocation) (size : Size) (v : ℕ) (m : Machine)
+    → TrapsAtThese {A = Unit {0}} (store location size v m) (access_at location size ∷ []) m
 unfolding store
 store_traps (InRegister register) Word v m = in_register register Word _ m _
 store_traps (InRegister register) Byte v m = in_register register Byte _ m _
@@ -150,32 +150,32 @@ store_traps (InMemory address) Byte v m =
     one_access (store_byte address (v % 256) m) (access_at (InMemory address) Byte) address m m refl
     (store_byte_at address (v % 256) m)
 
-moved_traps : (place : OperandLocation) (size : Size) (v : ℕ) (m : Machine)
-    → TrapsAtThese {A = Unit {0}} (store_moved place size v m) (access_at place size ∷ []) m
+moved_traps : (location : OperandLocation) (size : Size) (v : ℕ) (m : Machine)
+    → TrapsAtThese {A = Unit {0}} (store_moved location size v m) (access_at location size ∷ []) m
 unfolding store_moved
 moved_traps (InRegister register) Word v m = store_traps (InRegister register) Word v m
 moved_traps (InRegister register) Byte v m = in_register register Byte _ m _
 moved_traps (InMemory address) size v m = store_traps (InMemory address) size v m
 
-result_traps : (place : OperandLocation) (size : Size) (computed : Computed) (m : Machine)
-    → TrapsAtThese {A = Unit {0}} (put_result place size computed m) (access_at place size ∷ []) m
+result_traps : (location : OperandLocation) (size : Size) (computed : Computed) (m : Machine)
+    → TrapsAtThese {A = Unit {0}} (put_result location size computed m) (access_at location size ∷ []) m
 unfolding put_result
-result_traps place size computed m =
-    then_quiet (store place size computed.value) _ m m (access_at place size ∷ [])
-    (store_traps place size computed.value m) (λ u n first h. done_never tt _)
+result_traps location size computed m =
+    then_quiet (store location size computed.value) _ m m (access_at location size ∷ [])
+    (store_traps location size computed.value m) (λ u n first h. done_never tt _)
 
-move_traps : (place : OperandLocation) (size : Size) (source : ℕ) (m : Machine)
-    → TrapsAtThese {A = Unit {0}} (move_to place size source m) (access_at place size ∷ []) m
+move_traps : (location : OperandLocation) (size : Size) (source : ℕ) (m : Machine)
+    → TrapsAtThese {A = Unit {0}} (move_to location size source m) (access_at location size ∷ []) m
 unfolding move_to
-move_traps place size source m =
-    then_quiet (store_moved place size source) _ m m (access_at place size ∷ []) (moved_traps place size source m)
+move_traps location size source m =
+    then_quiet (store_moved location size source) _ m m (access_at location size ∷ []) (moved_traps location size source m)
     (λ u n first h. done_never tt _)
 
-compare_traps : (operation : DoubleOp) (place : OperandLocation) (size : Size) (source : ℕ) (m : Machine)
-    → TrapsAtThese {A = Unit {0}} (compare operation place size source m) (access_at place size ∷ []) m
+compare_traps : (operation : DoubleOp) (location : OperandLocation) (size : Size) (source : ℕ) (m : Machine)
+    → TrapsAtThese {A = Unit {0}} (compare operation location size source m) (access_at location size ∷ []) m
 unfolding compare
-compare_traps operation place size source m =
-    then_quiet (fetch place size) _ m m (access_at place size ∷ []) (fetch_traps place size m)
+compare_traps operation location size source m =
+    then_quiet (fetch location size) _ m m (access_at location size ∷ []) (fetch_traps location size m)
     (λ value n first h. done_never tt _)
 
 -- where a value was fetched, one can be stored too
@@ -189,8 +189,8 @@ same_word address m n e = ap (λ (memory : List ℕ). no_word_at address (record
 same_byte : (address : ℕ) (m n : Machine) → n.memory ≡ m.memory → no_byte_at address n ≡ no_byte_at address m
 same_byte address m n e = ap (λ (memory : List ℕ). no_byte_at address (record m { memory = memory })) e
 
-there_still : (place : OperandLocation) (size : Size) (m n : Machine) (value : ℕ) (es : List Exchange)
-    → Leads (fetch place size m) es (Ok value, n) → n.memory ≡ m.memory → IsThere place size n
+there_still : (location : OperandLocation) (size : Size) (m n : Machine) (value : ℕ) (es : List Exchange)
+    → Leads (fetch location size m) es (Ok value, n) → n.memory ≡ m.memory → IsThere location size n
 unfolding fetch
 there_still (InRegister register) size m n value es h e = tt
 there_still (InMemory address) Word m n value es h e =
@@ -198,80 +198,80 @@ there_still (InMemory address) Word m n value es h e =
 there_still (InMemory address) Byte m n value es h e =
     same_byte address m n e ∙ sym (load_byte_traps address m es (Ok value) n h)
 
-store_never : (place : OperandLocation) (size : Size) (v : ℕ) (m : Machine) → IsThere place size m
-    → NeverAt4 {A = Unit {0}} (store place size v m)
+store_never : (location : OperandLocation) (size : Size) (v : ℕ) (m : Machine) → IsThere location size m
+    → NeverAt4 {A = Unit {0}} (store location size v m)
 unfolding store
 store_never (InRegister register) Word v m i = done_never _ _
 store_never (InRegister register) Byte v m i = done_never _ _
 store_never (InMemory address) Word v m i = (store_word_at address v m).finds i
 store_never (InMemory address) Byte v m i = (store_byte_at address (v % 256) m).finds i
 
-result_never : (place : OperandLocation) (size : Size) (computed : Computed) (m : Machine) → IsThere place size m
-    → NeverAt4 {A = Unit {0}} (put_result place size computed m)
+result_never : (location : OperandLocation) (size : Size) (computed : Computed) (m : Machine) → IsThere location size m
+    → NeverAt4 {A = Unit {0}} (put_result location size computed m)
 unfolding put_result
-result_never place size computed m i =
-    bind_never (store place size computed.value) _ m (store_never place size computed.value m i)
+result_never location size computed m i =
+    bind_never (store location size computed.value) _ m (store_never location size computed.value m i)
     (λ u n. done_never tt _)
 
 -- a destination that is read and then stored to
-changes_trap : (place : OperandLocation) (size : Size) (computed : ℕ → Machine → Computed) (m : Machine)
-    → TrapsAtThese {A = Unit {0}} ((fetch place size >>= λ value n. put_result place size (computed value n) n) m)
-    (access_at place size ∷ []) m
-changes_trap place size computed m =
-    then_quiet (fetch place size) (λ value n. put_result place size (computed value n) n) m m
-    (access_at place size ∷ []) (fetch_traps place size m)
-    (λ value n first h. result_never place size (computed value n) n
-    (there_still place size m n value first h ((fetch_quiet m.memory place size m refl).each first (Ok value, n) h)))
+changes_trap : (location : OperandLocation) (size : Size) (computed : ℕ → Machine → Computed) (m : Machine)
+    → TrapsAtThese {A = Unit {0}} ((fetch location size >>= λ value n. put_result location size (computed value n) n) m)
+    (access_at location size ∷ []) m
+changes_trap location size computed m =
+    then_quiet (fetch location size) (λ value n. put_result location size (computed value n) n) m m
+    (access_at location size ∷ []) (fetch_traps location size m)
+    (λ value n first h. result_never location size (computed value n) n
+    (there_still location size m n value first h ((fetch_quiet m.memory location size m refl).each first (Ok value, n) h)))
 
-change_double_traps : (operation : DoubleOp) (place : OperandLocation) (size : Size) (source : ℕ) (m : Machine)
-    → TrapsAtThese {A = Unit {0}} (change_double operation place size source m) (access_at place size ∷ []) m
+change_double_traps : (operation : DoubleOp) (location : OperandLocation) (size : Size) (source : ℕ) (m : Machine)
+    → TrapsAtThese {A = Unit {0}} (change_double operation location size source m) (access_at location size ∷ []) m
 unfolding change_double
-change_double_traps operation place size source m = changes_trap place size _ m
+change_double_traps operation location size source m = changes_trap location size _ m
 
-change_exclusive_traps : (source : ℕ) (place : OperandLocation) (m : Machine)
-    → TrapsAtThese {A = Unit {0}} (change_exclusive source place m) (access_at place Word ∷ []) m
+change_exclusive_traps : (source : ℕ) (location : OperandLocation) (m : Machine)
+    → TrapsAtThese {A = Unit {0}} (change_exclusive source location m) (access_at location Word ∷ []) m
 unfolding change_exclusive
-change_exclusive_traps source place m = changes_trap place Word _ m
+change_exclusive_traps source location m = changes_trap location Word _ m
 
-change_at_traps : (operation : SingleOp) (size : Size) (place : OperandLocation) (m : Machine)
-    → TrapsAtThese {A = Unit {0}} (change_at operation size place m) (access_at place size ∷ []) m
+change_at_traps : (operation : SingleOp) (size : Size) (location : OperandLocation) (m : Machine)
+    → TrapsAtThese {A = Unit {0}} (change_at operation size location m) (access_at location size ∷ []) m
 unfolding change_at
-change_at_traps operation size place m = changes_trap place size _ m
+change_at_traps operation size location m = changes_trap location size _ m
 
-double_at_traps : (operation : DoubleOp) (size : Size) (source : ℕ) (place : OperandLocation) (m : Machine)
-    → TrapsAtThese {A = Unit {0}} (double_at operation size source place m) (access_at place size ∷ []) m
+double_at_traps : (operation : DoubleOp) (size : Size) (source : ℕ) (location : OperandLocation) (m : Machine)
+    → TrapsAtThese {A = Unit {0}} (double_at operation size source location m) (access_at location size ∷ []) m
 unfolding double_at
-double_at_traps Mov size source place m = move_traps place size source m
-double_at_traps Cmp size source place m = compare_traps Cmp place size source m
-double_at_traps Bit size source place m = compare_traps Bit place size source m
-double_at_traps Bic size source place m = change_double_traps Bic place size source m
-double_at_traps Bis size source place m = change_double_traps Bis place size source m
-double_at_traps Add size source place m = change_double_traps Add place size source m
-double_at_traps Sub size source place m = change_double_traps Sub place size source m
+double_at_traps Mov size source location m = move_traps location size source m
+double_at_traps Cmp size source location m = compare_traps Cmp location size source m
+double_at_traps Bit size source location m = compare_traps Bit location size source m
+double_at_traps Bic size source location m = change_double_traps Bic location size source m
+double_at_traps Bis size source location m = change_double_traps Bis location size source m
+double_at_traps Add size source location m = change_double_traps Add location size source m
+double_at_traps Sub size source location m = change_double_traps Sub location size source m
 
 -- ---- operands
 
 at_operand : {B : Type 0} (operand : Operand) (size : Size) (next : OperandLocation → Act B) (m : Machine)
-    → ((place : OperandLocation) (n : Machine) → TrapsAtThese {A = B} (next place n) (access_at place size ∷ []) n)
-    → TrapsAtThese {A = B} ((place_of operand size >>= next) m) (operand_accesses operand size) m
+    → ((location : OperandLocation) (n : Machine) → TrapsAtThese {A = B} (next location n) (access_at location size ∷ []) n)
+    → TrapsAtThese {A = B} ((location_of operand size >>= next) m) (operand_accesses operand size) m
 at_operand operand size next m k =
-    through_access (place_of operand size) next m (pointers operand) size address_of (place_traps operand size m) k
+    through_access (location_of operand size) next m (pointers operand) size address_of (location_traps operand size m) k
 
 source_traps : (operand : Operand) (size : Size) (m : Machine)
     → TrapsAtThese {A = ℕ} (fetch_operand operand size m) (operand_accesses operand size) m
 unfolding fetch_operand
 source_traps operand size m =
-    at_operand operand size (λ place. fetch place size) m (λ place n. fetch_traps place size n)
+    at_operand operand size (λ location. fetch location size) m (λ location n. fetch_traps location size n)
 
-address_never : (place : OperandLocation) (m : Machine) → NeverAt4 {A = ℕ} (address_of place m)
+address_never : (location : OperandLocation) (m : Machine) → NeverAt4 {A = ℕ} (address_of location m)
 address_never (InRegister register) m = reserved_never m
 address_never (InMemory address) m = done_never address m
 
 target_traps : (operand : Operand) (m : Machine) → TrapsAtThese {A = ℕ} (target operand m) (pointers operand) m
 unfolding target
 target_traps operand m =
-    then_quiet (place_of operand Word) address_of m m (pointers operand) (place_traps operand Word m)
-    (λ place n first h. address_never place n)
+    then_quiet (location_of operand Word) address_of m m (pointers operand) (location_traps operand Word m)
+    (λ location n first h. address_never location n)
 
 -- ---- instructions
 
@@ -280,10 +280,10 @@ double_traps : (operation : DoubleOp) (size : Size) (source destination : Operan
     (operand_accesses source size ++ after_act (fetch_operand source size) (operand_accesses destination size)) m
 unfolding double
 double_traps operation size source destination m =
-    then_accesses (fetch_operand source size) (λ value. place_of destination size >>= double_at operation size value) m
+    then_accesses (fetch_operand source size) (λ value. location_of destination size >>= double_at operation size value) m
     (operand_accesses source size) (operand_accesses destination size) (source_traps source size m)
     (λ value n. at_operand destination size (double_at operation size value) n
-    (λ place o. double_at_traps operation size value place o))
+    (λ location o. double_at_traps operation size value location o))
 
 extended_traps : (operation : ExtendedOp) (register : Register) (source : Operand) (m : Machine)
     → TrapsAtThese {A = Unit {0}} (extended operation register source m) (operand_accesses source Word) m
@@ -297,7 +297,7 @@ exclusive_traps : (register : Register) (operand : Operand) (m : Machine)
 unfolding exclusive_or
 exclusive_traps register operand m =
     at_operand operand Word (change_exclusive (register_of register m)) m
-    (λ place n. change_exclusive_traps (register_of register m) place n)
+    (λ location n. change_exclusive_traps (register_of register m) location n)
 
 jump_traps : (operand : Operand) (m : Machine)
     → TrapsAtThese {A = Unit {0}} (jump operand m) (pointers operand) m
@@ -316,13 +316,13 @@ test_traps operation size operand m =
 write_traps : (operation : SingleOp) (size : Size) (operand : Operand) (m : Machine)
     → TrapsAtThese {A = Unit {0}} (write operation size operand m) (operand_accesses operand size) m
 unfolding write
-write_traps operation size operand m = at_operand operand size _ m (λ place n. result_traps place size _ n)
+write_traps operation size operand m = at_operand operand size _ m (λ location n. result_traps location size _ n)
 
 modify_traps : (operation : SingleOp) (size : Size) (operand : Operand) (m : Machine)
     → TrapsAtThese {A = Unit {0}} (change_single operation size operand m) (operand_accesses operand size) m
 unfolding change_single
 modify_traps operation size operand m =
-    at_operand operand size (change_at operation size) m (λ place n. change_at_traps operation size place n)
+    at_operand operand size (change_at operation size) m (λ location n. change_at_traps operation size location n)
 
 abbrev single_accesses : SingleOp → Size → Operand → List Access
 single_accesses operation size operand = accesses_of (insn.Single operation size operand)

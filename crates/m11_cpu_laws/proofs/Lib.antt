@@ -16,7 +16,7 @@ pub mod MemoryKept
 pub mod Parts
 pub mod PartsReport
 pub mod OperandsFound
-pub mod PlacesStored
+pub mod LocationsStored
 pub mod PremisesMet
 pub mod PlainCallsBack
 pub mod RegistersKept

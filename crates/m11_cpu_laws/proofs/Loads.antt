@@ -14,7 +14,7 @@ use Rattle.m11_cpu_machine.specs.Console.{device_at, is_waiting}
 use Rattle.m11_cpu_machine.specs.Dialogue.{Reply, Gives, Ends, Fails}
 use Rattle.m11_cpu_machine.specs.Jumps.{address_of, pop, target}
 use Rattle.m11_cpu_machine.specs.Machine.{register_of, with_register}
-use Rattle.m11_cpu_machine.specs.Addressing.{deferred, fetch, fetch_operand, forward, indexed, next_word, place_by, place_of}
+use Rattle.m11_cpu_machine.specs.Addressing.{deferred, fetch, fetch_operand, forward, indexed, location_by, location_of, next_word}
 use Rattle.m11_cpu_laws.specs.Returns.{is_stepping}
 use Rattle.m11_cpu_machine.specs.declared.console.DeviceRegister.{DeviceRegister}
 use Rattle.m11_cpu_machine.specs.declared.console.DeviceRegister.TheVariants.{ReceiverStatus, ReceiverBuffer, TransmitterStatus, TransmitterBuffer, ProcessorStatus}
@@ -80,36 +80,36 @@ module _ (I : Machine → Type 0) (receives : (n : Machine) (r : Receiver) → I
   indexed_keeps register m i = keeps_bind I next_word _ m (next_word_keeps m i) (λ index n j. at_comes j)
 
   -- a register too, where the mode steps it
-  place_by_keeps : (by : Mode) (register : Register) (size : Size) (m : Machine)
+  location_by_keeps : (by : Mode) (register : Register) (size : Size) (m : Machine)
       → (is_stepping by ≡ true → (n : Machine) (v : ℕ) → I n → I (with_register register v n))
-      → I m → Keeps I (place_by by register size m)
-  place_by_keeps mode.Register register size m steps i = at_comes i
-  place_by_keeps mode.RegisterDeferred register size m steps i = at_comes i
-  place_by_keeps mode.Autoincrement register size m steps i = at_comes (steps refl m _ i)
-  place_by_keeps mode.AutoincrementDeferred register size m steps i = deferred_keeps I receives _ _ (steps refl m _ i)
-  place_by_keeps mode.Autodecrement register size m steps i = at_comes (steps refl m _ i)
-  place_by_keeps mode.AutodecrementDeferred register size m steps i = deferred_keeps I receives _ _ (steps refl m _ i)
-  place_by_keeps mode.Index register size m steps i =
+      → I m → Keeps I (location_by by register size m)
+  location_by_keeps mode.Register register size m steps i = at_comes i
+  location_by_keeps mode.RegisterDeferred register size m steps i = at_comes i
+  location_by_keeps mode.Autoincrement register size m steps i = at_comes (steps refl m _ i)
+  location_by_keeps mode.AutoincrementDeferred register size m steps i = deferred_keeps I receives _ _ (steps refl m _ i)
+  location_by_keeps mode.Autodecrement register size m steps i = at_comes (steps refl m _ i)
+  location_by_keeps mode.AutodecrementDeferred register size m steps i = deferred_keeps I receives _ _ (steps refl m _ i)
+  location_by_keeps mode.Index register size m steps i =
       keeps_bind I (indexed register) _ m (indexed_keeps register m i) (λ address n j. at_comes j)
-  place_by_keeps mode.IndexDeferred register size m steps i =
+  location_by_keeps mode.IndexDeferred register size m steps i =
       keeps_bind I (indexed register) deferred m (indexed_keeps register m i)
       (λ address n j. deferred_keeps I receives address n j)
 
-  pub place_keeps : (operand : Operand) (size : Size) (m : Machine)
+  pub location_keeps : (operand : Operand) (size : Size) (m : Machine)
       → (is_stepping operand.mode ≡ true → (n : Machine) (v : ℕ) → I n → I (with_register operand.register v n))
-      → I m → Keeps I (place_of operand size m)
-  unfolding place_of
-  place_keeps operand size m steps i = place_by_keeps operand.mode operand.register size m steps i
+      → I m → Keeps I (location_of operand size m)
+  unfolding location_of
+  location_keeps operand size m steps i = location_by_keeps operand.mode operand.register size m steps i
 
-address_keeps : (I : Machine → Type 0) (place : OperandLocation) (m : Machine) → I m → Keeps I (address_of place m)
+address_keeps : (I : Machine → Type 0) (location : OperandLocation) (m : Machine) → I m → Keeps I (address_of location m)
 address_keeps I (InRegister register) m i = at_comes i
 address_keeps I (InMemory address) m i = at_comes i
 
 pub target_keeps : (I : Machine → Type 0) (operand : Operand) (size : Size) (m : Machine)
-    → Keeps I (place_of operand size m)
-    → Keeps I ((place_of operand size >>= address_of) m)
-target_keeps I operand size m k = keeps_bind I (place_of operand size) address_of m k
-    (λ place n j. address_keeps I place n j)
+    → Keeps I (location_of operand size m)
+    → Keeps I ((location_of operand size >>= address_of) m)
+target_keeps I operand size m k = keeps_bind I (location_of operand size) address_of m k
+    (λ location n j. address_keeps I location n j)
 
 -- and which each register may change without
 module _ (I : Machine → Type 0) (receives : (n : Machine) (r : Receiver) → I n → I (record n { receiver = r }))
@@ -117,14 +117,14 @@ module _ (I : Machine → Type 0) (receives : (n : Machine) (r : Receiver) → I
   pub code_keeps : (m : Machine) → I m → Keeps I (next_word m)
   code_keeps m i = next_word_keeps I receives (puts Pc) m i
 
-  pub operand_keeps : (operand : Operand) (size : Size) (m : Machine) → I m → Keeps I (place_of operand size m)
-  operand_keeps operand size m i = place_keeps I receives (puts Pc) operand size m (λ s. puts operand.register) i
+  pub operand_keeps : (operand : Operand) (size : Size) (m : Machine) → I m → Keeps I (location_of operand size m)
+  operand_keeps operand size m i = location_keeps I receives (puts Pc) operand size m (λ s. puts operand.register) i
 
   pub jump_target_keeps : (operand : Operand) (m : Machine) → I m → Keeps I (target operand m)
   unfolding target
   jump_target_keeps operand m i = target_keeps I operand Word m (operand_keeps operand Word m i)
 
-  pub fetch_keeps : (place : OperandLocation) (size : Size) (m : Machine) → I m → Keeps I (fetch place size m)
+  pub fetch_keeps : (location : OperandLocation) (size : Size) (m : Machine) → I m → Keeps I (fetch location size m)
   unfolding fetch
   fetch_keeps (InRegister register) Word m i = at_comes i
   fetch_keeps (InRegister register) Byte m i = at_comes i
@@ -134,8 +134,8 @@ module _ (I : Machine → Type 0) (receives : (n : Machine) (r : Receiver) → I
   pub source_keeps : (operand : Operand) (size : Size) (m : Machine) → I m → Keeps I (fetch_operand operand size m)
   unfolding fetch_operand
   source_keeps operand size m i =
-      keeps_bind I (place_of operand size) _ m (operand_keeps operand size m i)
-      (λ place n j. fetch_keeps place size n j)
+      keeps_bind I (location_of operand size) _ m (operand_keeps operand size m i)
+      (λ location n j. fetch_keeps location size n j)
 
   pub pop_keeps : (m : Machine) → I m → Keeps I (pop m)
   unfolding pop

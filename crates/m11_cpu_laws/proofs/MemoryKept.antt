@@ -24,7 +24,7 @@ use Rattle.m11_cpu_machine.specs.Extended.{after_division, extended, extended_by
 use Rattle.m11_cpu_machine.specs.Jumps.{branched, counted_down, jump, mark, pop, return_by, target, words_on}
 use Rattle.m11_cpu_machine.specs.Machine.{register_of, with_register}
 use Rattle.m11_cpu_machine.specs.Memory.{byte_at, with_byte, with_word}
-use Rattle.m11_cpu_machine.specs.Addressing.{back, fetch, fetch_operand, next_word, place_of}
+use Rattle.m11_cpu_machine.specs.Addressing.{back, fetch, fetch_operand, location_of, next_word}
 use Rattle.m11_cpu_machine.specs.SingleOperands.{test_operand}
 use Rattle.m11_cpu_laws.specs.Writes.{IsNoneOf, word_bytes}
 use Rattle.m11_cpu_machine.specs.declared.machine.Machine.{Machine}
@@ -89,16 +89,16 @@ module _ (memory : List ℕ) where
   pub code_quiet : (m : Machine) → Same memory m → Keeps (Same memory) (next_word m)
   code_quiet m e = code_keeps (Same memory) (λ n r i. i) (λ r n v i. i) m e
 
-  pub place_quiet : (operand : Operand) (size : Size) (m : Machine) → Same memory m
-      → Keeps (Same memory) (place_of operand size m)
-  place_quiet operand size m e = operand_keeps (Same memory) (λ n r i. i) (λ r n v i. i) operand size m e
+  pub location_quiet : (operand : Operand) (size : Size) (m : Machine) → Same memory m
+      → Keeps (Same memory) (location_of operand size m)
+  location_quiet operand size m e = operand_keeps (Same memory) (λ n r i. i) (λ r n v i. i) operand size m e
 
   pub target_quiet : (operand : Operand) (m : Machine) → Same memory m → Keeps (Same memory) (target operand m)
   target_quiet operand m e = jump_target_keeps (Same memory) (λ n r i. i) (λ r n v i. i) operand m e
 
-  pub fetch_quiet : (place : OperandLocation) (size : Size) (m : Machine) → Same memory m
-      → Keeps (Same memory) (fetch place size m)
-  fetch_quiet place size m e = fetch_keeps (Same memory) (λ n r i. i) (λ r n v i. i) place size m e
+  pub fetch_quiet : (location : OperandLocation) (size : Size) (m : Machine) → Same memory m
+      → Keeps (Same memory) (fetch location size m)
+  fetch_quiet location size m e = fetch_keeps (Same memory) (λ n r i. i) (λ r n v i. i) location size m e
 
   pub source_quiet : (operand : Operand) (size : Size) (m : Machine) → Same memory m
       → Keeps (Same memory) (fetch_operand operand size m)
@@ -107,11 +107,11 @@ module _ (memory : List ℕ) where
   pop_quiet : (m : Machine) → Same memory m → Keeps (Same memory) (pop m)
   pop_quiet m e = pop_keeps (Same memory) (λ n r i. i) (λ r n v i. i) m e
 
-  pub compare_quiet : (operation : DoubleOp) (place : OperandLocation) (size : Size) (source : ℕ) (m : Machine) → Same memory m
-      → Keeps (Same memory) (compare operation place size source m)
+  pub compare_quiet : (operation : DoubleOp) (location : OperandLocation) (size : Size) (source : ℕ) (m : Machine) → Same memory m
+      → Keeps (Same memory) (compare operation location size source m)
   unfolding compare
-  compare_quiet operation place size source m e =
-      keeps_bind (Same memory) (fetch place size) _ m (fetch_quiet place size m e) (λ value n i. at_comes i)
+  compare_quiet operation location size source m e =
+      keeps_bind (Same memory) (fetch location size) _ m (fetch_quiet location size m e) (λ value n i. at_comes i)
 
   pub test_quiet : (operation : SingleOp) (size : Size) (operand : Operand) (m : Machine) → Same memory m
       → Keeps (Same memory) (test_operand operation size operand m)

@@ -6,7 +6,7 @@ use Rattle.m11_base_instructions.specs.declared.operand.Register.TheVariants.{Pc
 use Rattle.m11_base_instructions.specs.declared.operand.Size.{Size}
 use Rattle.m11_base_instructions.specs.declared.operand.Size.TheVariants.{Word, Byte}
 use Rattle.m11_cpu_machine.specs.Access.{load_word}
-use Rattle.m11_cpu_machine.specs.Addressing.{deferred, fetch, fetch_operand, indexed, next_word, place_of}
+use Rattle.m11_cpu_machine.specs.Addressing.{deferred, fetch, fetch_operand, indexed, location_of, next_word}
 use Rattle.m11_cpu_machine.specs.Dialogue.{Comes}
 use Rattle.m11_cpu_machine.specs.Machine.{advanced, register_of}
 use Rattle.m11_cpu_machine.specs.declared.addressing.OperandLocation.TheVariants.{InMemory}
@@ -30,19 +30,19 @@ indexed_inside register m i = bind_at next_word _ m (advanced Pc 2 m) _ (next_in
 
 index_found : (register : Register) (size : Size) (m : Machine) → IsWordInside (register_of Pc m) m
     → IsFoundAt mode.Index register size m (indexed_at register m) (advanced Pc 2 m)
-unfolding place_of
+unfolding location_of
 index_found register size m i = bind_at (indexed register) _ m (advanced Pc 2 m) _ (indexed_inside register m i)
 
 index_deferred_found : (register : Register) (size : Size) (m : Machine) → IsWordInside (register_of Pc m) m
     → IsWordInside (indexed_at register m) m
     → IsFoundAt mode.IndexDeferred register size m (memory_at (indexed_at register m) m) (advanced Pc 2 m)
-unfolding place_of
+unfolding location_of
 index_deferred_found register size m i j =
     bind_at (indexed register) deferred m (advanced Pc 2 m) _ (indexed_inside register m i)
     ∙ deferred_inside (indexed_at register m) (advanced Pc 2 m) j
 
 pub eight_modes : (register : Register) (size : Size) (m : Machine) → EightModes register size m
-unfolding place_of
+unfolding location_of
 eight_modes register size m = record {
   direct = refl;
   deferred = refl;
@@ -58,7 +58,7 @@ eight_modes register size m = record {
 -- the program counter steps by 2, for a byte too
 immediate_found : (size : Size) (m : Machine)
     → IsFoundAt mode.Autoincrement Pc size m (register_of Pc m) (advanced Pc 2 m)
-unfolding place_of
+unfolding location_of
 immediate_found Word m = refl
 immediate_found Byte m = refl
 
@@ -67,12 +67,12 @@ immediate_fetched : (m : Machine) → IsWordInside (register_of Pc m) m
     ≡ Comes (Ok (memory_at (register_of Pc m) m), advanced Pc 2 m)
 unfolding fetch_operand fetch
 immediate_fetched m i =
-    bind_at (place_of (operand_by mode.Autoincrement Pc) Word) _ m (advanced Pc 2 m) _ (immediate_found Word m)
+    bind_at (location_of (operand_by mode.Autoincrement Pc) Word) _ m (advanced Pc 2 m) _ (immediate_found Word m)
     ∙ load_inside (register_of Pc m) (advanced Pc 2 m) i
 
 absolute_found : (size : Size) (m : Machine) → IsWordInside (register_of Pc m) m
     → IsFoundAt mode.AutoincrementDeferred Pc size m (memory_at (register_of Pc m) m) (advanced Pc 2 m)
-unfolding place_of
+unfolding location_of
 absolute_found size m i = deferred_inside (register_of Pc m) (advanced Pc 2 m) i
 
 relative_at : (m : Machine) → length m.registers ≡ 8

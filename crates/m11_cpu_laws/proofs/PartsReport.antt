@@ -37,7 +37,7 @@ use Rattle.m11_cpu_machine.specs.Execution.{bare, execute, numbered, on_register
 use Rattle.m11_cpu_machine.specs.Extended.{after_division, extended, extended_by, low_word_of}
 use Rattle.m11_cpu_machine.specs.Jumps.{address_of, branched, call, counted_down, enter, jump, mark, pop, push, return_by, target, words_on}
 use Rattle.m11_cpu_machine.specs.Machine.{finished, is_status, register_of, with_condition_codes, with_register}
-use Rattle.m11_cpu_machine.specs.Addressing.{back, deferred, fetch, fetch_operand, forward, indexed, next_word, place_by, place_of, put_result, store}
+use Rattle.m11_cpu_machine.specs.Addressing.{back, deferred, fetch, fetch_operand, forward, indexed, location_by, location_of, next_word, put_result, store}
 use Rattle.m11_cpu_machine.specs.SingleOperands.{change_at, change_single, single, single_by, test_operand, write}
 use Rattle.m11_cpu_machine.specs.Steps.{instruction}
 use Rattle.m11_cpu_machine.specs.declared.abort.Abort.{Abort}
@@ -207,7 +207,7 @@ unfolding indexed
 indexed_reports register m = reports_bind next_word _ m (next_word_reports m) (λ index n. quiet refl refl refl)
 
 by_mode_reports : (by : Mode) (register : Register) (size : Size) (m : Machine)
-    → Reports m.receiver m.stopped (place_by by register size m)
+    → Reports m.receiver m.stopped (location_by by register size m)
 by_mode_reports mode.Register register size m = quiet refl refl refl
 by_mode_reports mode.RegisterDeferred register size m = quiet refl refl refl
 by_mode_reports mode.Autoincrement register size m = quiet refl refl refl
@@ -220,11 +220,11 @@ by_mode_reports mode.Index register size m =
 by_mode_reports mode.IndexDeferred register size m =
     reports_bind (indexed register) deferred m (indexed_reports register m) (λ address n. deferred_reports address n)
 
-place_reports : (operand : Operand) (size : Size) (m : Machine) → Reports m.receiver m.stopped (place_of operand size m)
-unfolding place_of
-place_reports operand size m = by_mode_reports operand.mode operand.register size m
+location_reports : (operand : Operand) (size : Size) (m : Machine) → Reports m.receiver m.stopped (location_of operand size m)
+unfolding location_of
+location_reports operand size m = by_mode_reports operand.mode operand.register size m
 
-fetch_reports : (place : OperandLocation) (size : Size) (m : Machine) → Reports m.receiver m.stopped (fetch place size m)
+fetch_reports : (location : OperandLocation) (size : Size) (m : Machine) → Reports m.receiver m.stopped (fetch location size m)
 unfolding fetch
 fetch_reports (InRegister register) Word m = quiet refl refl refl
 fetch_reports (InRegister register) Byte m = quiet refl refl refl
@@ -235,9 +235,9 @@ source_reports : (operand : Operand) (size : Size) (m : Machine)
     → Reports m.receiver m.stopped (fetch_operand operand size m)
 unfolding fetch_operand
 source_reports operand size m =
-    reports_bind (place_of operand size) _ m (place_reports operand size m) (λ place n. fetch_reports place size n)
+    reports_bind (location_of operand size) _ m (location_reports operand size m) (λ location n. fetch_reports location size n)
 
-store_reports : (place : OperandLocation) (size : Size) (v : ℕ) (m : Machine) → Reports m.receiver m.stopped (store place size v m)
+store_reports : (location : OperandLocation) (size : Size) (v : ℕ) (m : Machine) → Reports m.receiver m.stopped (store location size v m)
 unfolding store
 store_reports (InRegister register) Word v m = quiet refl refl refl
 store_reports (InRegister register) Byte v m = quiet refl refl refl
@@ -265,77 +265,77 @@ either_reports test a b r stands e f g h =
 abbrev finishes : Machine → Dialogue (Result (Unit {0}) Abort × Machine)
 finishes m = Comes (Ok tt, m)
 
-finished_reports : (place : OperandLocation) (codes : ConditionCodes) (m : Machine)
-    → Reports m.receiver m.stopped (finishes (finished place codes m))
-finished_reports place codes m =
-    either_reports (is_status place) m (with_condition_codes codes m) m.receiver m.stopped refl refl refl refl
+finished_reports : (location : OperandLocation) (codes : ConditionCodes) (m : Machine)
+    → Reports m.receiver m.stopped (finishes (finished location codes m))
+finished_reports location codes m =
+    either_reports (is_status location) m (with_condition_codes codes m) m.receiver m.stopped refl refl refl refl
 
-moved_reports : (place : OperandLocation) (size : Size) (v : ℕ) (m : Machine)
-    → Reports m.receiver m.stopped (store_moved place size v m)
+moved_reports : (location : OperandLocation) (size : Size) (v : ℕ) (m : Machine)
+    → Reports m.receiver m.stopped (store_moved location size v m)
 unfolding store_moved
 moved_reports (InRegister register) Word v m = store_reports (InRegister register) Word v m
 moved_reports (InRegister register) Byte v m = quiet refl refl refl
 moved_reports (InMemory address) size v m = store_reports (InMemory address) size v m
 
-move_reports : (place : OperandLocation) (size : Size) (source : ℕ) (m : Machine)
-    → Reports m.receiver m.stopped (move_to place size source m)
+move_reports : (location : OperandLocation) (size : Size) (source : ℕ) (m : Machine)
+    → Reports m.receiver m.stopped (move_to location size source m)
 unfolding move_to
-move_reports place size source m =
-    reports_bind (store_moved place size source) _ m (moved_reports place size source m)
-    (λ u n. finished_reports place _ n)
+move_reports location size source m =
+    reports_bind (store_moved location size source) _ m (moved_reports location size source m)
+    (λ u n. finished_reports location _ n)
 
-result_reports : (place : OperandLocation) (size : Size) (computed : Computed) (m : Machine)
-    → Reports m.receiver m.stopped (put_result place size computed m)
+result_reports : (location : OperandLocation) (size : Size) (computed : Computed) (m : Machine)
+    → Reports m.receiver m.stopped (put_result location size computed m)
 unfolding put_result
-result_reports place size computed m =
-    reports_bind (store place size computed.value) _ m (store_reports place size computed.value m)
-    (λ u n. finished_reports place _ n)
+result_reports location size computed m =
+    reports_bind (store location size computed.value) _ m (store_reports location size computed.value m)
+    (λ u n. finished_reports location _ n)
 
 -- ---- instructions
 
-compare_reports : (operation : DoubleOp) (place : OperandLocation) (size : Size) (source : ℕ) (m : Machine)
-    → Reports m.receiver m.stopped (compare operation place size source m)
+compare_reports : (operation : DoubleOp) (location : OperandLocation) (size : Size) (source : ℕ) (m : Machine)
+    → Reports m.receiver m.stopped (compare operation location size source m)
 unfolding compare
-compare_reports operation place size source m =
-    reports_bind (fetch place size) _ m (fetch_reports place size m) (λ value n. quiet refl refl refl)
+compare_reports operation location size source m =
+    reports_bind (fetch location size) _ m (fetch_reports location size m) (λ value n. quiet refl refl refl)
 
-change_reports : (operation : DoubleOp) (place : OperandLocation) (size : Size) (source : ℕ) (m : Machine)
-    → Reports m.receiver m.stopped (change_double operation place size source m)
+change_reports : (operation : DoubleOp) (location : OperandLocation) (size : Size) (source : ℕ) (m : Machine)
+    → Reports m.receiver m.stopped (change_double operation location size source m)
 unfolding change_double
-change_reports operation place size source m =
-    reports_bind (fetch place size) _ m (fetch_reports place size m) (λ value n. result_reports place size _ n)
+change_reports operation location size source m =
+    reports_bind (fetch location size) _ m (fetch_reports location size m) (λ value n. result_reports location size _ n)
 
-use_reports : (how : DestinationUse) (operation : DoubleOp) (size : Size) (source : ℕ) (place : OperandLocation) (m : Machine)
-    → Reports m.receiver m.stopped (double_by how operation size source place m)
-use_reports use_of.Writes operation size source place m = move_reports place size source m
-use_reports use_of.Reads operation size source place m = compare_reports operation place size source m
-use_reports use_of.Changes operation size source place m = change_reports operation place size source m
+use_reports : (how : DestinationUse) (operation : DoubleOp) (size : Size) (source : ℕ) (location : OperandLocation) (m : Machine)
+    → Reports m.receiver m.stopped (double_by how operation size source location m)
+use_reports use_of.Writes operation size source location m = move_reports location size source m
+use_reports use_of.Reads operation size source location m = compare_reports operation location size source m
+use_reports use_of.Changes operation size source location m = change_reports operation location size source m
 
 double_reports : (operation : DoubleOp) (size : Size) (source destination : Operand) (m : Machine)
     → Reports m.receiver m.stopped (double operation size source destination m)
 unfolding double double_at
 double_reports operation size source destination m =
     reports_bind (fetch_operand source size) _ m (source_reports source size m)
-    (λ value n. reports_bind (place_of destination size) (double_at operation size value) n
-    (place_reports destination size n)
-    (λ place o. use_reports (use_by_double operation) operation size value place o))
+    (λ value n. reports_bind (location_of destination size) (double_at operation size value) n
+    (location_reports destination size n)
+    (λ location o. use_reports (use_by_double operation) operation size value location o))
 
 exclusive_reports : (register : Register) (operand : Operand) (m : Machine)
     → Reports m.receiver m.stopped (exclusive_or register operand m)
 unfolding exclusive_or change_exclusive
 exclusive_reports register operand m =
-    reports_bind (place_of operand Word) (change_exclusive (register_of register m)) m (place_reports operand Word m)
-    (λ place n. reports_bind (fetch place Word) _ n (fetch_reports place Word n)
-    (λ value o. result_reports place Word _ o))
+    reports_bind (location_of operand Word) (change_exclusive (register_of register m)) m (location_reports operand Word m)
+    (λ location n. reports_bind (fetch location Word) _ n (fetch_reports location Word n)
+    (λ value o. result_reports location Word _ o))
 
-address_reports : (place : OperandLocation) (m : Machine) → Reports m.receiver m.stopped (address_of place m)
+address_reports : (location : OperandLocation) (m : Machine) → Reports m.receiver m.stopped (address_of location m)
 address_reports (InRegister register) m = quiet refl refl refl
 address_reports (InMemory address) m = quiet refl refl refl
 
 target_reports : (operand : Operand) (m : Machine) → Reports m.receiver m.stopped (target operand m)
 unfolding target
 target_reports operand m =
-    reports_bind (place_of operand Word) address_of m (place_reports operand Word m) (λ place n. address_reports place n)
+    reports_bind (location_of operand Word) address_of m (location_reports operand Word m) (λ location n. address_reports location n)
 
 single_reports : (how : Option DestinationUse) (operation : SingleOp) (size : Size) (operand : Operand) (m : Machine)
     → Reports m.receiver m.stopped (single_by how operation size operand m)
@@ -343,13 +343,13 @@ unfolding jump write test_operand change_single change_at
 single_reports None operation size operand m =
     reports_bind (target operand) _ m (target_reports operand m) (λ address n. quiet refl refl refl)
 single_reports (Some use_of.Writes) operation size operand m =
-    reports_bind (place_of operand size) _ m (place_reports operand size m) (λ place n. result_reports place size _ n)
+    reports_bind (location_of operand size) _ m (location_reports operand size m) (λ location n. result_reports location size _ n)
 single_reports (Some use_of.Reads) operation size operand m =
     reports_bind (fetch_operand operand size) _ m (source_reports operand size m) (λ value n. quiet refl refl refl)
 single_reports (Some use_of.Changes) operation size operand m =
-    reports_bind (place_of operand size) (change_at operation size) m (place_reports operand size m)
-    (λ place n. reports_bind (fetch place size) _ n (fetch_reports place size n)
-    (λ value o. result_reports place size _ o))
+    reports_bind (location_of operand size) (change_at operation size) m (location_reports operand size m)
+    (λ location n. reports_bind (fetch location size) _ n (fetch_reports location size n)
+    (λ value o. result_reports location size _ o))
 
 pub push_reports : (v : ℕ) (m : Machine) → Reports m.receiver m.stopped (push v m)
 unfolding push

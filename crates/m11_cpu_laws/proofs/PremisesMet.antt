@@ -6,7 +6,7 @@ use Rattle.m11_base_instructions.specs.declared.operand.Register.{Register}
 use Rattle.m11_base_instructions.specs.declared.operand.Register.TheVariants.{R0, R1, R2, R3, R4, R5, Sp, Pc}
 use Rattle.m11_cpu_machine.specs.Access.{load_device, load_word, receive, receiver_status, send, store_byte, store_device, store_word}
 use Rattle.m11_cpu_machine.specs.Acts.{value, ◌>>=◌}
-use Rattle.m11_cpu_machine.specs.Addressing.{deferred, fetch, fetch_operand, next_word, place_of, store}
+use Rattle.m11_cpu_machine.specs.Addressing.{deferred, fetch, fetch_operand, location_of, next_word, store}
 use Rattle.m11_cpu_machine.specs.Dialogue.{Leads}
 use Rattle.m11_cpu_machine.specs.DoubleOperands.{double, double_at, move_to, store_moved}
 use Rattle.m11_cpu_machine.specs.Execution.{execute, numbered}
@@ -35,7 +35,7 @@ small memory stack bits = record {
 
 -- TST @#177560
 pub asks_in_vain : AsksInVain
-unfolding Leads step instruction next_word load_word load_device ◌>>=◌ execute single test_operand fetch_operand place_of deferred fetch receiver_status receive value turned row_of rows
+unfolding Leads step instruction next_word load_word load_device ◌>>=◌ execute single test_operand fetch_operand location_of deferred fetch receiver_status receive value turned row_of rows
 asks_in_vain =
     let m = small (0o337 ∷ 0o13 ∷ 0o160 ∷ 0o377 ∷ []) 0 0 in
     record {
@@ -47,7 +47,7 @@ asks_in_vain =
 
 -- MOVB R0,@#177566
 pub sends_in_vain : SendsInVain
-unfolding Leads step instruction next_word load_word load_device ◌>>=◌ execute double double_at move_to store_moved store store_byte store_device send fetch_operand place_of deferred fetch turned row_of rows
+unfolding Leads step instruction next_word load_word load_device ◌>>=◌ execute double double_at move_to store_moved store store_byte store_device send fetch_operand location_of deferred fetch turned row_of rows
 sends_in_vain =
     let m = small (0o37 ∷ 0o220 ∷ 0o166 ∷ 0o377 ∷ []) 0 0 in
     record {
@@ -98,7 +98,7 @@ run_is_joined =
 
 -- MOV #17,@#177776, once its code was read
 pub status_is_stored : StatusIsStored
-unfolding fetch_operand place_of fetch load_word deferred ◌>>=◌
+unfolding fetch_operand location_of fetch load_word deferred ◌>>=◌
 status_is_stored =
     let m = small (0o17 ∷ 0 ∷ 0o376 ∷ 0o377 ∷ []) 0 0 in
     record {

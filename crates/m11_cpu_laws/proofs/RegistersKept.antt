@@ -36,7 +36,7 @@ use Rattle.m11_cpu_machine.specs.Execution.{bare, execute, numbered, on_register
 use Rattle.m11_cpu_machine.specs.Extended.{after_division, extended, extended_by, low_word_of}
 use Rattle.m11_cpu_machine.specs.Jumps.{branched, call, counted_down, enter, jump, mark, pop, push, return_by, target, words_on}
 use Rattle.m11_cpu_machine.specs.Machine.{finished, is_status, register_of, with_condition_codes, with_register}
-use Rattle.m11_cpu_machine.specs.Addressing.{back, deferred, fetch, fetch_operand, forward, indexed, next_word, place_by, place_of, put_result, store}
+use Rattle.m11_cpu_machine.specs.Addressing.{back, deferred, fetch, fetch_operand, forward, indexed, location_by, location_of, next_word, put_result, store}
 use Rattle.m11_cpu_machine.specs.SingleOperands.{change_at, change_single, single, test_operand, write}
 use Rattle.m11_cpu_machine.specs.declared.abort.Abort.{Abort}
 use Rattle.m11_cpu_machine.specs.declared.machine.Machine.{Machine}
@@ -45,7 +45,7 @@ use Rattle.m11_cpu_machine.specs.declared.addressing.OperandLocation.TheVariants
 use Rattle.m11_cpu_laws.specs.Registers.{by_destination, by_extended, changed_by, is_direct, stepped, stepped_or_stored}
 use Rattle.m11_cpu_laws.specs.Returns.{is_stepping}
 use Rattle.m11_cpu_laws.specs.Writes.{IsNoneOf, stores_double, stores_single}
-use Rattle.m11_cpu_laws.proofs.Loads.{byte_keeps, next_word_keeps, place_keeps, target_keeps, word_keeps}
+use Rattle.m11_cpu_laws.proofs.Loads.{byte_keeps, location_keeps, next_word_keeps, target_keeps, word_keeps}
 use Rattle.m11_cpu_laws.proofs.MemoryKept.{none_left, none_right}
 use Rattle.m11_cpu_laws.proofs.Parts.{Always, at_bind, at_comes, at_cond, at_map, Keeps, keeps_bind}
 use Rattle.m11_cpu_laws.proofs.StepsWrite.{device_keeps, registers_kept}
@@ -91,18 +91,18 @@ module _ (r : Register) (held : ℕ) (counts : register_number r ≢ register_nu
   word_held : (address : ℕ) (m : Machine) → Holds m → Keeps Holds (load_word address m)
   word_held address m i = word_keeps Holds (λ n o j. j) address m i
 
-  fetch_held : (place : OperandLocation) (size : Size) (m : Machine) → Holds m → Keeps Holds (fetch place size m)
+  fetch_held : (location : OperandLocation) (size : Size) (m : Machine) → Holds m → Keeps Holds (fetch location size m)
   unfolding fetch
   fetch_held (InRegister register) Word m i = at_comes i
   fetch_held (InRegister register) Byte m i = at_comes i
   fetch_held (InMemory address) Word m i = word_held address m i
   fetch_held (InMemory address) Byte m i = byte_keeps Holds (λ n o j. j) address m i
 
-  place_held : (operand : Operand) (size : Size) (m : Machine)
+  location_held : (operand : Operand) (size : Size) (m : Machine)
       → (is_stepping operand.mode ≡ true → register_number r ≢ register_number operand.register) → Holds m
-      → Keeps Holds (place_of operand size m)
-  place_held operand size m apart i =
-      place_keeps Holds (λ n o j. j) (λ n w j. put Pc w n counts j) operand size m
+      → Keeps Holds (location_of operand size m)
+  location_held operand size m apart i =
+      location_keeps Holds (λ n o j. j) (λ n w j. put Pc w n counts j) operand size m
       (λ e n w j. put operand.register w n (apart e) j) i
 
   stepped_apart : (operand : Operand) → IsNoneOf (register_number r) (stepped operand)
@@ -114,8 +114,8 @@ module _ (r : Register) (held : ℕ) (counts : register_number r ≢ register_nu
       → Holds m → Keeps Holds (fetch_operand operand size m)
   unfolding fetch_operand
   source_held operand size m h i =
-      keeps_bind Holds (place_of operand size) _ m (place_held operand size m (stepped_apart operand h) i)
-      (λ place n j. fetch_held place size n j)
+      keeps_bind Holds (location_of operand size) _ m (location_held operand size m (stepped_apart operand h) i)
+      (λ location n j. fetch_held location size n j)
 
   -- ---- destinations
 
@@ -124,7 +124,7 @@ module _ (r : Register) (held : ℕ) (counts : register_number r ≢ register_nu
   Apart (InMemory address) = ⊤
 
   abbrev FormedApart : Result OperandLocation Abort → Type 0
-  FormedApart (Ok place) = Apart place
+  FormedApart (Ok location) = Apart location
   FormedApart (Err abort) = ⊤
 
   deferred_apart : (address : ℕ) (m : Machine) → Always (deferred address m) (λ y. FormedApart y.0)
@@ -135,7 +135,7 @@ module _ (r : Register) (held : ℕ) (counts : register_number r ≢ register_nu
 
   mode_apart : (by : Mode) (q : Register) (size : Size) (m : Machine)
       → (is_direct by ≡ true → register_number r ≢ register_number q)
-      → Always (place_by by q size m) (λ y. FormedApart y.0)
+      → Always (location_by by q size m) (λ y. FormedApart y.0)
   mode_apart mode.Register q size m f = at_comes (f refl)
   mode_apart mode.RegisterDeferred q size m f = at_comes tt
   mode_apart mode.Autoincrement q size m f = at_comes tt
@@ -154,8 +154,8 @@ module _ (r : Register) (held : ℕ) (counts : register_number r ≢ register_nu
 
   formed : (operand : Operand) (size : Size) (m : Machine)
       → IsNoneOf (register_number r) (stepped_or_stored operand)
-      → Holds m → Always (place_of operand size m) (λ y. Formed y)
-  unfolding place_of
+      → Holds m → Always (location_of operand size m) (λ y. Formed y)
+  unfolding location_of
   formed operand size m h i =
       let direct = is_direct operand.mode in
       let steps = is_stepping operand.mode in
@@ -164,18 +164,18 @@ module _ (r : Register) (held : ℕ) (counts : register_number r ≢ register_nu
       record {
         each = λ es y l. (
           (mode_apart operand.mode operand.register size m named).each es y l,
-          (place_held operand size m apart i).each es y l,
+          (location_held operand size m apart i).each es y l,
         );
       }
 
   -- after the forming of a destination
   then_held : (operand : Operand) (size : Size) (next : OperandLocation → Act (Unit {0})) (m : Machine)
       → IsNoneOf (register_number r) (stepped_or_stored operand) → Holds m
-      → ((place : OperandLocation) (n : Machine) → Apart place → Holds n → Keeps Holds (next place n))
-      → Keeps Holds ((place_of operand size >>= next) m)
+      → ((location : OperandLocation) (n : Machine) → Apart location → Holds n → Keeps Holds (next location n))
+      → Keeps Holds ((location_of operand size >>= next) m)
   then_held operand size next m h i ok =
-      at_bind (place_of operand size) next m (λ y. Formed y) (λ y. Holds y.1) (formed operand size m h i)
-      (λ e n p. p.1) (λ place n p. ok place n p.0 p.1)
+      at_bind (location_of operand size) next m (λ y. Formed y) (λ y. Holds y.1) (formed operand size m h i)
+      (λ e n p. p.1) (λ location n p. ok location n p.0 p.1)
 
   byte_stored : (address v : ℕ) (m : Machine) → Keeps (λ n. n.registers ≡ m.registers) (store_byte address v m)
   unfolding store_byte store_device
@@ -186,8 +186,8 @@ module _ (r : Register) (held : ℕ) (counts : register_number r ≢ register_nu
   store_word_held : (address v : ℕ) (m : Machine) → Holds m → Keeps Holds (store_word address v m)
   store_word_held address v m i = at_map (registers_kept address v m) (λ y e. same m y.1 e i)
 
-  store_held : (place : OperandLocation) (size : Size) (v : ℕ) (m : Machine) → Apart place → Holds m
-      → Keeps Holds (store place size v m)
+  store_held : (location : OperandLocation) (size : Size) (v : ℕ) (m : Machine) → Apart location → Holds m
+      → Keeps Holds (store location size v m)
   unfolding store
   store_held (InRegister q) Word v m apart i = at_comes (put q _ m apart i)
   store_held (InRegister q) Byte v m apart i = at_comes (put q _ m apart i)
@@ -199,66 +199,66 @@ module _ (r : Register) (held : ℕ) (counts : register_number r ≢ register_nu
   either_held true a b i j = i
   either_held false a b i j = j
 
-  finished_held : (place : OperandLocation) (codes : ConditionCodes) (m : Machine) → Holds m
-      → Holds (finished place codes m)
-  finished_held place codes m i = either_held (is_status place) m (with_condition_codes codes m) i i
+  finished_held : (location : OperandLocation) (codes : ConditionCodes) (m : Machine) → Holds m
+      → Holds (finished location codes m)
+  finished_held location codes m i = either_held (is_status location) m (with_condition_codes codes m) i i
 
-  moved_held : (place : OperandLocation) (size : Size) (v : ℕ) (m : Machine) → Apart place → Holds m
-      → Keeps Holds (store_moved place size v m)
+  moved_held : (location : OperandLocation) (size : Size) (v : ℕ) (m : Machine) → Apart location → Holds m
+      → Keeps Holds (store_moved location size v m)
   unfolding store_moved
   moved_held (InRegister q) Word v m apart i = store_held (InRegister q) Word v m apart i
   moved_held (InRegister q) Byte v m apart i = at_comes (put q _ m apart i)
   moved_held (InMemory address) size v m apart i = store_held (InMemory address) size v m apart i
 
-  move_held : (place : OperandLocation) (size : Size) (source : ℕ) (m : Machine) → Apart place → Holds m
-      → Keeps Holds (move_to place size source m)
+  move_held : (location : OperandLocation) (size : Size) (source : ℕ) (m : Machine) → Apart location → Holds m
+      → Keeps Holds (move_to location size source m)
   unfolding move_to
-  move_held place size source m apart i =
-      keeps_bind Holds (store_moved place size source) _ m (moved_held place size source m apart i)
-      (λ u n j. at_comes (finished_held place _ n j))
+  move_held location size source m apart i =
+      keeps_bind Holds (store_moved location size source) _ m (moved_held location size source m apart i)
+      (λ u n j. at_comes (finished_held location _ n j))
 
-  result_held : (place : OperandLocation) (size : Size) (computed : Computed) (m : Machine) → Apart place → Holds m
-      → Keeps Holds (put_result place size computed m)
+  result_held : (location : OperandLocation) (size : Size) (computed : Computed) (m : Machine) → Apart location → Holds m
+      → Keeps Holds (put_result location size computed m)
   unfolding put_result
-  result_held place size computed m apart i =
-      keeps_bind Holds (store place size computed.value) _ m (store_held place size computed.value m apart i)
-      (λ u n j. at_comes (finished_held place _ n j))
+  result_held location size computed m apart i =
+      keeps_bind Holds (store location size computed.value) _ m (store_held location size computed.value m apart i)
+      (λ u n j. at_comes (finished_held location _ n j))
 
   -- ---- instructions of two operands
 
-  compare_held : (operation : DoubleOp) (place : OperandLocation) (size : Size) (source : ℕ) (m : Machine) → Holds m
-      → Keeps Holds (compare operation place size source m)
+  compare_held : (operation : DoubleOp) (location : OperandLocation) (size : Size) (source : ℕ) (m : Machine) → Holds m
+      → Keeps Holds (compare operation location size source m)
   unfolding compare
-  compare_held operation place size source m i =
-      keeps_bind Holds (fetch place size) _ m (fetch_held place size m i) (λ value n j. at_comes j)
+  compare_held operation location size source m i =
+      keeps_bind Holds (fetch location size) _ m (fetch_held location size m i) (λ value n j. at_comes j)
 
-  change_held : (operation : DoubleOp) (place : OperandLocation) (size : Size) (source : ℕ) (m : Machine) → Apart place
-      → Holds m → Keeps Holds (change_double operation place size source m)
+  change_held : (operation : DoubleOp) (location : OperandLocation) (size : Size) (source : ℕ) (m : Machine) → Apart location
+      → Holds m → Keeps Holds (change_double operation location size source m)
   unfolding change_double
-  change_held operation place size source m apart i =
-      keeps_bind Holds (fetch place size) _ m (fetch_held place size m i)
-      (λ value n j. result_held place size _ n apart j)
+  change_held operation location size source m apart i =
+      keeps_bind Holds (fetch location size) _ m (fetch_held location size m i)
+      (λ value n j. result_held location size _ n apart j)
 
   -- one that stores nothing, and one that stores
   reads_held : (operation : DoubleOp) (size : Size) (source : ℕ) (operand : Operand) (m : Machine)
       → IsNoneOf (register_number r) (stepped operand) → Holds m
-      → Keeps Holds ((place_of operand size >>= λ place. compare operation place size source) m)
+      → Keeps Holds ((location_of operand size >>= λ location. compare operation location size source) m)
   reads_held operation size source operand m h i =
-      keeps_bind Holds (place_of operand size) _ m (place_held operand size m (stepped_apart operand h) i)
-      (λ place n j. compare_held operation place size source n j)
+      keeps_bind Holds (location_of operand size) _ m (location_held operand size m (stepped_apart operand h) i)
+      (λ location n j. compare_held operation location size source n j)
 
   changes_held : (operation : DoubleOp) (size : Size) (source : ℕ) (operand : Operand) (m : Machine)
       → IsNoneOf (register_number r) (stepped_or_stored operand) → Holds m
-      → Keeps Holds ((place_of operand size >>= λ place. change_double operation place size source) m)
+      → Keeps Holds ((location_of operand size >>= λ location. change_double operation location size source) m)
   changes_held operation size source operand m h i =
-      then_held operand size _ m h i (λ place n apart j. change_held operation place size source n apart j)
+      then_held operand size _ m h i (λ location n apart j. change_held operation location size source n apart j)
 
   at_destination : (operation : DoubleOp) (size : Size) (source : ℕ) (operand : Operand) (m : Machine)
       → IsNoneOf (register_number r) (by_destination (stores_double operation) operand) → Holds m
-      → Keeps Holds ((place_of operand size >>= double_at operation size source) m)
+      → Keeps Holds ((location_of operand size >>= double_at operation size source) m)
   unfolding double_at
   at_destination Mov size source operand m h i =
-      then_held operand size _ m h i (λ place n apart j. move_held place size source n apart j)
+      then_held operand size _ m h i (λ location n apart j. move_held location size source n apart j)
   at_destination Cmp size source operand m h i = reads_held Cmp size source operand m h i
   at_destination Bit size source operand m h i = reads_held Bit size source operand m h i
   at_destination Bic size source operand m h i = changes_held Bic size source operand m h i
@@ -283,8 +283,8 @@ module _ (r : Register) (held : ℕ) (counts : register_number r ≢ register_nu
   unfolding exclusive_or change_exclusive
   exclusive_held register operand m h i =
       then_held operand Word (change_exclusive (register_of register m)) m h i
-      (λ place n apart j. keeps_bind Holds (fetch place Word) _ n (fetch_held place Word n j)
-      (λ value o k. result_held place Word _ o apart k))
+      (λ location n apart j. keeps_bind Holds (fetch location Word) _ n (fetch_held location Word n j)
+      (λ value o k. result_held location Word _ o apart k))
 
   -- ---- instructions of one operand
 
@@ -292,7 +292,7 @@ module _ (r : Register) (held : ℕ) (counts : register_number r ≢ register_nu
       → Keeps Holds (target operand m)
   unfolding target
   target_held operand m h i =
-      target_keeps Holds operand Word m (place_held operand Word m (stepped_apart operand h) i)
+      target_keeps Holds operand Word m (location_held operand Word m (stepped_apart operand h) i)
 
   jump_held : (operand : Operand) (m : Machine) → IsNoneOf (register_number r) (stepped operand) → Holds m
       → Keeps Holds (jump operand m)
@@ -313,7 +313,7 @@ module _ (r : Register) (held : ℕ) (counts : register_number r ≢ register_nu
       → Keeps Holds (write operation size operand m)
   unfolding write
   write_held operation size operand m h i =
-      then_held operand size _ m h i (λ place n apart j. result_held place size _ n apart j)
+      then_held operand size _ m h i (λ location n apart j. result_held location size _ n apart j)
 
   modify_held : (operation : SingleOp) (size : Size) (operand : Operand) (m : Machine)
       → IsNoneOf (register_number r) (stepped_or_stored operand) → Holds m
@@ -321,8 +321,8 @@ module _ (r : Register) (held : ℕ) (counts : register_number r ≢ register_nu
   unfolding change_single change_at
   modify_held operation size operand m h i =
       then_held operand size (change_at operation size) m h i
-      (λ place n apart j. keeps_bind Holds (fetch place size) _ n (fetch_held place size n j)
-      (λ value o k. result_held place size _ o apart k))
+      (λ location n apart j. keeps_bind Holds (fetch location size) _ n (fetch_held location size n j)
+      (λ value o k. result_held location size _ o apart k))
 
   single_held : (operation : SingleOp) (size : Size) (operand : Operand) (m : Machine)
       → IsNoneOf (register_number r) (by_destination (stores_single operation) operand) → Holds m

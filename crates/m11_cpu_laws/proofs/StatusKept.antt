@@ -27,7 +27,7 @@ use Rattle.m11_cpu_arithmetic.specs.declared.results.Division.{Division}
 use Rattle.m11_cpu_arithmetic.specs.declared.results.Division.TheVariants.{Done, Refused}
 use Rattle.m11_cpu_machine.specs.Access.{is_inside, is_odd, send, sent, store_byte, store_device, store_register, store_word}
 use Rattle.m11_cpu_machine.specs.Acts.{Act}
-use Rattle.m11_cpu_machine.specs.Addressing.{back, fetch, fetch_operand, place_of, put_result, store}
+use Rattle.m11_cpu_machine.specs.Addressing.{back, fetch, fetch_operand, location_of, put_result, store}
 use Rattle.m11_cpu_machine.specs.Console.{device_at}
 use Rattle.m11_cpu_machine.specs.Dialogue.{Exchange, Leads}
 use Rattle.m11_cpu_machine.specs.DoubleOperands.{change_double, change_exclusive, compare, double, double_at, exclusive_or, move_to, store_moved}
@@ -93,44 +93,44 @@ module _ (t : Bool) where
       at_cond (is_inside address m) (at_comes i)
       (at_cond (is_odd address) (at_comes i) (register_traces (device_at address) v m i))
 
-  place_traces : (place : OperandLocation) (size : Size) (v : ℕ) (m : Machine) → Traces m
-      → Keeps Traces (store place size v m)
+  location_traces : (location : OperandLocation) (size : Size) (v : ℕ) (m : Machine) → Traces m
+      → Keeps Traces (store location size v m)
   unfolding store
-  place_traces (InRegister register) Word v m i = at_comes i
-  place_traces (InRegister register) Byte v m i = at_comes i
-  place_traces (InMemory address) Word v m i = word_traces address v m i
-  place_traces (InMemory address) Byte v m i = byte_traces address (v % 256) m i
+  location_traces (InRegister register) Word v m i = at_comes i
+  location_traces (InRegister register) Byte v m i = at_comes i
+  location_traces (InMemory address) Word v m i = word_traces address v m i
+  location_traces (InMemory address) Byte v m i = byte_traces address (v % 256) m i
 
-  moved_traces : (place : OperandLocation) (size : Size) (v : ℕ) (m : Machine) → Traces m
-      → Keeps Traces (store_moved place size v m)
+  moved_traces : (location : OperandLocation) (size : Size) (v : ℕ) (m : Machine) → Traces m
+      → Keeps Traces (store_moved location size v m)
   unfolding store_moved
-  moved_traces (InRegister register) Word v m i = place_traces (InRegister register) Word v m i
+  moved_traces (InRegister register) Word v m i = location_traces (InRegister register) Word v m i
   moved_traces (InRegister register) Byte v m i = at_comes i
-  moved_traces (InMemory address) size v m i = place_traces (InMemory address) size v m i
+  moved_traces (InMemory address) size v m i = location_traces (InMemory address) size v m i
 
-  finished_traces : (place : OperandLocation) (codes : ConditionCodes) (m : Machine) → Traces m
-      → Traces (finished place codes m)
-  finished_traces place codes m i =
-      either_trace (is_status place) m (with_condition_codes codes m) refl ∙ i
+  finished_traces : (location : OperandLocation) (codes : ConditionCodes) (m : Machine) → Traces m
+      → Traces (finished location codes m)
+  finished_traces location codes m i =
+      either_trace (is_status location) m (with_condition_codes codes m) refl ∙ i
 
-  result_traces : (place : OperandLocation) (size : Size) (computed : Computed) (m : Machine) → Traces m
-      → Keeps Traces (put_result place size computed m)
+  result_traces : (location : OperandLocation) (size : Size) (computed : Computed) (m : Machine) → Traces m
+      → Keeps Traces (put_result location size computed m)
   unfolding put_result
-  result_traces place size computed m i =
-      keeps_bind Traces (store place size computed.value) _ m (place_traces place size computed.value m i)
-      (λ u n j. at_comes (finished_traces place computed.codes n j))
+  result_traces location size computed m i =
+      keeps_bind Traces (store location size computed.value) _ m (location_traces location size computed.value m i)
+      (λ u n j. at_comes (finished_traces location computed.codes n j))
 
   -- ---- operands
 
-  fetch_traces : (place : OperandLocation) (size : Size) (m : Machine) → Traces m → Keeps Traces (fetch place size m)
-  fetch_traces place size m i = fetch_keeps Traces (λ n r j. j) (λ q n v j. j) place size m i
+  fetch_traces : (location : OperandLocation) (size : Size) (m : Machine) → Traces m → Keeps Traces (fetch location size m)
+  fetch_traces location size m i = fetch_keeps Traces (λ n r j. j) (λ q n v j. j) location size m i
 
   source_traces : (operand : Operand) (size : Size) (m : Machine) → Traces m
       → Keeps Traces (fetch_operand operand size m)
   source_traces operand size m i = source_keeps Traces (λ n r j. j) (λ q n v j. j) operand size m i
 
   formed_traces : (operand : Operand) (size : Size) (m : Machine) → Traces m
-      → Keeps Traces (place_of operand size m)
+      → Keeps Traces (location_of operand size m)
   formed_traces operand size m i = operand_keeps Traces (λ n r j. j) (λ q n v j. j) operand size m i
 
   target_traces : (operand : Operand) (m : Machine) → Traces m → Keeps Traces (target operand m)
@@ -145,53 +145,53 @@ module _ (t : Bool) where
 
   -- ---- instructions
 
-  change_traces : (operation : DoubleOp) (place : OperandLocation) (size : Size) (source : ℕ) (m : Machine) → Traces m
-      → Keeps Traces (change_double operation place size source m)
+  change_traces : (operation : DoubleOp) (location : OperandLocation) (size : Size) (source : ℕ) (m : Machine) → Traces m
+      → Keeps Traces (change_double operation location size source m)
   unfolding change_double
-  change_traces operation place size source m i =
-      keeps_bind Traces (fetch place size) _ m (fetch_traces place size m i)
-      (λ value n j. result_traces place size _ n j)
+  change_traces operation location size source m i =
+      keeps_bind Traces (fetch location size) _ m (fetch_traces location size m i)
+      (λ value n j. result_traces location size _ n j)
 
-  compare_traces : (operation : DoubleOp) (place : OperandLocation) (size : Size) (source : ℕ) (m : Machine) → Traces m
-      → Keeps Traces (compare operation place size source m)
+  compare_traces : (operation : DoubleOp) (location : OperandLocation) (size : Size) (source : ℕ) (m : Machine) → Traces m
+      → Keeps Traces (compare operation location size source m)
   unfolding compare
-  compare_traces operation place size source m i =
-      keeps_bind Traces (fetch place size) _ m (fetch_traces place size m i) (λ value n j. at_comes j)
+  compare_traces operation location size source m i =
+      keeps_bind Traces (fetch location size) _ m (fetch_traces location size m i) (λ value n j. at_comes j)
 
-  move_traces : (place : OperandLocation) (size : Size) (source : ℕ) (m : Machine) → Traces m
-      → Keeps Traces (move_to place size source m)
+  move_traces : (location : OperandLocation) (size : Size) (source : ℕ) (m : Machine) → Traces m
+      → Keeps Traces (move_to location size source m)
   unfolding move_to
-  move_traces place size source m i =
-      keeps_bind Traces (store_moved place size source) _ m (moved_traces place size source m i)
-      (λ u n j. at_comes (finished_traces place _ n j))
+  move_traces location size source m i =
+      keeps_bind Traces (store_moved location size source) _ m (moved_traces location size source m i)
+      (λ u n j. at_comes (finished_traces location _ n j))
 
-  double_at_traces : (operation : DoubleOp) (size : Size) (source : ℕ) (place : OperandLocation) (m : Machine) → Traces m
-      → Keeps Traces (double_at operation size source place m)
+  double_at_traces : (operation : DoubleOp) (size : Size) (source : ℕ) (location : OperandLocation) (m : Machine) → Traces m
+      → Keeps Traces (double_at operation size source location m)
   unfolding double_at
-  double_at_traces Mov size source place m i = move_traces place size source m i
-  double_at_traces Cmp size source place m i = compare_traces Cmp place size source m i
-  double_at_traces Bit size source place m i = compare_traces Bit place size source m i
-  double_at_traces Bic size source place m i = change_traces Bic place size source m i
-  double_at_traces Bis size source place m i = change_traces Bis place size source m i
-  double_at_traces Add size source place m i = change_traces Add place size source m i
-  double_at_traces Sub size source place m i = change_traces Sub place size source m i
+  double_at_traces Mov size source location m i = move_traces location size source m i
+  double_at_traces Cmp size source location m i = compare_traces Cmp location size source m i
+  double_at_traces Bit size source location m i = compare_traces Bit location size source m i
+  double_at_traces Bic size source location m i = change_traces Bic location size source m i
+  double_at_traces Bis size source location m i = change_traces Bis location size source m i
+  double_at_traces Add size source location m i = change_traces Add location size source m i
+  double_at_traces Sub size source location m i = change_traces Sub location size source m i
 
   double_traces : (operation : DoubleOp) (size : Size) (source destination : Operand) (m : Machine) → Traces m
       → Keeps Traces (double operation size source destination m)
   unfolding double
   double_traces operation size source destination m i =
       keeps_bind Traces (fetch_operand source size) _ m (source_traces source size m i)
-      (λ value n j. keeps_bind Traces (place_of destination size) _ n (formed_traces destination size n j)
-      (λ place o k. double_at_traces operation size value place o k))
+      (λ value n j. keeps_bind Traces (location_of destination size) _ n (formed_traces destination size n j)
+      (λ location o k. double_at_traces operation size value location o k))
 
   exclusive_traces : (register : Register) (operand : Operand) (m : Machine) → Traces m
       → Keeps Traces (exclusive_or register operand m)
   unfolding exclusive_or change_exclusive
   exclusive_traces register operand m i =
-      keeps_bind Traces (place_of operand Word) (change_exclusive (register_of register m)) m
+      keeps_bind Traces (location_of operand Word) (change_exclusive (register_of register m)) m
       (formed_traces operand Word m i)
-      (λ place n j. keeps_bind Traces (fetch place Word) _ n (fetch_traces place Word n j)
-      (λ value o k. result_traces place Word _ o k))
+      (λ location n j. keeps_bind Traces (fetch location Word) _ n (fetch_traces location Word n j)
+      (λ value o k. result_traces location Word _ o k))
 
   jump_traces : (operand : Operand) (m : Machine) → Traces m → Keeps Traces (jump operand m)
   unfolding jump
@@ -208,16 +208,16 @@ module _ (t : Bool) where
       → Keeps Traces (write operation size operand m)
   unfolding write
   write_traces operation size operand m i =
-      keeps_bind Traces (place_of operand size) _ m (formed_traces operand size m i)
-      (λ place n j. result_traces place size _ n j)
+      keeps_bind Traces (location_of operand size) _ m (formed_traces operand size m i)
+      (λ location n j. result_traces location size _ n j)
 
   modify_traces : (operation : SingleOp) (size : Size) (operand : Operand) (m : Machine) → Traces m
       → Keeps Traces (change_single operation size operand m)
   unfolding change_single change_at
   modify_traces operation size operand m i =
-      keeps_bind Traces (place_of operand size) (change_at operation size) m (formed_traces operand size m i)
-      (λ place n j. keeps_bind Traces (fetch place size) _ n (fetch_traces place size n j)
-      (λ value o k. result_traces place size _ o k))
+      keeps_bind Traces (location_of operand size) (change_at operation size) m (formed_traces operand size m i)
+      (λ location n j. keeps_bind Traces (fetch location size) _ n (fetch_traces location size n j)
+      (λ value o k. result_traces location size _ o k))
 
   single_traces : (operation : SingleOp) (size : Size) (operand : Operand) (m : Machine) → Traces m
       → Keeps Traces (single operation size operand m)

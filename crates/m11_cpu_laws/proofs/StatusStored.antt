@@ -19,7 +19,7 @@ use Rattle.m11_cpu_arithmetic.specs.Singles.{single_result}
 use Rattle.m11_cpu_arithmetic.specs.declared.results.Computed.{Computed}
 use Rattle.m11_cpu_machine.specs.Access.{is_inside, load_byte, load_device, load_word, store_byte, store_device, store_word}
 use Rattle.m11_cpu_machine.specs.Acts.{Act, unless_aborted, ◌>>=◌}
-use Rattle.m11_cpu_machine.specs.Addressing.{fetch, fetch_operand, place_of, put_result, store}
+use Rattle.m11_cpu_machine.specs.Addressing.{fetch, fetch_operand, location_of, put_result, store}
 use Rattle.m11_cpu_machine.specs.Dialogue.{Comes, Dialogue, Exchange, Leads}
 use Rattle.m11_cpu_machine.specs.DoubleOperands.{change_double, change_exclusive, double, double_at, exclusive_or, move_to, store_moved}
 use Rattle.m11_cpu_machine.specs.Execution.{bare, execute, on_register, return_from_trap}
@@ -167,22 +167,22 @@ double_ignored Sub value m e h = ignored_double Sub value m h
 -- ---- instructions of two operands
 
 double_leads : (operation : DoubleOp) (size : Size) (source destination : Operand) (m n formed left : Machine)
-    (first second : List Exchange) (value : ℕ) (place : OperandLocation)
+    (first second : List Exchange) (value : ℕ) (location : OperandLocation)
     → Leads (fetch_operand source size m) first (Ok value, n)
-    → Leads (place_of destination size n) second (Ok place, formed)
-    → double_at operation size value place formed ≡ Comes (Ok tt, left)
+    → Leads (location_of destination size n) second (Ok location, formed)
+    → double_at operation size value location formed ≡ Comes (Ok tt, left)
     → Leads (execute (insn.Double operation size source destination) m) (first ++ second) (Ok ending.Next, left)
 unfolding execute double
-double_leads operation size source destination m n formed left first second value place h k e =
+double_leads operation size source destination m n formed left first second value location h k e =
     bind_leads (double operation size source destination) _ m left (first ++ second) tt (Ok ending.Next, left)
     (bind_then (fetch_operand source size) _ m n first second value (Ok tt, left) h
-    (bind_leads (place_of destination size) (double_at operation size value) n formed second place (Ok tt, left) k e))
+    (bind_leads (location_of destination size) (double_at operation size value) n formed second location (Ok tt, left) k e))
     refl
 
 pub doubles_at_status : (operation : DoubleOp) (size : Size) (source destination : Operand) (m : Machine)
     → DoublesAtStatus operation size source destination m
 doubles_at_status operation size source destination m first second value address n formed e h k i =
-    let P : ℕ → Type 0 = λ a. Leads (place_of destination size n) second (Ok (InMemory a), formed) in
+    let P : ℕ → Type 0 = λ a. Leads (location_of destination size n) second (Ok (InMemory a), formed) in
     let Q : Size → Type 0 = λ s. double_at operation s value (InMemory 0o177777) formed
     ≡ Comes (Ok tt, with_condition_codes (double_result operation s value 0 formed.status.codes).codes formed) in
     record {
@@ -196,18 +196,18 @@ doubles_at_status operation size source destination m first second value address
 -- ---- of one operand
 
 single_leads : (operation : SingleOp) (size : Size) (operand : Operand) (m formed left : Machine)
-    (es : List Exchange) (next : OperandLocation → Act (Unit {0})) (place : OperandLocation)
-    → single operation size operand ≡ (place_of operand size >>= next)
-    → Leads (place_of operand size m) es (Ok place, formed) → next place formed ≡ Comes (Ok tt, left)
+    (es : List Exchange) (next : OperandLocation → Act (Unit {0})) (location : OperandLocation)
+    → single operation size operand ≡ (location_of operand size >>= next)
+    → Leads (location_of operand size m) es (Ok location, formed) → next location formed ≡ Comes (Ok tt, left)
     → Leads (execute (insn.Single operation size operand) m) es (Ok ending.Next, left)
 unfolding execute
-single_leads operation size operand m formed left es next place same k e =
+single_leads operation size operand m formed left es next location same k e =
     let P : Act (Unit {0}) → Type 0 = λ act. Leads (act m) es (Ok tt, left) in
     bind_leads (single operation size operand) _ m left es tt (Ok ending.Next, left)
-    (subst P (sym same) (bind_leads (place_of operand size) next m formed es place (Ok tt, left) k e)) refl
+    (subst P (sym same) (bind_leads (location_of operand size) next m formed es location (Ok tt, left) k e)) refl
 
 abbrev written : SingleOp → Size → OperandLocation → Act (Unit {0})
-written operation size place m = put_result place size (single_result operation size 0 m.status.codes) m
+written operation size location m = put_result location size (single_result operation size 0 m.status.codes) m
 
 changed_single : (operation : SingleOp) (size : Size) (m : Machine) → EndsBeforeDevices m
     → change_at operation size (InMemory 0o177776) m
@@ -223,10 +223,10 @@ unfolding change_at
 ignored_single operation m h =
     bind_at (fetch (InMemory 0o177777) Byte) _ m m 0 (odd_fetched m h) ∙ result_ignored _ m h
 
--- what a single operation does once its place is formed
+-- what a single operation does once its location is formed
 record Finishes (operation : SingleOp) (size : Size) (operand : Operand) (formed : Machine) : Type 0 where
   next : OperandLocation → Act (Unit {0})
-  same : single operation size operand ≡ (place_of operand size >>= next)
+  same : single operation size operand ≡ (location_of operand size >>= next)
   stored : next (InMemory 0o177776) formed
       ≡ Comes (Ok tt, with_status_word (single_result operation size (psw_in formed) formed.status.codes).value formed)
   ignored : size ≡ Byte → next (InMemory 0o177777) formed
@@ -286,7 +286,7 @@ pub singles_at_status : (operation : SingleOp) (size : Size) (operand : Operand)
     → SinglesAtStatus operation size operand m
 singles_at_status operation size operand m es address formed e k h =
     let f = finishing operation size operand formed e h in
-    let P : ℕ → Type 0 = λ a. Leads (place_of operand size m) es (Ok (InMemory a), formed) in
+    let P : ℕ → Type 0 = λ a. Leads (location_of operand size m) es (Ok (InMemory a), formed) in
     record {
       stored = λ at.
           single_leads operation size operand m formed _ es f.next (InMemory 0o177776) f.same (subst P at k) f.stored;
@@ -298,7 +298,7 @@ singles_at_status operation size operand m es address formed e k h =
 -- ---- XOR, JSR, RTI and RTT
 
 exclusive_leads : (register : Register) (operand : Operand) (m formed : Machine) (es : List Exchange)
-    → Leads (place_of operand Word m) es (Ok (InMemory 0o177776), formed) → EndsBeforeDevices formed
+    → Leads (location_of operand Word m) es (Ok (InMemory 0o177776), formed) → EndsBeforeDevices formed
     → EndsAs (insn.Register Xor register operand) m es
     (with_status_word (exclusive_or_result (register_of register m) (psw_in formed) formed.status.codes).value formed)
 unfolding execute on_register exclusive_or change_exclusive
@@ -306,7 +306,7 @@ exclusive_leads register operand m formed es k h =
     let v = register_of register m in
     let n = with_status_word (exclusive_or_result v (psw_in formed) formed.status.codes).value formed in
     bind_leads (exclusive_or register operand) _ m n es tt (Ok ending.Next, n)
-    (bind_leads (place_of operand Word) (change_exclusive v) m formed es (InMemory 0o177776) (Ok tt, n) k
+    (bind_leads (location_of operand Word) (change_exclusive v) m formed es (InMemory 0o177776) (Ok tt, n) k
     (bind_at (fetch (InMemory 0o177776) Word) _ formed formed (psw_in formed) (status_fetched Word formed h)
     ∙ result_stored Word _ formed h)) refl
 
@@ -317,7 +317,7 @@ is_byte Byte = true
 pub exclusives_at_status : (register : Register) (operand : Operand) (m : Machine)
     → ExclusivesAtStatus register operand m
 exclusives_at_status register operand m es address formed k h =
-    let P : ℕ → Type 0 = λ a. Leads (place_of operand Word m) es (Ok (InMemory a), formed) in
+    let P : ℕ → Type 0 = λ a. Leads (location_of operand Word m) es (Ok (InMemory a), formed) in
     record {
       stored = λ at. exclusive_leads register operand m formed es (subst P at k) h;
       ignored = λ at byte. absurd (true≢false (sym (ap is_byte byte)));

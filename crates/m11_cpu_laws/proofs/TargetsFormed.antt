@@ -11,14 +11,14 @@ use Rattle.m11_base_instructions.specs.declared.operand.Size.TheVariants.{Word}
 use Rattle.m11_cpu_machine.specs.Access.{load_word}
 use Rattle.m11_cpu_machine.specs.Jumps.{address_of, target}
 use Rattle.m11_cpu_machine.specs.Machine.{advanced, register_of, with_register}
-use Rattle.m11_cpu_machine.specs.Addressing.{deferred, indexed, next_word, place_by, place_of}
+use Rattle.m11_cpu_machine.specs.Addressing.{deferred, indexed, location_by, location_of, next_word}
 use Rattle.m11_cpu_laws.specs.Returns.{call_length, IsRunning, length_by, over_back, over_forward, steps}
 use Rattle.m11_cpu_machine.specs.declared.abort.Abort.{Abort}
 use Rattle.m11_cpu_machine.specs.declared.console.Receiver.{Receiver}
 use Rattle.m11_cpu_machine.specs.declared.machine.Machine.{Machine}
 use Rattle.m11_cpu_machine.specs.declared.addressing.OperandLocation.{OperandLocation}
 use Rattle.m11_cpu_machine.specs.declared.addressing.OperandLocation.TheVariants.{InRegister, InMemory}
-use Rattle.m11_cpu_laws.proofs.Loads.{deferred_keeps, place_keeps, target_keeps, word_keeps}
+use Rattle.m11_cpu_laws.proofs.Loads.{deferred_keeps, location_keeps, target_keeps, word_keeps}
 use Rattle.m11_cpu_laws.proofs.Parts.{Always, at_bind, at_comes, at_map, Keeps}
 use Rattle.m11_cpu_machine.proofs.RegistersPut.{put_same}
 use Rattle.m11_cpu_laws.proofs.WordsPut.{put_length, put_other}
@@ -74,7 +74,7 @@ call_forms register operand m running not_counter keeps_link keeps_stack =
       runs = running.not_stopped;
     } in
     target_keeps (Formed register m) operand Word (advanced Pc 2 m)
-    (place_keeps (Formed register m) (formed_receives register m)
+    (location_keeps (Formed register m) (formed_receives register m)
     (λ n v f. formed_puts register Pc m n v not_counter apart f) operand Word (advanced Pc 2 m)
     (λ s n v f. formed_puts register operand.register m n v (unstepped _ _ _ keeps_link s)
     (unstepped _ _ _ keeps_stack s) f)
@@ -147,34 +147,34 @@ deferred_counts : (address v : ℕ) (m : Machine) → CounterAt v m → Always (
 deferred_counts address v m c =
     at_map (deferred_keeps (CounterAt v) (counter_receives v) address m c) (λ y d. counted v y.0 y.1 d)
 
-place_counts : (by : Mode) (register : Register) (p : ℕ) (m : Machine) → p < 0o200000 → CounterAt (following p) m
-    → Always (place_by by register Word m) (λ y. Counts ((p + length_by by register) % 0o200000) y)
-place_counts mode.Register register p m fits c = at_comes c
-place_counts mode.RegisterDeferred register p m fits c = at_comes c
-place_counts mode.Autoincrement register p m fits c = at_comes (stepped_on register p m c)
-place_counts mode.AutoincrementDeferred register p m fits c = deferred_counts _ _ _ (stepped_on register p m c)
-place_counts mode.Autodecrement register p m fits c = at_comes (stepped_off register p m fits c)
-place_counts mode.AutodecrementDeferred register p m fits c = deferred_counts _ _ _ (stepped_off register p m fits c)
-place_counts mode.Index register p m fits c =
+location_counts : (by : Mode) (register : Register) (p : ℕ) (m : Machine) → p < 0o200000 → CounterAt (following p) m
+    → Always (location_by by register Word m) (λ y. Counts ((p + length_by by register) % 0o200000) y)
+location_counts mode.Register register p m fits c = at_comes c
+location_counts mode.RegisterDeferred register p m fits c = at_comes c
+location_counts mode.Autoincrement register p m fits c = at_comes (stepped_on register p m c)
+location_counts mode.AutoincrementDeferred register p m fits c = deferred_counts _ _ _ (stepped_on register p m c)
+location_counts mode.Autodecrement register p m fits c = at_comes (stepped_off register p m fits c)
+location_counts mode.AutodecrementDeferred register p m fits c = deferred_counts _ _ _ (stepped_off register p m fits c)
+location_counts mode.Index register p m fits c =
     at_bind (indexed register) _ m (λ y. Counts ((p + 4) % 0o200000) y) (λ y. Counts ((p + 4) % 0o200000) y)
     (indexed_counts register p m c) (λ e n d. tt) (λ address n d. at_comes d)
-place_counts mode.IndexDeferred register p m fits c =
+location_counts mode.IndexDeferred register p m fits c =
     at_bind (indexed register) deferred m (λ y. Counts ((p + 4) % 0o200000) y) (λ y. Counts ((p + 4) % 0o200000) y)
     (indexed_counts register p m c) (λ e n d. tt) (λ address n d. deferred_counts address _ n d)
 
-address_counts : (v : ℕ) (place : OperandLocation) (n : Machine) → CounterAt v n → Always (address_of place n) (λ y. Counts v y)
+address_counts : (v : ℕ) (location : OperandLocation) (n : Machine) → CounterAt v n → Always (address_of location n) (λ y. Counts v y)
 address_counts v (InRegister register) n c = at_comes tt
 address_counts v (InMemory address) n c = at_comes c
 
 pub call_counts : (operand : Operand) (m : Machine) → IsRunning m
     → Always (target operand (advanced Pc 2 m)) (λ y. Counts ((register_of Pc m + call_length operand) % 0o200000) y)
-unfolding target place_of
+unfolding target location_of
 call_counts operand m running =
     let v = (register_of Pc m + call_length operand) % 0o200000 in
     let begun : CounterAt (following (register_of Pc m)) (advanced Pc 2 m) = record {
       counter = put_same Pc _ m running.registers;
       count = put_length Pc _ m running.registers;
     } in
-    at_bind (place_of operand Word) address_of (advanced Pc 2 m) (λ y. Counts v y) (λ y. Counts v y)
-    (place_counts operand.mode operand.register (register_of Pc m) (advanced Pc 2 m) (running.words Pc) begun)
-    (λ e n d. tt) (λ place n d. address_counts v place n d)
+    at_bind (location_of operand Word) address_of (advanced Pc 2 m) (λ y. Counts v y) (λ y. Counts v y)
+    (location_counts operand.mode operand.register (register_of Pc m) (advanced Pc 2 m) (running.words Pc) begun)
+    (λ e n d. tt) (λ location n d. address_counts v location n d)

@@ -15,7 +15,7 @@ use Rattle.m11_base_instructions.specs.declared.operand.Register.TheVariants.{Sp
 use Rattle.m11_base_instructions.specs.declared.operand.Size.{Size}
 use Rattle.m11_base_instructions.specs.declared.operand.Size.TheVariants.{Word, Byte}
 use Rattle.m11_cpu_machine.specs.Acts.{Act, ◌>>=◌}
-use Rattle.m11_cpu_machine.specs.Addressing.{fetch_operand, indexed, next_word, place_of, stepped_back}
+use Rattle.m11_cpu_machine.specs.Addressing.{fetch_operand, indexed, location_of, next_word, stepped_back}
 use Rattle.m11_cpu_machine.specs.Dialogue.{Comes, Dialogue, Exchange, Leads}
 use Rattle.m11_cpu_machine.specs.Execution.{execute}
 use Rattle.m11_cpu_machine.specs.Jumps.{address_of, pop, target}
@@ -64,7 +64,7 @@ pointers operand = pointers_by operand.mode operand.register
 -- the accesses of an operand: those of its address, and the operand itself, where it lies in memory or in a device
 abbrev pub operand_accesses : Operand → Size → List Access
 operand_accesses operand size =
-    pointers operand ++ record { size = size; address = place_of operand size >>= address_of } ∷ []
+    pointers operand ++ record { size = size; address = location_of operand size >>= address_of } ∷ []
 
 -- the accesses of each instruction, once its code was read. A destination that is read and written is one of them, and so
 -- is one that is read or written alone

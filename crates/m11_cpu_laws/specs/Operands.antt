@@ -9,7 +9,7 @@ use Rattle.m11_base_instructions.specs.declared.operand.Register.{Register}
 use Rattle.m11_base_instructions.specs.declared.operand.Register.TheVariants.{Pc}
 use Rattle.m11_base_instructions.specs.declared.operand.Size.{Size}
 use Rattle.m11_base_instructions.specs.declared.operand.Size.TheVariants.{Word}
-use Rattle.m11_cpu_machine.specs.Addressing.{fetch_operand, place_of, step_of}
+use Rattle.m11_cpu_machine.specs.Addressing.{fetch_operand, location_of, step_of}
 use Rattle.m11_cpu_machine.specs.Dialogue.{Comes}
 use Rattle.m11_cpu_machine.specs.Machine.{advanced, register_of, with_register}
 use Rattle.m11_cpu_machine.specs.Memory.{word_at}
@@ -23,7 +23,7 @@ operand_by by register = record { mode = by; register = register }
 -- the operand is found at this address, and the machine that is left is this one
 abbrev pub IsFoundAt : Mode → Register → Size → Machine → ℕ → Machine → Type 0
 IsFoundAt by register size m address left =
-    place_of (operand_by by register) size m ≡ Comes (Ok (InMemory address), left)
+    location_of (operand_by by register) size m ≡ Comes (Ok (InMemory address), left)
 
 -- the word in memory at an address
 abbrev pub memory_at : ℕ → Machine → ℕ
@@ -41,7 +41,7 @@ indexed_at register m =
 -- the eight modes of a register, where pointers and index words lie in memory. The register of an index is taken once
 -- the index word is read: it is as it was, but for the program counter
 pub record EightModes (register : Register) (size : Size) (m : Machine) : Type 0 where
-  pub direct : place_of (operand_by mode.Register register) size m ≡ Comes (Ok (InRegister register), m)
+  pub direct : location_of (operand_by mode.Register register) size m ≡ Comes (Ok (InRegister register), m)
   pub deferred : IsFoundAt mode.RegisterDeferred register size m (register_of register m) m
   pub autoincrement : IsFoundAt mode.Autoincrement register size m (register_of register m)
       (advanced register (step_of size register) m)

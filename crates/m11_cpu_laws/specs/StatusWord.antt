@@ -17,7 +17,7 @@ use Rattle.m11_base_instructions.specs.declared.operand.Size.TheVariants.{Word, 
 use Rattle.m11_cpu_arithmetic.specs.Doubles.{double_result, exclusive_or_result}
 use Rattle.m11_cpu_arithmetic.specs.Singles.{single_result}
 use Rattle.m11_cpu_arithmetic.specs.declared.results.Computed.{Computed}
-use Rattle.m11_cpu_machine.specs.Addressing.{fetch_operand, place_of}
+use Rattle.m11_cpu_machine.specs.Addressing.{fetch_operand, location_of}
 use Rattle.m11_cpu_machine.specs.Dialogue.{Exchange, Leads}
 use Rattle.m11_cpu_machine.specs.Execution.{execute}
 use Rattle.m11_cpu_machine.specs.Jumps.{pop, target}
@@ -60,7 +60,7 @@ abbrev pub DoublesAtStatus : DoubleOp → Size → Operand → Operand → Machi
 DoublesAtStatus operation size source destination m =
     (first second : List Exchange) (value address : ℕ) (n formed : Machine) → stores_double operation ≡ true
     → Leads (fetch_operand source size m) first (Ok value, n)
-    → Leads (place_of destination size n) second (Ok (InMemory address), formed) → EndsBeforeDevices formed
+    → Leads (location_of destination size n) second (Ok (InMemory address), formed) → EndsBeforeDevices formed
     → AtStatus (λ read. double_result operation size value read formed.status.codes) size address formed
     (EndsAs (insn.Double operation size source destination) m (first ++ second))
 
@@ -68,7 +68,7 @@ DoublesAtStatus operation size source destination m =
 abbrev pub SinglesAtStatus : SingleOp → Size → Operand → Machine → Type 0
 SinglesAtStatus operation size operand m =
     (exchanges : List Exchange) (address : ℕ) (formed : Machine) → stores_single operation ≡ true
-    → Leads (place_of operand size m) exchanges (Ok (InMemory address), formed) → EndsBeforeDevices formed
+    → Leads (location_of operand size m) exchanges (Ok (InMemory address), formed) → EndsBeforeDevices formed
     → AtStatus (λ read. single_result operation size read formed.status.codes) size address formed
     (EndsAs (insn.Single operation size operand) m exchanges)
 
@@ -76,7 +76,7 @@ SinglesAtStatus operation size operand m =
 abbrev pub ExclusivesAtStatus : Register → Operand → Machine → Type 0
 ExclusivesAtStatus register operand m =
     (exchanges : List Exchange) (address : ℕ) (formed : Machine)
-    → Leads (place_of operand Word m) exchanges (Ok (InMemory address), formed) → EndsBeforeDevices formed
+    → Leads (location_of operand Word m) exchanges (Ok (InMemory address), formed) → EndsBeforeDevices formed
     → AtStatus (λ read. exclusive_or_result (register_of register m) read formed.status.codes) Word address formed
     (EndsAs (insn.Register Xor register operand) m exchanges)
 

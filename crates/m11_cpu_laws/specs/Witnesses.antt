@@ -5,7 +5,7 @@ use Rattle.m11_base_instructions.specs.declared.instruction.NumberOp.TheVariants
 use Rattle.m11_base_instructions.specs.declared.instruction.BareOp.TheVariants.{Rti}
 use Rattle.m11_base_instructions.specs.declared.operand.Operand.{Operand}
 use Rattle.m11_base_instructions.specs.declared.operand.Size.TheVariants.{Word}
-use Rattle.m11_cpu_machine.specs.Addressing.{fetch_operand, place_of}
+use Rattle.m11_cpu_machine.specs.Addressing.{fetch_operand, location_of}
 use Rattle.m11_cpu_machine.specs.Dialogue.{Asked, Comes, Exchange, Fails, Leads, Sent}
 use Rattle.m11_cpu.specs.Runs.{run_counted}
 use Rattle.m11_cpu_machine.specs.Steps.{step}
@@ -70,5 +70,5 @@ pub record StatusIsStored : Type 0 where
   pub formed : Machine
   pub value : ℕ
   pub source_fetched : fetch_operand source Word machine ≡ Comes (Ok value, fetched)
-  pub destination_formed : place_of destination Word fetched ≡ Comes (Ok (InMemory 0o177776), formed)
+  pub destination_formed : location_of destination Word fetched ≡ Comes (Ok (InMemory 0o177776), formed)
   pub past_memory : EndsBeforeDevices formed

@@ -17,7 +17,7 @@ use Rattle.m11_cpu_machine.specs.Acts.{Act, ◌>>=◌}
 use Rattle.m11_cpu_machine.specs.Dialogue.{Comes, Exchange}
 use Rattle.m11_cpu_machine.specs.Jumps.{target}
 use Rattle.m11_cpu_machine.specs.Machine.{byte_in, memory_size, register_of, with_register}
-use Rattle.m11_cpu_machine.specs.Addressing.{fetch_operand, next_word, place_of}
+use Rattle.m11_cpu_machine.specs.Addressing.{fetch_operand, location_of, next_word}
 use Rattle.m11_cpu_machine.specs.Steps.{instruction}
 use Rattle.m11_cpu_machine.specs.declared.abort.Abort.{Abort}
 use Rattle.m11_cpu_machine.specs.declared.abort.Abort.TheVariants.{Traps, Stops}
@@ -55,11 +55,11 @@ MakesSteps m = m.stopped ≡ None
 abbrev pub word_bytes : ℕ → List ℕ
 word_bytes address = address ∷ (address + 1) ∷ []
 
--- a place in memory has two bytes, or one; a register has none
-abbrev pub place_bytes : OperandLocation → Size → List ℕ
-place_bytes (InRegister register) size = []
-place_bytes (InMemory address) Word = word_bytes address
-place_bytes (InMemory address) Byte = address ∷ []
+-- a location in memory has two bytes, or one; a register has none
+abbrev pub location_bytes : OperandLocation → Size → List ℕ
+location_bytes (InRegister register) size = []
+location_bytes (InMemory address) Word = word_bytes address
+location_bytes (InMemory address) Byte = address ∷ []
 
 -- a push goes to the word below the stack pointer, modulo 200000, and leaves the stack pointer there
 abbrev pub push_address : Machine → ℕ
@@ -107,7 +107,7 @@ stores_single Sxt = true
 
 -- the bytes of an operand, whose address is formed now
 abbrev pub operand_bytes : Operand → Size → Act (List ℕ)
-operand_bytes operand size = place_of operand size >>= λ place m. Comes (Ok (place_bytes place size), m)
+operand_bytes operand size = location_of operand size >>= λ location m. Comes (Ok (location_bytes location size), m)
 
 abbrev pub no_bytes : Act (List ℕ)
 no_bytes m = Comes (Ok [], m)

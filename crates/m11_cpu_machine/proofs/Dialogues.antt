@@ -232,27 +232,27 @@ pub at_pair : {B : Type 0} (act : ℕ → Act B) (to came : ℕ × Machine) (old
     (y : Result B Abort × Machine) → came ≡ to → Does (act came.0 came.1) old new y → Does (act to.0 to.1) old new y
 at_pair act to came old new y e h = let P : ℕ × Machine → Type 0 = λ x. Does (act x.0 x.1) old new y in subst P e h
 
--- the place in memory where a step of a register has led
+-- the location in memory where a step of a register has led
 pub stepped_comes : (d : Devices) (to came : ℕ × Machine) → came ≡ to
     → Does (in_memory to to.1) d d (Ok (InMemory came.0), came.1)
 stepped_comes d to came e =
     let into : ℕ × Machine → Result OperandLocation Abort × Machine = λ x. (Ok (InMemory x.0), x.1) in comes d _ _ (ap into e)
 
-pub put_result_at : (place : OperandLocation) (size : Size) (computed computed' : Computed) (m : Machine) (old new : Devices)
-    (y : Result (Unit {0}) Abort × Machine) → computed' ≡ computed → Does (put_result place size computed' m) old new y
-    → Does (put_result place size computed m) old new y
-put_result_at place size computed computed' m old new y e h =
-    let P : Computed → Type 0 = λ x. Does (put_result place size x m) old new y in subst P e h
+pub put_result_at : (location : OperandLocation) (size : Size) (computed computed' : Computed) (m : Machine) (old new : Devices)
+    (y : Result (Unit {0}) Abort × Machine) → computed' ≡ computed → Does (put_result location size computed' m) old new y
+    → Does (put_result location size computed m) old new y
+put_result_at location size computed computed' m old new y e h =
+    let P : Computed → Type 0 = λ x. Does (put_result location size x m) old new y in subst P e h
 
 pub push_at : (word word' : ℕ) (m : Machine) (old new : Devices) (y : Result (Unit {0}) Abort × Machine)
     → word' ≡ word → Does (push word' m) old new y → Does (push word m) old new y
 push_at word word' m old new y e h = let P : ℕ → Type 0 = λ x. Does (push x m) old new y in subst P e h
 
-pub change_exclusive_at : (source source' : ℕ) (place : OperandLocation) (m : Machine) (old new : Devices)
-    (y : Result (Unit {0}) Abort × Machine) → source' ≡ source → Does (change_exclusive source' place m) old new y
-    → Does (change_exclusive source place m) old new y
-change_exclusive_at source source' place m old new y e h =
-    let P : ℕ → Type 0 = λ x. Does (change_exclusive x place m) old new y in subst P e h
+pub change_exclusive_at : (source source' : ℕ) (location : OperandLocation) (m : Machine) (old new : Devices)
+    (y : Result (Unit {0}) Abort × Machine) → source' ≡ source → Does (change_exclusive source' location m) old new y
+    → Does (change_exclusive source location m) old new y
+change_exclusive_at source source' location m old new y e h =
+    let P : ℕ → Type 0 = λ x. Does (change_exclusive x location m) old new y in subst P e h
 
 -- for calls of one device, and for calls of both
 pub ruleset dialogues = (

@@ -83,7 +83,7 @@ high_set (w ∷ ws) (suc i) v =
 pub put_low : (words : List ℕ) (a i w v : ℕ) → a % 2 ≡ 0 → i ≡ a / 2 → i < length words → w ≡ slice_index_or words i w
     → v < 256
     → bytes_of (slice_set words i (w / 256 * 256 + v)) ≡ with_byte a v (bytes_of words)
-put_low words a i w v even place inside word fits =
+put_low words a i w v even index inside word fits =
     let e : 2 * i ≡ a = omega arith in
     let f : w ≡ slice_index_or words i 0 = word ∙ get_or_default_zero words i w inside in
     ap (λ (k : ℕ). bytes_of (slice_set words i (k / 256 * 256 + v))) f
@@ -92,7 +92,7 @@ put_low words a i w v even place inside word fits =
 
 pub put_high : (words : List ℕ) (a i w v : ℕ) → 0 < a % 2 → i ≡ a / 2 → i < length words → w ≡ slice_index_or words i w
     → bytes_of (slice_set words i (v * 256 + w % 256)) ≡ with_byte a v (bytes_of words)
-put_high words a i w v odd place inside word =
+put_high words a i w v odd index inside word =
     let e : 2 * i + 1 ≡ a = omega arith in
     let f : w ≡ slice_index_or words i 0 = word ∙ get_or_default_zero words i w inside in
     ap (λ (k : ℕ). bytes_of (slice_set words i (v * 256 + k % 256))) f

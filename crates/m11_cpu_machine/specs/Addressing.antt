@@ -1,4 +1,4 @@
--- Operands: the places that modes and registers mean, and what is read and put there. (PDP-11/40 Processor Handbook,
+-- Operands: the locations that modes and registers mean, and what is read and put there. (PDP-11/40 Processor Handbook,
 -- "Addressing modes", "Use of the PC as a general register", "Use of the stack pointer as a general register".)
 use Rattle.std.specs.Prelude.{ℕ, ◌+◌, ◌-◌, ◌*◌, ◌/◌, ◌%◌, Ok}
 use Rattle.m11_base_instructions.specs.declared.operand.Mode.{Mode}
@@ -47,18 +47,18 @@ deferred address = load_word address >>= λ word m. Comes (Ok (InMemory word), m
 abbrev pub in_memory : ℕ × Machine → Act OperandLocation
 in_memory stepped m = Comes (Ok (InMemory stepped.0), stepped.1)
 
-abbrev pub place_by : Mode → Register → Size → Act OperandLocation
-place_by mode.Register register size m = Comes (Ok (InRegister register), m)
-place_by mode.RegisterDeferred register size m = Comes (Ok (InMemory (register_of register m)), m)
-place_by mode.Autoincrement register size m = in_memory (forward register (step_of size register) m) m
-place_by mode.AutoincrementDeferred register size m = deferred (forward register 2 m).0 (forward register 2 m).1
-place_by mode.Autodecrement register size m = in_memory (back register (step_of size register) m) m
-place_by mode.AutodecrementDeferred register size m = deferred (back register 2 m).0 (back register 2 m).1
-place_by mode.Index register size m = (indexed register >>= λ address n. Comes (Ok (InMemory address), n)) m
-place_by mode.IndexDeferred register size m = (indexed register >>= deferred) m
+abbrev pub location_by : Mode → Register → Size → Act OperandLocation
+location_by mode.Register register size m = Comes (Ok (InRegister register), m)
+location_by mode.RegisterDeferred register size m = Comes (Ok (InMemory (register_of register m)), m)
+location_by mode.Autoincrement register size m = in_memory (forward register (step_of size register) m) m
+location_by mode.AutoincrementDeferred register size m = deferred (forward register 2 m).0 (forward register 2 m).1
+location_by mode.Autodecrement register size m = in_memory (back register (step_of size register) m) m
+location_by mode.AutodecrementDeferred register size m = deferred (back register 2 m).0 (back register 2 m).1
+location_by mode.Index register size m = (indexed register >>= λ address n. Comes (Ok (InMemory address), n)) m
+location_by mode.IndexDeferred register size m = (indexed register >>= deferred) m
 
-unfoldable pub place_of : Operand → Size → Act OperandLocation
-place_of operand size = place_by operand.mode operand.register size
+unfoldable pub location_of : Operand → Size → Act OperandLocation
+location_of operand size = location_by operand.mode operand.register size
 
 unfoldable pub fetch : OperandLocation → Size → Act ℕ
 fetch (InRegister register) Word m = Comes (Ok (register_of register m), m)
@@ -67,7 +67,7 @@ fetch (InMemory address) Word m = load_word address m
 fetch (InMemory address) Byte m = load_byte address m
 
 unfoldable pub fetch_operand : Operand → Size → Act ℕ
-fetch_operand operand size = place_of operand size >>= λ place. fetch place size
+fetch_operand operand size = location_of operand size >>= λ location. fetch location size
 
 abbrev pub without_low_byte : ℕ → ℕ
 without_low_byte word = word / 256 * 256
@@ -80,7 +80,7 @@ store (InRegister register) Byte value m =
 store (InMemory address) Word value m = store_word address value m
 store (InMemory address) Byte value m = store_byte address (value % 256) m
 
--- the result of an operation goes to its place, and its condition codes after it
+-- the result of an operation goes to its location, and its condition codes after it
 unfoldable pub put_result : OperandLocation → Size → Computed → Act (Unit {0})
-put_result place size computed = store place size computed.value >>= λ _ m.
-    Comes (Ok tt, finished place computed.codes m)
+put_result location size computed = store location size computed.value >>= λ _ m.
+    Comes (Ok tt, finished location computed.codes m)

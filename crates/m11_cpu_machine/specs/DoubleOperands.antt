@@ -15,7 +15,7 @@ use Rattle.m11_cpu_machine.specs.declared.destination_use.DestinationUse.{Destin
 use Rattle.m11_cpu_machine.specs.declared.destination_use.DestinationUse.TheVariants.{Writes, Reads, Changes}
 use Rattle.m11_cpu_machine.specs.Dialogue.{Comes}
 use Rattle.m11_cpu_machine.specs.Machine.{finished, register_of, with_condition_codes, with_register}
-use Rattle.m11_cpu_machine.specs.Addressing.{fetch, fetch_operand, place_of, put_result, store}
+use Rattle.m11_cpu_machine.specs.Addressing.{fetch, fetch_operand, location_of, put_result, store}
 use Rattle.m11_cpu_machine.specs.declared.addressing.OperandLocation.{OperandLocation}
 use Rattle.m11_cpu_machine.specs.declared.addressing.OperandLocation.TheVariants.{InRegister, InMemory}
 
@@ -30,33 +30,33 @@ store_moved (InRegister register) Byte value m = Comes (Ok tt, with_register reg
 store_moved (InMemory address) size value m = store (InMemory address) size value m
 
 unfoldable pub move_to : OperandLocation → Size → ℕ → Act (Unit {0})
-move_to place size source m = (store_moved place size source >>= λ _ n.
-    Comes (Ok tt, finished place (double_result Mov size source 0 m.status.codes).codes n)) m
+move_to location size source m = (store_moved location size source >>= λ _ n.
+    Comes (Ok tt, finished location (double_result Mov size source 0 m.status.codes).codes n)) m
 
 unfoldable pub compare : DoubleOp → OperandLocation → Size → ℕ → Act (Unit {0})
-compare operation place size source = fetch place size >>= λ value m.
+compare operation location size source = fetch location size >>= λ value m.
     Comes (Ok tt, with_condition_codes (double_result operation size source value m.status.codes).codes m)
 
 unfoldable pub change_double : DoubleOp → OperandLocation → Size → ℕ → Act (Unit {0})
-change_double operation place size source = fetch place size >>= λ value m.
-    put_result place size (double_result operation size source value m.status.codes) m
+change_double operation location size source = fetch location size >>= λ value m.
+    put_result location size (double_result operation size source value m.status.codes) m
 
 abbrev pub double_by : DestinationUse → DoubleOp → Size → ℕ → OperandLocation → Act (Unit {0})
-double_by Writes operation size source place = move_to place size source
-double_by Reads operation size source place = compare operation place size source
-double_by Changes operation size source place = change_double operation place size source
+double_by Writes operation size source location = move_to location size source
+double_by Reads operation size source location = compare operation location size source
+double_by Changes operation size source location = change_double operation location size source
 
 unfoldable pub double_at : DoubleOp → Size → ℕ → OperandLocation → Act (Unit {0})
 double_at operation = double_by (use_by_double operation) operation
 
 unfoldable pub double : DoubleOp → Size → Operand → Operand → Act (Unit {0})
 double operation size source destination = fetch_operand source size >>= λ value.
-    place_of destination size >>= double_at operation size value
+    location_of destination size >>= double_at operation size value
 
 unfoldable pub change_exclusive : ℕ → OperandLocation → Act (Unit {0})
-change_exclusive source place = fetch place Word >>= λ value m.
-    put_result place Word (exclusive_or_result source value m.status.codes) m
+change_exclusive source location = fetch location Word >>= λ value m.
+    put_result location Word (exclusive_or_result source value m.status.codes) m
 
 -- XOR: its register is read first
 unfoldable pub exclusive_or : Register → Operand → Act (Unit {0})
-exclusive_or register destination m = (place_of destination Word >>= change_exclusive (register_of register m)) m
+exclusive_or register destination m = (location_of destination Word >>= change_exclusive (register_of register m)) m

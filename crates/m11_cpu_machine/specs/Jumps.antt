@@ -13,7 +13,7 @@ use Rattle.m11_cpu_machine.specs.Access.{load_word, store_word}
 use Rattle.m11_cpu_machine.specs.Acts.{Act, ◌>>=◌}
 use Rattle.m11_cpu_machine.specs.Dialogue.{Comes}
 use Rattle.m11_cpu_machine.specs.Machine.{register_of, with_register}
-use Rattle.m11_cpu_machine.specs.Addressing.{back, forward, place_of}
+use Rattle.m11_cpu_machine.specs.Addressing.{back, forward, location_of}
 use Rattle.m11_cpu_machine.specs.declared.abort.Abort.TheVariants.{Traps}
 use Rattle.m11_cpu_machine.specs.declared.abort.Vector.TheVariants.{Reserved}
 use Rattle.m11_cpu_machine.specs.declared.machine.Machine.{Machine}
@@ -50,7 +50,7 @@ address_of (InRegister register) m = Comes (Err (Traps Reserved), m)
 address_of (InMemory address) m = Comes (Ok address, m)
 
 unfoldable pub target : Operand → Act ℕ
-target operand = place_of operand Word >>= address_of
+target operand = location_of operand Word >>= address_of
 
 unfoldable pub jump : Operand → Act (Unit {0})
 jump operand = target operand >>= λ address m. Comes (Ok tt, with_register Pc address m)

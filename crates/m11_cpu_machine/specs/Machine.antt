@@ -43,7 +43,7 @@ advanced register bytes m = with_register register ((register_of register m + by
 abbrev pub with_condition_codes : ConditionCodes → Machine → Machine
 with_condition_codes codes m = record m { status = record m.status { codes = codes } }
 
--- the place is the processor status word
+-- the location is the processor status word
 abbrev pub is_status : OperandLocation → Bool
 is_status (InRegister register) = false
 is_status (InMemory address) = address == 0o177776
@@ -51,4 +51,4 @@ is_status (InMemory address) = address == 0o177776
 -- the condition codes of an instruction that has stored its result: where that went into the processor status, it
 -- stays as it was written
 abbrev pub finished : OperandLocation → ConditionCodes → Machine → Machine
-finished place codes m = if is_status place then m else with_condition_codes codes m
+finished location codes m = if is_status location then m else with_condition_codes codes m

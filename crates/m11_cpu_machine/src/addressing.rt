@@ -1,9 +1,9 @@
-//! Operands: the places that modes and registers mean. (PDP-11/40 Processor Handbook, "Addressing modes".)
+//! Operands: the locations that modes and registers mean. (PDP-11/40 Processor Handbook, "Addressing modes".)
 
 ghost use Rattle.std.specs.Prelude.{◌≡◌, ◌+◌, ◌<◌, IfOk};
 ghost use Rattle.m11_cpu_arithmetic.specs.Sizes.{size_limit};
 ghost use Rattle.m11_cpu_machine.specs.Dialogue.{Does, input_alone, output_alone};
-ghost use Rattle.m11_cpu_machine.specs.Addressing.{back, deferred, forward, fetch, fetch_operand, indexed, next_word, place_of, put_result, step_of, store, without_low_byte};
+ghost use Rattle.m11_cpu_machine.specs.Addressing.{back, deferred, forward, fetch, fetch_operand, indexed, location_of, next_word, put_result, step_of, store, without_low_byte};
 
 use crate::abort::Abort;
 use crate::machine::Machine;
@@ -24,13 +24,13 @@ impl Machine {
     /// Where an operand lies: its register in mode 0, else its effective address. Modes 2 to 5 step the register before
     /// any access through it, and it stays stepped where that access traps or stops.
     #[inline(always)]
-    pub(crate) fn place_of<F: Feed>(
+    pub(crate) fn location_of<F: Feed>(
         &mut self,
         operand: Operand,
         size: Size,
         feed: &mut F,
     ) -> Result<OperandLocation, Abort>
-        ensures { Does (place_of operand size self.old) (input_alone (F.text feed.old) (F.faults feed.old))
+        ensures { Does (location_of operand size self.old) (input_alone (F.text feed.old) (F.faults feed.old))
             (input_alone (F.text feed.new) (F.faults feed.new)) (result, self.new) }
     {
         let register = operand.register;
@@ -113,20 +113,20 @@ impl Machine {
         value
     }
 
-    /// What lies in a place: a word, or a byte below 256. A byte in a register is its low byte.
+    /// What lies in a location: a word, or a byte below 256. A byte in a register is its low byte.
     #[tactic(auto, using(crate::proofs::Dialogues::dialogues), unfolding(crate::specs::Addressing::fetch))]
     #[inline(always)]
     pub(crate) fn fetch<F: Feed>(
         &mut self,
-        place: OperandLocation,
+        location: OperandLocation,
         size: Size,
         feed: &mut F,
     ) -> Result<u16, Abort>
-        ensures does { Does (fetch place size self.old) (input_alone (F.text feed.old) (F.faults feed.old))
+        ensures does { Does (fetch location size self.old) (input_alone (F.text feed.old) (F.faults feed.old))
             (input_alone (F.text feed.new) (F.faults feed.new)) (result, self.new) }
         ensures fits { IfOk result (λ value. value < size_limit size) }
     {
-        match (place, size) {
+        match (location, size) {
             (OperandLocation::InRegister(register), Size::Word) => Ok(self.register(register)),
             (OperandLocation::InRegister(register), Size::Byte) => Ok(
                 self.register(register) % 256,
@@ -137,7 +137,7 @@ impl Machine {
     }
 
     /// The value of an operand, fetched wholly, with the steps of its register: a source has to be fetched before the
-    /// place of its destination is formed.
+    /// location of its destination is formed.
     #[inline(always)]
     pub(crate) fn fetch_operand<F: Feed>(
         &mut self,
@@ -149,24 +149,24 @@ impl Machine {
             (input_alone (F.text feed.new) (F.faults feed.new)) (result, self.new) }
         ensures fits { IfOk result (λ value. value < size_limit size) }
     {
-        let place = self.place_of(operand, size, feed)?;
-        self.fetch(place, size, feed)
+        let location = self.location_of(operand, size, feed)?;
+        self.fetch(location, size, feed)
     }
 
-    /// Puts a word, or the low byte of one, into a place. A byte leaves the high byte of a register as it was.
+    /// Puts a word, or the low byte of one, into a location. A byte leaves the high byte of a register as it was.
     #[tactic(auto, using(crate::proofs::Dialogues::dialogues), unfolding(crate::specs::Addressing::store))]
     #[inline(always)]
     pub(crate) fn store<S: Sink>(
         &mut self,
-        place: OperandLocation,
+        location: OperandLocation,
         size: Size,
         value: u16,
         sink: &mut S,
     ) -> Result<(), Abort>
-        ensures { Does (store place size value self.old) (output_alone (S.text sink.old) (S.faults sink.old))
+        ensures { Does (store location size value self.old) (output_alone (S.text sink.old) (S.faults sink.old))
             (output_alone (S.text sink.new) (S.faults sink.new)) (result, self.new) }
     {
-        match (place, size) {
+        match (location, size) {
             (OperandLocation::InRegister(register), Size::Word) => self.set_register(
                 register, value,
             ),
@@ -184,22 +184,22 @@ impl Machine {
         Ok(())
     }
 
-    /// Puts the result of an operation into a place, and then its condition codes, but where the place is the processor
+    /// Puts the result of an operation into a location, and then its condition codes, but where the location is the processor
     /// status, which stays as it was written.
     #[inline(always)]
     pub(crate) fn put_result<S: Sink>(
         &mut self,
-        place: OperandLocation,
+        location: OperandLocation,
         size: Size,
         computed: Computed,
         sink: &mut S,
     ) -> Result<(), Abort>
-        ensures { Does (put_result place size computed self.old)
+        ensures { Does (put_result location size computed self.old)
             (output_alone (S.text sink.old) (S.faults sink.old))
             (output_alone (S.text sink.new) (S.faults sink.new)) (result, self.new) }
     {
-        self.store(place, size, computed.value, sink)?;
-        self.finish(place, computed.codes);
+        self.store(location, size, computed.value, sink)?;
+        self.finish(location, computed.codes);
         Ok(())
     }
 }

@@ -28,30 +28,30 @@ impl Machine {
             (both (F.text feed.new) (F.faults feed.new) (S.text sink.new) (S.faults sink.new)) (result, self.new) }
     {
         let source = self.fetch_operand(source, size, feed)?;
-        let place = self.place_of(destination, size, feed)?;
-        self.double_at(operation, size, source, place, feed, sink)
+        let location = self.location_of(destination, size, feed)?;
+        self.double_at(operation, size, source, location, feed, sink)
     }
 
-    // The operation on a source that was fetched, and the place of the destination.
+    // The operation on a source that was fetched, and the location of the destination.
     #[tactic(auto, using(crate::proofs::Dialogues::with_both), unfolding(crate::specs::DoubleOperands::double_at))]
     fn double_at<F: Feed, S: Sink>(
         &mut self,
         operation: DoubleOp,
         size: Size,
         source: u16,
-        place: OperandLocation,
+        location: OperandLocation,
         feed: &mut F,
         sink: &mut S,
     ) -> Result<(), Abort>
         requires { source < size_limit size }
-        ensures { Does (double_at operation size source place self.old) (both (F.text feed.old) (F.faults feed.old) (S.text sink.old) (S.faults sink.old))
+        ensures { Does (double_at operation size source location self.old) (both (F.text feed.old) (F.faults feed.old) (S.text sink.old) (S.faults sink.old))
             (both (F.text feed.new) (F.faults feed.new) (S.text sink.new) (S.faults sink.new)) (result, self.new) }
     {
         match use_by_double(operation) {
-            DestinationUse::Writes => self.move_to(place, size, source, sink),
-            DestinationUse::Reads => self.compare(operation, place, size, source, feed),
+            DestinationUse::Writes => self.move_to(location, size, source, sink),
+            DestinationUse::Reads => self.compare(operation, location, size, source, feed),
             DestinationUse::Changes => self.change_double(
-                operation, place, size, source, feed, sink,
+                operation, location, size, source, feed, sink,
             ),
         }
     }
@@ -60,13 +60,13 @@ impl Machine {
     #[inline(always)]
     fn move_to<S: Sink>(
         &mut self,
-        place: OperandLocation,
+        location: OperandLocation,
         size: Size,
         source: u16,
         sink: &mut S,
     ) -> Result<(), Abort>
         requires { source < size_limit size }
-        ensures { Does (move_to place size source self.old) (output_alone (S.text sink.old) (S.faults sink.old))
+        ensures { Does (move_to location size source self.old) (output_alone (S.text sink.old) (S.faults sink.old))
             (output_alone (S.text sink.new) (S.faults sink.new)) (result, self.new) }
     {
         let computed = m11_cpu_arithmetic::double(
@@ -76,30 +76,30 @@ impl Machine {
             0,
             self.status.codes,
         );
-        self.store_moved(place, size, source, sink)?;
-        self.finish(place, computed.codes);
+        self.store_moved(location, size, source, sink)?;
+        self.finish(location, computed.codes);
         Ok(())
     }
 
-    // Puts a word or byte into a place. MOVB extends the sign of a byte in a register.
+    // Puts a word or byte into a location. MOVB extends the sign of a byte in a register.
     #[tactic(auto, using(crate::proofs::Dialogues::dialogues), unfolding(crate::specs::DoubleOperands::store_moved))]
     #[inline(always)]
     fn store_moved<S: Sink>(
         &mut self,
-        place: OperandLocation,
+        location: OperandLocation,
         size: Size,
         value: u16,
         sink: &mut S,
     ) -> Result<(), Abort>
-        ensures { Does (store_moved place size value self.old) (output_alone (S.text sink.old) (S.faults sink.old))
+        ensures { Does (store_moved location size value self.old) (output_alone (S.text sink.old) (S.faults sink.old))
             (output_alone (S.text sink.new) (S.faults sink.new)) (result, self.new) }
     {
-        match (place, size) {
+        match (location, size) {
             (OperandLocation::InRegister(register), Size::Byte) => {
                 self.set_register(register, sign_extended(value));
                 Ok(())
             }
-            _ => self.store(place, size, value, sink),
+            _ => self.store(location, size, value, sink),
         }
     }
 
@@ -107,16 +107,16 @@ impl Machine {
     fn compare<F: Feed>(
         &mut self,
         operation: DoubleOp,
-        place: OperandLocation,
+        location: OperandLocation,
         size: Size,
         source: u16,
         feed: &mut F,
     ) -> Result<(), Abort>
         requires { source < size_limit size }
-        ensures { Does (compare operation place size source self.old) (input_alone (F.text feed.old) (F.faults feed.old))
+        ensures { Does (compare operation location size source self.old) (input_alone (F.text feed.old) (F.faults feed.old))
             (input_alone (F.text feed.new) (F.faults feed.new)) (result, self.new) }
     {
-        let destination = self.fetch(place, size, feed)?;
+        let destination = self.fetch(location, size, feed)?;
         let computed = m11_cpu_arithmetic::double(
             operation,
             size,
@@ -132,17 +132,17 @@ impl Machine {
     fn change_double<F: Feed, S: Sink>(
         &mut self,
         operation: DoubleOp,
-        place: OperandLocation,
+        location: OperandLocation,
         size: Size,
         source: u16,
         feed: &mut F,
         sink: &mut S,
     ) -> Result<(), Abort>
         requires { source < size_limit size }
-        ensures { Does (change_double operation place size source self.old) (both (F.text feed.old) (F.faults feed.old) (S.text sink.old) (S.faults sink.old))
+        ensures { Does (change_double operation location size source self.old) (both (F.text feed.old) (F.faults feed.old) (S.text sink.old) (S.faults sink.old))
             (both (F.text feed.new) (F.faults feed.new) (S.text sink.new) (S.faults sink.new)) (result, self.new) }
     {
-        let destination = self.fetch(place, size, feed)?;
+        let destination = self.fetch(location, size, feed)?;
         let computed = m11_cpu_arithmetic::double(
             operation,
             size,
@@ -150,7 +150,7 @@ impl Machine {
             destination,
             self.status.codes,
         );
-        self.put_result(place, size, computed, sink)
+        self.put_result(location, size, computed, sink)
     }
 
     /// XOR: its register is read first.
@@ -165,24 +165,24 @@ impl Machine {
             (both (F.text feed.new) (F.faults feed.new) (S.text sink.new) (S.faults sink.new)) (result, self.new) }
     {
         let source = self.register(register);
-        let place = self.place_of(destination, Size::Word, feed)?;
-        self.change_exclusive(source, place, feed, sink)
+        let location = self.location_of(destination, Size::Word, feed)?;
+        self.change_exclusive(source, location, feed, sink)
     }
 
-    // XOR of a word that was read, and the place of the destination.
+    // XOR of a word that was read, and the location of the destination.
     fn change_exclusive<F: Feed, S: Sink>(
         &mut self,
         source: u16,
-        place: OperandLocation,
+        location: OperandLocation,
         feed: &mut F,
         sink: &mut S,
     ) -> Result<(), Abort>
-        ensures { Does (change_exclusive source place self.old) (both (F.text feed.old) (F.faults feed.old) (S.text sink.old) (S.faults sink.old))
+        ensures { Does (change_exclusive source location self.old) (both (F.text feed.old) (F.faults feed.old) (S.text sink.old) (S.faults sink.old))
             (both (F.text feed.new) (F.faults feed.new) (S.text sink.new) (S.faults sink.new)) (result, self.new) }
     {
-        let value = self.fetch(place, Size::Word, feed)?;
+        let value = self.fetch(location, Size::Word, feed)?;
         let computed = m11_cpu_arithmetic::exclusive_or(source, value, self.status.codes);
-        self.put_result(place, Size::Word, computed, sink)
+        self.put_result(location, Size::Word, computed, sink)
     }
 }
 

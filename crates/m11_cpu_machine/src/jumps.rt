@@ -49,7 +49,7 @@ impl Machine {
         ensures { Does (target operand self.old) (input_alone (F.text feed.old) (F.faults feed.old))
             (input_alone (F.text feed.new) (F.faults feed.new)) (result, self.new) }
     {
-        match self.place_of(operand, Size::Word, feed)? {
+        match self.location_of(operand, Size::Word, feed)? {
             OperandLocation::InRegister(_) => Err(Abort::Traps(Vector::Reserved)),
             OperandLocation::InMemory(address) => Ok(address),
         }

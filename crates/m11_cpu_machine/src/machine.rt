@@ -136,10 +136,10 @@ impl Machine {
     /// Puts the condition codes of an instruction that has stored its result. A write of the processor status stays as
     /// it was written.
     #[inline(always)]
-    pub fn finish(&mut self, place: OperandLocation, codes: ConditionCodes)
-        ensures { self.new ≡ finished place codes self.old }
+    pub fn finish(&mut self, location: OperandLocation, codes: ConditionCodes)
+        ensures { self.new ≡ finished location codes self.old }
     {
-        if place != OperandLocation::InMemory(0o177776) {
+        if location != OperandLocation::InMemory(0o177776) {
             self.set_codes(codes);
         }
     }

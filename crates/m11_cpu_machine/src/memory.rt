@@ -49,13 +49,13 @@ impl Memory {
 
     /// The address `distance` bytes after another one; None where the memory has no byte there.
     #[tactic(auto, using(crate::proofs::WordsAsBytes::length_of_bytes))]
-    pub fn place_past(&self, address: u16, distance: u16) -> Option<u16>
-        ensures some { IfSome result (λ place. (place ≡ address + distance) × (place < length self.now)) }
+    pub fn address_past(&self, address: u16, distance: u16) -> Option<u16>
+        ensures some { IfSome result (λ past. (past ≡ address + distance) × (past < length self.now)) }
         ensures none { result ≡ None → length self.now ≤ address + distance }
     {
-        let place = usize::from(address) + usize::from(distance);
-        if place / 2 < self.words.len() {
-            Some(place as u16)
+        let past = usize::from(address) + usize::from(distance);
+        if past / 2 < self.words.len() {
+            Some(past as u16)
         } else {
             None
         }
@@ -109,12 +109,12 @@ impl Memory {
         ensures limit { length self.old ≤ 2 * most_words }
         ensures size { length self.new ≡ length self.old }
     {
-        let place = usize::from(address / 2);
-        let word = self.words[place];
+        let index = usize::from(address / 2);
+        let word = self.words[index];
         if address % 2 == 0 {
-            self.words[place] = word / 256 * 256 + u16::from(value);
+            self.words[index] = word / 256 * 256 + u16::from(value);
         } else {
-            self.words[place] = u16::from(value) * 256 + word % 256;
+            self.words[index] = u16::from(value) * 256 + word % 256;
         }
     }
 }

@@ -48,9 +48,9 @@ impl Machine {
         ensures { Does (write operation size operand self.old) (both (F.text feed.old) (F.faults feed.old) (S.text sink.old) (S.faults sink.old))
             (both (F.text feed.new) (F.faults feed.new) (S.text sink.new) (S.faults sink.new)) (result, self.new) }
     {
-        let place = self.place_of(operand, size, feed)?;
+        let location = self.location_of(operand, size, feed)?;
         let computed = m11_cpu_arithmetic::single(operation, size, 0, self.status.codes);
-        self.put_result(place, size, computed, sink)
+        self.put_result(location, size, computed, sink)
     }
 
     // TST and TSTB: nothing is stored.
@@ -84,25 +84,25 @@ impl Machine {
         ensures { Does (change_single operation size operand self.old) (both (F.text feed.old) (F.faults feed.old) (S.text sink.old) (S.faults sink.old))
             (both (F.text feed.new) (F.faults feed.new) (S.text sink.new) (S.faults sink.new)) (result, self.new) }
     {
-        let place = self.place_of(operand, size, feed)?;
-        self.change_at(operation, size, place, feed, sink)
+        let location = self.location_of(operand, size, feed)?;
+        self.change_at(operation, size, location, feed, sink)
     }
 
-    // What is in a place is read, and the result put there.
+    // What is in a location is read, and the result put there.
     #[inline(always)]
     fn change_at<F: Feed, S: Sink>(
         &mut self,
         operation: SingleOp,
         size: Size,
-        place: OperandLocation,
+        location: OperandLocation,
         feed: &mut F,
         sink: &mut S,
     ) -> Result<(), Abort>
-        ensures { Does (change_at operation size place self.old) (both (F.text feed.old) (F.faults feed.old) (S.text sink.old) (S.faults sink.old))
+        ensures { Does (change_at operation size location self.old) (both (F.text feed.old) (F.faults feed.old) (S.text sink.old) (S.faults sink.old))
             (both (F.text feed.new) (F.faults feed.new) (S.text sink.new) (S.faults sink.new)) (result, self.new) }
     {
-        let value = self.fetch(place, size, feed)?;
+        let value = self.fetch(location, size, feed)?;
         let computed = m11_cpu_arithmetic::single(operation, size, value, self.status.codes);
-        self.put_result(place, size, computed, sink)
+        self.put_result(location, size, computed, sink)
     }
 }

@@ -10,7 +10,7 @@ use Rattle.m11_base_instructions.specs.declared.operand.Register.{Register}
 use Rattle.m11_base_instructions.specs.declared.operand.Register.TheVariants.{Sp, Pc}
 use Rattle.m11_base_instructions.specs.declared.operand.Size.TheVariants.{Word}
 use Rattle.m11_cpu_machine.specs.Access.{store_word}
-use Rattle.m11_cpu_machine.specs.Addressing.{place_of, stepped_back}
+use Rattle.m11_cpu_machine.specs.Addressing.{location_of, stepped_back}
 use Rattle.m11_cpu_machine.specs.Dialogue.{Comes, Dialogue}
 use Rattle.m11_cpu_machine.specs.Acts.{Act, ◌>>=◌}
 use Rattle.m11_cpu_machine.specs.Jumps.{branched, call, counted_down, enter, jump, pop, push, return_by, target, words_on}
@@ -90,13 +90,13 @@ counts_out register words next left rs rs' m g f e z =
 
 -- JMP
 pub jumps : (operand : Operand) (a next next' : ℕ) (rs rs' : List ℕ) (m : Machine)
-    → place_of operand Word (shown next rs m) ≡ Comes (Ok (InMemory a), shown next' rs' m)
+    → location_of operand Word (shown next rs m) ≡ Comes (Ok (InMemory a), shown next' rs' m)
     → jump operand (shown next rs m) ≡ Comes (Ok tt, shown a rs' m)
 unfolding jump target
 jumps operand a next next' rs rs' m p =
     let to : Machine → Dialogue (Result (Unit {0}) Abort × Machine) = λ x. Comes (Ok tt, x) in
     bind_at (target operand) _ (shown next rs m) (shown next' rs' m) a
-    (bind_at (place_of operand Word) _ (shown next rs m) (shown next' rs' m) (InMemory a) p)
+    (bind_at (location_of operand Word) _ (shown next rs m) (shown next' rs' m) (InMemory a) p)
     ∙ ap to (goes_to next' a a rs' m refl)
 
 -- ---- the stack
@@ -117,7 +117,7 @@ pushes v top next rs rs' m t f p =
 
 -- JSR of the program counter
 pub calls : (operand : Operand) (a top next after : ℕ) (rs rs' rs'' : List ℕ) (m : Machine)
-    → place_of operand Word (shown next rs m) ≡ Comes (Ok (InMemory a), shown after rs' m)
+    → location_of operand Word (shown next rs m) ≡ Comes (Ok (InMemory a), shown after rs' m)
     → length rs' ≡ 8
     → top ≡ (held rs' Sp + 0o177776) % 0o200000
     → rs'' ≡ with_held rs' Sp top → is_plain Word top m.memory ≡ true
@@ -129,7 +129,7 @@ calls operand a top next after rs rs' rs'' m p l t f w =
     let pushed = ap (λ (x : ℕ). push x (shown after rs' m)) (counter_read after rs' m l)
     ∙ pushes (after) top after rs' rs'' m t f w in
     bind_at (target operand) (enter Pc) (shown next rs m) (shown after rs' m) a
-    (bind_at (place_of operand Word) _ (shown next rs m) (shown after rs' m) (InMemory a) p)
+    (bind_at (location_of operand Word) _ (shown next rs m) (shown after rs' m) (InMemory a) p)
     ∙ bind_at (push (register_of Pc (shown after rs' m))) _ (shown after rs' m) (shown after rs'' m') tt pushed
     ∙ ap (λ (x : Machine). to (with_register Pc a x))
     (counter_put after (register_of Pc (shown after rs'' m')) rs'' m')

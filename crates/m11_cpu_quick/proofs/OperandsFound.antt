@@ -9,7 +9,7 @@ use Rattle.m11_base_instructions.specs.declared.operand.Register.TheVariants.{R0
 use Rattle.m11_base_instructions.specs.declared.operand.Size.{Size}
 use Rattle.m11_base_instructions.specs.declared.operand.Size.TheVariants.{Word, Byte}
 use Rattle.m11_base_instructions.specs.declared.operand.Mode.TheVariants as mode
-use Rattle.m11_cpu_machine.specs.Addressing.{fetch, fetch_operand, place_of, step_of, stepped_back}
+use Rattle.m11_cpu_machine.specs.Addressing.{fetch, fetch_operand, location_of, step_of, stepped_back}
 use Rattle.m11_cpu_machine.specs.Dialogue.{Comes, Dialogue}
 use Rattle.m11_cpu_quick.specs.Forms.{bytes_of}
 use Rattle.m11_cpu_machine.specs.Machine.{register_of, with_register, advanced}
@@ -18,7 +18,7 @@ use Rattle.m11_cpu_quick.specs.Beside.{low, shown}
 use Rattle.m11_cpu_machine.specs.declared.abort.Abort.{Abort}
 use Rattle.m11_cpu_machine.specs.declared.addressing.OperandLocation.TheVariants.{InMemory, InRegister}
 use Rattle.m11_cpu_machine.specs.declared.machine.Machine.{Machine}
-use Rattle.m11_cpu_quick.proofs.QuickDone.{by_decrement, by_increment, by_index, by_pointer, by_register, in_register, index_at, place_fetched, plain_fetched}
+use Rattle.m11_cpu_quick.proofs.QuickDone.{by_decrement, by_increment, by_index, by_pointer, by_register, in_register, index_at, location_fetched, plain_fetched}
 
 pub is_counter : (register : Register) → register_number register ≡ 7 → register ≡ Pc
 is_counter R0 e = absurd (omega arith)
@@ -80,7 +80,7 @@ counter_steps next rs m e =
 pub at_deferred : (operand : Operand) (size : Size) (a next : ℕ) (rs : List ℕ) (m : Machine)
     → operand.mode ≡ mode.RegisterDeferred
     → register_number operand.register < 7 → a ≡ held rs operand.register
-    → place_of operand size (shown next rs m) ≡ Comes (Ok (InMemory a), shown next rs m)
+    → location_of operand size (shown next rs m) ≡ Comes (Ok (InMemory a), shown next rs m)
 at_deferred operand size a next rs m e g f =
     by_register operand size a (shown next rs m) e (f ∙ sym (other_register next rs operand.register m g))
 
@@ -89,7 +89,7 @@ pub at_increment : (operand : Operand) (size : Size) (a next : ℕ) (rs rs' : Li
     → register_number operand.register < 7 → step_of size operand.register ≡ bytes_of size
     → a ≡ held rs operand.register
     → rs' ≡ with_held rs operand.register ((held rs operand.register + bytes_of size) % 0o200000)
-    → place_of operand size (shown next rs m) ≡ Comes (Ok (InMemory a), shown next rs' m)
+    → location_of operand size (shown next rs m) ≡ Comes (Ok (InMemory a), shown next rs' m)
 at_increment operand size a next rs rs' m e g s f k =
     let r = operand.register in
     let read = other_register next rs r m g in
@@ -105,7 +105,7 @@ pub at_decrement : (operand : Operand) (size : Size) (a next : ℕ) (rs rs' : Li
     → register_number operand.register < 7 → step_of size operand.register ≡ bytes_of size
     → a ≡ (held rs operand.register + (0o200000 - bytes_of size)) % 0o200000
     → rs' ≡ with_held rs operand.register a
-    → place_of operand size (shown next rs m) ≡ Comes (Ok (InMemory a), shown next rs' m)
+    → location_of operand size (shown next rs m) ≡ Comes (Ok (InMemory a), shown next rs' m)
 at_decrement operand size a next rs rs' m e g s f k =
     let r = operand.register in
     let back : a ≡ stepped_back r (step_of size r) (shown next rs m) =
@@ -133,7 +133,7 @@ pub at_index : (operand : Operand) (size : Size) (a word next : ℕ) (rs : List 
     → register_number operand.register < 7 → length rs ≡ 8
     → is_plain Word (next) m.memory ≡ true → word ≡ plain_at Word (next) m.memory
     → a ≡ (word + held rs operand.register) % 0o200000
-    → place_of operand size (shown next rs m) ≡ Comes (Ok (InMemory a), shown ((next + 2) % 0o200000) rs m)
+    → location_of operand size (shown next rs m) ≡ Comes (Ok (InMemory a), shown ((next + 2) % 0o200000) rs m)
 at_index operand size a word next rs m e g l p w f =
     let r = operand.register in
     let added = f ∙ ap (λ (v : ℕ). (word + v) % 0o200000) (sym (other_register ((next + 2) % 0o200000) rs r m g)) in
@@ -146,7 +146,7 @@ pub at_relative : (operand : Operand) (size : Size) (a word next : ℕ) (rs : Li
     → register_number operand.register ≡ 7 → length rs ≡ 8
     → is_plain Word (next) m.memory ≡ true → word ≡ plain_at Word (next) m.memory
     → a ≡ (word + ((next + 2) % 0o200000)) % 0o200000
-    → place_of operand size (shown next rs m) ≡ Comes (Ok (InMemory a), shown ((next + 2) % 0o200000) rs m)
+    → location_of operand size (shown next rs m) ≡ Comes (Ok (InMemory a), shown ((next + 2) % 0o200000) rs m)
 at_relative operand size a word next rs m e g l p w f =
     let r = operand.register in
     let counter : register_of r (shown ((next + 2) % 0o200000) rs m) ≡ ((next + 2) % 0o200000) =
@@ -164,7 +164,7 @@ steps_over register next rs m r l =
 pub at_absolute : (operand : Operand) (size : Size) (a next : ℕ) (rs : List ℕ) (m : Machine)
     → operand.mode ≡ mode.AutoincrementDeferred → register_number operand.register ≡ 7 → length rs ≡ 8
     → is_plain Word (next) m.memory ≡ true → a ≡ plain_at Word (next) m.memory
-    → place_of operand size (shown next rs m) ≡ Comes (Ok (InMemory a), shown ((next + 2) % 0o200000) rs m)
+    → location_of operand size (shown next rs m) ≡ Comes (Ok (InMemory a), shown ((next + 2) % 0o200000) rs m)
 at_absolute operand size a next rs m e g l p w =
     let r = is_counter operand.register g in
     by_pointer operand size a (shown next rs m) (shown ((next + 2) % 0o200000) rs m) e
@@ -175,10 +175,10 @@ counter_step : (size : Size) (register : Register) → register ≡ Pc → step_
 counter_step Word register r = refl
 counter_step Byte register r = ap (step_of Byte) r
 
-pub at_immediate_place : (operand : Operand) (size : Size) (a next : ℕ) (rs : List ℕ) (m : Machine)
+pub at_immediate_location : (operand : Operand) (size : Size) (a next : ℕ) (rs : List ℕ) (m : Machine)
     → operand.mode ≡ mode.Autoincrement → register_number operand.register ≡ 7 → length rs ≡ 8 → a ≡ next
-    → place_of operand size (shown next rs m) ≡ Comes (Ok (InMemory a), shown ((next + 2) % 0o200000) rs m)
-at_immediate_place operand size a next rs m e g l f =
+    → location_of operand size (shown next rs m) ≡ Comes (Ok (InMemory a), shown ((next + 2) % 0o200000) rs m)
+at_immediate_location operand size a next rs m e g l f =
     let r = is_counter operand.register g in
     let counter : next ≡ register_of operand.register (shown next rs m) =
     sym (ap (λ (x : Register). register_of x (shown next rs m)) r ∙ counter_read next rs m l) in
@@ -194,8 +194,8 @@ pub at_immediate : (operand : Operand) (size : Size) (v next : ℕ) (rs : List �
     → is_plain size (next) m.memory ≡ true → v ≡ plain_at size (next) m.memory
     → fetch_operand operand size (shown next rs m) ≡ Comes (Ok v, shown ((next + 2) % 0o200000) rs m)
 at_immediate operand size v next rs m e g l p w =
-    place_fetched operand size (InMemory (next)) v (shown next rs m) (shown ((next + 2) % 0o200000) rs m)
-    (at_immediate_place operand size (next) next rs m e g l refl)
+    location_fetched operand size (InMemory (next)) v (shown next rs m) (shown ((next + 2) % 0o200000) rs m)
+    (at_immediate_location operand size (next) next rs m e g l refl)
     (plain_fetched size (next) v (shown ((next + 2) % 0o200000) rs m) p w)
 
 pub register_fetched : (register : Register) (size : Size) (v next : ℕ) (rs : List ℕ) (m : Machine)
@@ -213,13 +213,13 @@ pub at_register : (operand : Operand) (size : Size) (v next : ℕ) (rs : List �
     → operand.mode ≡ mode.Register → register_number operand.register < 7 → v ≡ low size (held rs operand.register)
     → fetch_operand operand size (shown next rs m) ≡ Comes (Ok v, shown next rs m)
 at_register operand size v next rs m e g f =
-    place_fetched operand size (InRegister operand.register) v (shown next rs m) (shown next rs m)
+    location_fetched operand size (InRegister operand.register) v (shown next rs m) (shown next rs m)
     (in_register operand size (shown next rs m) e) (register_fetched operand.register size v next rs m g f)
 
-pub at_place : (operand : Operand) (size : Size) (a v next next' : ℕ) (rs rs' : List ℕ) (m : Machine)
-    → place_of operand size (shown next rs m) ≡ Comes (Ok (InMemory a), shown next' rs' m)
+pub at_location : (operand : Operand) (size : Size) (a v next next' : ℕ) (rs rs' : List ℕ) (m : Machine)
+    → location_of operand size (shown next rs m) ≡ Comes (Ok (InMemory a), shown next' rs' m)
     → is_plain size a m.memory ≡ true → v ≡ plain_at size a m.memory
     → fetch_operand operand size (shown next rs m) ≡ Comes (Ok v, shown next' rs' m)
-at_place operand size a v next next' rs rs' m e p w =
-    place_fetched operand size (InMemory a) v (shown next rs m) (shown next' rs' m) e
+at_location operand size a v next next' rs rs' m e p w =
+    location_fetched operand size (InMemory a) v (shown next rs m) (shown next' rs' m) e
     (plain_fetched size a v (shown next' rs' m) p w)

@@ -24,7 +24,7 @@ use Rattle.m11_cpu_machine.specs.Execution.{execute}
 use Rattle.m11_cpu_machine.specs.Machine.{advanced, register_of, with_register}
 use Rattle.m11_cpu_machine.specs.Memory.{byte_at, with_byte, with_word, word_at}
 use Rattle.m11_cpu_quick.specs.Near.{NearKeeps, is_plain, plain_at}
-use Rattle.m11_cpu_machine.specs.Addressing.{deferred, fetch, fetch_operand, indexed, next_word, place_by, place_of, stepped_back, step_of, store}
+use Rattle.m11_cpu_machine.specs.Addressing.{deferred, fetch, fetch_operand, indexed, next_word, location_by, location_of, stepped_back, step_of, store}
 use Rattle.m11_cpu_quick.specs.Quick.{QuickRuns, StepsAtOnce}
 use Rattle.m11_cpu_machine.specs.SingleOperands.{change_single, single, single_by, test_operand, write}
 use Rattle.m11_cpu_machine.specs.Steps.{instruction, step, step_unless, turned}
@@ -105,44 +105,44 @@ byte_stored size address v m n e p f =
 pub comes_at : {A : Type 0} (x x' : A) (n n' : Machine) → x' ≡ x → n' ≡ n → came x n ≡ came x' n'
 comes_at {A = A} x x' n n' e f = ap (λ (v : A). came v n) (sym e) ∙ ap (λ (k : Machine). came x' k) (sym f)
 
--- ---- places in memory, by the operand's mode
+-- ---- locations in memory, by the operand's mode
 
 placed : (operand : Operand) (size : Size) (m : Machine) (mode : Mode) → operand.mode ≡ mode
-    → place_of operand size m ≡ place_by mode operand.register size m
-unfolding place_of
-placed operand size m mode e = ap (λ (x : Mode). place_by x operand.register size m) e
+    → location_of operand size m ≡ location_by mode operand.register size m
+unfolding location_of
+placed operand size m mode e = ap (λ (x : Mode). location_by x operand.register size m) e
 
-comes_place : (a a' : ℕ) (n n' : Machine) → a' ≡ a → n' ≡ n → came (InMemory a) n ≡ came (InMemory a') n'
-comes_place a a' n n' e f = comes_at (InMemory a) (InMemory a') n n' (ap InMemory e) f
+comes_location : (a a' : ℕ) (n n' : Machine) → a' ≡ a → n' ≡ n → came (InMemory a) n ≡ came (InMemory a') n'
+comes_location a a' n n' e f = comes_at (InMemory a) (InMemory a') n n' (ap InMemory e) f
 
 pub by_register : (operand : Operand) (size : Size) (a : ℕ) (m : Machine) → operand.mode ≡ mode.RegisterDeferred
-    → a ≡ register_of operand.register m → place_of operand size m ≡ Comes (Ok (InMemory a), m)
+    → a ≡ register_of operand.register m → location_of operand size m ≡ Comes (Ok (InMemory a), m)
 by_register operand size a m e f =
-    placed operand size m mode.RegisterDeferred e ∙ comes_place _ a m m f refl
+    placed operand size m mode.RegisterDeferred e ∙ comes_location _ a m m f refl
 
 pub by_increment : (operand : Operand) (size : Size) (a : ℕ) (m n : Machine) → operand.mode ≡ mode.Autoincrement
     → a ≡ register_of operand.register m → n ≡ advanced operand.register (step_of size operand.register) m
-    → place_of operand size m ≡ Comes (Ok (InMemory a), n)
+    → location_of operand size m ≡ Comes (Ok (InMemory a), n)
 by_increment operand size a m n e f k =
-    placed operand size m mode.Autoincrement e ∙ comes_place _ a _ n f k
+    placed operand size m mode.Autoincrement e ∙ comes_location _ a _ n f k
 
 pub by_decrement : (operand : Operand) (size : Size) (a : ℕ) (m n : Machine) → operand.mode ≡ mode.Autodecrement
     → a ≡ stepped_back operand.register (step_of size operand.register) m → n ≡ with_register operand.register a m
-    → place_of operand size m ≡ Comes (Ok (InMemory a), n)
+    → location_of operand size m ≡ Comes (Ok (InMemory a), n)
 by_decrement operand size a m n e f k =
     let to : ℕ → Machine = λ x. with_register operand.register x m in
-    placed operand size m mode.Autodecrement e ∙ comes_place _ a _ n f (k ∙ ap to f)
+    placed operand size m mode.Autodecrement e ∙ comes_location _ a _ n f (k ∙ ap to f)
 
 pub by_pointer : (operand : Operand) (size : Size) (a : ℕ) (m n : Machine)
     → operand.mode ≡ mode.AutoincrementDeferred → is_plain Word (register_of operand.register m) m.memory ≡ true
     → a ≡ plain_at Word (register_of operand.register m) m.memory → n ≡ advanced operand.register 2 m
-    → place_of operand size m ≡ Comes (Ok (InMemory a), n)
+    → location_of operand size m ≡ Comes (Ok (InMemory a), n)
 unfolding deferred
 by_pointer operand size a m n e p f k =
     placed operand size m mode.AutoincrementDeferred e
     ∙ bind_at (load_word (register_of operand.register m)) _ (advanced operand.register 2 m)
     (advanced operand.register 2 m) _ (word_loads (register_of operand.register m) (advanced operand.register 2 m) p)
-    ∙ comes_place _ a _ n f k
+    ∙ comes_location _ a _ n f k
 
 pub next_at : (m : Machine) → is_plain Word (register_of Pc m) m.memory ≡ true
     → next_word m ≡ Comes (Ok (word_at m.memory (register_of Pc m)), advanced Pc 2 m)
@@ -168,20 +168,20 @@ index_at register a index m n p i k f =
     indexed_at register m p ∙ comes_at _ a _ n (f ∙ one ∙ two) k
 
 pub by_index : (operand : Operand) (size : Size) (a : ℕ) (m n : Machine) → operand.mode ≡ mode.Index
-    → indexed operand.register m ≡ Comes (Ok a, n) → place_of operand size m ≡ Comes (Ok (InMemory a), n)
+    → indexed operand.register m ≡ Comes (Ok a, n) → location_of operand size m ≡ Comes (Ok (InMemory a), n)
 by_index operand size a m n e f =
     placed operand size m mode.Index e ∙ bind_at (indexed operand.register) _ m n a f
 
 -- ---- operands
 
-pub place_fetched : (operand : Operand) (size : Size) (place : OperandLocation) (v : ℕ) (m n : Machine)
-    → place_of operand size m ≡ Comes (Ok place, n) → fetch place size n ≡ Comes (Ok v, n)
+pub location_fetched : (operand : Operand) (size : Size) (location : OperandLocation) (v : ℕ) (m n : Machine)
+    → location_of operand size m ≡ Comes (Ok location, n) → fetch location size n ≡ Comes (Ok v, n)
     → fetch_operand operand size m ≡ Comes (Ok v, n)
 unfolding fetch_operand
-place_fetched operand size place v m n e f = bind_at (place_of operand size) _ m n place e ∙ f
+location_fetched operand size location v m n e f = bind_at (location_of operand size) _ m n location e ∙ f
 
 pub in_register : (operand : Operand) (size : Size) (m : Machine) → operand.mode ≡ mode.Register
-    → place_of operand size m ≡ Comes (Ok (InRegister operand.register), m)
+    → location_of operand size m ≡ Comes (Ok (InRegister operand.register), m)
 in_register operand size m e = placed operand size m mode.Register e
 
 pub bind_comes : {A B : Type 0} (act : Act A) (next : A → Act B) (m n k : Machine) (x : A) (y : B)
@@ -190,26 +190,26 @@ bind_comes act next m n k x y e f = bind_at act next m n x e ∙ f
 
 -- ---- operations, by what they do with their destination
 
-pub double_writes : (operation : DoubleOp) (size : Size) (source : ℕ) (place : OperandLocation) (m n : Machine)
-    → use_by_double operation ≡ Writes → move_to place size source m ≡ Comes (Ok tt, n)
-    → double_at operation size source place m ≡ Comes (Ok tt, n)
+pub double_writes : (operation : DoubleOp) (size : Size) (source : ℕ) (location : OperandLocation) (m n : Machine)
+    → use_by_double operation ≡ Writes → move_to location size source m ≡ Comes (Ok tt, n)
+    → double_at operation size source location m ≡ Comes (Ok tt, n)
 unfolding double_at
-double_writes operation size source place m n e f =
-    ap (λ (u : DestinationUse). double_by u operation size source place m) e ∙ f
+double_writes operation size source location m n e f =
+    ap (λ (u : DestinationUse). double_by u operation size source location m) e ∙ f
 
-pub double_reads : (operation : DoubleOp) (size : Size) (source : ℕ) (place : OperandLocation) (m n : Machine)
-    → use_by_double operation ≡ Reads → compare operation place size source m ≡ Comes (Ok tt, n)
-    → double_at operation size source place m ≡ Comes (Ok tt, n)
+pub double_reads : (operation : DoubleOp) (size : Size) (source : ℕ) (location : OperandLocation) (m n : Machine)
+    → use_by_double operation ≡ Reads → compare operation location size source m ≡ Comes (Ok tt, n)
+    → double_at operation size source location m ≡ Comes (Ok tt, n)
 unfolding double_at
-double_reads operation size source place m n e f =
-    ap (λ (u : DestinationUse). double_by u operation size source place m) e ∙ f
+double_reads operation size source location m n e f =
+    ap (λ (u : DestinationUse). double_by u operation size source location m) e ∙ f
 
-pub double_changes : (operation : DoubleOp) (size : Size) (source : ℕ) (place : OperandLocation) (m n : Machine)
-    → use_by_double operation ≡ Changes → change_double operation place size source m ≡ Comes (Ok tt, n)
-    → double_at operation size source place m ≡ Comes (Ok tt, n)
+pub double_changes : (operation : DoubleOp) (size : Size) (source : ℕ) (location : OperandLocation) (m n : Machine)
+    → use_by_double operation ≡ Changes → change_double operation location size source m ≡ Comes (Ok tt, n)
+    → double_at operation size source location m ≡ Comes (Ok tt, n)
 unfolding double_at
-double_changes operation size source place m n e f =
-    ap (λ (u : DestinationUse). double_by u operation size source place m) e ∙ f
+double_changes operation size source location m n e f =
+    ap (λ (u : DestinationUse). double_by u operation size source location m) e ∙ f
 
 pub single_writes : (operation : SingleOp) (size : Size) (operand : Operand) (m n : Machine)
     → use_by_single operation ≡ Some Writes → write operation size operand m ≡ Comes (Ok tt, n)

@@ -21,7 +21,7 @@ use Rattle.m11_cpu_arithmetic.specs.declared.results.Pair.{Pair}
 use Rattle.m11_cpu_machine.specs.Extended.{extended, low_word_of}
 use Rattle.m11_base_instructions.specs.declared.operand.Size.{Size}
 use Rattle.m11_base_instructions.specs.declared.operand.Size.TheVariants.{Word, Byte}
-use Rattle.m11_cpu_machine.specs.Addressing.{fetch, fetch_operand, place_of, put_result, store, without_low_byte}
+use Rattle.m11_cpu_machine.specs.Addressing.{fetch, fetch_operand, location_of, put_result, store, without_low_byte}
 use Rattle.m11_cpu_machine.specs.DestinationUse.{use_by_double}
 use Rattle.m11_cpu_machine.specs.Dialogue.{Comes, Dialogue}
 use Rattle.m11_cpu_machine.specs.declared.destination_use.DestinationUse.TheVariants.{Writes}
@@ -137,25 +137,25 @@ moves_memory a size v computed k rs m n p q c e =
 
 -- ---- CMP and BIT, and operations that change their destination
 
-pub compares : (operation : DoubleOp) (place : OperandLocation) (size : Size) (source v : ℕ) (computed : Computed) (k : ℕ)
-    (rs : List ℕ) (m n : Machine) → fetch place size (shown k rs m) ≡ Comes (Ok v, shown k rs m)
+pub compares : (operation : DoubleOp) (location : OperandLocation) (size : Size) (source v : ℕ) (computed : Computed) (k : ℕ)
+    (rs : List ℕ) (m n : Machine) → fetch location size (shown k rs m) ≡ Comes (Ok v, shown k rs m)
     → computed ≡ double_result operation size source v m.status.codes → n ≡ with_condition_codes computed.codes m
-    → compare operation place size source (shown k rs m) ≡ done (shown k rs n)
+    → compare operation location size source (shown k rs m) ≡ done (shown k rs n)
 unfolding compare
-compares operation place size source v computed k rs m n f c e =
-    bind_at (fetch place size) _ (shown k rs m) (shown k rs m) v f
+compares operation location size source v computed k rs m n f c e =
+    bind_at (fetch location size) _ (shown k rs m) (shown k rs m) v f
     ∙ ap (λ (x : Computed). done (shown k rs (with_condition_codes x.codes m))) (sym c)
     ∙ ap (λ (x : Machine). done (shown k rs x)) (sym e)
 
-pub changes : (operation : DoubleOp) (place : OperandLocation) (size : Size) (source v : ℕ) (computed : Computed) (k : ℕ)
-    (rs rs' : List ℕ) (m n : Machine) → fetch place size (shown k rs m) ≡ Comes (Ok v, shown k rs m)
+pub changes : (operation : DoubleOp) (location : OperandLocation) (size : Size) (source v : ℕ) (computed : Computed) (k : ℕ)
+    (rs rs' : List ℕ) (m n : Machine) → fetch location size (shown k rs m) ≡ Comes (Ok v, shown k rs m)
     → computed ≡ double_result operation size source v m.status.codes
-    → put_result place size computed (shown k rs m) ≡ done (shown k rs' n)
-    → change_double operation place size source (shown k rs m) ≡ done (shown k rs' n)
+    → put_result location size computed (shown k rs m) ≡ done (shown k rs' n)
+    → change_double operation location size source (shown k rs m) ≡ done (shown k rs' n)
 unfolding change_double
-changes operation place size source v computed k rs rs' m n f c e =
-    bind_at (fetch place size) _ (shown k rs m) (shown k rs m) v f
-    ∙ ap (λ (x : Computed). put_result place size x (shown k rs m)) (sym c) ∙ e
+changes operation location size source v computed k rs rs' m n f c e =
+    bind_at (fetch location size) _ (shown k rs m) (shown k rs m) v f
+    ∙ ap (λ (x : Computed). put_result location size x (shown k rs m)) (sym c) ∙ e
 
 -- ---- the processor status lies past all memory
 
@@ -174,16 +174,16 @@ not_status Byte a memory p l = past a (length memory) p l
 
 -- ---- operations on one operand
 
-pub writes : (operation : SingleOp) (size : Size) (operand : Operand) (place : OperandLocation) (computed : Computed)
+pub writes : (operation : SingleOp) (size : Size) (operand : Operand) (location : OperandLocation) (computed : Computed)
     (k k' : ℕ) (rs rs' rs'' : List ℕ) (m n : Machine)
-    → place_of operand size (shown k rs m) ≡ Comes (Ok place, shown k' rs' m)
+    → location_of operand size (shown k rs m) ≡ Comes (Ok location, shown k' rs' m)
     → computed ≡ single_result operation size 0 m.status.codes
-    → put_result place size computed (shown k' rs' m) ≡ done (shown k' rs'' n)
+    → put_result location size computed (shown k' rs' m) ≡ done (shown k' rs'' n)
     → write operation size operand (shown k rs m) ≡ done (shown k' rs'' n)
 unfolding write
-writes operation size operand place computed k k' rs rs' rs'' m n p c e =
-    bind_at (place_of operand size) _ (shown k rs m) (shown k' rs' m) place p
-    ∙ ap (λ (x : Computed). put_result place size x (shown k' rs' m)) (sym c) ∙ e
+writes operation size operand location computed k k' rs rs' rs'' m n p c e =
+    bind_at (location_of operand size) _ (shown k rs m) (shown k' rs' m) location p
+    ∙ ap (λ (x : Computed). put_result location size x (shown k' rs' m)) (sym c) ∙ e
 
 pub tests : (operation : SingleOp) (size : Size) (operand : Operand) (v : ℕ) (computed : Computed)
     (k k' : ℕ) (rs rs' : List ℕ) (m n : Machine)
@@ -196,18 +196,18 @@ tests operation size operand v computed k k' rs rs' m n f c e =
     ∙ ap (λ (x : Computed). done (shown k' rs' (with_condition_codes x.codes m))) (sym c)
     ∙ ap (λ (x : Machine). done (shown k' rs' x)) (sym e)
 
-pub changes_one : (operation : SingleOp) (size : Size) (operand : Operand) (place : OperandLocation) (v : ℕ)
+pub changes_one : (operation : SingleOp) (size : Size) (operand : Operand) (location : OperandLocation) (v : ℕ)
     (computed : Computed) (k k' : ℕ) (rs rs' rs'' : List ℕ) (m n : Machine)
-    → place_of operand size (shown k rs m) ≡ Comes (Ok place, shown k' rs' m)
-    → fetch place size (shown k' rs' m) ≡ Comes (Ok v, shown k' rs' m)
+    → location_of operand size (shown k rs m) ≡ Comes (Ok location, shown k' rs' m)
+    → fetch location size (shown k' rs' m) ≡ Comes (Ok v, shown k' rs' m)
     → computed ≡ single_result operation size v m.status.codes
-    → put_result place size computed (shown k' rs' m) ≡ done (shown k' rs'' n)
+    → put_result location size computed (shown k' rs' m) ≡ done (shown k' rs'' n)
     → change_single operation size operand (shown k rs m) ≡ done (shown k' rs'' n)
 unfolding change_single change_at
-changes_one operation size operand place v computed k k' rs rs' rs'' m n p f c e =
-    bind_at (place_of operand size) _ (shown k rs m) (shown k' rs' m) place p
-    ∙ bind_at (fetch place size) _ (shown k' rs' m) (shown k' rs' m) v f
-    ∙ ap (λ (x : Computed). put_result place size x (shown k' rs' m)) (sym c) ∙ e
+changes_one operation size operand location v computed k k' rs rs' rs'' m n p f c e =
+    bind_at (location_of operand size) _ (shown k rs m) (shown k' rs' m) location p
+    ∙ bind_at (fetch location size) _ (shown k' rs' m) (shown k' rs' m) v f
+    ∙ ap (λ (x : Computed). put_result location size x (shown k' rs' m)) (sym c) ∙ e
 
 -- MOV takes nothing of its destination
 pub written : (operation : DoubleOp) (size : Size) (source v : ℕ) (codes : ConditionCodes) (computed : Computed)

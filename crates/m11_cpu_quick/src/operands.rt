@@ -4,7 +4,7 @@
 ghost use Rattle.std.specs.Prelude.{◌≡◌, ◌<◌, IfSome, None, true, slice_index, slice_set};
 ghost use Rattle.m11_cpu_arithmetic.specs.Sizes.{size_limit};
 ghost use Rattle.m11_base_instructions.specs.Operand.{register_number};
-ghost use Rattle.m11_cpu_machine.specs.Addressing.{fetch_operand, place_of};
+ghost use Rattle.m11_cpu_machine.specs.Addressing.{fetch_operand, location_of};
 ghost use Rattle.m11_cpu_machine.specs.declared.addressing.OperandLocation.TheVariants.{InMemory};
 ghost use Rattle.m11_cpu_quick.specs.Beside.{low, shown, with_low};
 ghost use Rattle.m11_cpu_quick.specs.Forms.{IsForm};
@@ -42,7 +42,7 @@ pub(crate) fn address_of(
     counter: u16,
 ) -> Option<(u16, u16)>
     requires { IsForm form size operand }
-    ensures some { IfSome result (λ found. Yields (place_of operand size) (shown counter registers.old machine.now)
+    ensures some { IfSome result (λ found. Yields (location_of operand size) (shown counter registers.old machine.now)
         (InMemory found.0) (shown found.1 registers.new machine.now)) }
     ensures plain { IfSome result (λ found. is_plain size found.0 machine.now.memory ≡ true) }
     ensures back { slice_set registers.new (register_number operand.register)

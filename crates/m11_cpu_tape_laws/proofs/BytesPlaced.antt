@@ -29,16 +29,16 @@ or_some (Some y) x = (y, refl)
 
 -- ---- one block
 
-within_before : (address place : ℕ) (bytes : List ℕ) → place < address → byte_within (address, bytes) place ≡ None
-within_before address place bytes lt = rw (lt-leb address place lt) refl
+within_before : (address at : ℕ) (bytes : List ℕ) → at < address → byte_within (address, bytes) at ≡ None
+within_before address at bytes lt = rw (lt-leb address at lt) refl
 
-within_from : (address place : ℕ) (bytes : List ℕ) → address ≤ place
-    → byte_within (address, bytes) place ≡ slice_get bytes (place - address)
-within_from address place bytes le = rw (le-leb address place le) refl
+within_from : (address at : ℕ) (bytes : List ℕ) → address ≤ at
+    → byte_within (address, bytes) at ≡ slice_get bytes (at - address)
+within_from address at bytes le = rw (le-leb address at le) refl
 
-within_past : (address place : ℕ) (bytes : List ℕ) → address + length bytes ≤ place → byte_within (address, bytes) place ≡ None
-within_past address place bytes le =
-    within_from address place bytes (omega arith) ∙ slice_get_past bytes (place - address) (omega arith)
+within_past : (address at : ℕ) (bytes : List ℕ) → address + length bytes ≤ at → byte_within (address, bytes) at ≡ None
+within_past address at bytes le =
+    within_from address at bytes (omega arith) ∙ slice_get_past bytes (at - address) (omega arith)
 
 pub within_at : (address index : ℕ) (bytes : List ℕ) → index < length bytes
     → byte_within (address, bytes) (address + index) ≡ Some (get_or bytes index 0)
@@ -47,49 +47,49 @@ within_at address index bytes lt =
     within_from address (address + index) bytes (omega arith) ∙ ap (λ (i : ℕ). slice_get bytes i) same
     ∙ slice_get-get_or bytes index 0 lt
 
--- where each byte has its place
+-- where each byte has its address
 module _ (address : ℕ) (bytes memory : List ℕ) (fits : address + length bytes ≤ length memory) where
   front_long : length (take address memory) ≡ address
   front_long = length-take-le address memory (omega arith)
 
-  put_before : (place : ℕ) → place < address → byte_at (with_bytes address bytes memory) place ≡ byte_at memory place
-  put_before place lt =
-      get_or_append_left (take address memory) (bytes ++ drop (address + length bytes) memory) 0 place
+  put_before : (at : ℕ) → at < address → byte_at (with_bytes address bytes memory) at ≡ byte_at memory at
+  put_before at lt =
+      get_or_append_left (take address memory) (bytes ++ drop (address + length bytes) memory) 0 at
       (omega (arith, front_long))
-      ∙ get_or-take address memory place 0 lt
+      ∙ get_or-take address memory at 0 lt
 
-  put_from : (place : ℕ) → address ≤ place → byte_at (with_bytes address bytes memory) place
-      ≡ get_or (bytes ++ drop (address + length bytes) memory) (place - address) 0
-  put_from place le =
-      get_or-append_right (take address memory) (bytes ++ drop (address + length bytes) memory) address place 0 front_long le
+  put_from : (at : ℕ) → address ≤ at → byte_at (with_bytes address bytes memory) at
+      ≡ get_or (bytes ++ drop (address + length bytes) memory) (at - address) 0
+  put_from at le =
+      get_or-append_right (take address memory) (bytes ++ drop (address + length bytes) memory) address at 0 front_long le
 
-  put_within : (place : ℕ) → address ≤ place → place < address + length bytes
-      → byte_at (with_bytes address bytes memory) place ≡ get_or bytes (place - address) 0
-  put_within place le lt =
-      put_from place le
-      ∙ get_or_append_left bytes (drop (address + length bytes) memory) 0 (place - address) (omega arith)
+  put_within : (at : ℕ) → address ≤ at → at < address + length bytes
+      → byte_at (with_bytes address bytes memory) at ≡ get_or bytes (at - address) 0
+  put_within at le lt =
+      put_from at le
+      ∙ get_or_append_left bytes (drop (address + length bytes) memory) 0 (at - address) (omega arith)
 
-  put_past : (place : ℕ) → address + length bytes ≤ place
-      → byte_at (with_bytes address bytes memory) place ≡ byte_at memory place
-  put_past place le =
-      let same : address + length bytes + (place - address - length bytes) ≡ place = omega arith in
-      put_from place (omega arith)
-      ∙ get_or-append_right bytes (drop (address + length bytes) memory) (length bytes) (place - address) 0 refl (omega arith)
-      ∙ get_or-drop (address + length bytes) memory (place - address - length bytes) 0
+  put_past : (at : ℕ) → address + length bytes ≤ at
+      → byte_at (with_bytes address bytes memory) at ≡ byte_at memory at
+  put_past at le =
+      let same : address + length bytes + (at - address - length bytes) ≡ at = omega arith in
+      put_from at (omega arith)
+      ∙ get_or-append_right bytes (drop (address + length bytes) memory) (length bytes) (at - address) 0 refl (omega arith)
+      ∙ get_or-drop (address + length bytes) memory (at - address - length bytes) 0
       ∙ ap (λ (i : ℕ). get_or memory i 0) same
 
-  byte_placed : (place : ℕ) → byte_at (with_bytes address bytes memory) place
-      ≡ unwrap_or (byte_within (address, bytes) place) (byte_at memory place)
-  byte_placed place =
-      let P : Option ℕ → ℕ = λ b. unwrap_or b (byte_at memory place) in
-      elim (cases_lt place address) [
-        | inl before ↦ put_before place before ∙ sym (ap P (within_before address place bytes before))
-        | inr from ↦ elim (cases_lt place (address + length bytes)) [
+  byte_placed : (at : ℕ) → byte_at (with_bytes address bytes memory) at
+      ≡ unwrap_or (byte_within (address, bytes) at) (byte_at memory at)
+  byte_placed at =
+      let P : Option ℕ → ℕ = λ b. unwrap_or b (byte_at memory at) in
+      elim (cases_lt at address) [
+        | inl before ↦ put_before at before ∙ sym (ap P (within_before address at bytes before))
+        | inr from ↦ elim (cases_lt at (address + length bytes)) [
           | inl within ↦
-              put_within place from within
-              ∙ sym (ap P (within_from address place bytes from
-              ∙ slice_get-get_or bytes (place - address) 0 (omega arith)))
-          | inr past ↦ put_past place past ∙ sym (ap P (within_past address place bytes past))
+              put_within at from within
+              ∙ sym (ap P (within_from address at bytes from
+              ∙ slice_get-get_or bytes (at - address) 0 (omega arith)))
+          | inr past ↦ put_past at past ∙ sym (ap P (within_past address at bytes past))
         ]
       ]
 
@@ -109,21 +109,21 @@ none_placed address memory =
     let same : address + 0 ≡ address = omega arith in
     ap (λ (n : ℕ). take address memory ++ drop n memory) same ∙ take-append-drop address memory
 
-none_within : (address place : ℕ) → byte_within (address, []) place ≡ None
-none_within address place =
-    elim (cases_lt place address) [
-      | inl before ↦ within_before address place [] before
-      | inr from ↦ within_past address place [] (omega arith)
+none_within : (address at : ℕ) → byte_within (address, []) at ≡ None
+none_within address at =
+    elim (cases_lt at address) [
+      | inl before ↦ within_before address at [] before
+      | inr from ↦ within_past address at [] (omega arith)
     ]
 
-pub block_byte : (address : ℕ) (bytes memory : List ℕ) (place : ℕ) → AreInside (length memory) address bytes
-    → byte_at (with_bytes address bytes memory) place ≡ unwrap_or (byte_within (address, bytes) place) (byte_at memory place)
-block_byte address [] memory place inside =
-    ap (λ (m : List ℕ). byte_at m place) (none_placed address memory)
-    ∙ sym (ap (λ (b : Option ℕ). unwrap_or b (byte_at memory place)) (none_within address place))
-block_byte address (byte ∷ bytes) memory place inside =
+pub block_byte : (address : ℕ) (bytes memory : List ℕ) (at : ℕ) → AreInside (length memory) address bytes
+    → byte_at (with_bytes address bytes memory) at ≡ unwrap_or (byte_within (address, bytes) at) (byte_at memory at)
+block_byte address [] memory at inside =
+    ap (λ (m : List ℕ). byte_at m at) (none_placed address memory)
+    ∙ sym (ap (λ (b : Option ℕ). unwrap_or b (byte_at memory at)) (none_within address at))
+block_byte address (byte ∷ bytes) memory at inside =
     let last : address + length bytes < length memory = inside (length bytes) (omega arith) in
-    byte_placed address (byte ∷ bytes) memory (omega arith) place
+    byte_placed address (byte ∷ bytes) memory (omega arith) at
 
 pub block_long : (address : ℕ) (bytes memory : List ℕ) → AreInside (length memory) address bytes
     → length (with_bytes address bytes memory) ≡ length memory
@@ -132,12 +132,12 @@ block_long address (byte ∷ bytes) memory inside =
     let last : address + length bytes < length memory = inside (length bytes) (omega arith) in
     long_placed address (byte ∷ bytes) memory (omega arith)
 
-block_outside : (size address : ℕ) (bytes : List ℕ) (place : ℕ) → AreInside size address bytes → size ≤ place
-    → byte_within (address, bytes) place ≡ None
-block_outside size address [] place inside past = none_within address place
-block_outside size address (byte ∷ bytes) place inside past =
+block_outside : (size address : ℕ) (bytes : List ℕ) (at : ℕ) → AreInside size address bytes → size ≤ at
+    → byte_within (address, bytes) at ≡ None
+block_outside size address [] at inside past = none_within address at
+block_outside size address (byte ∷ bytes) at inside past =
     let last : address + length bytes < size = inside (length bytes) (omega arith) in
-    within_past address place (byte ∷ bytes) (omega arith)
+    within_past address at (byte ∷ bytes) (omega arith)
 
 -- ---- blocks
 
@@ -152,38 +152,38 @@ stored_long (block ∷ blocks) memory inside =
     stored_long blocks (with_bytes block.0 block.1 memory)
     (subst (λ (size : ℕ). AllInside size blocks) (sym same) inside.1) ∙ same
 
-pub stored_byte : (blocks : List (ℕ × List ℕ)) (memory : List ℕ) (place : ℕ) → AllInside (length memory) blocks
-    → byte_at (stored blocks memory) place ≡ unwrap_or (byte_of blocks place) (byte_at memory place)
-stored_byte [] memory place inside = refl
-stored_byte (block ∷ blocks) memory place inside =
+pub stored_byte : (blocks : List (ℕ × List ℕ)) (memory : List ℕ) (at : ℕ) → AllInside (length memory) blocks
+    → byte_at (stored blocks memory) at ≡ unwrap_or (byte_of blocks at) (byte_at memory at)
+stored_byte [] memory at inside = refl
+stored_byte (block ∷ blocks) memory at inside =
     let same = block_long block.0 block.1 memory inside.0 in
-    stored_byte blocks (with_bytes block.0 block.1 memory) place
+    stored_byte blocks (with_bytes block.0 block.1 memory) at
     (subst (λ (size : ℕ). AllInside size blocks) (sym same) inside.1)
-    ∙ ap (λ (b : ℕ). unwrap_or (byte_of blocks place) b) (block_byte block.0 block.1 memory place inside.0)
-    ∙ unwrap-or (byte_of blocks place) (byte_within block place) (byte_at memory place)
+    ∙ ap (λ (b : ℕ). unwrap_or (byte_of blocks at) b) (block_byte block.0 block.1 memory at inside.0)
+    ∙ unwrap-or (byte_of blocks at) (byte_within block at) (byte_at memory at)
 
-pub none_outside : (size : ℕ) (blocks : List (ℕ × List ℕ)) (place : ℕ) → AllInside size blocks → size ≤ place
-    → byte_of blocks place ≡ None
-none_outside size [] place inside past = refl
-none_outside size (block ∷ blocks) place inside past =
-    ap (λ (b : Option ℕ). option_or b (byte_within block place)) (none_outside size blocks place inside.1 past)
-    ∙ block_outside size block.0 block.1 place inside.0 past
+pub none_outside : (size : ℕ) (blocks : List (ℕ × List ℕ)) (at : ℕ) → AllInside size blocks → size ≤ at
+    → byte_of blocks at ≡ None
+none_outside size [] at inside past = refl
+none_outside size (block ∷ blocks) at inside past =
+    ap (λ (b : Option ℕ). option_or b (byte_within block at)) (none_outside size blocks at inside.1 past)
+    ∙ block_outside size block.0 block.1 at inside.0 past
 
 -- of blocks after others
-pub byte_of-append : (xs ys : List (ℕ × List ℕ)) (place : ℕ)
-    → byte_of (xs ++ ys) place ≡ option_or (byte_of ys place) (byte_of xs place)
-byte_of-append [] ys place = sym (or_none (byte_of ys place))
-byte_of-append (x ∷ xs) ys place =
-    ap (λ (b : Option ℕ). option_or b (byte_within x place)) (byte_of-append xs ys place)
-    ∙ or_assoc (byte_of ys place) (byte_of xs place) (byte_within x place)
+pub byte_of-append : (xs ys : List (ℕ × List ℕ)) (at : ℕ)
+    → byte_of (xs ++ ys) at ≡ option_or (byte_of ys at) (byte_of xs at)
+byte_of-append [] ys at = sym (or_none (byte_of ys at))
+byte_of-append (x ∷ xs) ys at =
+    ap (λ (b : Option ℕ). option_or b (byte_within x at)) (byte_of-append xs ys at)
+    ∙ or_assoc (byte_of ys at) (byte_of xs at) (byte_within x at)
 
 -- where one of them has a byte, so have all
-pub has_byte : (xs : List (ℕ × List ℕ)) (block : ℕ × List ℕ) (ys : List (ℕ × List ℕ)) (place byte : ℕ)
-    → byte_within block place ≡ Some byte → (x : ℕ) × (byte_of (xs ++ block ∷ ys) place ≡ Some x)
-has_byte xs block ys place byte e =
-    let one = or_some (byte_of ys place) byte in (
+pub has_byte : (xs : List (ℕ × List ℕ)) (block : ℕ × List ℕ) (ys : List (ℕ × List ℕ)) (at byte : ℕ)
+    → byte_within block at ≡ Some byte → (x : ℕ) × (byte_of (xs ++ block ∷ ys) at ≡ Some x)
+has_byte xs block ys at byte e =
+    let one = or_some (byte_of ys at) byte in (
       one.0,
-      byte_of-append xs (block ∷ ys) place
-          ∙ ap (λ (b : Option ℕ). option_or b (byte_of xs place))
-          (ap (λ (b : Option ℕ). option_or (byte_of ys place) b) e ∙ one.1),
+      byte_of-append xs (block ∷ ys) at
+          ∙ ap (λ (b : Option ℕ). option_or b (byte_of xs at))
+          (ap (λ (b : Option ℕ). option_or (byte_of ys at) b) e ∙ one.1),
     )

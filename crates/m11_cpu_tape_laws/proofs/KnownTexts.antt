@@ -5,16 +5,16 @@ use Rattle.std.proofs.lemmas.List.{append-nil, length-append}
 use Rattle.m11_base.specs.Feed.{Text, GivesByte, GivesBytes, GivesEnd}
 use Rattle.m11_obj_blocks.specs.declared.tape_fault.TapeFault.{TapeFault}
 use Rattle.m11_obj_blocks.specs.declared.tape_fault.TapeFault.TheVariants as fault
-use Rattle.m11_obj_blocks.specs.Limited.{Place, Took, Read, Inside, Between, Refused, Stop, Stops}
+use Rattle.m11_obj_blocks.specs.Limited.{Position, Took, Read, Inside, Between, Refused, Stop, Stops}
 use Rattle.m11_obj_blocks.specs.Tapes.{why_of}
 
 -- these bytes were given, and the others are left
-pub record Left (new : Place) (text : Text) (given : List ℕ) : Type 0 where
+pub record Left (new : Position) (text : Text) (given : List ℕ) : Type 0 where
   pub rest : Text
   pub split : text.bytes ≡ given ++ rest.bytes
   pub text_is : new.text ≡ Some rest
 
-pub left_after : (old new : Place) (text : Text) (given : List ℕ) → old.text ≡ Some text → Took old new given
+pub left_after : (old new : Position) (text : Text) (given : List ℕ) → old.text ≡ Some text → Took old new given
     → Left new text given
 left_after old new text given known took =
     let gave = subst (λ (t : Option Text). GivesBytes t new.text given) known took.gave in
@@ -26,7 +26,7 @@ MayStop room bytes fault.Device = ⊤
 MayStop room bytes fault.TooMuch = room < length bytes
 MayStop room bytes other = ⊥
 
-module _ (old middle : Place) (text : Text) (known : old.text ≡ Some text) (given : List ℕ) (took : Took old middle given)
+module _ (old middle : Position) (text : Text) (known : old.text ≡ Some text) (given : List ℕ) (took : Took old middle given)
     (new : Option Text) where
   -- the end came after all bytes
   all_given : GivesEnd middle.text new → text.bytes ≡ given
@@ -42,7 +42,7 @@ module _ (old middle : Place) (text : Text) (known : old.text ≡ Some text) (gi
       let one = subst (λ (t : Option Text). GivesByte t new byte) left.text_is gives in
       omega (arith, took.room, full, ap length left.split, length-append given left.rest.bytes, ap length one.1)
 
-module _ {A : Type 0} (read : List ℕ → Read TapeFault A) (old new : Place) (text : Text) (known : old.text ≡ Some text)
+module _ {A : Type 0} (read : List ℕ → Read TapeFault A) (old new : Position) (text : Text) (known : old.text ≡ Some text)
     (x : A × List ℕ) (is_read : read text.bytes ≡ Ok x) where
   no_stop : (bytes : List ℕ) (stop : Stop TapeFault) → text.bytes ≡ bytes → read bytes ≡ Err stop → ⊥
   no_stop bytes stop same e = let bad = sym is_read ∙ ap read same ∙ e in cc
@@ -64,7 +64,7 @@ module _ {A : Type 0} (read : List ℕ → Read TapeFault A) (old new : Place) (
   may_stop fault.TooMuch s = room_passed old s.1.0 text known s.0 s.1.1 new.text s.1.2.0 s.1.2.1 s.1.2.3
 
 -- the same of what was left before some bytes were given
-pub stops_before : (old new : Place) (text : Text) (given : List ℕ) (took : Took old new given) (left : Left new text given)
+pub stops_before : (old new : Position) (text : Text) (given : List ℕ) (took : Took old new given) (left : Left new text given)
     (said : TapeFault) → MayStop new.room left.rest.bytes said → MayStop old.room text.bytes said
 stops_before old new text given took left fault.Device h = tt
 stops_before old new text given took left fault.TooMuch h =

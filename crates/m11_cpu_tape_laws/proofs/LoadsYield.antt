@@ -7,7 +7,7 @@ use Rattle.m11_base.specs.Feed.{Text}
 use Rattle.m11_obj_blocks.specs.declared.tape_fault.TapeFault.{TapeFault}
 use Rattle.m11_obj_blocks.specs.declared.tape_fault.TapeFault.TheVariants as fault
 use Rattle.m11_obj_blocks.specs.declared.tape_part.TapePart.TheVariants.{Data, Start}
-use Rattle.m11_obj_blocks.specs.Limited.{Place, place, most_bytes, Took, Reads, Stops}
+use Rattle.m11_obj_blocks.specs.Limited.{Position, position, most_bytes, Took, Reads, Stops}
 use Rattle.m11_obj_blocks.specs.Tapes.{AreRead, first_part, data_byte, why_of}
 use Rattle.m11_obj_blocks.proofs.TapeFrames.{tape_read}
 use Rattle.m11_cpu.specs.declared.fault.LoadFault.{LoadFault}
@@ -24,12 +24,12 @@ use Rattle.m11_cpu_tape_laws.proofs.Fronts.{at_header, at_start, byte_read, fron
 use Rattle.m11_cpu_tape_laws.proofs.KnownTexts.{left_after, Left, MayStop, may_stop, stops_before}
 
 module _ (image : Image) (text : Text) (tape : IsTapeOf image text.bytes) (faults : ℕ) where
-  abbrev beginning : Place
-  beginning = place (Some text) faults most_bytes
+  abbrev beginning : Position
+  beginning = position (Some text) faults most_bytes
 
   -- ---- after some of its blocks
 
-  module _ (following : Place) (before now : List ℕ) (blocks : List (ℕ × List ℕ))
+  module _ (following : Position) (before now : List ℕ) (blocks : List (ℕ × List ℕ))
       (put : PutBlocks beginning following before now blocks) where
     left : Left following text put.given
     left = left_after beginning following text put.given refl put.took
@@ -41,7 +41,7 @@ module _ (image : Image) (text : Text) (tape : IsTapeOf image text.bytes) (fault
         (tape_read tape.blocks tape.start text.bytes tape.consists))
 
     -- the next part can't be read
-    pub part_stops : (new : Place) (said : TapeFault) → Stops (part_after first_part blocks) following new (why_of said)
+    pub part_stops : (new : Position) (said : TapeFault) → Stops (part_after first_part blocks) following new (why_of said)
         → MayStop most_bytes text.bytes said
     part_stops new said stops =
         let x = something_read (part_after first_part blocks) ahead.others tape.start left.rest.bytes ahead.are_read in
@@ -49,7 +49,7 @@ module _ (image : Image) (text : Text) (tape : IsTapeOf image text.bytes) (fault
         (may_stop (part_after first_part blocks) following new left.rest left.text_is x.0 x.1 said stops)
 
     -- the next part is the transfer block
-    module _ (new : Place) (start : ℕ) (last : Reads (part_after first_part blocks) following new (Start start)) where
+    module _ (new : Position) (start : ℕ) (last : Reads (part_after first_part blocks) following new (Start start)) where
       after_last : Left new left.rest last.given
       after_last = left_after following new left.rest last.given left.text_is last.took
 
@@ -67,7 +67,7 @@ module _ (image : Image) (text : Text) (tape : IsTapeOf image text.bytes) (fault
       start_found = last_is.1
 
     -- the next part is a header, of whose data some bytes came
-    module _ (opened here : Place) (address count : ℕ) (taken : List ℕ)
+    module _ (opened here : Position) (address count : ℕ) (taken : List ℕ)
         (header : Reads (part_after first_part blocks) following opened (Data address count)) (took : Took opened here taken)
         (some : length taken < count) where
       after_header : Left opened left.rest header.given
@@ -94,7 +94,7 @@ module _ (image : Image) (text : Text) (tape : IsTapeOf image text.bytes) (fault
             length-append taken after_some.rest.bytes,
           )
 
-      pub data_stops : (new : Place) (said : TapeFault) → Stops data_byte here new (why_of said)
+      pub data_stops : (new : Position) (said : TapeFault) → Stops data_byte here new (why_of said)
           → MayStop most_bytes text.bytes said
       data_stops new said stops =
           let x = byte_read after_some.rest.bytes one_left in
@@ -105,21 +105,21 @@ module _ (image : Image) (text : Text) (tape : IsTapeOf image text.bytes) (fault
 
       pub byte_past : (size : ℕ) → size ≤ address + length taken → LiesPast size image
       byte_past size past =
-          let place : ℕ = address + length taken in
-          let byte = has_byte blocks (address, block.content) block.others place (get_or block.content (length taken) 0)
+          let position : ℕ = address + length taken in
+          let byte = has_byte blocks (address, block.content) block.others position (get_or block.content (length taken) 0)
           (within_at address (length taken) block.content (omega (arith, some, block.long))) in
           let blocks_are : tape.blocks ≡ blocks ++ (address, block.content) ∷ block.others =
           ahead.blocks_are ∙ ap (λ (others : List (ℕ × List ℕ)). blocks ++ others) block.blocks_are in
           record {
-            address = place;
+            address = position;
             byte = byte.0;
             past = past;
-            has = sym (tape.bytes place) ∙ ap (λ (bs : List (ℕ × List ℕ)). byte_of bs place) blocks_are ∙ byte.1;
+            has = sym (tape.bytes position) ∙ ap (λ (bs : List (ℕ × List ℕ)). byte_of bs position) blocks_are ∙ byte.1;
           }
 
   -- ---- the load
 
-  stopped : (new : Place) (before after : List ℕ) (said : TapeFault) → Loads beginning new before after (Err (Tape said))
+  stopped : (new : Position) (before after : List ℕ) (said : TapeFault) → Loads beginning new before after (Err (Tape said))
       → MayStop most_bytes text.bytes said
   stopped new before after said (inl s) = part_stops s.following before after s.blocks s.put new said s.stops
   stopped new before after said (inr s) =
@@ -127,14 +127,14 @@ module _ (image : Image) (text : Text) (tape : IsTapeOf image text.bytes) (fault
       data_stops d.following before d.held d.blocks d.put d.opened s.2 s.0 d.count s.1 d.header d.part.took d.part.some new
       said s.4
 
-  outside : (new : Place) (before after : List ℕ) → Loads beginning new before after (Err OutsideMemory)
+  outside : (new : Position) (before after : List ℕ) → Loads beginning new before after (Err OutsideMemory)
       → LiesPast (length before) image
   outside new before after s =
       let d = s.3 in
       byte_past d.following before d.held d.blocks d.put d.opened s.2 s.0 d.count s.1 d.header d.part.took d.part.some
       (length before) s.4.2
 
-  holds : (new : Place) (before after : Machine) (start : ℕ) → LoadsTape beginning new before.memory after.memory start
+  holds : (new : Position) (before after : Machine) (start : ℕ) → LoadsTape beginning new before.memory after.memory start
       → after ≡ record before { memory = after.memory } → HoldsImage image before after start
   holds new before after start l others =
       let same = all_blocks l.following before.memory after.memory l.blocks l.put new start l.last in
@@ -160,10 +160,10 @@ module _ (image : Image) (text : Text) (tape : IsTapeOf image text.bytes) (fault
 
     pub yields : (result : Result ℕ LoadFault) → LoadsInto (Some text) left_text faults faults' before after result
         → LoadYields image text.bytes faults faults' before after result
-    yields (Ok start) h = holds (place left_text faults' h.0.0) before after start h.0.1 h.2
-    yields (Err OutsideMemory) h = outside (place left_text faults' h.0.0) before.memory after.memory h.0.1
+    yields (Ok start) h = holds (position left_text faults' h.0.0) before after start h.0.1 h.2
+    yields (Err OutsideMemory) h = outside (position left_text faults' h.0.0) before.memory after.memory h.0.1
     yields (Err (Tape said)) h =
-        refusal said h.1 (stopped (place left_text faults' h.0.0) before.memory after.memory said h.0.1)
+        refusal said h.1 (stopped (position left_text faults' h.0.0) before.memory after.memory said h.0.1)
 
 -- ---- what follows of it
 

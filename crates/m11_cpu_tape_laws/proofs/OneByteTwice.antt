@@ -4,7 +4,7 @@ use Rattle.std.specs.Option.{unwrap_or}
 use Rattle.std.proofs.lemmas.Bool.{cases_lt, ltb-true}
 use Rattle.m11_base.specs.Feed.{Ending}
 use Rattle.m11_obj_blocks.specs.declared.tape_part.TapePart.TheVariants.{Data, Start}
-use Rattle.m11_obj_blocks.specs.Limited.{Place, place, Took, most_bytes}
+use Rattle.m11_obj_blocks.specs.Limited.{Position, position, Took, most_bytes}
 use Rattle.m11_obj_blocks.specs.Tapes.{IsTape, Block, Transfer, tape_block, total_of, first_part, next_part, count, transfer}
 use Rattle.m11_obj_blocks.proofs.ReadSteps.{Bytes, chosen}
 use Rattle.m11_cpu_machine.specs.declared.machine.Machine.{Machine}
@@ -97,8 +97,8 @@ held = (
 
 module _ (ending : Ending) (faults : ℕ) (before : Machine) (fits : 0o1004 ≤ memory_size before) where
   -- the feed where these bytes are left
-  abbrev at : List ℕ → ℕ → Place
-  at bytes room = place (Some (record { bytes = bytes; ending = ending })) faults room
+  abbrev at : List ℕ → ℕ → Position
+  at bytes room = position (Some (record { bytes = bytes; ending = ending })) faults room
 
   front_took : Took (at overlaid_tape most_bytes) (at last_bytes (most_bytes - 18)) front_bytes
   unfolding overlaid_tape

@@ -7,7 +7,7 @@ use Rattle.m11_base_instructions.specs.Instructions.{instruction_of}
 use Rattle.m11_base_instructions.specs.declared.instruction_list.Row.{Row}
 use Rattle.m11_base_disassembly.specs.Instructions.{row_named, size_by, size_of, words_after}
 use Rattle.m11_base_disassembly.specs.Texts.{statement_text}
-use Rattle.m11_dump.specs.Octets.{place_after}
+use Rattle.m11_dump.specs.Octets.{location_after}
 use Rattle.m11_dump.specs.Instructions.{AreLines, following, front_size, front_statement, line_by, line_text, lines, lines_from, word_of}
 
 -- ---- how many bytes a line shows
@@ -38,10 +38,10 @@ front_within_by low high bytes true =
     let some = following_within bytes in (omega (arith, within.0), omega (arith, within.1, some))
 front_within_by low high bytes false = (omega arith, omega arith)
 
-front_within : (place byte : ℕ) (bytes : List ℕ)
-    → (0 < front_size place (byte ∷ bytes)) × (front_size place (byte ∷ bytes) ≤ length (byte ∷ bytes))
-front_within place byte [] = (omega arith, omega arith)
-front_within place low (high ∷ bytes) = front_within_by low high bytes (place % 2 == 0)
+front_within : (location byte : ℕ) (bytes : List ℕ)
+    → (0 < front_size location (byte ∷ bytes)) × (front_size location (byte ∷ bytes) ≤ length (byte ∷ bytes))
+front_within location byte [] = (omega arith, omega arith)
+front_within location low (high ∷ bytes) = front_within_by low high bytes (location % 2 == 0)
 
 -- ---- one line after another
 
@@ -52,17 +52,17 @@ gathered address index (suc shown) at [] is fits = absurd (omega arith)
 gathered address index (suc shown) at (byte ∷ bytes) is fits =
     gathered address (index + 1) shown at bytes (omega (arith, is)) (omega (arith, fits))
 gathered address index zero at (byte ∷ bytes) is fits =
-    let place = place_after address index in
-    let size = front_size place (byte ∷ bytes) in
-    let within = front_within place byte bytes in
+    let location = location_after address index in
+    let size = front_size location (byte ∷ bytes) in
+    let within = front_within location byte bytes in
     let left = size - 1 in
     let size_is : size ≡ suc left = omega (arith, within.0) in
     let few : left ≤ length bytes = omega (arith, within.0, within.1) in
-    let source = statement_text (front_statement place (byte ∷ bytes)) in
+    let source = statement_text (front_statement location (byte ∷ bytes)) in
     let more = lines_from address (index + 1) left bytes in
     let long : length (byte ∷ take left bytes) ≡ 1 + left = omega (arith, length-take-le left bytes few) in
     let rest = gathered address (index + 1) left (index + length (byte ∷ take left bytes)) bytes (omega (arith, long)) few in
-    let P : ℕ → Type 0 = λ i. (all : List (List ℕ)) × AreLines address i all (byte ∷ bytes) (line_text place (byte ∷ bytes) ++ more) in
+    let P : ℕ → Type 0 = λ i. (all : List (List ℕ)) × AreLines address i all (byte ∷ bytes) (line_text location (byte ∷ bytes) ++ more) in
     let here : index ≡ at = omega (arith, is) in
     subst P here (
       (byte ∷ take left bytes) ∷ rest.0,
@@ -72,7 +72,7 @@ gathered address index zero at (byte ∷ bytes) is fits =
         more,
         omega (arith, long),
         ap (λ (l : List ℕ). byte ∷ l) (sym (take-append-drop left bytes)),
-        ap (λ (n : ℕ). line_by place (take n (byte ∷ bytes)) source ++ more) size_is,
+        ap (λ (n : ℕ). line_by location (take n (byte ∷ bytes)) source ++ more) size_is,
         rest.1,
       ),
     )

@@ -1,5 +1,5 @@
 pub mod EachOctet
-pub mod ContentPlaces
+pub mod ContentPositions
 pub mod Fields
 pub mod Items
 pub mod Judging

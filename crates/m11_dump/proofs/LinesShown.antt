@@ -1,7 +1,7 @@
 -- Bytes that are shown as instructions, one line after another.
 use Rattle.std.proofs.Common.{◌≡◌, ◌∙◌, ℕ, zero, suc, ◌+◌, ◌-◌, ◌<◌, ◌≤◌, List, [], ◌∷◌, ◌++◌, append_assoc, drop, length, refl, sym, ap, subst, take, arith}
 use Rattle.std.proofs.lemmas.List.{drop-drop, length-drop, take_all}
-use Rattle.m11_dump.specs.Octets.{place_after}
+use Rattle.m11_dump.specs.Octets.{location_after}
 use Rattle.m11_dump.specs.Instructions.{front_size, line_text, lines_from}
 
 -- the bytes that a line before shows are passed over
@@ -16,15 +16,15 @@ lines_after address (suc shown) index (byte ∷ bytes) =
 
 -- the first line, and those after it
 first_line : (address index size : ℕ) (bytes : List ℕ) → 0 < length bytes → 0 < size
-    → size ≡ front_size (place_after address index) bytes
+    → size ≡ front_size (location_after address index) bytes
     → lines_from address index 0 bytes
-    ≡ line_text (place_after address index) bytes ++ lines_from address (index + size) 0 (drop size bytes)
+    ≡ line_text (location_after address index) bytes ++ lines_from address (index + size) 0 (drop size bytes)
 first_line address index size [] some least is = absurd (omega (arith, some))
 first_line address index zero (byte ∷ bytes) some least is = absurd (omega (arith, least))
 first_line address index (suc rest) (byte ∷ bytes) some least is =
-    let left : front_size (place_after address index) (byte ∷ bytes) - 1 ≡ rest = omega (arith, is) in
+    let left : front_size (location_after address index) (byte ∷ bytes) - 1 ≡ rest = omega (arith, is) in
     let e : index + 1 + rest ≡ index + suc rest = omega arith in
-    ap (λ (t : List ℕ). line_text (place_after address index) (byte ∷ bytes) ++ t)
+    ap (λ (t : List ℕ). line_text (location_after address index) (byte ∷ bytes) ++ t)
     (ap (λ (n : ℕ). lines_from address (index + 1) n bytes) left ∙ lines_after address rest (index + 1) bytes
     ∙ ap (λ (i : ℕ). lines_from address i 0 (drop rest bytes)) e)
 
@@ -32,11 +32,11 @@ first_line address index (suc rest) (byte ∷ bytes) some least is =
 module _ (all now later bytes : List ℕ) (address index size : ℕ) (below : index < length bytes)
     (leads : now ++ lines_from address index 0 (drop index bytes) ≡ all) (least : 0 < size) where
   more_shown : (left : List ℕ) → left ≡ drop index bytes → 0 < length left
-      → later ≡ now ++ line_text (place_after address index) left → size ≡ front_size (place_after address index) left
+      → later ≡ now ++ line_text (location_after address index) left → size ≡ front_size (location_after address index) left
       → later ++ lines_from address (index + size) 0 (drop (index + size) bytes) ≡ all
   more_shown left same some is sized =
       let P : List ℕ → Type 0 = λ l. now ++ lines_from address index 0 l ≡ all in
-      let line = line_text (place_after address index) left in
+      let line = line_text (location_after address index) left in
       let rest : List ℕ → List ℕ = λ l. lines_from address (index + size) 0 l in
       let more : rest (drop size left) ≡ rest (drop (index + size) bytes) =
       ap rest (ap (λ (l : List ℕ). drop size l) same ∙ drop-drop size index bytes) in
@@ -50,11 +50,11 @@ module _ (all now later bytes : List ℕ) (address index size : ℕ) (below : in
   rest_is : take (length bytes - index) (drop index bytes) ≡ drop index bytes
   rest_is = take_all (length bytes - index) (drop index bytes) (omega (arith, length-drop index bytes))
 
-  pub line_shown : (place : ℕ) → place ≡ place_after address index
-      → later ≡ now ++ line_text place (take (length bytes - index) (drop index bytes))
-      → size ≡ front_size place (take (length bytes - index) (drop index bytes))
+  pub line_shown : (location : ℕ) → location ≡ location_after address index
+      → later ≡ now ++ line_text location (take (length bytes - index) (drop index bytes))
+      → size ≡ front_size location (take (length bytes - index) (drop index bytes))
       → later ++ lines_from address (index + size) 0 (drop (index + size) bytes) ≡ all
-  line_shown place at is sized =
+  line_shown location at is sized =
       let left : List ℕ = take (length bytes - index) (drop index bytes) in
       let some : 0 < length left = omega (arith, below, length-drop index bytes, ap length rest_is) in
       let P : ℕ → Type 0 = λ p. later ≡ now ++ line_text p left in

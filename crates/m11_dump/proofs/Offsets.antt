@@ -1,14 +1,14 @@
 -- Where in a file a fault shows.
 use Rattle.std.proofs.Common.{◌≡◌, ◌∙◌, ℕ, ◌+◌, ◌≤◌, List, [], ◌++◌, length, length-append, take, Err, refl, ap, subst, arith}
-use Rattle.m11_obj_blocks.specs.Limited.{EndsBetween, EndsInside, Fails, Never, Passes, Place, Read, Refuses, Stops, Took, Why}
+use Rattle.m11_obj_blocks.specs.Limited.{EndsBetween, EndsInside, Fails, Never, Passes, Position, Read, Refuses, Stops, Took, Why}
 use Rattle.m11_obj.specs.Reading.{content_of, first_type, first_word}
 use Rattle.m11_obj.specs.declared.fault.RecordFault.{RecordFault}
 use Rattle.m11_obj.specs.declared.fault.RecordFault.TheVariants.{BadLength}
-use Rattle.m11_dump.specs.Places.{StopsAt, count_read, given_of, stop_byte}
+use Rattle.m11_dump.specs.Positions.{StopsAt, count_read, given_of, stop_byte}
 
 -- ---- bytes that were read
 
-given_room : {Fault A : Type 0} (read : List ℕ → Read Fault A) (old new : Place) (why : Why Fault) (stops : Stops read old new why)
+given_room : {Fault A : Type 0} (read : List ℕ → Read Fault A) (old new : Position) (why : Why Fault) (stops : Stops read old new why)
     → old.room ≡ length (given_of read old new why stops) + new.room
 given_room read old new Fails stops = omega (arith, stops.1.1.room, stops.1.2.2)
 given_room read old new EndsBetween stops = omega (arith, stops.1.1.room, stops.1.2.2)
@@ -18,11 +18,11 @@ given_room read old new (Refuses fault) stops = stops.1.room
 given_room read old new Never stops = absurd stops
 
 -- what was given in two parts is what was read
-pub read_is : (old here new : Place) (before given : List ℕ) → old.room ≡ 4194304 → Took old here before
+pub read_is : (old here new : Position) (before given : List ℕ) → old.room ≡ 4194304 → Took old here before
     → here.room ≡ length given + new.room → count_read new ≡ length (before ++ given)
 read_is old here new before given whole took room = omega (arith, whole, took.room, room, length-append before given)
 
-pub stops_at : {Fault A : Type 0} (read : List ℕ → Read Fault A) (why : Why Fault) (old here new : Place) (before : List ℕ) (byte : ℕ)
+pub stops_at : {Fault A : Type 0} (read : List ℕ → Read Fault A) (why : Why Fault) (old here new : Position) (before : List ℕ) (byte : ℕ)
     → old.room ≡ 4194304 → Took old here before → Stops read here new why → byte ≡ stop_byte why (count_read new)
     → StopsAt read why here new before byte
 stops_at read why old here new before byte whole took stops e = (

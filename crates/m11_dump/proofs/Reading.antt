@@ -4,15 +4,15 @@ use Rattle.std.specs.List.{AllByRecursion}
 use Rattle.std.specs.Io.KnownBytes.{Appends}
 use Rattle.m11_obj_blocks.specs.declared.block_fault.BlockFault.{BlockFault}
 use Rattle.m11_obj_blocks.specs.Blocks.{first_block, why_of}
-use Rattle.m11_obj_blocks.specs.Limited.{EndsBetween, Place, Reads, Stops}
+use Rattle.m11_obj_blocks.specs.Limited.{EndsBetween, Position, Reads, Stops}
 use Rattle.m11_obj_blocks.proofs.Limits.{took_nothing, took_then}
 use Rattle.m11_obj.specs.Reading.{IsRecord, content_of}
 use Rattle.m11_base_writes.specs.Outputs.{Output}
 use Rattle.m11_dump.specs.Records.{shown}
 use Rattle.m11_dump.specs.Objects.{AreInFront, DumpsObject, FailsAt, Gained, JudgesEnd, LacksMemory, RefusesBlock, Shows, StopsAfter, TakesBlock, after, after_all, object_text, parts_all, start, text_from}
-use Rattle.m11_dump.specs.Places.{RecordShowsAt, content_start, count_read, placed_at, stop_byte}
+use Rattle.m11_dump.specs.Positions.{RecordShowsAt, content_start, count_read, placed_at, stop_byte}
 use Rattle.m11_link_modules.specs.Parts.{Part, record_parts}
-use Rattle.m11_link_modules.specs.Places.{Known, known_of}
+use Rattle.m11_link_modules.specs.Positions.{Known, known_of}
 use Rattle.m11_link_modules.specs.Rules.{first_fault}
 use Rattle.m11_dump.proofs.Judging.{none_unsound, parts_more, sound_more}
 use Rattle.m11_dump.proofs.Offsets.{read_is, stops_at}
@@ -60,7 +60,7 @@ appends_then (Some x) (Some y) (Some z) xs ys a b = b ∙ ap (λ (text : List �
 -- ---- how far a dump has come
 
 -- these blocks were shown, and the dump stands after them; the room bounds how many there are, and how large
-pub record Dumping (view : View) (old here : Place) (output output' : Output) (s : Stand) (known : Known) (contents : List (List ℕ))
+pub record Dumping (view : View) (old here : Position) (output output' : Output) (s : Stand) (known : Known) (contents : List (List ℕ))
     : Type 0 where
   pub shows : Shows view old here output output' contents
   pub stands : s ≡ after_all start contents
@@ -68,7 +68,7 @@ pub record Dumping (view : View) (old here : Place) (output output' : Output) (s
   pub whole : old.room ≡ 4194304
   pub few : s.blocks + here.room ≤ 4194304
 
-pub dump_begins : (view : View) (old : Place) (output : Output) (known : Known) → old.room ≡ 4194304 → known ≡ known_of []
+pub dump_begins : (view : View) (old : Position) (output : Output) (known : Known) → old.room ≡ 4194304 → known ≡ known_of []
     → Dumping view old old output output start known []
 dump_begins view old output known room none = record {
   shows = record {
@@ -95,7 +95,7 @@ some_given : (given content : List ℕ) → ((rest : List ℕ) → first_block (
 some_given [] content is = absurd (none_is_no_block content [] (is []))
 some_given (byte ∷ given) content is = omega arith
 
-pub room_falls : (here there : Place) (content : List ℕ) → Reads first_block here there content → there.room < here.room
+pub room_falls : (here there : Position) (content : List ℕ) → Reads first_block here there content → there.room < here.room
 room_falls here there content r = omega (arith, some_given r.given content r.is, r.took.room)
 
 -- a reader that gave a result goes on
@@ -104,7 +104,7 @@ pub reads_on : {X : Type 0} (has_failed : Bool) (returned : X) → (IsTrue has_f
 reads_on false returned h = refl
 reads_on {X} true returned h = absurd (let bad = h.0 refl in cc)
 
-module _ (view : View) (old here : Place) (output output' : Output) (s : Stand) (known : Known) (contents : List (List ℕ))
+module _ (view : View) (old here : Position) (output output' : Output) (s : Stand) (known : Known) (contents : List (List ℕ))
     (d : Dumping view old here output output' s known contents) where
   pub blocks_fit : s.blocks < 2 ^ 32
   blocks_fit = omega (arith, d.few)
@@ -112,7 +112,7 @@ module _ (view : View) (old here : Place) (output output' : Output) (s : Stand) 
   number_is : s.blocks + 1 ≡ (after_all start contents).blocks + 1
   number_is = ap (λ (x : Stand). x.blocks + 1) d.stands
 
-  pub dump_ends : (new : Place) (count : ℕ) (result : Result (Unit {0}) Placed) → count ≡ count_read new
+  pub dump_ends : (new : Position) (count : ℕ) (result : Result (Unit {0}) Placed) → count ≡ count_read new
       → Stops first_block here new EndsBetween → JudgesEnd (parts_all contents) s.blocks count result
       → DumpsObject view old new output output' result
   dump_ends new count (Ok done) is stops j = (contents, here, d.shows, stops, j)
@@ -121,7 +121,7 @@ module _ (view : View) (old here : Place) (output output' : Output) (s : Stand) 
       let at = stops_at first_block EndsBetween old here new d.shows.given count d.whole d.shows.took stops is in
       subst P (sym j.2) (contents, here, output', d.shows, inr (at, j.1, refl), number_is)
 
-  pub block_refused : (new : Place) (inner : BlockFault) (said : Placed) (byte count : ℕ)
+  pub block_refused : (new : Position) (inner : BlockFault) (said : Placed) (byte count : ℕ)
       → said ≡ placed_at (fault.Block inner) s.blocks byte → byte ≡ stop_byte (why_of inner) count → count ≡ count_read new → Stops first_block here new (why_of inner)
       → DumpsObject view old new output output' (Err said)
   block_refused new inner said byte count e is read h =
@@ -130,7 +130,7 @@ module _ (view : View) (old here : Place) (output output' : Output) (s : Stand) 
       (is ∙ ap (stop_byte (why_of inner)) read) in
       subst P (sym e) (contents, here, output', d.shows, (stops, refl), number_is)
 
-  module _ (new : Place) (content : List ℕ) (r : Reads first_block here new content) (final : Output) where
+  module _ (new : Position) (content : List ℕ) (r : Reads first_block here new content) (final : Output) where
     count_is : count_read new ≡ length (d.shows.given ++ r.given)
     count_is = read_is old here new d.shows.given r.given d.whole d.shows.took r.took.room
 

@@ -7,7 +7,7 @@ use Rattle.m11_obj_blocks.specs.declared.tape_part.TapePart.{TapePart}
 use Rattle.m11_obj_blocks.specs.declared.tape_part.TapePart.TheVariants.{Data, Start}
 use Rattle.m11_obj_blocks.specs.declared.tape_part.TapeStage.{TapeStage}
 use Rattle.m11_obj_blocks.specs.declared.tape_part.TapeStage.TheVariants.{BeforeBlock, InBlock, AtEnd, AfterFault}
-use Rattle.m11_obj_blocks.specs.Limited.{Place, Read, Reads, Took}
+use Rattle.m11_obj_blocks.specs.Limited.{Position, Read, Reads, Took}
 use Rattle.m11_obj_blocks.specs.Tapes.{AreRead, IsTape, ReadsByte, ReadsNext, ReadsPart, data_byte, first_part, left_of, next_part, opened, stage_after, stage_within, tape_header, total_of, why_of}
 use Rattle.m11_obj_blocks.proofs.Limits.{took_nothing, took_then}
 use Rattle.m11_obj_blocks.proofs.ReadSteps.{bytes_then, rest_is, value_is}
@@ -15,7 +15,7 @@ use Rattle.m11_obj_blocks.proofs.TapeFrames.{opened_all, opened_more, tape_frame
 use Rattle.m11_base_writes.specs.Outputs.{Output}
 use Rattle.m11_base_writes.specs.Outputs as writes
 use Rattle.m11_dump.proofs.Reading.{appends_nothing, appends_then}
-use Rattle.m11_dump.specs.Places.{count_read, fault_byte, placed_at, stop_byte}
+use Rattle.m11_dump.specs.Positions.{count_read, fault_byte, placed_at, stop_byte}
 use Rattle.m11_dump.proofs.Offsets.{stops_at}
 use Rattle.m11_dump.specs.Tapes.{DumpsTape, Hold, Puts, ReadsData, ShowsTape, StopsData, StopsTape, TakesData, block_text, part_after, start_text, tape_text}
 use Rattle.m11_dump.specs.declared.fault.DumpFault.{DumpFault}
@@ -36,16 +36,16 @@ byte_is (b ∷ given) byte e =
     let empty : given ≡ [] = sym (append-nil given) ∙ none in
     cc
 
-byte_took : (old new : Place) (byte : ℕ) → Reads data_byte old new byte → Took old new (byte ∷ [])
+byte_took : (old new : Position) (byte : ℕ) → Reads data_byte old new byte → Took old new (byte ∷ [])
 byte_took old new byte r = subst (λ (given : List ℕ). Took old new given) (byte_is r.given byte (r.is [])) r.took
 
 -- some bytes of the open block were taken
-pub record Taking (old here : Place) (address count index : ℕ) (stage : TapeStage) (taken : List ℕ) : Type 0 where
+pub record Taking (old here : Position) (address count index : ℕ) (stage : TapeStage) (taken : List ℕ) : Type 0 where
   pub long : length taken ≡ index
   pub took : Took old here taken
   pub stands : stage ≡ opened address count taken
 
-pub none_taken : (old : Place) (address count : ℕ) (stage : TapeStage)
+pub none_taken : (old : Position) (address count : ℕ) (stage : TapeStage)
     → stage ≡ InBlock count (sum (tape_header address count) % 256) → Taking old old address count 0 stage []
 none_taken old address count stage begun =
     let all : count ≡ count - 0 = omega arith in record {
@@ -54,7 +54,7 @@ none_taken old address count stage begun =
       stands = begun ∙ ap (λ (left : ℕ). InBlock left (sum (tape_header address count) % 256)) all;
     }
 
-module _ (old here : Place) (address count index : ℕ) (stage : TapeStage) (taken : List ℕ)
+module _ (old here : Position) (address count index : ℕ) (stage : TapeStage) (taken : List ℕ)
     (t : Taking old here address count index stage taken) where
   some_left : index < count → left_of (opened address count taken) ≡ 0 → stage ≡ AfterFault
   some_left more none = absurd (omega (arith, t.long))
@@ -62,17 +62,17 @@ module _ (old here : Place) (address count index : ℕ) (stage : TapeStage) (tak
   pub is_open : index < count → left_of stage ≡ 0 → stage ≡ AfterFault
   is_open more none = some_left more (ap left_of (sym t.stands) ∙ none)
 
-  byte_read : (new : Place) (after : TapeStage) (result : Result ℕ TapeFault) → ReadsByte stage here new after result
+  byte_read : (new : Position) (after : TapeStage) (result : Result ℕ TapeFault) → ReadsByte stage here new after result
       → ReadsPart (λ byte. byte) data_byte here new result
       × (after ≡ stage_within (count - length taken) (sum (tape_header address count ++ taken) % 256) result)
   byte_read new after result r = rw t.stands at r
 
-  pub data_stops : index < count → (new : Place) (after : TapeStage) (inner : TapeFault)
+  pub data_stops : index < count → (new : Position) (after : TapeStage) (inner : TapeFault)
       → ReadsByte stage here new after (Err inner) → StopsData (fault.Tape inner) old new count
   data_stops more new after inner r =
       (taken, here, t.took, omega (arith, t.long), (byte_read new after (Err inner) r).0)
 
-  pub one_taken : (new : Place) (after : TapeStage) (byte : ℕ) → ReadsByte stage here new after (Ok byte)
+  pub one_taken : (new : Position) (after : TapeStage) (byte : ℕ) → ReadsByte stage here new after (Ok byte)
       → Taking old new address count (index + 1) after (taken ++ byte ∷ [])
   one_taken new after byte r =
       let given = byte_took here new byte (byte_read new after (Ok byte) r).0 in record {
@@ -97,7 +97,7 @@ puts_as text old new (Err f) p =
     let P : DumpFault → Type 0 = λ x. Puts text old new (Err x) in subst P (sym p.0) (p.1, p.2)
 
 -- what was read is shown, or not
-pub data_taken : (view : View) (start end : Place) (stage : TapeStage) (address count : ℕ) (bytes : List ℕ) (output output' : Output)
+pub data_taken : (view : View) (start end : Position) (stage : TapeStage) (address count : ℕ) (bytes : List ℕ) (output output' : Output)
     (result : Result (Unit {0}) DumpFault) → ReadsData start end stage address count bytes
     → Puts (block_text view address bytes) output output' result → TakesData view start end stage address count output output' result
 data_taken view start end stage address count bytes output output' (Ok done) r p = (bytes, r, p)
@@ -108,7 +108,7 @@ data_taken view start end stage address count bytes output output' (Err (fault.R
 data_taken view start end stage address count bytes output output' (Err (fault.Rule inner)) r p = absurd p
 data_taken view start end stage address count bytes output output' (Err (fault.Tape inner)) r p = absurd p
 
-pub data_not_taken : (view : View) (start end : Place) (stage : TapeStage) (address count : ℕ) (output : Output) (f : DumpFault)
+pub data_not_taken : (view : View) (start end : Position) (stage : TapeStage) (address count : ℕ) (output : Output) (f : DumpFault)
     → StopsData f start end count → TakesData view start end stage address count output output (Err f)
 data_not_taken view start end stage address count output fault.Write s = absurd s
 data_not_taken view start end stage address count output fault.NoMemory s = refl
@@ -169,7 +169,7 @@ are_read read (block ∷ blocks) start given last held is =
       are_read (next_part (total_of block.0 block.1)) blocks start held.1 last held.4 is,
     )
 
-is_tape : (blocks : List (ℕ × List ℕ)) (start : ℕ) (a b c : Place) (given : List ℕ) → Took a b given
+is_tape : (blocks : List (ℕ × List ℕ)) (start : ℕ) (a b c : Position) (given : List ℕ) → Took a b given
     → Hold first_part blocks given
     → (last : Reads (part_after first_part blocks) b c (Start start)) → IsTape blocks start (given ++ last.given)
 is_tape blocks start a b c given took held last =
@@ -185,7 +185,7 @@ StandsBefore (InBlock left total) read = (left ≡ 0) × (read ≡ next_part tot
 StandsBefore (AtEnd address) read = ⊥
 StandsBefore AfterFault read = ⊥
 
-next_is : (stage : TapeStage) (read : Reader) (old new : Place) (after : TapeStage) (result : Result TapePart TapeFault)
+next_is : (stage : TapeStage) (read : Reader) (old new : Position) (after : TapeStage) (result : Result TapePart TapeFault)
     → StandsBefore stage read → ReadsNext stage old new after result
     → ReadsPart (λ part. part) read old new result × (after ≡ stage_after result)
 next_is BeforeBlock read old new after result stands r = rw stands r
@@ -194,7 +194,7 @@ next_is (AtEnd address) read old new after result stands r = absurd stands
 next_is AfterFault read old new after result stands r = absurd stands
 
 -- these blocks were given and shown, and the reader stands before the part after them
-pub record Taping (view : View) (old here : Place) (output output' : Output) (stage : TapeStage) (passed : ℕ)
+pub record Taping (view : View) (old here : Position) (output output' : Output) (stage : TapeStage) (passed : ℕ)
     (blocks : List (ℕ × List ℕ)) : Type 0 where
   pub shows : ShowsTape view old here output output' blocks
   pub before : StandsBefore stage (part_after first_part blocks)
@@ -202,7 +202,7 @@ pub record Taping (view : View) (old here : Place) (output output' : Output) (st
   pub whole : old.room ≡ 4194304
   pub few : passed + here.room ≤ 4194304
 
-pub tape_begins : (view : View) (old : Place) (output : Output) → old.room ≡ 4194304
+pub tape_begins : (view : View) (old : Position) (output : Output) → old.room ≡ 4194304
     → Taping view old old output output BeforeBlock 0 []
 tape_begins view old output room = record {
   shows = record {
@@ -224,7 +224,7 @@ none_left (InBlock left total) read stands = stands.0
 none_left (AtEnd address) read stands = refl
 none_left AfterFault read stands = refl
 
-module _ (view : View) (old here : Place) (output output' : Output) (stage : TapeStage) (passed : ℕ) (blocks : List (ℕ × List ℕ))
+module _ (view : View) (old here : Position) (output output' : Output) (stage : TapeStage) (passed : ℕ) (blocks : List (ℕ × List ℕ))
     (d : Taping view old here output output' stage passed blocks) where
   pub block_ended : left_of stage ≡ 0
   block_ended = none_left stage (part_after first_part blocks) d.before
@@ -233,17 +233,17 @@ module _ (view : View) (old here : Place) (output output' : Output) (stage : Tap
   blocks_few = omega (arith, d.few)
 
   -- a fault, at the byte that comes of all that was read
-  abbrev pub SaidAt : DumpFault → Place → Placed → Type 0
+  abbrev pub SaidAt : DumpFault → Position → Placed → Type 0
   SaidAt f new said = said ≡ placed_at f passed (fault_byte f (count_read new))
 
-  stopped : (f : DumpFault) (new : Place) (final : Output) (said : Placed) → SaidAt f new said
+  stopped : (f : DumpFault) (new : Position) (final : Output) (said : Placed) → SaidAt f new said
       → StopsTape view f here new output' final blocks d.shows.given (fault_byte f (count_read new))
       → DumpsTape view old new output final (Err said)
   stopped f new final said e h =
       let P : Placed → Type 0 = λ x. DumpsTape view old new output final (Err x) in
       subst P (sym e) (blocks, here, output', d.shows, h, ap (λ (n : ℕ). n + 1) d.counts)
 
-  module _ (new : Place) (after : TapeStage) (result : Result TapePart TapeFault) (r : ReadsNext stage here new after result) where
+  module _ (new : Position) (after : TapeStage) (result : Result TapePart TapeFault) (r : ReadsNext stage here new after result) where
     part_read : ReadsPart (λ part. part) (part_after first_part blocks) here new result × (after ≡ stage_after result)
     part_read = next_is stage (part_after first_part blocks) here new after result d.before r
 
@@ -295,7 +295,7 @@ module _ (view : View) (old here : Place) (output output' : Output) (stage : Tap
           → DumpsTape view old new output final (Err said)
       start_stops f said e p = start_refused f said e p
 
-    module _ (address count : ℕ) (is : result ≡ Ok (Data address count)) (end : Place) (stage' : TapeStage) (final : Output) where
+    module _ (address count : ℕ) (is : result ≡ Ok (Data address count)) (end : Position) (stage' : TapeStage) (final : Output) where
       header : Reads (part_after first_part blocks) here new (Data address count)
       header = part_as (Ok (Data address count)) is
 

@@ -1,5 +1,5 @@
--- The bytes of a text or of a block of a tape as instructions, one in a line: its place, its words, and the line of source that stands
--- for them there. A byte at an odd place, and a last one without another, is a byte of data. (PDP-11/40 Processor Handbook,
+-- The bytes of a text or of a block of a tape as instructions, one in a line: its location, its words, and the line of source that stands
+-- for them there. A byte at an odd location, and a last one without another, is a byte of data. (PDP-11/40 Processor Handbook,
 -- "Instruction set"; MACRO-11 Language Reference Manual, "Addressing modes". The lines are this project's own.)
 use Rattle.std.specs.Prelude.{◌≡◌, ◌<◌, ℕ, zero, suc, ◌+◌, ◌-◌, ◌*◌, ◌%◌, ◌==◌, if◌then◌else◌, List, [], ◌∷◌, ◌++◌, length, take, codes}
 use Rattle.m11_base.specs.Devices.{Bytes}
@@ -7,7 +7,7 @@ use Rattle.m11_base.specs.Octal.{octal_text}
 use Rattle.m11_base_disassembly.specs.Instructions.{size_of, statement_of}
 use Rattle.m11_base_disassembly.specs.Statements.{Statement, DataByte}
 use Rattle.m11_base_disassembly.specs.Texts.{statement_text}
-use Rattle.m11_dump.specs.Octets.{octal3, place_after}
+use Rattle.m11_dump.specs.Octets.{location_after, octal3}
 
 -- ---- what stands first among bytes
 
@@ -23,18 +23,18 @@ following (a ∷ b ∷ []) = word_of a b ∷ []
 following (a ∷ b ∷ c ∷ []) = word_of a b ∷ []
 following (a ∷ b ∷ c ∷ d ∷ bytes) = word_of a b ∷ word_of c d ∷ []
 
--- the line of source of what stands at a place, with bytes from there on
+-- the line of source of what stands at a location, with bytes from there on
 abbrev pub front_statement : ℕ → Bytes → Statement
-front_statement place [] = DataByte 0
-front_statement place (byte ∷ []) = DataByte byte
-front_statement place (low ∷ high ∷ bytes) =
-    if place % 2 == 0 then statement_of place (word_of low high) (following bytes) else DataByte low
+front_statement location [] = DataByte 0
+front_statement location (byte ∷ []) = DataByte byte
+front_statement location (low ∷ high ∷ bytes) =
+    if location % 2 == 0 then statement_of location (word_of low high) (following bytes) else DataByte low
 
 -- how many bytes that has
 abbrev pub front_size : ℕ → Bytes → ℕ
-front_size place [] = 1
-front_size place (byte ∷ []) = 1
-front_size place (low ∷ high ∷ bytes) = if place % 2 == 0 then 2 * size_of (word_of low high) (following bytes) else 1
+front_size location [] = 1
+front_size location (byte ∷ []) = 1
+front_size location (low ∷ high ∷ bytes) = if location % 2 == 0 then 2 * size_of (word_of low high) (following bytes) else 1
 
 -- ---- its line
 
@@ -50,14 +50,14 @@ gap count =
     if count == 1 then codes "                  " else if count == 2 then codes "               "
     else if count == 4 then codes "        " else codes " "
 
--- a line: a place, bytes, and a line of source
+-- a line: a location, bytes, and a line of source
 abbrev pub line_by : ℕ → Bytes → Bytes → Bytes
-line_by place shown source =
-    ((((codes "  " ++ octal_text place) ++ cells shown) ++ gap (length shown)) ++ source) ++ 10 ∷ []
+line_by location shown source =
+    ((((codes "  " ++ octal_text location) ++ cells shown) ++ gap (length shown)) ++ source) ++ 10 ∷ []
 
--- the line of what stands at a place
+-- the line of what stands at a location
 abbrev pub line_text : ℕ → Bytes → Bytes
-line_text place bytes = line_by place (take (front_size place bytes) bytes) (statement_text (front_statement place bytes))
+line_text location bytes = line_by location (take (front_size location bytes) bytes) (statement_text (front_statement location bytes))
 
 -- ---- lines one after another
 
@@ -68,19 +68,19 @@ head_line word address = (word ++ octal_text address) ++ 10 ∷ []
 -- what is shown of bytes of which the first one has this index, where the line before shows so many of them
 abbrev pub lines_from : ℕ → ℕ → ℕ → Bytes → Bytes
 lines_from address index shown [] = []
-lines_from address index zero (byte ∷ bytes) = line_text (place_after address index) (byte ∷ bytes)
-    ++ lines_from address (index + 1) (front_size (place_after address index) (byte ∷ bytes) - 1) bytes
+lines_from address index zero (byte ∷ bytes) = line_text (location_after address index) (byte ∷ bytes)
+    ++ lines_from address (index + 1) (front_size (location_after address index) (byte ∷ bytes) - 1) bytes
 lines_from address index (suc shown) (byte ∷ bytes) = lines_from address (index + 1) shown bytes
 
--- what is shown of bytes that lie at an address and the places after it
+-- what is shown of bytes that lie at an address and the locations after it
 abbrev pub lines : ℕ → Bytes → Bytes
 lines address bytes = lines_from address 0 0 bytes
 
 -- ---- which bytes each line shows
 
--- a text of lines that show these bytes, one after another: each shows those that come next, at their place, with a line of source
+-- a text of lines that show these bytes, one after another: each shows those that come next, at their location, with a line of source
 abbrev pub AreLines : ℕ → ℕ → List Bytes → Bytes → Bytes → Type 0
 AreLines address index [] bytes text = (bytes ≡ []) × (text ≡ [])
 AreLines address index (shown ∷ others) bytes text = (source : Bytes) × (rest : Bytes) × (more : Bytes)
-    × (0 < length shown) × (bytes ≡ shown ++ rest) × (text ≡ line_by (place_after address index) shown source ++ more)
+    × (0 < length shown) × (bytes ≡ shown ++ rest) × (text ≡ line_by (location_after address index) shown source ++ more)
     × AreLines address (index + length shown) others rest more

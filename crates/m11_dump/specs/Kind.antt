@@ -3,7 +3,7 @@
 use Rattle.std.specs.Prelude.{◌≡◌, Bool, true, false, [], ◌∷◌, ◌==◌, ◌&&◌, if◌then◌else◌, Result, Ok, Err}
 use Rattle.m11_base.specs.Devices.{Bytes}
 use Rattle.m11_obj_blocks.specs.Blocks.{ReadsInto}
-use Rattle.m11_obj_blocks.specs.Limited.{Place}
+use Rattle.m11_obj_blocks.specs.Limited.{Position}
 use Rattle.m11_obj_blocks.specs.declared.block_fault.BlockFault.{BlockFault}
 use Rattle.m11_obj_blocks.specs.declared.block_fault.BlockFault.TheVariants.{TooLong}
 use Rattle.m11_dump.specs.declared.kind.Kind.{Kind}
@@ -23,6 +23,6 @@ kind_by content (Err TooLong) = Tape
 kind_by content (Err fault) = Object
 
 -- what a file is whose first block was read
-abbrev pub IsKind : Place → Place → Kind → Type 0
+abbrev pub IsKind : Position → Position → Kind → Type 0
 IsKind old new kind = (content : Bytes) × (result : Result Bool BlockFault) × ReadsInto content old new result
     × (kind ≡ kind_by content result)

@@ -3,7 +3,7 @@ pub mod Instructions
 pub mod Entries
 pub mod Relocations
 pub mod Records
-pub mod Places
+pub mod Positions
 pub mod Objects
 pub mod Words
 pub mod Tapes

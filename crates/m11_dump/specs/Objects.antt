@@ -6,15 +6,15 @@ use Rattle.std.specs.Io.KnownBytes.{Appends}
 use Rattle.m11_base.specs.Devices.{Bytes, Rises}
 use Rattle.m11_base.specs.Sink.{AppendsBeginning}
 use Rattle.m11_obj_blocks.specs.Blocks.{first_block, why_of}
-use Rattle.m11_obj_blocks.specs.Limited.{EndsBetween, Place, Reads, Stops, Took}
+use Rattle.m11_obj_blocks.specs.Limited.{EndsBetween, Position, Reads, Stops, Took}
 use Rattle.m11_link_modules.specs.Laws.{TakesAfter}
 use Rattle.m11_link_modules.specs.Parts.{EndOfFile, Part, record_parts}
-use Rattle.m11_link_modules.specs.Places.{Known}
+use Rattle.m11_link_modules.specs.Positions.{Known}
 use Rattle.m11_link_modules.specs.Rules.{StopsAtName, first_fault}
 use Rattle.m11_link_modules.specs.declared.fault.ModuleFault.{ModuleFault}
 use Rattle.m11_obj.specs.Reading.{IsRecord, content_of}
 use Rattle.m11_base_writes.specs.Outputs.{Output}
-use Rattle.m11_dump.specs.Places.{RecordShowsAt, StopsAt, content_start, of_rule, placed_at, rule_byte}
+use Rattle.m11_dump.specs.Positions.{RecordShowsAt, StopsAt, content_start, of_rule, placed_at, rule_byte}
 use Rattle.m11_dump.specs.Records.{address_then, shown}
 use Rattle.m11_dump.specs.declared.fault.DumpFault.{DumpFault}
 use Rattle.m11_dump.specs.declared.fault.DumpFault.TheVariants as fault
@@ -60,7 +60,7 @@ abbrev pub parts_all : List Bytes → List Part
 parts_all contents = flat_map record_parts contents
 
 -- a feed gave blocks of these contents, all of them records, which break no rule of modules, and an output gained their text
-pub record Shows (view : View) (old here : Place) (output output' : Output) (contents : List Bytes) : Type 0 where
+pub record Shows (view : View) (old here : Position) (output output' : Output) (contents : List Bytes) : Type 0 where
   pub given : Bytes
   pub took : Took old here given
   pub blocks : (rest : Bytes) → AreInFront contents (given ++ rest) rest
@@ -84,7 +84,7 @@ LacksMemory view address parts content output output' = (output' ≡ output)
 
 -- after blocks of these contents a further one is a record that breaks a rule of modules, and its text is there. The first byte of its
 -- content shows that
-abbrev pub RecordBreaks : View → ModuleFault → Place → Place → Output → Output → List Bytes → Bytes → ℕ → Type 0
+abbrev pub RecordBreaks : View → ModuleFault → Position → Position → Output → Output → List Bytes → Bytes → ℕ → Type 0
 RecordBreaks view inner here new output output' contents before byte =
     (bad : Bytes) × (block : Reads first_block here new bad) × IsRecord bad
     × (first_fault (parts_all contents) (record_parts bad) ≡ Some inner)
@@ -92,14 +92,14 @@ RecordBreaks view inner here new output output' contents before byte =
     × (byte ≡ content_start bad (length (before ++ block.given)))
 
 -- the bytes end after them, inside a module
-abbrev pub EndBreaks : ModuleFault → Place → Place → Output → Output → List Bytes → Bytes → ℕ → Type 0
+abbrev pub EndBreaks : ModuleFault → Position → Position → Output → Output → List Bytes → Bytes → ℕ → Type 0
 EndBreaks inner here new output output' contents before byte = StopsAt first_block EndsBetween here new before byte
     × (first_fault (parts_all contents) (EndOfFile ∷ []) ≡ Some inner) × (output' ≡ output)
 
 -- why a dump stopped after blocks of these contents, and after all these bytes, and at which byte that shows: no further block could
 -- be read; or one is no record; or it breaks a rule of modules, as the end of the file may; or its text couldn't be written; or memory was
 -- refused
-abbrev pub StopsAfter : View → DumpFault → Place → Place → Output → Output → List Bytes → Bytes → ℕ → Type 0
+abbrev pub StopsAfter : View → DumpFault → Position → Position → Output → Output → List Bytes → Bytes → ℕ → Type 0
 StopsAfter view (fault.Block inner) here new output output' contents before byte =
     StopsAt first_block (why_of inner) here new before byte × (output' ≡ output)
 StopsAfter view (fault.Record inner) here new output output' contents before byte =
@@ -119,11 +119,11 @@ StopsAfter view fault.NoMemory here new output output' contents before byte =
 
 -- what a dump of an object does: the output gains the text of all blocks, after which the bytes end, between modules; or of all blocks
 -- before the first fault
-abbrev pub DumpsObject : View → Place → Place → Output → Output → Result (Unit {0}) Placed → Type 0
-DumpsObject view old new output output' (Ok done) = (contents : List Bytes) × (here : Place)
+abbrev pub DumpsObject : View → Position → Position → Output → Output → Result (Unit {0}) Placed → Type 0
+DumpsObject view old new output output' (Ok done) = (contents : List Bytes) × (here : Position)
     × Shows view old here output output' contents × Stops first_block here new EndsBetween
     × (first_fault (parts_all contents) (EndOfFile ∷ []) ≡ None)
-DumpsObject view old new output output' (Err said) = (contents : List Bytes) × (here : Place) × (middle : Output)
+DumpsObject view old new output output' (Err said) = (contents : List Bytes) × (here : Position) × (middle : Output)
     × (shows : Shows view old here output middle contents)
     × StopsAfter view said.fault here new middle output' contents shows.given said.byte
     × (said.block ≡ (after_all start contents).blocks + 1)

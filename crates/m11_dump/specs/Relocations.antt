@@ -43,9 +43,9 @@ target_text target = (target_word target ++ optional_name (parts_of target).name
 abbrev pub byte_word : Bool → Bytes
 byte_word is_byte = if is_byte then codes " BYTE" else []
 
--- the place that a displacement of 4 and on names in a text at this address
-abbrev pub place_of : ℕ → ℕ → ℕ
-place_of address displacement = (address + displacement + 65532) % 65536
+-- the location that a displacement of 4 and on names in a text at this address
+abbrev pub location_of : ℕ → ℕ → ℕ
+location_of address displacement = (address + displacement + 65532) % 65536
 
 -- whether something is stored: a command on the location counter says where texts go on, and stores nothing
 abbrev pub stores : Target → Bool
@@ -53,12 +53,12 @@ stores (LocationCounterDefinition name constant) = false
 stores (LocationCounterModification constant) = false
 stores target = true
 
--- the place of a relocation of the text at this address, or blanks
-abbrev pub place_text : ℕ → Relocation → Bytes
-place_text address relocation =
-    if stores relocation.target then octal_text (place_of address relocation.displacement) else codes "      "
+-- the location of a relocation of the text at this address, or blanks
+abbrev pub location_text : ℕ → Relocation → Bytes
+location_text address relocation =
+    if stores relocation.target then octal_text (location_of address relocation.displacement) else codes "      "
 
--- the line of a relocation of the text at this address: its place, and what is stored there
+-- the line of a relocation of the text at this address: its location, and what is stored there
 abbrev pub relocation_line : ℕ → Relocation → Bytes
-relocation_line address relocation = line_of ((((codes "  " ++ place_text address relocation) ++ 32 ∷ [])
+relocation_line address relocation = line_of ((((codes "  " ++ location_text address relocation) ++ 32 ∷ [])
     ++ target_text relocation.target) ++ byte_word relocation.is_byte)

@@ -5,7 +5,7 @@ use Rattle.std.specs.List.{flat_map}
 use Rattle.std.specs.Io.KnownBytes.{Appends}
 use Rattle.m11_base.specs.Devices.{Bytes}
 use Rattle.m11_base.specs.Octal.{octal_text}
-use Rattle.m11_obj_blocks.specs.Limited.{Place, Read, Reads, Stops, Took}
+use Rattle.m11_obj_blocks.specs.Limited.{Position, Read, Reads, Stops, Took}
 use Rattle.m11_obj_blocks.specs.Tapes.{IsTape, data_byte, first_part, next_part, total_of, why_of}
 use Rattle.m11_obj_blocks.specs.declared.tape_fault.TapeFault.{TapeFault}
 use Rattle.m11_obj_blocks.specs.declared.tape_part.TapePart.{TapePart}
@@ -14,7 +14,7 @@ use Rattle.m11_obj_blocks.specs.declared.tape_part.TapeStage.{TapeStage}
 use Rattle.m11_obj_blocks.specs.declared.tape_part.TapeStage.TheVariants.{InBlock}
 use Rattle.m11_base_writes.specs.Outputs.{Output}
 use Rattle.m11_dump.specs.Objects.{FailsAt}
-use Rattle.m11_dump.specs.Places.{StopsAt, count_read}
+use Rattle.m11_dump.specs.Positions.{StopsAt, count_read}
 use Rattle.m11_dump.specs.Words.{data_cells}
 use Rattle.m11_dump.specs.declared.fault.DumpFault.{DumpFault}
 use Rattle.m11_dump.specs.declared.fault.DumpFault.TheVariants as fault
@@ -52,7 +52,7 @@ Hold read (block ∷ blocks) bytes = (header : Bytes) × (following : Bytes) × 
     × Hold (next_part (total_of block.0 block.1)) blocks following
 
 -- a feed gave these blocks, and an output gained their text
-pub record ShowsTape (view : View) (old here : Place) (output output' : Output) (blocks : List (ℕ × Bytes)) : Type 0 where
+pub record ShowsTape (view : View) (old here : Position) (output output' : Output) (blocks : List (ℕ × Bytes)) : Type 0 where
   pub given : Bytes
   pub took : Took old here given
   pub hold : Hold first_part blocks given
@@ -60,30 +60,30 @@ pub record ShowsTape (view : View) (old here : Place) (output output' : Output) 
   pub faults : output'.faults ≡ output.faults
 
 -- a block's header was read, and some of its data, but not all
-pub record InsideData (read : Bytes → Read TapeFault TapePart) (here inside : Place) : Type 0 where
+pub record InsideData (read : Bytes → Read TapeFault TapePart) (here inside : Position) : Type 0 where
   pub address : ℕ
   pub count : ℕ
-  pub opened : Place
+  pub opened : Position
   pub header : Reads read here opened (Data address count)
   pub taken : Bytes
   pub took : Took opened inside taken
   pub some : length taken < count
 
 -- the next part is a block of data, all of which was read; or the transfer block: with what is to be shown of it
-abbrev pub ReadsText : View → (Bytes → Read TapeFault TapePart) → Place → Bytes → Type 0
+abbrev pub ReadsText : View → (Bytes → Read TapeFault TapePart) → Position → Bytes → Type 0
 ReadsText view read here text =
-    ((address : ℕ) × (bytes : Bytes) × (opened : Place) × (end : Place)
+    ((address : ℕ) × (bytes : Bytes) × (opened : Position) × (end : Position)
     × Reads read here opened (Data address (length bytes)) × Took opened end bytes × (text ≡ block_text view address bytes))
-    ⊎ ((address : ℕ) × (end : Place) × Reads read here end (Start address) × (text ≡ start_text address))
+    ⊎ ((address : ℕ) × (end : Position) × Reads read here end (Start address) × (text ≡ start_text address))
 
 -- not all data of the next part could be read, after all these bytes before it, as this byte shows
-abbrev pub StopsInside : (Bytes → Read TapeFault TapePart) → TapeFault → Place → Place → Bytes → ℕ → Type 0
-StopsInside read inner here new before byte = (inside : Place) × (opened : InsideData read here inside)
+abbrev pub StopsInside : (Bytes → Read TapeFault TapePart) → TapeFault → Position → Position → Bytes → ℕ → Type 0
+StopsInside read inner here new before byte = (inside : Position) × (opened : InsideData read here inside)
     × StopsAt data_byte (why_of inner) inside new (before ++ (opened.header.given ++ opened.taken)) byte
 
 -- why a dump stopped after blocks, and after all these bytes, and at which byte that shows: no further part could be read, or not all
 -- data of one; or what is shown of it couldn't be written; or memory was refused
-abbrev pub StopsTape : View → DumpFault → Place → Place → Output → Output → List (ℕ × Bytes) → Bytes → ℕ → Type 0
+abbrev pub StopsTape : View → DumpFault → Position → Position → Output → Output → List (ℕ × Bytes) → Bytes → ℕ → Type 0
 StopsTape view (fault.Tape inner) here new output output' blocks before byte = (output' ≡ output)
     × (StopsAt (part_after first_part blocks) (why_of inner) here new before byte
     ⊎ StopsInside (part_after first_part blocks) inner here new before byte)
@@ -95,10 +95,10 @@ StopsTape view (fault.Record inner) here new output output' blocks before byte =
 StopsTape view (fault.Rule inner) here new output output' blocks before byte = ⊥
 
 -- a whole tape: its blocks and its transfer block, after which nothing is read, and the output gained the text of all
-pub record DumpsWhole (view : View) (old new : Place) (output output' : Output) : Type 0 where
+pub record DumpsWhole (view : View) (old new : Position) (output output' : Output) : Type 0 where
   pub blocks : List (ℕ × Bytes)
   pub start : ℕ
-  pub here : Place
+  pub here : Position
   pub middle : Output
   pub shows : ShowsTape view old here output middle blocks
   pub last : Reads (part_after first_part blocks) here new (Start start)
@@ -107,9 +107,9 @@ pub record DumpsWhole (view : View) (old new : Place) (output output' : Output) 
   pub faults : output'.faults ≡ middle.faults
 
 -- what a dump of a tape does: the output gains the text of the whole tape; or of all blocks before the first fault
-abbrev pub DumpsTape : View → Place → Place → Output → Output → Result (Unit {0}) Placed → Type 0
+abbrev pub DumpsTape : View → Position → Position → Output → Output → Result (Unit {0}) Placed → Type 0
 DumpsTape view old new output output' (Ok done) = DumpsWhole view old new output output'
-DumpsTape view old new output output' (Err said) = (blocks : List (ℕ × Bytes)) × (here : Place) × (middle : Output)
+DumpsTape view old new output output' (Err said) = (blocks : List (ℕ × Bytes)) × (here : Position) × (middle : Output)
     × (shows : ShowsTape view old here output middle blocks)
     × StopsTape view said.fault here new middle output' blocks shows.given said.byte × (said.block ≡ length blocks + 1)
 
@@ -126,13 +126,13 @@ Puts text output output' (Err (fault.Rule inner)) = ⊥
 Puts text output output' (Err (fault.Tape inner)) = ⊥
 
 -- all data of a block was read, and the reader then stands at the end of that
-abbrev pub ReadsData : Place → Place → TapeStage → ℕ → ℕ → Bytes → Type 0
+abbrev pub ReadsData : Position → Position → TapeStage → ℕ → ℕ → Bytes → Type 0
 ReadsData opened end stage address count bytes =
     (length bytes ≡ count) × Took opened end bytes × (stage ≡ InBlock 0 (total_of address bytes))
 
 -- some of it was, and then no more could be; or memory was refused for it
-abbrev pub StopsData : DumpFault → Place → Place → ℕ → Type 0
-StopsData (fault.Tape inner) opened new count = (taken : Bytes) × (inside : Place) × Took opened inside taken
+abbrev pub StopsData : DumpFault → Position → Position → ℕ → Type 0
+StopsData (fault.Tape inner) opened new count = (taken : Bytes) × (inside : Position) × Took opened inside taken
     × (length taken < count) × Stops data_byte inside new (why_of inner)
 StopsData fault.NoMemory opened new count = ⊤
 StopsData fault.Write opened new count = ⊥
@@ -141,7 +141,7 @@ StopsData (fault.Record inner) opened new count = ⊥
 StopsData (fault.Rule inner) opened new count = ⊥
 
 -- the data of a block was read and shown, or why it wasn't
-abbrev pub TakesData : View → Place → Place → TapeStage → ℕ → ℕ → Output → Output → Result (Unit {0}) DumpFault → Type 0
+abbrev pub TakesData : View → Position → Position → TapeStage → ℕ → ℕ → Output → Output → Result (Unit {0}) DumpFault → Type 0
 TakesData view opened new stage address count output output' (Err (fault.Tape inner)) =
     StopsData (fault.Tape inner) opened new count × (output' ≡ output)
 TakesData view opened new stage address count output output' (Err fault.NoMemory) = output' ≡ output

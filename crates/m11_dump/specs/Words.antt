@@ -4,12 +4,12 @@
 use Rattle.std.specs.Prelude.{ℕ, ◌+◌, ◌*◌, ◌%◌, ◌==◌, if◌then◌else◌, [], ◌∷◌, ◌++◌, codes}
 use Rattle.m11_base.specs.Devices.{Bytes}
 use Rattle.m11_base.specs.Octal.{octal_text}
-use Rattle.m11_dump.specs.Octets.{octal3, octets, place_after}
+use Rattle.m11_dump.specs.Octets.{location_after, octal3, octets}
 
 -- a line begins before each eighth word, with the address of that word
 abbrev pub words_start : ℕ → ℕ → Bytes
 words_start address index =
-    if index % 16 == 0 then codes "\n  " ++ octal_text (place_after address index) else []
+    if index % 16 == 0 then codes "\n  " ++ octal_text (location_after address index) else []
 
 -- what is shown of the word of two bytes, the low one first, or of one byte
 abbrev pub word_cell : ℕ → ℕ → ℕ → Bytes

@@ -1,7 +1,7 @@
 //! Why a dump stops before the end of a file, and where.
 
 ghost use Rattle.std.specs.Prelude.{◌≡◌};
-ghost use Rattle.m11_dump.specs.Places.{of_rule};
+ghost use Rattle.m11_dump.specs.Positions.{of_rule};
 ghost use Rattle.m11_dump.specs.declared.fault.DumpFault.TheVariants.{NoMemory};
 
 use m11_link_modules::ModuleFault;

@@ -5,7 +5,7 @@ ghost use Rattle.arrayvec.specs.ArrayVec.{array_vec_len};
 ghost use Rattle.m11_base_disassembly.specs.Texts.{statement_text};
 ghost use Rattle.m11_dump.specs.Instructions as spec;
 
-use crate::octets::{octal3, place_after};
+use crate::octets::{location_after, octal3};
 use crate::words::word_of;
 use arrayvec::ArrayVec;
 use m11_base::octal6;
@@ -40,18 +40,18 @@ fn following(bytes: &[u8]) -> ArrayVec<u16, 2>
     words
 }
 
-// What stands at a place, with bytes from there on.
-fn front_of(place: u16, bytes: &[u8]) -> Front
+// What stands at a location, with bytes from there on.
+fn front_of(location: u16, bytes: &[u8]) -> Front
     requires { 0 < length bytes.now }
-    ensures source { result.source.items ≡ statement_text (spec.front_statement place bytes.now) }
-    ensures size { result.size ≡ spec.front_size place bytes.now }
+    ensures source { result.source.items ≡ statement_text (spec.front_statement location bytes.now) }
+    ensures size { result.size ≡ spec.front_size location bytes.now }
     ensures some { 0 < result.size }
     ensures few { result.size ≤ 6 }
     ensures there { result.size ≤ length bytes.now }
 {
     match bytes {
-        [low, high, others @ ..] if place % 2 == 0 => {
-            let found = disassembled(place, word_of(*low, *high), &following(others));
+        [low, high, others @ ..] if location % 2 == 0 => {
+            let found = disassembled(location, word_of(*low, *high), &following(others));
             Front {
                 source: found.source,
                 size: 2 * found.words,
@@ -101,15 +101,15 @@ fn gap(count: usize) -> &'static [u8]
     }
 }
 
-// A line: a place, bytes, and a line of source.
-fn line_by(place: u16, shown: &[u8], source: &[u8]) -> Line
+// A line: a location, bytes, and a line of source.
+fn line_by(location: u16, shown: &[u8], source: &[u8]) -> Line
     requires shown { length shown.now ≤ 6 }
     requires source { length source.now ≤ 40 }
-    ensures { result.items ≡ spec.line_by place shown.now source.now }
+    ensures { result.items ≡ spec.line_by location shown.now source.now }
 {
     let mut line = Line::new();
     put(&mut line, b"  ");
-    put(&mut line, &octal6(place));
+    put(&mut line, &octal6(location));
     put_cells(&mut line, shown);
     put(&mut line, gap(shown.len()));
     put(&mut line, source);
@@ -117,16 +117,16 @@ fn line_by(place: u16, shown: &[u8], source: &[u8]) -> Line
     line
 }
 
-// Adds the line of what stands at a place, and returns how many bytes it shows.
-fn put_line(text: &mut Vec<u8>, place: u16, bytes: &[u8]) -> Result<usize, AllocError>
+// Adds the line of what stands at a location, and returns how many bytes it shows.
+fn put_line(text: &mut Vec<u8>, location: u16, bytes: &[u8]) -> Result<usize, AllocError>
     requires { 0 < length bytes.now }
-    ensures text { OnOk result (text.new.items ≡ text.old.items ++ spec.line_text place bytes.now) }
-    ensures size { IfOk result (λ size. size ≡ spec.front_size place bytes.now) }
+    ensures text { OnOk result (text.new.items ≡ text.old.items ++ spec.line_text location bytes.now) }
+    ensures size { IfOk result (λ size. size ≡ spec.front_size location bytes.now) }
     ensures some { IfOk result (λ size. 0 < size) }
     ensures there { IfOk result (λ size. size ≤ length bytes.now) }
 {
-    let front = front_of(place, bytes);
-    let line = line_by(place, &bytes[..front.size], &front.source);
+    let front = front_of(location, bytes);
+    let line = line_by(location, &bytes[..front.size], &front.source);
     text.extend_from_slice(&line)?;
     Ok(front.size)
 }
@@ -141,7 +141,7 @@ pub(crate) fn put_head(text: &mut Vec<u8>, word: &[u8], address: u16) -> Result<
     Ok(())
 }
 
-/// Adds what is shown of bytes, at most 65,536, that lie at an address and the places after it.
+/// Adds what is shown of bytes, at most 65,536, that lie at an address and the locations after it.
 pub(crate) fn put_instructions(
     text: &mut Vec<u8>,
     address: u16,
@@ -152,7 +152,7 @@ pub(crate) fn put_instructions(
 {
     let mut index = 0;
     'lines: while index < bytes.len() {
-        index += put_line(text, place_after(address, index), &bytes[index..])?;
+        index += put_line(text, location_after(address, index), &bytes[index..])?;
     }
     Ok(())
 }

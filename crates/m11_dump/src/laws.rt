@@ -6,19 +6,19 @@ ghost use Rattle.m11_base.specs.Devices.{Bytes};
 ghost use Rattle.m11_base.specs.Octal.{octal_value};
 ghost use Rattle.m11_dump.specs.Instructions.{AreLines, lines};
 ghost use Rattle.m11_obj_blocks.specs.Blocks.{first_block};
-ghost use Rattle.m11_dump.specs.Places.{StandsAt, content_start};
+ghost use Rattle.m11_dump.specs.Positions.{StandsAt, content_start};
 ghost use Rattle.m11_dump.specs.Octets.{octal3, octet, octets, octets_from};
 
 /// The content of a block stands where a dump tells its first byte: at the end of all bytes that were read, before the sum byte.
-#[tactic(auto, using(crate::proofs::ContentPlaces::stands))]
+#[tactic(auto, using(crate::proofs::ContentPositions::stands))]
 pub fn contents_stand_where_they_are_told()
     ensures { (before given content : Bytes) → AllByRecursion (λ byte. byte < 256) given
         → first_block given ≡ Ok (content, [])
         → StandsAt content (before ++ given) (content_start content (length (before ++ given))) }
 {}
 
-/// What is shown of bytes is what is shown of each of them, once and in their order, at the place where it lies; and the digits
-/// of a byte spell it. As instructions they are shown in lines, each of which shows those that come next, at their place.
+/// What is shown of bytes is what is shown of each of them, once and in their order, at the location where it lies; and the digits
+/// of a byte spell it. As instructions they are shown in lines, each of which shows those that come next, at their location.
 #[tactic(auto, using(crate::proofs::EachLine::each_line, crate::proofs::EachOctet::octet_between, crate::proofs::EachOctet::octet_spelled))]
 pub fn each_byte_is_shown_once_in_order()
     ensures order { (address byte : ℕ) (before following : Bytes)

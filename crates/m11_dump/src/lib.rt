@@ -32,7 +32,7 @@ pub use tapes::dump_tape;
 
 // Why a dump stops, and at which byte.
 mod fault;
-mod places;
+mod positions;
 
 pub use fault::{DumpFault, Placed};
 

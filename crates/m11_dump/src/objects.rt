@@ -1,15 +1,15 @@
 //! Dumps objects, a block at a time.
 
 ghost use Rattle.std.specs.Prelude.{◌≡◌, ◌<◌, ◌^◌, ℕ, List, []};
-ghost use Rattle.m11_obj_blocks.specs.Limited.{most_bytes, place};
+ghost use Rattle.m11_obj_blocks.specs.Limited.{most_bytes, position};
 ghost use Rattle.m11_link_modules.specs.Parts.{Part};
-ghost use Rattle.m11_link_modules.specs.Places.{known_of};
+ghost use Rattle.m11_link_modules.specs.Positions.{known_of};
 ghost use Rattle.m11_obj.specs.Reading.{IsRecord};
 ghost use Rattle.m11_base_writes.specs.Outputs.{output_of};
 ghost use Rattle.m11_dump.specs.Objects as spec;
 
 use crate::fault::{DumpFault, Placed};
-use crate::places::{fault_byte, placed, record_byte, rule_byte};
+use crate::positions::{fault_byte, placed, record_byte, rule_byte};
 use crate::records::record_text;
 use crate::stand::{Stand, address_after};
 use crate::view::View;
@@ -144,8 +144,8 @@ fn dump_blocks<F: Feed, S: Sink>(
     sink: &mut S,
 ) -> Result<(), Placed>
     requires { rules.old ≡ known_of [] }
-    ensures { (room : ℕ) × spec.DumpsObject view (place (F.text feed.old) (F.faults feed.old) most_bytes)
-        (place (F.text feed.new) (F.faults feed.new) room)
+    ensures { (room : ℕ) × spec.DumpsObject view (position (F.text feed.old) (F.faults feed.old) most_bytes)
+        (position (F.text feed.new) (F.faults feed.new) room)
         (output_of S.Sink sink.old) (output_of S.Sink sink.new) result }
 {
     let mut reader = BlockReader::new();
@@ -182,8 +182,8 @@ pub fn dump_object<F: Feed, S: Sink>(
     feed: &mut F,
     sink: &mut S,
 ) -> Result<(), Placed>
-    ensures { (room : ℕ) × spec.DumpsObject view (place (F.text feed.old) (F.faults feed.old) most_bytes)
-        (place (F.text feed.new) (F.faults feed.new) room)
+    ensures { (room : ℕ) × spec.DumpsObject view (position (F.text feed.old) (F.faults feed.old) most_bytes)
+        (position (F.text feed.new) (F.faults feed.new) room)
         (output_of S.Sink sink.old) (output_of S.Sink sink.new) result }
 {
     let mut rules = Rules::new(alloc);

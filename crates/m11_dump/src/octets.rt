@@ -15,10 +15,10 @@ pub(crate) fn octal3(byte: u8) -> [u8; 3]
     [b'0' + byte / 64 % 8, b'0' + byte / 8 % 8, b'0' + byte % 8]
 }
 
-/// The place that lies so many bytes after an address.
-pub(crate) fn place_after(address: u16, index: usize) -> u16
+/// The location that lies so many bytes after an address.
+pub(crate) fn location_after(address: u16, index: usize) -> u16
     requires { index < 65536 }
-    ensures { result ≡ spec.place_after address index }
+    ensures { result ≡ spec.location_after address index }
 {
     address.wrapping_add(index as u16)
 }
@@ -32,7 +32,7 @@ fn put_line_start(text: &mut Vec<u8>, address: u16, index: usize) -> Result<(), 
         return Ok(());
     }
     text.extend_from_slice(b"\n  ")?;
-    text.extend_from_slice(&octal6(place_after(address, index)))
+    text.extend_from_slice(&octal6(location_after(address, index)))
 }
 
 fn put_octet(text: &mut Vec<u8>, address: u16, index: usize, byte: u8) -> Result<(), AllocError>
@@ -44,7 +44,7 @@ fn put_octet(text: &mut Vec<u8>, address: u16, index: usize, byte: u8) -> Result
     text.extend_from_slice(&octal3(byte))
 }
 
-/// Adds what is shown of bytes, at most 65,536, that lie at an address and the places after it.
+/// Adds what is shown of bytes, at most 65,536, that lie at an address and the locations after it.
 pub(crate) fn put_octets(text: &mut Vec<u8>, address: u16, bytes: &[u8]) -> Result<(), AllocError>
     requires { length bytes.now ≤ 65536 }
     ensures { OnOk result (text.new.items ≡ text.old.items ++ spec.octets address bytes.now) }

@@ -116,9 +116,9 @@ fn byte_word(is_byte: bool) -> &'static [u8]
     if is_byte { b" BYTE" } else { b"" }
 }
 
-// The place that a displacement names in a text at this address: the first byte of the text has displacement 4.
-fn place_of(address: u16, displacement: u8) -> u16
-    ensures { result ≡ spec.place_of address displacement }
+// The location that a displacement names in a text at this address: the first byte of the text has displacement 4.
+fn location_of(address: u16, displacement: u8) -> u16
+    ensures { result ≡ spec.location_of address displacement }
 {
     address
         .wrapping_add(u16::from(displacement))
@@ -135,25 +135,25 @@ fn stores(target: &Target) -> bool
     )
 }
 
-// The place of a relocation, or blanks.
-fn place_text(address: u16, relocation: &Relocation) -> [u8; 6]
-    ensures { result ≡ spec.place_text address relocation.now }
+// The location of a relocation, or blanks.
+fn location_text(address: u16, relocation: &Relocation) -> [u8; 6]
+    ensures { result ≡ spec.location_text address relocation.now }
 {
     if stores(&relocation.target) {
-        octal6(place_of(address, relocation.displacement))
+        octal6(location_of(address, relocation.displacement))
     } else {
         *b"      "
     }
 }
 
-/// The line of a relocation of the text at this address: its place, and what is stored there.
+/// The line of a relocation of the text at this address: its location, and what is stored there.
 #[tactic(auto, using(m11_obj_print::proofs::Trimming::line_at))]
 pub(crate) fn relocation_line(address: u16, relocation: &Relocation) -> Line
     ensures { result.items ≡ spec.relocation_line address relocation.now }
 {
     let mut line = Line::new();
     put(&mut line, b"  ");
-    put(&mut line, &place_text(address, relocation));
+    put(&mut line, &location_text(address, relocation));
     put(&mut line, b" ");
     put_target(&mut line, &relocation.target);
     put(&mut line, byte_word(relocation.is_byte));

@@ -1,16 +1,16 @@
 //! Dumps tapes, a block at a time.
 
 ghost use Rattle.std.specs.Prelude.{◌≡◌, ◌%◌, ◌-◌, ◌≤◌, ◌<◌, ◌^◌, ◌++◌, ℕ, length, sum, MatchResult, OnOk, IfOk};
-ghost use Rattle.m11_obj_blocks.specs.Limited.{most_bytes, place};
+ghost use Rattle.m11_obj_blocks.specs.Limited.{most_bytes, position};
 ghost use Rattle.m11_obj_blocks.specs.Tapes.{data_limit, tape_header, total_of};
 ghost use Rattle.m11_obj_blocks.specs.declared.tape_part.TapeStage.TheVariants.{InBlock};
 ghost use Rattle.m11_base_writes.specs.Outputs.{output_of};
-ghost use Rattle.m11_dump.specs.Places.{fault_byte, placed_at};
+ghost use Rattle.m11_dump.specs.Positions.{fault_byte, placed_at};
 ghost use Rattle.m11_dump.specs.Tapes as spec;
 
 use crate::fault::{DumpFault, Placed};
 use crate::instructions::{put_head, put_instructions};
-use crate::places::{fault_byte, placed};
+use crate::positions::{fault_byte, placed};
 use crate::view::View;
 use crate::words::put_data;
 use m11_base::{Feed, Sink, octal6};
@@ -97,10 +97,10 @@ fn read_data<F: Feed>(
 ) -> Result<Vec<u8>, DumpFault>
     requires { reader.old.stage ≡ InBlock count (sum (tape_header address count) % 256) }
     ensures { MatchResult result
-        (λ bytes. spec.ReadsData (place (F.text feed.old) (F.faults feed.old) reader.old.room)
-        (place (F.text feed.new) (F.faults feed.new) reader.new.room) reader.new.stage address count bytes.items)
-        (λ fault. spec.StopsData fault (place (F.text feed.old) (F.faults feed.old) reader.old.room)
-        (place (F.text feed.new) (F.faults feed.new) reader.new.room) count) }
+        (λ bytes. spec.ReadsData (position (F.text feed.old) (F.faults feed.old) reader.old.room)
+        (position (F.text feed.new) (F.faults feed.new) reader.new.room) reader.new.stage address count bytes.items)
+        (λ fault. spec.StopsData fault (position (F.text feed.old) (F.faults feed.old) reader.old.room)
+        (position (F.text feed.new) (F.faults feed.new) reader.new.room) count) }
 {
     let mut bytes = Vec::new(alloc);
     'bytes: for index in 0..count {
@@ -124,8 +124,8 @@ fn take_data<F: Feed, S: Sink>(
 ) -> Result<(), DumpFault>
     requires stage { reader.old.stage ≡ InBlock count (sum (tape_header address count) % 256) }
     requires fits { count ≤ data_limit }
-    ensures { spec.TakesData view (place (F.text feed.old) (F.faults feed.old) reader.old.room)
-        (place (F.text feed.new) (F.faults feed.new) reader.new.room) reader.new.stage address count
+    ensures { spec.TakesData view (position (F.text feed.old) (F.faults feed.old) reader.old.room)
+        (position (F.text feed.new) (F.faults feed.new) reader.new.room) reader.new.stage address count
         (output_of S.Sink sink.old) (output_of S.Sink sink.new) result }
 {
     match read_data(alloc, reader, feed, address, count) {
@@ -155,8 +155,8 @@ pub fn dump_tape<F: Feed, S: Sink>(
     feed: &mut F,
     sink: &mut S,
 ) -> Result<(), Placed>
-    ensures { (room : ℕ) × spec.DumpsTape view (place (F.text feed.old) (F.faults feed.old) most_bytes)
-        (place (F.text feed.new) (F.faults feed.new) room)
+    ensures { (room : ℕ) × spec.DumpsTape view (position (F.text feed.old) (F.faults feed.old) most_bytes)
+        (position (F.text feed.new) (F.faults feed.new) room)
         (output_of S.Sink sink.old) (output_of S.Sink sink.new) result }
 {
     let mut reader = TapeReader::new();

@@ -3,7 +3,7 @@
 ghost use Rattle.std.specs.Prelude.{◌≡◌, ◌+◌, ◌*◌, ◌≤◌, ◌<◌, ◌++◌, drop, length, OnOk};
 ghost use Rattle.m11_dump.specs.Words as spec;
 
-use crate::octets::{octal3, place_after, put_octets};
+use crate::octets::{location_after, octal3, put_octets};
 use byteorder::{ByteOrder, LittleEndian};
 use m11_base::octal6;
 use std::alloc::AllocError;
@@ -17,7 +17,7 @@ fn put_start(text: &mut Vec<u8>, address: u16, index: usize) -> Result<(), Alloc
         return Ok(());
     }
     text.extend_from_slice(b"\n  ")?;
-    text.extend_from_slice(&octal6(place_after(address, index)))
+    text.extend_from_slice(&octal6(location_after(address, index)))
 }
 
 fn put_word(text: &mut Vec<u8>, address: u16, index: usize, word: u16) -> Result<(), AllocError>
@@ -41,7 +41,7 @@ fn put_byte(text: &mut Vec<u8>, address: u16, index: usize, byte: u8) -> Result<
 // The byte at an index, where it is the last one.
 #[tactic(auto, using(crate::proofs::WordsShown::last_shown, crate::proofs::WordsShown::none_shown))]
 fn put_last(text: &mut Vec<u8>, address: u16, index: usize, bytes: &[u8]) -> Result<(), AllocError>
-    requires place { index < 65536 }
+    requires location { index < 65536 }
     requires few { length bytes.now ≤ index + 1 }
     ensures { OnOk result (text.new.items ≡ text.old.items ++ spec.words_from address index (drop index bytes.now)) }
 {

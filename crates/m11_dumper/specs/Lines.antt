@@ -45,13 +45,13 @@ fault_text fault.Write = codes "2 Write"
 fault_text fault.NoMemory = codes "90 NoMemory"
 
 -- where a fault is: its block, and the offset of the byte that shows it
-abbrev pub place_text : Placed → Bytes
-place_text placed = ((codes " IN BLOCK " ++ decimal placed.block) ++ codes " AT BYTE ") ++ decimal placed.byte
+abbrev pub position_text : Placed → Bytes
+position_text placed = ((codes " IN BLOCK " ++ decimal placed.block) ++ codes " AT BYTE ") ++ decimal placed.byte
 
 -- the line of a fault: what it is, where, and of which file
 abbrev pub in_file_line : Bytes → Placed → Bytes
 in_file_line path placed =
-    ((codes "?M11 DUMP " ++ fault_text placed.fault) ++ place_text placed) ++ path_end (codes " OF ") path
+    ((codes "?M11 DUMP " ++ fault_text placed.fault) ++ position_text placed) ++ path_end (codes " OF ") path
 
 -- the line that says why not all files were shown
 abbrev pub stop_line : Stop → Bytes

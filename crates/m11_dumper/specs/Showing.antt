@@ -4,7 +4,7 @@ use Rattle.std.specs.Io.KnownBytes.{Appends}
 use Rattle.m11_base.specs.Devices.{Bytes, Rises}
 use Rattle.m11_base.specs.Feed.{Text}
 use Rattle.m11_base.specs.Sink.{AppendsBeginning}
-use Rattle.m11_obj_blocks.specs.Limited.{Place, most_bytes, place}
+use Rattle.m11_obj_blocks.specs.Limited.{Position, most_bytes, position}
 use Rattle.m11_dump.specs.Kind.{IsKind}
 use Rattle.m11_dump.specs.Objects.{DumpsObject}
 use Rattle.m11_dump.specs.Tapes.{DumpsTape}
@@ -26,19 +26,19 @@ abbrev pub Fails : Bytes → Output → Output → Type 0
 Fails text out out' = AppendsBeginning out.text out'.text text × Rises out.faults out'.faults
 
 -- what a dump of a file of this kind does
-abbrev pub DumpsKind : View → Kind → Place → Place → Output → Output → Result (Unit {0}) Placed → Type 0
+abbrev pub DumpsKind : View → Kind → Position → Position → Output → Output → Result (Unit {0}) Placed → Type 0
 DumpsKind view Object old new out out' result = DumpsObject view old new out out' result
 DumpsKind view Tape old new out out' result = DumpsTape view old new out out' result
 
 -- after the head of a file the output gained what a dump makes of its bytes, which it read from their beginning
 abbrev pub DumpsInput : View → Kind → Option Text → ℕ → Bytes → Output → Output → Result (Unit {0}) Placed → Type 0
-DumpsInput view kind text faults path out out' result = (middle : Output) × (new : Place) × Gains (head_line kind path) out middle
-    × DumpsKind view kind (place text faults most_bytes) new middle out' result
+DumpsInput view kind text faults path out out' result = (middle : Output) × (new : Position) × Gains (head_line kind path) out middle
+    × DumpsKind view kind (position text faults most_bytes) new middle out' result
 
 -- a file is of this kind
 abbrev pub IsOfKind : Option Files → Bytes → Kind → Type 0
 IsOfKind files path kind =
-    (text : Option Text) × (faults : ℕ) × (new : Place) × Holds files path text × IsKind (place text faults most_bytes) new kind
+    (text : Option Text) × (faults : ℕ) × (new : Position) × Holds files path text × IsKind (position text faults most_bytes) new kind
 
 -- the file of a path was dumped, which is of this kind
 abbrev pub Dumps : View → Kind → Option Files → Bytes → Output → Output → Result (Unit {0}) Placed → Type 0

@@ -66,8 +66,8 @@ fn put_fault(line: &mut Vec<u8>, alloc: Global, fault: DumpFault) -> Result<(), 
 
 // Adds where a fault is.
 #[tactic(auto, using(m11_dump::proofs::Items::four_put))]
-fn put_place(line: &mut Vec<u8>, alloc: Global, placed: Placed) -> Result<(), AllocError>
-    ensures { OnOk result (line.new.items ≡ line.old.items ++ spec.place_text placed) }
+fn put_position(line: &mut Vec<u8>, alloc: Global, placed: Placed) -> Result<(), AllocError>
+    ensures { OnOk result (line.new.items ≡ line.old.items ++ spec.position_text placed) }
 {
     line.extend_from_slice(b" IN BLOCK ")?;
     put_decimal(line, alloc, placed.block)?;
@@ -92,7 +92,7 @@ fn in_file_line(alloc: Global, path: &str, placed: Placed) -> Result<Vec<u8>, Al
     let mut line = Vec::new(alloc);
     line.extend_from_slice(b"?M11 DUMP ")?;
     put_fault(&mut line, alloc, placed.fault)?;
-    put_place(&mut line, alloc, placed)?;
+    put_position(&mut line, alloc, placed)?;
     put_path(&mut line, " OF ", path)?;
     Ok(line)
 }

@@ -1,7 +1,7 @@
 //! Shows files, one after another.
 
 ghost use Rattle.std.specs.Prelude.{◌≡◌, ℕ};
-ghost use Rattle.m11_obj_blocks.specs.Limited.{most_bytes, place};
+ghost use Rattle.m11_obj_blocks.specs.Limited.{most_bytes, position};
 ghost use Rattle.m11_dumper.specs.Showing.{Counts, DumpsKind, ShowsAll, ShowsFile, ShowsInput};
 ghost use Rattle.m11_cli_tasks.specs.Opened.{texts};
 ghost use Rattle.m11_base_writes.specs.Outputs.{output_of};
@@ -89,8 +89,8 @@ fn dump<I: Feed, O: Sink>(
     view: View,
     out: &mut O,
 ) -> Result<(), Placed>
-    ensures { (room : ℕ) × DumpsKind view kind (place (I.text input.old) (I.faults input.old) most_bytes)
-        (place (I.text input.new) (I.faults input.new) room)
+    ensures { (room : ℕ) × DumpsKind view kind (position (I.text input.old) (I.faults input.old) most_bytes)
+        (position (I.text input.new) (I.faults input.new) room)
         (output_of O.Sink out.old) (output_of O.Sink out.new) result }
 {
     match kind {

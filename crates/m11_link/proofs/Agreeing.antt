@@ -8,7 +8,7 @@ use Rattle.m11_obj.specs.declared.relocations.Relocation.{Relocation}
 use Rattle.m11_obj.specs.declared.relocations.Target.{Target}
 use Rattle.m11_obj.specs.declared.relocations.Target.TheVariants as target
 use Rattle.m11_link_modules.specs.Parts.{Part, Directory, Entry, EndOfDirectory, Text, Relocations, Relocated, EndOfModule, EndOfFile}
-use Rattle.m11_link_modules.specs.Places.{current_section, modules_in, this_module}
+use Rattle.m11_link_modules.specs.Positions.{current_section, modules_in, this_module}
 use Rattle.m11_link_modules.specs.Rules.{lies_within}
 use Rattle.m11_link_layout.specs.Plan.{IsPlanOf, Planned}
 use Rattle.m11_link_layout.specs.Sections.{attributes_by}

@@ -16,7 +16,7 @@ use Rattle.m11_link_modules.specs.Steps.{RulesTake, known_after, with_optional_g
 use Rattle.m11_link_modules.proofs.Taking.{none_taken}
 use Rattle.m11_link_modules.proofs.KnownAfter.{known_after_part, taken_after}
 use Rattle.m11_link_layout.specs.Globals.{definitions_of}
-use Rattle.m11_link_modules.specs.Places.{Known, current_section, distinct, global_of, known_of, modules_in, this_module}
+use Rattle.m11_link_modules.specs.Positions.{Known, current_section, distinct, global_of, known_of, modules_in, this_module}
 use Rattle.m11_link_modules.specs.Rules.{fault_known, fault_of, first_fault, may_stand}
 use Rattle.m11_link_modules.specs.declared.fault.ModuleFault.{ModuleFault}
 use Rattle.m11_link_modules.specs.declared.fault.ModuleFault.TheVariants as rule
@@ -530,27 +530,27 @@ directory_taken {seen} plan before s entries is stands a b s' known index result
     (subst G (l ∙ index_of before seen.known (here plan before s is stands).known) k)
 
 -- where the next text stands
-abbrev Place : Type 0
-Place = ℕ × (ℕ × ℕ)
+abbrev Entered : Type 0
+Entered = ℕ × (ℕ × ℕ)
 
 location_of : (before : List Part) (known : Known) → known ≡ known_of before
-    → ◌≡◌ {A = Place} (known.modules, known.section) (modules_in before, current_section (this_module before))
+    → ◌≡◌ {A = Entered} (known.modules, known.section) (modules_in before, current_section (this_module before))
 unfolding known_of
 location_of before known e = ap (λ k. (k.modules, k.section)) e
 
 -- a text at this location
 pub text_taken : {seen : Emitting} (plan : Planned) (before : List Part) (s : Emitting) (address : ℕ) (text : List ℕ) → seen ≡ s
-    → EmitStands plan before s → (a b : Outputs) (s' : Emitting) (known : Known) (location : Place)
-    (result : Result (Unit {0}) LinkFault) → ◌≡◌ {A = Place} location (s.known.modules, s.known.section)
+    → EmitStands plan before s → (a b : Outputs) (s' : Emitting) (known : Known) (location : Entered)
+    (result : Result (Unit {0}) LinkFault) → ◌≡◌ {A = Entered} location (s.known.modules, s.known.section)
     → RulesTake seen.known known (Text address text ∷ []) (Ok tt)
     → Goes a b (begin_writes seen ++ held_writes (begun_reporting seen).held) s'
     (let now : Emitting = record seen { known = known } in
     with_reporting (with_text location.0 location.1 address text (begun_reporting seen)) now) result
     → TakesParts plan before (call_of a b s s') (Text address text ∷ []) result
 text_taken {seen} plan before s address text is stands a b s' known location result l h k =
-    let expected : Place → Emitting = λ at. let x : Emitting = record seen { known = known } in
+    let expected : Entered → Emitting = λ at. let x : Emitting = record seen { known = known } in
     with_reporting (with_text at.0 at.1 address text (begun_reporting seen)) x in
-    let G : Place → Type 0 = λ at.
+    let G : Entered → Type 0 = λ at.
     Goes a b (begin_writes seen ++ held_writes (begun_reporting seen).held) s' (expected at) result in
     content_taken plan before s (records.Text address text) is stands a b s' known result h
     (subst G (l ∙ location_of before s.known stands.known) k)

@@ -3,7 +3,7 @@ use Rattle.std.proofs.Common.{◌≡◌, Bool, true, false, if◌then◌else◌,
 use Rattle.m11_obj_blocks.specs.Tapes.{tape_block}
 use Rattle.m11_link_modules.specs.Laws.{TakesAfter}
 use Rattle.m11_link_modules.specs.Parts.{Part, EndOfFile}
-use Rattle.m11_link_modules.specs.Places.{Known, adds_name, known_of}
+use Rattle.m11_link_modules.specs.Positions.{Known, adds_name, known_of}
 use Rattle.m11_link_modules.specs.Rules.{fault_of, first_fault}
 use Rattle.m11_link_modules.specs.declared.fault.ModuleFault.{ModuleFault}
 use Rattle.m11_link_modules.specs.declared.fault.ModuleFault.TheVariants as rule

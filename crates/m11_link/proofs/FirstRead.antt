@@ -4,7 +4,7 @@ use Rattle.std.proofs.lemmas.List.{append-nil}
 use Rattle.m11_base.specs.Feed.{Text}
 use Rattle.m11_obj_blocks.specs.declared.block_fault.BlockFault.{BlockFault}
 use Rattle.m11_obj_blocks.specs.Blocks.{first_block, why_of}
-use Rattle.m11_obj_blocks.specs.Limited.{EndsBetween, Reads, Stops, most_bytes, place}
+use Rattle.m11_obj_blocks.specs.Limited.{EndsBetween, Reads, Stops, most_bytes, position}
 use Rattle.m11_obj.specs.Reading.{IsRecord}
 use Rattle.m11_link_modules.specs.Parts.{Part, EndOfFile, record_parts}
 use Rattle.m11_link_modules.specs.declared.fault.ModuleFault.{ModuleFault}
@@ -55,7 +55,7 @@ module _ (text text1 : Option Text) (faults faults1 room1 bottom : ℕ) (before 
     (l : Laid text text1 faults faults1 room1 bottom before layout1) (text2 : Option Text) (faults2 room2 : ℕ)
     (layout2 : LayoutState) where
   module _ (content : List ℕ)
-      (r : Reads first_block (place text1 faults1 room1) (place text2 faults2 room2) content) where
+      (r : Reads first_block (position text1 faults1 room1) (position text2 faults2 room2) content) where
     walked : Walked text text2 faults faults2 room2 (l.done ++ BlockOf content ∷ [])
     walked = walk_more text text1 faults faults1 room1 l.done l.walked text2 faults2 room2 content r
 
@@ -81,7 +81,7 @@ module _ (text text1 : Option Text) (faults faults1 room1 bottom : ℕ) (before 
         (decides_then before l.parts l.done (BlockOf content ∷ []) stopped l.taken-is
         (block_decides bottom l.parts layout2 content stopped t)))
 
-  pub laid_ends : Stops first_block (place text1 faults1 room1) (place text2 faults2 room2) EndsBetween
+  pub laid_ends : Stops first_block (position text1 faults1 room1) (position text2 faults2 room2) EndsBetween
       → (result : Result (Unit {0}) LinkFault) → TakesParts bottom l.parts layout2 (EndOfFile ∷ []) result
       → LaysOutObject text faults faults2 bottom before layout2 result
   laid_ends s (Ok done) t =
@@ -115,7 +115,7 @@ module _ (text text1 : Option Text) (faults faults1 room1 bottom : ℕ) (before 
   )
 
   pub laid_stops : (inner : BlockFault)
-      → Stops first_block (place text1 faults1 room1) (place text2 faults2 room2) (why_of inner)
+      → Stops first_block (position text1 faults1 room1) (position text2 faults2 room2) (why_of inner)
       → (stopped : LinkFault) → stopped ≡ of_block inner
       → LaysOutObject text faults faults2 bottom before layout2 (Err stopped)
   laid_stops inner s stopped is =

@@ -8,7 +8,7 @@ use Rattle.m11_obj.specs.declared.fault.RecordFault.{RecordFault}
 use Rattle.m11_link_modules.specs.declared.fault.ModuleFault.{ModuleFault}
 use Rattle.m11_link_modules.specs.declared.fault.ModuleFault.TheVariants as rule
 use Rattle.m11_link_modules.specs.Parts.{Part, EndOfFile, parts_in, parts_of, record_parts}
-use Rattle.m11_link_modules.specs.Places.{Known, known_of, stage_after}
+use Rattle.m11_link_modules.specs.Positions.{Known, known_of, stage_after}
 use Rattle.m11_link_modules.specs.Rules.{fault_known, fault_of, first_fault}
 use Rattle.m11_link_modules.specs.Steps.{known_after}
 use Rattle.m11_link_modules.proofs.KnownAfter.{known_after_part}

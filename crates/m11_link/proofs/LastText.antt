@@ -6,7 +6,7 @@ use Rattle.m11_obj.specs.declared.relocations.Target.{Target}
 use Rattle.m11_obj.specs.declared.relocations.Target.TheVariants as target
 use Rattle.m11_link_modules.specs.declared.fault.ModuleFault.{ModuleFault}
 use Rattle.m11_link_modules.specs.Parts.{Part, Directory, Entry, EndOfDirectory, Text, Relocations, Relocated, EndOfModule, EndOfFile}
-use Rattle.m11_link_modules.specs.Places.{Known, global_of, known_of}
+use Rattle.m11_link_modules.specs.Positions.{Known, global_of, known_of}
 use Rattle.m11_link_modules.specs.Rules.{fault_of, lies_within}
 use Rattle.m11_link_modules.specs.Steps.{TakesOne, known_after, with_optional_global}
 use Rattle.m11_link_modules.specs.TextRelocation.{InText, in_text, stored_by, stored_in}

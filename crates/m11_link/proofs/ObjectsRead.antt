@@ -6,7 +6,7 @@ use Rattle.m11_base.specs.Feed.{Text, HasBytes, BeginsWith, GivesByte, GivesEnd,
 use Rattle.m11_obj_blocks.specs.declared.block_fault.BlockFault.{BlockFault}
 use Rattle.m11_obj_blocks.specs.declared.block_fault.BlockFault.TheVariants as block
 use Rattle.m11_obj_blocks.specs.Blocks.{first_block, why_of}
-use Rattle.m11_obj_blocks.specs.Limited.{Fails, EndsBetween, EndsInside, Passes, Refuses, IsShort, Place, Reads, Stops, Took, most_bytes, place}
+use Rattle.m11_obj_blocks.specs.Limited.{Fails, EndsBetween, EndsInside, Passes, Refuses, IsShort, Position, Reads, Stops, Took, most_bytes, position}
 use Rattle.m11_obj_blocks.proofs.Limits.{took_nothing, took_then}
 use Rattle.m11_link_layout.specs.declared.fault.LinkFault.{LinkFault}
 use Rattle.m11_link_layout.specs.declared.fault.LinkFault.TheVariants as fault
@@ -68,13 +68,13 @@ passed_more room left now given more content done p is fits = record {
 -- a feed has come after the blocks of these items
 pub record Walked (text text' : Option Text) (faults faults' room : ℕ) (done : List Item) : Type 0 where
   pub given : List ℕ
-  pub took : Took (place text faults most_bytes) (place text' faults' room) given
+  pub took : Took (position text faults most_bytes) (position text' faults' room) given
   pub passed : Passed most_bytes given done room
 
 pub walk_begins : (text : Option Text) (faults : ℕ) → Walked text text faults faults most_bytes []
 walk_begins text faults = record {
   given = [];
-  took = took_nothing (place text faults most_bytes);
+  took = took_nothing (position text faults most_bytes);
   passed = passed_none most_bytes;
 }
 
@@ -85,18 +85,18 @@ reads_on false returned h = refl
 reads_on {X} true returned h = absurd (let bad = h.0 refl in cc)
 
 -- each block takes some of the room
-pub block_falls : (here there : Place) (content : List ℕ) → Reads first_block here there content
+pub block_falls : (here there : Position) (content : List ℕ) → Reads first_block here there content
     → there.room < here.room
 block_falls here there content r =
     omega (arith, block_shorter (r.given ++ []) content [] (r.is []), length-append r.given [], r.took.room)
 
 module _ (text text1 : Option Text) (faults faults1 room1 : ℕ) (done : List Item)
     (w : Walked text text1 faults faults1 room1 done) where
-  abbrev start : Place
-  start = place text faults most_bytes
+  abbrev start : Position
+  start = position text faults most_bytes
 
-  abbrev here : Place
-  here = place text1 faults1 room1
+  abbrev here : Position
+  here = position text1 faults1 room1
 
   -- the feed goes on to its end, whatever that is
   pub walk_whole : (items : List Item) × GivesItems text (done ++ items)
@@ -109,8 +109,8 @@ module _ (text text1 : Option Text) (faults faults1 room1 : ℕ) (done : List It
   walk_unfailed = w.took.faults
 
   module _ (text2 : Option Text) (faults2 room2 : ℕ) where
-    abbrev there : Place
-    there = place text2 faults2 room2
+    abbrev there : Position
+    there = position text2 faults2 room2
 
     -- one block more
     pub walk_more : (content : List ℕ) → Reads first_block here there content

@@ -2,7 +2,7 @@
 use Rattle.std.proofs.Common.{◌≡◌, ◌∙◌, ℕ, ◌+◌, ◌<◌, ◌≤◌, Bool, true, false, List, [], ◌∷◌, ◌++◌, length, get_or, set, append-nil, append_assoc, Option, Some, None, Result, Ok, Err, ◌⊎◌, inl, inr, refl, sym, ap, subst}
 use Rattle.m11_base.specs.Feed.{Text as FeedText, GiveAll, NoneFailed}
 use Rattle.m11_obj_blocks.specs.Blocks.{first_block, why_of}
-use Rattle.m11_obj_blocks.specs.Limited.{EndsBetween, Reads, Stops, most_bytes, place}
+use Rattle.m11_obj_blocks.specs.Limited.{EndsBetween, Reads, Stops, most_bytes, position}
 use Rattle.m11_obj.specs.Reading.{IsRecord}
 use Rattle.m11_obj_blocks.specs.declared.block_fault.BlockFault.{BlockFault}
 use Rattle.m11_obj_blocks.specs.declared.block_fault.BlockFault.TheVariants as block
@@ -303,7 +303,7 @@ module _ (text text1 : Option FeedText) (faults faults1 room1 : ℕ) (plan : Pla
     (first now : Outputs) (emit : Emitting) (l : Sent text text1 faults faults1 room1 plan b before first now emit)
     (text2 : Option FeedText) (faults2 room2 : ℕ) (new : Outputs) (emit' : Emitting) where
   module _ (content : List ℕ)
-      (r : Reads first_block (place text1 faults1 room1) (place text2 faults2 room2) content) where
+      (r : Reads first_block (position text1 faults1 room1) (position text2 faults2 room2) content) where
     walked : Walked text text2 faults faults2 room2 (l.done ++ BlockOf content ∷ [])
     walked = walk_more text text1 faults faults1 room1 l.done l.walked text2 faults2 room2 content r
 
@@ -329,7 +329,7 @@ module _ (text text1 : Option FeedText) (faults faults1 room1 : ℕ) (plan : Pla
         l.parts l.taken-is l.begun l.gains walked.took.faults whole.1 stopped
         (block_halts plan l.parts l.stands.sound now new emit emit' content stopped t)
 
-  pub sent_ends : Stops first_block (place text1 faults1 room1) (place text2 faults2 room2) EndsBetween
+  pub sent_ends : Stops first_block (position text1 faults1 room1) (position text2 faults2 room2) EndsBetween
       → (result : Result (Unit {0}) LinkFault) → TakesParts plan l.parts (call_of now new emit emit') (EndOfFile ∷ []) result
       → EmitsObject text faults faults2 (start_at plan b before first) new emit' result
   sent_ends s (Ok done) t =
@@ -396,7 +396,7 @@ module _ (text text1 : Option FeedText) (faults faults1 room1 : ℕ) (plan : Pla
   )
 
   pub sent_stops : (inner : BlockFault)
-      → Stops first_block (place text1 faults1 room1) (place text2 faults2 room2) (why_of inner)
+      → Stops first_block (position text1 faults1 room1) (position text2 faults2 room2) (why_of inner)
       → (stopped : LinkFault) → stopped ≡ of_block inner
       → EmitsObject text faults faults2 (start_at plan b before first) now emit (Err stopped)
   sent_stops inner s stopped is =

@@ -9,11 +9,11 @@ use Rattle.m11_obj.specs.declared.gsd.GsdKind.{GsdKind}
 use Rattle.m11_obj.specs.declared.gsd.GsdKind.TheVariants as kind
 use Rattle.m11_obj.specs.declared.relocations.Relocation.{Relocation}
 use Rattle.m11_link_modules.specs.Parts.{Part, Directory, Entry, EndOfDirectory, Text, Relocations, Relocated, EndOfModule, EndOfFile, parts_of}
-use Rattle.m11_link_modules.specs.Places.{current_section, distinct, modules_in, this_module}
+use Rattle.m11_link_modules.specs.Positions.{current_section, distinct, modules_in, this_module}
 use Rattle.m11_link_modules.specs.Rules.{defines}
 use Rattle.m11_link_layout.proofs.ModulesOfParts.{add_zero, modules_more}
 use Rattle.m11_link_layout.proofs.Reporting.{names_more, reported_more}
-use Rattle.m11_link_layout.specs.Globals.{definition_by, definition_in, definitions_of, last_section, place_of}
+use Rattle.m11_link_layout.specs.Globals.{definition_by, definition_in, definitions_of, last_section, location_of}
 use Rattle.m11_link_layout.specs.declared.definition.Definition.{Definition}
 use Rattle.m11_link.specs.Emit.{defined_by, defined_if, defined_with, defined_with_all, entries_writes, held_at, held_after, held_text, held_with, held_with_all, held_writes}
 use Rattle.m11_link_text.specs.Findings.{Findings}
@@ -136,7 +136,7 @@ named_by kind.GlobalSymbol before entry = named_if (defines entry) (definitions_
   entry.name,
   record {
     module_index = modules_in before;
-    place = place_of (last_section (this_module before)) entry;
+    location = location_of (last_section (this_module before)) entry;
   },
 )
 named_by kind.ModuleName before entry = ap (λ pairs. distinct (keys_of pairs)) (append-nil (definitions_of before))

@@ -10,7 +10,7 @@ use Rattle.m11_obj.specs.declared.gsd.GsdKind.{GsdKind}
 use Rattle.m11_obj.specs.declared.gsd.GsdKind.TheVariants.{GlobalSymbol}
 use Rattle.m11_obj.specs.declared.relocations.Relocation.{Relocation}
 use Rattle.m11_link_modules.specs.Parts.{Part, EndOfFile, Text, Relocations, Relocated, record_parts}
-use Rattle.m11_link_modules.specs.Places.{Known, known_of, current_section, modules_in, this_module}
+use Rattle.m11_link_modules.specs.Positions.{Known, known_of, current_section, modules_in, this_module}
 use Rattle.m11_link_modules.specs.Rules.{StopsAtName, defines, fault_of, first_fault}
 use Rattle.m11_link_modules.specs.declared.fault.ModuleFault.TheVariants as rule
 use Rattle.m11_link_layout.specs.Plan.{Planned}

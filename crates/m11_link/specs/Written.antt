@@ -13,7 +13,7 @@ use Rattle.m11_obj.specs.declared.gsd.GsdKind.TheVariants.{GlobalSymbol}
 use Rattle.m11_obj.specs.declared.relocations.Relocation.{Relocation}
 use Rattle.m11_link_modules.specs.Names.{is_among}
 use Rattle.m11_link_modules.specs.Parts.{Part, Entry, Text, Relocations, Relocated}
-use Rattle.m11_link_modules.specs.Places.{current_section, distinct, modules_in, this_module}
+use Rattle.m11_link_modules.specs.Positions.{current_section, distinct, modules_in, this_module}
 use Rattle.m11_link_modules.specs.Rules.{defines}
 use Rattle.m11_link_layout.specs.Globals.{definitions_of}
 use Rattle.m11_link_layout.specs.Sections.{attributes_by}

@@ -74,7 +74,7 @@ impl HeldText {
         self.length = bytes.len();
     }
 
-    /// Stores one more relocation: the bytes at its place are replaced. It was judged by the length of this text.
+    /// Stores one more relocation: the bytes at its location are replaced. It was judged by the length of this text.
     pub(crate) fn relocate(&mut self, plan: &Plan, relocation: &TextRelocation)
         ensures { relocation.now.text_length ≡ length self.old.bytes
             → self.new ≡ with_relocation (planned plan.now) self.old relocation.now.relocation }

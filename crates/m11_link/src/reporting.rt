@@ -32,7 +32,7 @@ pub(crate) struct Reporter {
     alloc: Global,
     plan: Plan,
     defined: IndexSet<Name>,
-    // The text that is held, where one is. Its place is used again for the next.
+    // The text that is held, where one is. Its room is used again for the next.
     text: HeldText,
     is_held: bool,
     messages: u32,

@@ -13,7 +13,7 @@ use Rattle.indexmap.specs.IndexSet.{insert_key}
 use Rattle.m11_base.specs.Rad50.{is_same_name}
 use Rattle.m11_base.proofs.SameNames.{same_name_equal}
 use Rattle.m11_link_modules.specs.Parts.{Part}
-use Rattle.m11_link_modules.specs.Places.{distinct, distinct_after, modules_in, section_in, section_names, sections_in}
+use Rattle.m11_link_modules.specs.Positions.{distinct, distinct_after, modules_in, section_in, section_names, sections_in}
 use Rattle.m11_link_layout.specs.Modules.{module_at, modules_before}
 use Rattle.m11_link_layout.specs.Sections.{base_entered, contribution_base, ends_too_high, first_attributes, greatest, is_overlaid, is_relocatable, is_too_large, module_base, offset_after, rounded, section_base, section_size, size_under, sizes_of}
 use Rattle.m11_link_layout.proofs.PlannedBases.{none_high}
@@ -22,7 +22,7 @@ use Rattle.m11_link_layout.proofs.ModulesOfParts.{modules_are}
 use Rattle.m11_link_layout.proofs.Offsets.{earlier_sizes_more, entered_at, entered_more, reported_where}
 use Rattle.m11_link_layout.proofs.Sizing.{sizes_more}
 use Rattle.m11_link_layout.proofs.Walking.{grown}
-use Rattle.m11_link_laws.specs.Places.{size_entered}
+use Rattle.m11_link_laws.specs.Spans.{size_entered}
 
 abbrev Name : Type 0
 Name = ℕ × ℕ

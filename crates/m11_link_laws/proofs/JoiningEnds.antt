@@ -7,7 +7,7 @@ use Rattle.m11_base.specs.Names.{absolute_name}
 use Rattle.m11_link_modules.specs.declared.stage.Stage.{Stage}
 use Rattle.m11_link_modules.specs.declared.stage.Stage.TheVariants.{Between, InDirectory, InBody}
 use Rattle.m11_link_modules.specs.Parts.{Part, Directory, EndOfDirectory, Text, Relocated, EndOfModule, EndOfFile}
-use Rattle.m11_link_modules.specs.Places.{current_section, distinct, ends_module, global_in, global_names, known_of, length_after, modules_in, section_after, section_in, section_names, sections_in, selected_by, stage_after, stage_from, text_length, this_module}
+use Rattle.m11_link_modules.specs.Positions.{current_section, distinct, ends_module, global_in, global_names, known_of, length_after, modules_in, section_after, section_in, section_names, sections_in, selected_by, stage_after, stage_from, text_length, this_module}
 use Rattle.m11_link_modules.proofs.KnownAfter.{this_module_ended, this_module_goes_on}
 use Rattle.m11_link_layout.proofs.Walking.{grown}
 

@@ -6,13 +6,13 @@ use Rattle.std.specs.Option.{unwrap_or}
 use Rattle.std.proofs.Math.Path.{fun_ext}
 use Rattle.m11_base.specs.Rad50.{is_same_name}
 use Rattle.m11_link_modules.specs.Parts.{Part, Entry, Relocated, EndOfModule, EndOfFile}
-use Rattle.m11_link_modules.specs.Places.{distinct, global_of, this_module}
-use Rattle.m11_link_layout.specs.Globals.{definition_by, definition_in, definition_value, definitions_of, global_reported, global_value, globals_of, is_strong_to, last_of, last_section, place_value, reference_in, references_of, referred, relocated_reference, weak_in, weak_names}
+use Rattle.m11_link_modules.specs.Positions.{distinct, global_of, this_module}
+use Rattle.m11_link_layout.specs.Globals.{definition_by, definition_in, definition_value, definitions_of, global_reported, global_value, globals_of, is_strong_to, last_of, last_section, location_value, reference_in, references_of, referred, relocated_reference, weak_in, weak_names}
 use Rattle.m11_link_layout.specs.Modules.{first_of, indexed, module_at, modules_before, name_at, name_in, name_reported, reported_after}
 use Rattle.m11_link_layout.specs.Sections.{attributes_in, contribution_base, ends_too_high, entered_attributes, first_attributes, is_relocatable, is_too_large, module_base, names_before, room_of, section_base, section_size, sections_of, size_under, sizes_of, top, total}
 use Rattle.m11_link_layout.specs.Transfers.{is_even, transfer_address, transfer_by, transfer_in, transfers_of}
-use Rattle.m11_link_layout.specs.declared.definition.GlobalPlace.{GlobalPlace}
-use Rattle.m11_link_layout.specs.declared.definition.GlobalPlace.TheVariants.{Absolute, In}
+use Rattle.m11_link_layout.specs.declared.definition.GlobalLocation.{GlobalLocation}
+use Rattle.m11_link_layout.specs.declared.definition.GlobalLocation.TheVariants.{Absolute, In}
 use Rattle.m11_link_text.specs.Findings.{findings_of}
 use Rattle.m11_link.specs.Written.{defined_names}
 use Rattle.m11_link_laws.proofs.JoiningEnds.{end_left, entered_same, kept, module_same, modules_same, section_names_same, sections_same, reported_same, without_append, without_ends}
@@ -214,16 +214,16 @@ module_base_same bottom parts index name =
 
 -- ---- globals and the transfer address
 
-place_same : (bottom : ℕ) (parts : List Part) (index : ℕ) (place : GlobalPlace)
-    → place_value bottom (without_ends parts) index place ≡ place_value bottom parts index place
-place_same bottom parts index (Absolute value) = refl
-place_same bottom parts index (In section value) =
+location_same : (bottom : ℕ) (parts : List Part) (index : ℕ) (location : GlobalLocation)
+    → location_value bottom (without_ends parts) index location ≡ location_value bottom parts index location
+location_same bottom parts index (Absolute value) = refl
+location_same bottom parts index (In section value) =
     ap (λ base. (base + value) % 0o200000) (module_base_same bottom parts index section)
 
 values_same : (bottom : ℕ) (parts : List Part)
     → definition_value bottom (without_ends parts) ≡ definition_value bottom parts
 values_same bottom parts =
-    fun_ext (λ definition. place_same bottom parts definition.module_index definition.place)
+    fun_ext (λ definition. location_same bottom parts definition.module_index definition.location)
 
 value_same : (bottom : ℕ) (parts : List Part) (name : ℕ × ℕ)
     → global_value bottom (without_ends parts) name ≡ global_value bottom parts name

@@ -13,7 +13,7 @@ use Rattle.m11_link_modules.specs.declared.fault.ModuleFault.TheVariants.{BadOrd
 use Rattle.m11_link_modules.specs.declared.stage.Stage.{Stage}
 use Rattle.m11_link_modules.specs.declared.stage.Stage.TheVariants.{Between}
 use Rattle.m11_link_modules.specs.Parts.{Part, EndOfFile, parts_in, parts_of}
-use Rattle.m11_link_modules.specs.Places.{known_of, stage_after, stage_from}
+use Rattle.m11_link_modules.specs.Positions.{known_of, stage_after, stage_from}
 use Rattle.m11_link_modules.specs.Rules.{fault_in_order, fault_known, fault_of, first_fault, may_stand}
 use Rattle.m11_link_modules.specs.Steps.{first_known_fault}
 use Rattle.m11_link_modules.proofs.KnownAfter.{faults_known}

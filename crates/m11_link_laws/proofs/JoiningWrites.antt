@@ -6,7 +6,7 @@ use Rattle.m11_obj_blocks.specs.Tapes.{tape_block}
 use Rattle.m11_link_modules.specs.declared.stage.Stage.{Stage}
 use Rattle.m11_link_modules.specs.declared.stage.Stage.TheVariants.{Between, InBody}
 use Rattle.m11_link_modules.specs.Parts.{Part, Entry, Text, Relocations, Relocated, EndOfFile}
-use Rattle.m11_link_modules.specs.Places.{stage_from}
+use Rattle.m11_link_modules.specs.Positions.{stage_from}
 use Rattle.m11_link_modules.specs.Rules.{may_stand}
 use Rattle.m11_link_text.specs.Findings.{Findings, findings_of}
 use Rattle.m11_link.specs.Front.{front_writes}

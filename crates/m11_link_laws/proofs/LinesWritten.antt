@@ -10,7 +10,7 @@ use Rattle.m11_obj.specs.declared.gsd.GsdKind.{GsdKind}
 use Rattle.m11_obj.specs.declared.gsd.GsdKind.TheVariants as kind
 use Rattle.m11_link_modules.specs.Names.{is_among}
 use Rattle.m11_link_modules.specs.Parts.{Part, Entry, Text}
-use Rattle.m11_link_modules.specs.Places.{current_section, modules_in, this_module}
+use Rattle.m11_link_modules.specs.Positions.{current_section, modules_in, this_module}
 use Rattle.m11_link_modules.specs.Rules.{defines}
 use Rattle.m11_link_layout.specs.Modules.{reported_after}
 use Rattle.m11_link_layout.specs.Sections.{attributes_by}

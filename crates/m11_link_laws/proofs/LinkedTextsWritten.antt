@@ -3,7 +3,7 @@ use Rattle.std.proofs.Common.{◌≡◌, true, if◌then◌else◌, List, [], �
 use Rattle.m11_obj_blocks.specs.Tapes.{tape_block}
 use Rattle.m11_link_modules.specs.declared.stage.Stage.TheVariants.{Between}
 use Rattle.m11_link_modules.specs.Parts.{Part, Entry, EndOfFile, Text}
-use Rattle.m11_link_modules.specs.Places.{current_section, modules_in, stage_after, stage_from, this_module}
+use Rattle.m11_link_modules.specs.Positions.{current_section, modules_in, stage_after, stage_from, this_module}
 use Rattle.m11_link_modules.specs.Rules.{fault_of, first_fault}
 use Rattle.m11_link_layout.specs.declared.fault.LinkOutput.TheVariants.{Tape}
 use Rattle.m11_link_layout.proofs.Walking.{head_none, rest_none}

@@ -5,11 +5,11 @@ use Rattle.std.proofs.Math.Seq.{append_snoc}
 use Rattle.std.proofs.lemmas.List.Sums.{sum_by_push}
 use Rattle.m11_base.specs.Rad50.{is_same_name}
 use Rattle.m11_link_modules.specs.Parts.{Part}
-use Rattle.m11_link_modules.specs.Places.{section_names}
+use Rattle.m11_link_modules.specs.Positions.{section_names}
 use Rattle.m11_link_layout.specs.Sections.{names_before, section_base, section_size, top}
 use Rattle.m11_link_layout.proofs.BasesPlaced.{apart_before, before_it}
 use Rattle.m11_link_layout.proofs.Finding.{Apart, apart_distinct}
-use Rattle.m11_link_laws.specs.Places.{LieInOrder, Nothing, Section, Span, lies_from_bottom, relocatable_names, span_of}
+use Rattle.m11_link_laws.specs.Spans.{LieInOrder, Nothing, Section, Span, lies_from_bottom, relocatable_names, span_of}
 
 abbrev Name : Type 0
 Name = ℕ × ℕ

@@ -10,7 +10,7 @@ use Rattle.m11_link_text.specs.Findings.{Findings, findings_of}
 use Rattle.m11_link_text.specs.Relocation.{modulo, replaced, stored_bytes}
 use Rattle.m11_link_text.proofs.Stored.{stored_width}
 use Rattle.m11_link.specs.Written.{PlacedText, placed_text, with_relocation, with_relocations}
-use Rattle.m11_link_laws.specs.Moving.{byte_stays, bytes_moved, covers, moves, relocation_moved, relocations_moved, target_stays, text_place}
+use Rattle.m11_link_laws.specs.Moving.{byte_stays, bytes_moved, covers, moves, relocation_moved, relocations_moved, target_stays, text_position}
 use Rattle.m11_link_laws.proofs.MovingLaws.{text_content}
 use Rattle.m11_link_laws.proofs.MovingShapes.{bytes_length, relocation_length}
 use Rattle.m11_link_laws.proofs.MovingStored.{both, bytes_stay}
@@ -123,7 +123,7 @@ module _ (distance : ℕ) (parts : List Part) (near : Findings) (index : ℕ) wh
       → length text.bytes ≡ length bytes → get_or text.bytes index 0 ≡ get_or bytes index 0
       → (target_stays parts text.module_index does_move relocation.target || not (covers index relocation)) ≡ true
       → lies_within relocation (length bytes) ≡ true
-      → get_or (replaced text.bytes (relocation.displacement - 4) (bytes_moved distance parts near (text_place text.module_index text.base (modulo (text.address + (relocation.displacement - 4))) does_move) relocation.is_byte relocation.target))
+      → get_or (replaced text.bytes (relocation.displacement - 4) (bytes_moved distance parts near (text_position text.module_index text.base (modulo (text.address + (relocation.displacement - 4))) does_move) relocation.is_byte relocation.target))
       index 0
       ≡ get_or (replaced bytes (relocation.displacement - 4) (stored_bytes near text.module_index
       text.base (modulo (text.address + (relocation.displacement - 4))) relocation.is_byte relocation.target)) index 0
@@ -137,7 +137,7 @@ module _ (distance : ℕ) (parts : List Part) (near : Findings) (index : ℕ) wh
       location = modulo (text.address + (relocation.displacement - 4))
 
       far : List ℕ
-      far = bytes_moved distance parts near (text_place text.module_index text.base (modulo (text.address + (relocation.displacement - 4))) does_move) relocation.is_byte relocation.target
+      far = bytes_moved distance parts near (text_position text.module_index text.base (modulo (text.address + (relocation.displacement - 4))) does_move) relocation.is_byte relocation.target
 
       here : List ℕ
       here = stored_bytes near text.module_index text.base
@@ -193,13 +193,13 @@ module _ (distance : ℕ) (parts : List Part) (near : Findings) (index : ℕ) wh
       ≡ get_or (with_relocation near (record text { bytes = bytes }) relocation).bytes index 0
   relocation_same does_move text bytes relocation e g s =
       ap (λ count. get_or (if lies_within relocation count then replaced text.bytes (relocation.displacement - 4)
-      (bytes_moved distance parts near (text_place text.module_index text.base (modulo (text.address + (relocation.displacement - 4))) does_move) relocation.is_byte relocation.target)
+      (bytes_moved distance parts near (text_position text.module_index text.base (modulo (text.address + (relocation.displacement - 4))) does_move) relocation.is_byte relocation.target)
       else text.bytes) index 0) e
       ∙ by (lies_within relocation (length bytes)) refl
     where
       by : (b : Bool) → lies_within relocation (length bytes) ≡ b
           → get_or (if b then replaced text.bytes (relocation.displacement - 4)
-          (bytes_moved distance parts near (text_place text.module_index text.base (modulo (text.address + (relocation.displacement - 4))) does_move) relocation.is_byte relocation.target)
+          (bytes_moved distance parts near (text_position text.module_index text.base (modulo (text.address + (relocation.displacement - 4))) does_move) relocation.is_byte relocation.target)
           else text.bytes) index 0
           ≡ get_or (if b then replaced bytes (relocation.displacement - 4)
           (stored_bytes near text.module_index text.base

@@ -5,19 +5,19 @@ use Rattle.std.specs.Map.{keys_of, lookup}
 use Rattle.std.specs.Option.{option_map, unwrap_or}
 use Rattle.m11_base.specs.Rad50.{is_same_name}
 use Rattle.m11_link_modules.specs.Parts.{Part}
-use Rattle.m11_link_modules.specs.Places.{distinct, section_names, sections_in}
-use Rattle.m11_link_layout.specs.Globals.{definition_value, definitions_of, first_definition, global_defined, global_reported, global_value, globals_of, place_value}
+use Rattle.m11_link_modules.specs.Positions.{distinct, section_names, sections_in}
+use Rattle.m11_link_layout.specs.Globals.{definition_value, definitions_of, first_definition, global_defined, global_reported, global_value, globals_of, location_value}
 use Rattle.m11_link_layout.specs.Modules.{module_at, modules_before}
 use Rattle.m11_link_layout.specs.Sections.{base_entered, contribution_base, first_attributes, module_base, names_before, offset_after, room_of, section_base, section_reported, sections_of, sizes_of, top}
 use Rattle.m11_link_layout.specs.Transfers.{is_even, transfer_address, transfer_value, transfers_of}
 use Rattle.m11_link_layout.specs.declared.definition.Definition.{Definition}
-use Rattle.m11_link_layout.specs.declared.definition.GlobalPlace.{GlobalPlace}
-use Rattle.m11_link_layout.specs.declared.definition.GlobalPlace.TheVariants.{Absolute, In}
+use Rattle.m11_link_layout.specs.declared.definition.GlobalLocation.{GlobalLocation}
+use Rattle.m11_link_layout.specs.declared.definition.GlobalLocation.TheVariants.{Absolute, In}
 use Rattle.m11_link_layout.specs.declared.definition.Transfer.{Transfer}
 use Rattle.m11_link_layout.specs.declared.planned.PlannedGlobal.{PlannedGlobal}
 use Rattle.m11_link_layout.specs.declared.planned.PlannedSection.{PlannedSection}
 use Rattle.m11_link_text.specs.Findings.{findings_of}
-use Rattle.m11_link_laws.specs.Moving.{Moved, counting_transfer, definition_moves, farther, global_moved, global_moves, moved, moves, place_moves, section_moved, section_moves, transfer_moves}
+use Rattle.m11_link_laws.specs.Moving.{Moved, counting_transfer, definition_moves, farther, global_moved, global_moves, location_moves, moved, moves, section_moved, section_moves, transfer_moves}
 use Rattle.m11_link_laws.proofs.MovingNumbers.{base_moved, even_moved, sum_moved}
 
 -- ---- sections
@@ -80,11 +80,11 @@ base_is bottom distance parts index name =
 
 -- ---- globals
 
-place_is : (bottom distance : ℕ) (parts : List Part) (index : ℕ) (place : GlobalPlace)
-    → place_value (bottom + distance) parts index place
-    ≡ moved distance (place_moves parts index place) (place_value bottom parts index place)
-place_is bottom distance parts index (Absolute value) = refl
-place_is bottom distance parts index (In section value) =
+location_is : (bottom distance : ℕ) (parts : List Part) (index : ℕ) (location : GlobalLocation)
+    → location_value (bottom + distance) parts index location
+    ≡ moved distance (location_moves parts index location) (location_value bottom parts index location)
+location_is bottom distance parts index (Absolute value) = refl
+location_is bottom distance parts index (In section value) =
     ap (λ base. (base + value) % 65536) (base_is bottom distance parts index section)
     ∙ sum_moved distance (module_base bottom parts index section) value (moves parts index section)
 
@@ -93,7 +93,7 @@ defined_is : (bottom distance : ℕ) (parts : List Part) (found : Option Definit
     ≡ option_map (moved distance (definition_moves parts found)) (option_map (definition_value bottom parts) found)
 defined_is bottom distance parts None = refl
 defined_is bottom distance parts (Some definition) =
-    ap (λ value. Some value) (place_is bottom distance parts definition.module_index definition.place)
+    ap (λ value. Some value) (location_is bottom distance parts definition.module_index definition.location)
 
 pub value_is : (bottom distance : ℕ) (parts : List Part) (name : ℕ × ℕ)
     → global_value (bottom + distance) parts name
@@ -107,7 +107,7 @@ symbol_by : (bottom distance : ℕ) (parts : List Part) (found : Option Definiti
     ≡ moved distance (definition_moves parts found) (unwrap_or (option_map (definition_value bottom parts) found) 0)
 symbol_by bottom distance parts None = refl
 symbol_by bottom distance parts (Some definition) =
-    place_is bottom distance parts definition.module_index definition.place
+    location_is bottom distance parts definition.module_index definition.location
 
 pub symbol_is : (bottom distance : ℕ) (parts : List Part) (name : ℕ × ℕ)
     → unwrap_or (global_value (bottom + distance) parts name) 0
@@ -124,7 +124,7 @@ global_by bottom distance parts name None = refl
 global_by bottom distance parts name (Some definition) =
     ap (λ value. Some (let reported : PlannedGlobal =
     record (global_reported bottom parts name definition) { value = value } in reported))
-    (place_is bottom distance parts definition.module_index definition.place)
+    (location_is bottom distance parts definition.module_index definition.location)
 
 -- its entry in the list has its name
 named_by : (bottom distance : ℕ) (parts : List Part) (name : ℕ × ℕ) (found : Option Definition)

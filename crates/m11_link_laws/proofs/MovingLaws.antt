@@ -6,12 +6,12 @@ use Rattle.m11_obj.specs.declared.gsd.GsdKind.TheVariants as kind
 use Rattle.m11_obj.specs.declared.relocations.Relocation.{Relocation}
 use Rattle.m11_obj.specs.declared.relocations.Target.{Target}
 use Rattle.m11_link_modules.specs.Parts.{Part, Directory, Entry, EndOfDirectory, Text, Relocations, Relocated, EndOfModule, EndOfFile}
-use Rattle.m11_link_modules.specs.Places.{current_section, modules_in, this_module}
+use Rattle.m11_link_modules.specs.Positions.{current_section, modules_in, this_module}
 use Rattle.m11_link_layout.specs.Sections.{attributes_by}
 use Rattle.m11_link_text.specs.Findings.{Findings, findings_of}
 use Rattle.m11_link_text.specs.Relocation.{stored_bytes, symbol, value_of}
 use Rattle.m11_link.specs.Written.{PlacedText, defined_names, different_writes, ended_writes, has_ended, parts_writes, placed_text, relocations_after, text_writes, with_relocations, writes_at, writes_after, writes_by}
-use Rattle.m11_link_laws.specs.Moving.{Moved, all_stay, bytes_moved, ended_moved, global_moves, is_displaced, moved, moved_after, moves, number_moved, part_moved, relocations_moved, stores_limits, target_moves, text_moved, text_place, value_moved}
+use Rattle.m11_link_laws.specs.Moving.{Moved, all_stay, bytes_moved, ended_moved, global_moves, is_displaced, moved, moved_after, moves, number_moved, part_moved, relocations_moved, stores_limits, target_moves, text_moved, text_position, value_moved}
 use Rattle.m11_link_laws.proofs.MovingFindings.{findings_moved, symbol_is}
 use Rattle.m11_link_laws.proofs.MovingStored.{bytes_far, low_bytes, placed_far, relocations_far, relocations_stay, value_far}
 
@@ -105,7 +105,7 @@ relocations_move bottom distance parts does_move text relocations =
 pub value_moves : (bottom distance : ℕ) (parts : List Part) (index own location : ℕ) (does_move : Bool) (t : Target)
     → value_of (findings_of (bottom + distance) parts) index (moved distance does_move own)
     (moved distance does_move location) t
-    ≡ value_moved distance parts (findings_of bottom parts) (text_place index own location does_move) t
+    ≡ value_moved distance parts (findings_of bottom parts) (text_position index own location does_move) t
 value_moves bottom distance parts index own location does_move t =
     let m = findings_moved bottom distance parts in
     value_far distance parts (findings_of bottom parts) (findings_of (bottom + distance) parts) m.base
@@ -115,7 +115,7 @@ pub bytes_move : (bottom distance : ℕ) (parts : List Part) (index own location
     (t : Target)
     → stored_bytes (findings_of (bottom + distance) parts) index (moved distance does_move own)
     (moved distance does_move location) is_byte t
-    ≡ bytes_moved distance parts (findings_of bottom parts) (text_place index own location does_move) is_byte t
+    ≡ bytes_moved distance parts (findings_of bottom parts) (text_position index own location does_move) is_byte t
 bytes_move bottom distance parts index own location does_move is_byte t =
     let m = findings_moved bottom distance parts in
     bytes_far distance parts (findings_of bottom parts) (findings_of (bottom + distance) parts) m.base

@@ -7,7 +7,7 @@ use Rattle.m11_obj.specs.declared.relocations.Relocation.{Relocation}
 use Rattle.m11_obj.specs.declared.relocations.Target.{Target}
 use Rattle.m11_obj.specs.declared.relocations.Target.TheVariants as target
 use Rattle.m11_link_modules.specs.Parts.{Part, Directory, Entry, EndOfDirectory, Text, Relocations, Relocated, EndOfModule, EndOfFile}
-use Rattle.m11_link_modules.specs.Places.{current_section, modules_in, this_module}
+use Rattle.m11_link_modules.specs.Positions.{current_section, modules_in, this_module}
 use Rattle.m11_link_modules.specs.Rules.{lies_within}
 use Rattle.m11_link_layout.specs.declared.fault.LinkOutput.{LinkOutput}
 use Rattle.m11_link_layout.specs.declared.fault.LinkOutput.TheVariants.{Tape}
@@ -15,7 +15,7 @@ use Rattle.m11_link_text.specs.Findings.{Findings, findings_of}
 use Rattle.m11_link_text.specs.Relocation.{modulo, replaced, stored_bytes, value_bytes}
 use Rattle.m11_link_text.proofs.Stored.{replaced_is}
 use Rattle.m11_link.specs.Written.{PlacedText, block_at, has_ended, parts_writes, placed_text, relocations_after, text_writes, with_relocation, with_relocations, writes_at, writes_after}
-use Rattle.m11_link_laws.specs.Moving.{bytes_moved, moved_after, moves, part_moved, relocation_moved, relocations_moved, shape_of, text_moved, text_place}
+use Rattle.m11_link_laws.specs.Moving.{bytes_moved, moved_after, moves, part_moved, relocation_moved, relocations_moved, shape_of, text_moved, text_position}
 use Rattle.m11_link_laws.proofs.MovingLaws.{parts_move}
 
 -- ---- blocks
@@ -63,7 +63,7 @@ if_length false text other bytes others e h = e
 
 module _ (distance : ℕ) (parts : List Part) (near : Findings) where
   pub bytes_length : (index own location : ℕ) (does_move is_byte : Bool) (t : Target)
-      → length (bytes_moved distance parts near (text_place index own location does_move) is_byte t)
+      → length (bytes_moved distance parts near (text_position index own location does_move) is_byte t)
       ≡ length (stored_bytes near index own location is_byte t)
   bytes_length index own location does_move is_byte target.ProgramLimits = refl
   bytes_length index own location does_move is_byte (target.LocationCounterDefinition name constant) = refl
@@ -90,7 +90,7 @@ module _ (distance : ℕ) (parts : List Part) (near : Findings) where
   relocation_length does_move text bytes relocation e =
       let index = relocation.displacement - 4 in
       let location = modulo (text.address + index) in
-      let far = bytes_moved distance parts near (text_place text.module_index text.base location does_move) relocation.is_byte
+      let far = bytes_moved distance parts near (text_position text.module_index text.base location does_move) relocation.is_byte
       relocation.target in
       let here = stored_bytes near text.module_index text.base location relocation.is_byte relocation.target in
       ap (λ count. length (if lies_within relocation count then replaced text.bytes index far else text.bytes)) e

@@ -9,7 +9,7 @@ use Rattle.m11_link_modules.specs.Rules.{lies_within}
 use Rattle.m11_link_text.specs.Findings.{Findings}
 use Rattle.m11_link_text.specs.Relocation.{following, less, modulo, replaced, stored_bytes, symbol, value_bytes, value_of}
 use Rattle.m11_link.specs.Written.{PlacedText, placed_text, with_relocation, with_relocations}
-use Rattle.m11_link_laws.specs.Moving.{all_stay, bytes_moved, global_moves, is_alike, is_displaced, moved, moves, number_moved, relocation_moved, relocations_moved, stores_limits, target_moves, target_stays, text_moved, text_place, value_moved}
+use Rattle.m11_link_laws.specs.Moving.{all_stay, bytes_moved, global_moves, is_alike, is_displaced, moved, moves, number_moved, relocation_moved, relocations_moved, stores_limits, target_moves, target_stays, text_moved, text_position, value_moved}
 use Rattle.m11_link_laws.proofs.MovingNumbers.{displacement_moved, low_moved, plain_moved, sum_moved}
 
 module _ (distance : ℕ) (parts : List Part) (near far : Findings)
@@ -33,7 +33,7 @@ module _ (distance : ℕ) (parts : List Part) (near far : Findings)
 
   pub value_far : (index own location : ℕ) (does_move : Bool) (t : Target)
       → value_of far index (moved distance does_move own) (moved distance does_move location) t
-      ≡ value_moved distance parts near (text_place index own location does_move) t
+      ≡ value_moved distance parts near (text_position index own location does_move) t
   value_far index own location does_move (target.Internal constant) =
       plain (modulo (own + constant)) (modulo (moved distance does_move own + constant)) does_move
       (added constant own (moved distance does_move own) does_move refl)
@@ -71,7 +71,7 @@ module _ (distance : ℕ) (parts : List Part) (near far : Findings)
 
   pub bytes_far : (index own location : ℕ) (does_move is_byte : Bool) (t : Target)
       → stored_bytes far index (moved distance does_move own) (moved distance does_move location) is_byte t
-      ≡ bytes_moved distance parts near (text_place index own location does_move) is_byte t
+      ≡ bytes_moved distance parts near (text_position index own location does_move) is_byte t
   bytes_far index own location does_move is_byte target.ProgramLimits =
       ap₂ (λ low high. word_bytes low ++ word_bytes high) bottom top
   bytes_far index own location does_move is_byte (target.LocationCounterDefinition name constant) = refl
@@ -145,7 +145,7 @@ low_byte : (distance value : ℕ) (b c : Bool)
 low_byte distance value b c = ap (λ n. n ∷ []) (low_moved distance value b c)
 
 low_at : (distance : ℕ) (parts : List Part) (near : Findings) (index own location : ℕ) (does_move : Bool) (t : Target)
-    → value_bytes true (value_moved distance parts near (text_place index own location does_move) t)
+    → value_bytes true (value_moved distance parts near (text_position index own location does_move) t)
     ≡ map (number_moved 256 distance (target_moves parts index does_move t) (is_displaced t && does_move))
     (value_bytes true (value_of near index own location t))
 low_at distance parts near index own location does_move t =
@@ -154,7 +154,7 @@ low_at distance parts near index own location does_move t =
 
 pub low_bytes : (distance : ℕ) (parts : List Part) (near : Findings) (index own location : ℕ) (does_move : Bool)
     (t : Target) → stores_limits t ≡ false
-    → bytes_moved distance parts near (text_place index own location does_move) true t
+    → bytes_moved distance parts near (text_position index own location does_move) true t
     ≡ map (number_moved 256 distance (target_moves parts index does_move t) (is_displaced t && does_move))
     (stored_bytes near index own location true t)
 low_bytes distance parts near index own location does_move target.ProgramLimits e = absurd (true≢false e)
@@ -196,7 +196,7 @@ alike_stays distance value false false e = refl
 module _ (distance : ℕ) (parts : List Part) (near : Findings) where
   value_stays : (index own location : ℕ) (does_move is_byte : Bool) (t : Target)
       → is_alike (target_moves parts index does_move t) (is_displaced t && does_move) ≡ true
-      → value_bytes is_byte (value_moved distance parts near (text_place index own location does_move) t)
+      → value_bytes is_byte (value_moved distance parts near (text_position index own location does_move) t)
       ≡ value_bytes is_byte (value_of near index own location t)
   value_stays index own location does_move is_byte t e =
       ap (λ v. value_bytes is_byte v) (alike_stays distance (value_of near index own location t)
@@ -204,7 +204,7 @@ module _ (distance : ℕ) (parts : List Part) (near : Findings) where
 
   pub bytes_stay : (index own location : ℕ) (does_move is_byte : Bool) (t : Target)
       → target_stays parts index does_move t ≡ true
-      → bytes_moved distance parts near (text_place index own location does_move) is_byte t
+      → bytes_moved distance parts near (text_position index own location does_move) is_byte t
       ≡ stored_bytes near index own location is_byte t
   bytes_stay index own location does_move is_byte target.ProgramLimits e = absurd (true≢false (sym e))
   bytes_stay index own location does_move is_byte (target.LocationCounterDefinition name constant) e = refl

@@ -13,7 +13,7 @@ use Rattle.indexmap.specs.IndexSet.{insert_key}
 use Rattle.m11_base.specs.Rad50.{is_same_name}
 use Rattle.m11_base.proofs.SameNames.{same_name_equal}
 use Rattle.m11_link_modules.specs.Parts.{Part}
-use Rattle.m11_link_modules.specs.Places.{distinct, distinct_after, modules_in, section_in, section_names, sections_in}
+use Rattle.m11_link_modules.specs.Positions.{distinct, distinct_after, modules_in, section_in, section_names, sections_in}
 use Rattle.m11_link_layout.specs.Modules.{module_at, modules_before}
 use Rattle.m11_link_layout.specs.Sections.{base_entered, contribution_base, ends_too_high, first_attributes, greatest, is_overlaid, is_relocatable, is_too_large, module_base, rounded, section_base, section_size, size_under, sizes_of}
 use Rattle.m11_link_layout.proofs.PlannedBases.{none_high}

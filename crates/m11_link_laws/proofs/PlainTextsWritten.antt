@@ -15,7 +15,7 @@ use Rattle.m11_link_modules.specs.declared.stage.Stage.{Stage}
 use Rattle.m11_link_modules.specs.declared.stage.Stage.TheVariants.{Between, InDirectory, InBody}
 use Rattle.m11_link_modules.specs.Names.{is_among}
 use Rattle.m11_link_modules.specs.Parts.{Part, Directory, Entry, EndOfDirectory, Text, Relocations, Relocated, EndOfModule, EndOfFile}
-use Rattle.m11_link_modules.specs.Places.{current_section, known_of, modules_in, stage_after, stage_from, this_module}
+use Rattle.m11_link_modules.specs.Positions.{current_section, known_of, modules_in, stage_after, stage_from, this_module}
 use Rattle.m11_link_modules.specs.Rules.{defines, fault_known, fault_of, first_fault, may_stand}
 use Rattle.m11_link_layout.specs.Modules.{reported_after}
 use Rattle.m11_link_layout.specs.Sections.{attributes_by}

@@ -10,7 +10,7 @@ use Rattle.m11_link_modules.specs.declared.stage.Stage.{Stage}
 use Rattle.m11_link_modules.specs.declared.stage.Stage.TheVariants.{Between, InDirectory, InBody}
 use Rattle.m11_link_modules.specs.Grammar.{FileEnds, Item, RecordOf, items_parts}
 use Rattle.m11_link_modules.specs.Parts.{Part, Directory, Entry, EndOfDirectory, Text, Relocations, Relocated, EndOfModule, EndOfFile, parts_of}
-use Rattle.m11_link_modules.specs.Places.{Known, global_of, known_of, modules_in, section_names, sections_in, stage_after, this_module}
+use Rattle.m11_link_modules.specs.Positions.{Known, global_of, known_of, modules_in, section_names, sections_in, stage_after, this_module}
 use Rattle.m11_link_modules.specs.Rules.{InLimits, fault_of, first_fault, most_modules, most_sections}
 use Rattle.m11_link_modules.specs.Steps.{known_after, with_entry, with_optional_global}
 use Rattle.m11_link_modules.proofs.KnownAfter.{known_after_part}

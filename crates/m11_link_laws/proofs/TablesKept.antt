@@ -2,7 +2,7 @@
 use Rattle.std.proofs.Common.{◌≡◌, ℕ, ◌+◌, ◌*◌, ◌≤◌, mul-le-mul, List, [], length, None, refl, sym, ◌∙◌}
 use Rattle.std.specs.Map.{keys_of}
 use Rattle.m11_link_modules.specs.Parts.{Part}
-use Rattle.m11_link_modules.specs.Places.{global_names, known_of, modules_in, section_names, sections_in, stage_after, this_module}
+use Rattle.m11_link_modules.specs.Positions.{global_names, known_of, modules_in, section_names, sections_in, stage_after, this_module}
 use Rattle.m11_link_modules.specs.Rules.{first_fault, most_modules, most_sections}
 use Rattle.m11_link_layout.specs.Globals.{definitions_of, references_of}
 use Rattle.m11_link_layout.proofs.KnownBounded.{modules_within}

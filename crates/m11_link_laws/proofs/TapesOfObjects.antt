@@ -25,20 +25,20 @@ use Rattle.m11_link_laws.proofs.RunsDecided.{taken_of}
 use Rattle.m11_link_laws.proofs.TextsFit.{Fits, TextFits, object_texts_fit, objects_fit}
 use Rattle.m11_link_laws.proofs.WholeObjects.{taken_between, taken_sound}
 
--- ---- relocations leave a text its place and its size
+-- ---- relocations leave a text its address and its size
 
 -- how a text lies
 record Lies (text other : PlacedText) : Type 0 where
-  place : text.address ≡ other.address
+  same_address : text.address ≡ other.address
   size : length text.bytes ≡ length other.bytes
 
 lies : (found : Findings) (text : PlacedText) (relocations : List Relocation)
     → Lies (with_relocations found text relocations) text
-lies found text [] = record { place = refl; size = refl }
+lies found text [] = record { same_address = refl; size = refl }
 lies found text (relocation ∷ relocations) =
     let more = lies found (with_relocation found text relocation) relocations in
     record {
-      place = more.place;
+      same_address = more.same_address;
       size = more.size
           ∙ size_kept found text.module_index text.base text.address relocation text.bytes
           (lies_within relocation (length text.bytes)) refl;
@@ -58,7 +58,7 @@ linked_stands found text fits =
     let l = lies found placed text.relocations in
     let below : placed.address < 65536 = below_modulo (found.base text.module_index text.section + text.address) in
     let Q : ℕ → Type 0 = λ address. address < 65536 in
-    (subst Q (sym l.place) below, omega (arith, l.size, fits))
+    (subst Q (sym l.same_address) below, omega (arith, l.size, fits))
 
 linked_stand : (found : Findings) (texts : List ObjectText) → AllByRecursion TextFits texts
     → AllByRecursion MayStand (map (linked_text found) texts)

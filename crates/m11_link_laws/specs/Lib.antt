@@ -1,4 +1,4 @@
-pub mod Places
+pub mod Spans
 pub mod Texts
 pub mod LinkedTexts
 pub mod Lines

@@ -11,15 +11,15 @@ use Rattle.m11_obj.specs.declared.relocations.Relocation.{Relocation}
 use Rattle.m11_obj.specs.declared.relocations.Target.{Target}
 use Rattle.m11_obj.specs.declared.relocations.Target.TheVariants as target
 use Rattle.m11_link_modules.specs.Parts.{Part, Text}
-use Rattle.m11_link_modules.specs.Places.{current_section, modules_in, sections_in, this_module}
+use Rattle.m11_link_modules.specs.Positions.{current_section, modules_in, sections_in, this_module}
 use Rattle.m11_link_modules.specs.Rules.{lies_within, width_of}
 use Rattle.m11_link_layout.specs.Globals.{first_definition}
 use Rattle.m11_link_layout.specs.Modules.{module_at}
 use Rattle.m11_link_layout.specs.Sections.{first_attributes, is_relocatable}
 use Rattle.m11_link_layout.specs.Transfers.{is_even, transfer_value, transfers_of}
 use Rattle.m11_link_layout.specs.declared.definition.Definition.{Definition}
-use Rattle.m11_link_layout.specs.declared.definition.GlobalPlace.{GlobalPlace}
-use Rattle.m11_link_layout.specs.declared.definition.GlobalPlace.TheVariants.{Absolute, In}
+use Rattle.m11_link_layout.specs.declared.definition.GlobalLocation.{GlobalLocation}
+use Rattle.m11_link_layout.specs.declared.definition.GlobalLocation.TheVariants.{Absolute, In}
 use Rattle.m11_link_layout.specs.declared.definition.Transfer.{Transfer}
 use Rattle.m11_link_layout.specs.declared.fault.LinkOutput.{LinkOutput}
 use Rattle.m11_link_layout.specs.declared.planned.PlannedGlobal.{PlannedGlobal}
@@ -41,13 +41,13 @@ moves parts index name =
     is_some (lookup (is_same_name name) (sections_in (module_at parts index))) && section_moves parts name
 
 -- a global, with the contribution that its first definition stands after
-abbrev pub place_moves : List Part → ℕ → GlobalPlace → Bool
-place_moves parts index (Absolute value) = false
-place_moves parts index (In section value) = moves parts index section
+abbrev pub location_moves : List Part → ℕ → GlobalLocation → Bool
+location_moves parts index (Absolute value) = false
+location_moves parts index (In section value) = moves parts index section
 
 abbrev pub definition_moves : List Part → Option Definition → Bool
 definition_moves parts None = false
-definition_moves parts (Some definition) = place_moves parts definition.module_index definition.place
+definition_moves parts (Some definition) = location_moves parts definition.module_index definition.location
 
 unfoldable pub global_moves : List Part → Name → Bool
 global_moves parts name = definition_moves parts (first_definition parts name)
@@ -75,7 +75,7 @@ target_moves parts index own (target.SectionAdditive name constant) = moves part
 target_moves parts index own (target.SectionAdditiveDisplaced name constant) = moves parts index name
 target_moves parts index own other = false
 
--- whether a value is counted from the place where it is stored
+-- whether a value is counted from the location where it is stored
 abbrev pub is_displaced : Target → Bool
 is_displaced (target.InternalDisplaced constant) = true
 is_displaced (target.GlobalDisplaced name) = true
@@ -94,7 +94,7 @@ farther distance does_move base = if does_move then base + distance else base
 abbrev pub moved : ℕ → Bool → ℕ → ℕ
 moved distance does_move address = if does_move then modulo (address + distance) else address
 
--- a stored number below a modulus: one more distance where the target moves alone, one less where only the place that
+-- a stored number below a modulus: one more distance where the target moves alone, one less where only the location that
 -- it counts from moves, and the same where both move or neither
 abbrev pub number_moved : ℕ → ℕ → Bool → Bool → ℕ → ℕ
 number_moved modulus distance true true number = number
@@ -153,40 +153,40 @@ text_moved distance does_move text = record text {
   address = moved distance does_move text.address;
 }
 
--- a place in a text: the index of its module, the base of its section there, the place's address, and whether the text
+-- a position in a text: the index of its module, the base of its section there, the address there, and whether the text
 -- moves
-pub record TextPlace : Type 0 where
+pub record TextPosition : Type 0 where
   pub module_index : ℕ
   pub base : ℕ
   pub location : ℕ
   pub does_move : Bool
 
-abbrev pub text_place : ℕ → ℕ → ℕ → Bool → TextPlace
-text_place module_index base location does_move =
+abbrev pub text_position : ℕ → ℕ → ℕ → Bool → TextPosition
+text_position module_index base location does_move =
     record { module_index = module_index; base = base; location = location; does_move = does_move }
 
--- the value of a target at a place
-abbrev pub value_moved : ℕ → List Part → Findings → TextPlace → Target → ℕ
-value_moved distance parts near place named =
-    number_moved 0o200000 distance (target_moves parts place.module_index place.does_move named)
-    (is_displaced named && place.does_move) (value_of near place.module_index place.base place.location named)
+-- the value of a target at a position
+abbrev pub value_moved : ℕ → List Part → Findings → TextPosition → Target → ℕ
+value_moved distance parts near position named =
+    number_moved 0o200000 distance (target_moves parts position.module_index position.does_move named)
+    (is_displaced named && position.does_move) (value_of near position.module_index position.base position.location named)
 
 -- the bytes that a relocation stores then
-abbrev pub bytes_moved : ℕ → List Part → Findings → TextPlace → Bool → Target → List ℕ
-bytes_moved distance parts near place is_byte target.ProgramLimits =
+abbrev pub bytes_moved : ℕ → List Part → Findings → TextPosition → Bool → Target → List ℕ
+bytes_moved distance parts near position is_byte target.ProgramLimits =
     word_bytes (near.bottom + distance) ++ word_bytes (near.top + distance)
-bytes_moved distance parts near place is_byte (target.LocationCounterDefinition name constant) = []
-bytes_moved distance parts near place is_byte (target.LocationCounterModification constant) = []
-bytes_moved distance parts near place is_byte other =
-    value_bytes is_byte (value_moved distance parts near place other)
+bytes_moved distance parts near position is_byte (target.LocationCounterDefinition name constant) = []
+bytes_moved distance parts near position is_byte (target.LocationCounterModification constant) = []
+bytes_moved distance parts near position is_byte other =
+    value_bytes is_byte (value_moved distance parts near position other)
 
 -- a text with relocations, each of which stores what it stores then
 abbrev pub relocation_moved : ℕ → List Part → Findings → Bool → PlacedText → Relocation → PlacedText
 relocation_moved distance parts near does_move text relocation =
     let index = relocation.displacement - 4 in
     let location = modulo (text.address + index) in
-    let place = text_place text.module_index text.base location does_move in
-    let bytes = bytes_moved distance parts near place relocation.is_byte relocation.target in
+    let position = text_position text.module_index text.base location does_move in
+    let bytes = bytes_moved distance parts near position relocation.is_byte relocation.target in
     record text {
       bytes = if lies_within relocation (length text.bytes) then replaced text.bytes index bytes else text.bytes;
     }
@@ -229,7 +229,7 @@ abbrev pub stores_limits : Target → Bool
 stores_limits target.ProgramLimits = true
 stores_limits other = false
 
--- a relocation stores the same where what it names moves and so does the place that it counts from, or neither moves
+-- a relocation stores the same where what it names moves and so does the location that it counts from, or neither moves
 abbrev pub is_alike : Bool → Bool → Bool
 is_alike true other = other
 is_alike false other = not other
@@ -242,12 +242,12 @@ abbrev pub all_stay : List Part → ℕ → Bool → List Relocation → Bool
 all_stay parts index does_move relocations =
     list_all (λ relocation. target_stays parts index does_move relocation.target) relocations
 
--- whether a relocation stores a byte at a place in the text, counted from its first byte
+-- whether a relocation stores a byte at an offset in the text, counted from its first byte
 abbrev pub covers : ℕ → Relocation → Bool
-covers place relocation = nat_le relocation.displacement (4 + place)
-    && nat_lt (4 + place) (relocation.displacement + width_of relocation.is_byte relocation.target)
+covers offset relocation = nat_le relocation.displacement (4 + offset)
+    && nat_lt (4 + offset) (relocation.displacement + width_of relocation.is_byte relocation.target)
 
--- the byte at a place stays where no relocation covers it but those that store the same
+-- the byte at an offset stays where no relocation covers it but those that store the same
 abbrev pub byte_stays : List Part → ℕ → Bool → List Relocation → ℕ → Bool
-byte_stays parts index does_move relocations place = list_all (λ relocation.
-    target_stays parts index does_move relocation.target || not (covers place relocation)) relocations
+byte_stays parts index does_move relocations offset = list_all (λ relocation.
+    target_stays parts index does_move relocation.target || not (covers offset relocation)) relocations

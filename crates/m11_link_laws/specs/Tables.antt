@@ -1,7 +1,7 @@
 -- The tables that the two passes of a link keep of parts, and how large they grow. (This project's own.)
 use Rattle.std.specs.Prelude.{◌≡◌, ℕ, ◌+◌, ◌*◌, ◌≤◌, List, length}
 use Rattle.m11_link_modules.specs.Parts.{Part}
-use Rattle.m11_link_modules.specs.Places.{global_names, known_of, modules_in, section_names, sections_in}
+use Rattle.m11_link_modules.specs.Positions.{global_names, known_of, modules_in, section_names, sections_in}
 use Rattle.m11_link_modules.specs.Rules.{most_globals, most_modules, most_sections}
 use Rattle.m11_link_layout.specs.Tables.{Gathered, gathered_after_all, nothing_gathered}
 use Rattle.m11_link.specs.Written.{defined_names}

@@ -5,7 +5,7 @@ use Rattle.m11_obj_blocks.specs.Tapes.{tape_block}
 use Rattle.m11_obj.specs.declared.relocations.Target.{Target}
 use Rattle.m11_obj.specs.declared.relocations.Target.TheVariants as target
 use Rattle.m11_link_modules.specs.Parts.{Part, Text, Relocated}
-use Rattle.m11_link_modules.specs.Places.{current_section, modules_in, this_module}
+use Rattle.m11_link_modules.specs.Positions.{current_section, modules_in, this_module}
 use Rattle.m11_link_layout.specs.Modules.{reported_after}
 use Rattle.m11_link_text.specs.Findings.{Findings}
 use Rattle.m11_link_text.specs.Relocation.{modulo}

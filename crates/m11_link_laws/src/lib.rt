@@ -3,9 +3,9 @@
 #![tactic(auto)]
 
 // Where sections lie, with the contributions of modules in them.
-mod places;
+mod spans;
 
-pub use places::{
+pub use spans::{
     contributions_lie_in_order, overlaid_contributions_begin_together,
     relocatable_sections_lie_in_order,
 };

@@ -12,7 +12,7 @@ ghost use Rattle.m11_link_text.specs.Findings.{findings_of};
 ghost use Rattle.m11_link.specs.Front.{undefined_writes};
 ghost use Rattle.m11_link_text.specs.Relocation.{stored_bytes, value_of};
 ghost use Rattle.m11_link.specs.Written.{link_writes, parts_writes, placed_text, with_relocations};
-ghost use Rattle.m11_link_laws.specs.Moving.{Moved, all_stay, byte_stays, bytes_moved, counting_transfer, farther, findings_moved, is_displaced, moved, moved_after, moves, number_moved, relocations_moved, section_moves, shape_of, stores_limits, target_moves, text_moved, text_place};
+ghost use Rattle.m11_link_laws.specs.Moving.{Moved, all_stay, byte_stays, bytes_moved, counting_transfer, farther, findings_moved, is_displaced, moved, moved_after, moves, number_moved, relocations_moved, section_moves, shape_of, stores_limits, target_moves, text_moved, text_position};
 
 /// Relocatable sections move by the distance, and with them the contributions of modules to them, the globals that
 /// stand after such a contribution, both limits, and the transfer address where the entry that counts names such a
@@ -37,7 +37,7 @@ pub fn moving_the_bottom_moves_what_is_relocated()
 /// relocation stores others.
 #[tactic(auto, using(crate::proofs::MovingLaws::text_content))]
 pub fn moving_the_bottom_moves_texts()
-    ensures place { (bottom distance : ℕ) (parts : List Part) (index : ℕ) (section : ℕ × ℕ) (address : ℕ)
+    ensures address { (bottom distance : ℕ) (parts : List Part) (index : ℕ) (section : ℕ × ℕ) (address : ℕ)
         (bytes : List ℕ)
         → placed_text (findings_of (bottom + distance) parts) index section address bytes
         ≡ text_moved distance (moves parts index section)
@@ -51,8 +51,8 @@ pub fn moving_the_bottom_moves_texts()
         (placed_text (findings_of bottom parts) index section address bytes) relocations) }
 {}
 
-/// A stored value moves by the distance where what it names moves and it isn't counted from a place that moves too; it
-/// moves back by the distance where only that place moves. A stored byte moves so modulo 256, and the limits, which
+/// A stored value moves by the distance where what it names moves and it isn't counted from a location that moves too; it
+/// moves back by the distance where only that location moves. A stored byte moves so modulo 256, and the limits, which
 /// take two words, each by the distance.
 #[tactic(auto, using(crate::proofs::MovingLaws::value_moves, crate::proofs::MovingLaws::bytes_move, crate::proofs::MovingLaws::low_byte_moves))]
 pub fn moving_the_bottom_moves_stored_values()
@@ -66,7 +66,7 @@ pub fn moving_the_bottom_moves_stored_values()
         (named : Target)
         → stored_bytes (findings_of (bottom + distance) parts) index (moved distance does_move own)
         (moved distance does_move location) is_byte named
-        ≡ bytes_moved distance parts (findings_of bottom parts) (text_place index own location does_move) is_byte named }
+        ≡ bytes_moved distance parts (findings_of bottom parts) (text_position index own location does_move) is_byte named }
     ensures low { (bottom distance : ℕ) (parts : List Part) (index own location : ℕ) (does_move : Bool) (named : Target)
         → stores_limits named ≡ false
         → stored_bytes (findings_of (bottom + distance) parts) index (moved distance does_move own)
@@ -77,7 +77,7 @@ pub fn moving_the_bottom_moves_stored_values()
 {}
 
 /// A relocation stores the same bytes at both bottoms where it names what moves with the text and counts from its
-/// place, or names what doesn't move and counts from no place that moves. A text has the same bytes where all its
+/// location, or names what doesn't move and counts from no location that moves. A text has the same bytes where all its
 /// relocations are such; and in any text each byte is the same that no other relocation covers.
 #[tactic(auto, using(crate::proofs::MovingLaws::content_stays, crate::proofs::MovingBytes::byte_is_same))]
 pub fn what_moves_together_stays()
@@ -90,12 +90,12 @@ pub fn what_moves_together_stays()
         (with_relocations (findings_of bottom parts)
         (placed_text (findings_of bottom parts) index section address bytes) relocations) }
     ensures bytes { (bottom distance : ℕ) (parts : List Part) (index : ℕ) (section : ℕ × ℕ) (address : ℕ)
-        (bytes : List ℕ) (relocations : List Relocation) (place : ℕ)
-        → byte_stays parts index (moves parts index section) relocations place ≡ true
+        (bytes : List ℕ) (relocations : List Relocation) (offset : ℕ)
+        → byte_stays parts index (moves parts index section) relocations offset ≡ true
         → slice_index_or (with_relocations (findings_of (bottom + distance) parts)
-        (placed_text (findings_of (bottom + distance) parts) index section address bytes) relocations).bytes place 0
+        (placed_text (findings_of (bottom + distance) parts) index section address bytes) relocations).bytes offset 0
         ≡ slice_index_or (with_relocations (findings_of bottom parts)
-        (placed_text (findings_of bottom parts) index section address bytes) relocations).bytes place 0 }
+        (placed_text (findings_of bottom parts) index section address bytes) relocations).bytes offset 0 }
 {}
 
 /// In the writes of the parts of a link the messages stay, and each block of the tape is that of its text, moved. So

@@ -9,7 +9,7 @@ use Rattle.indexmap.specs.IndexMap.{insert_entry}
 use Rattle.m11_base.specs.Rad50.{is_same_name}
 use Rattle.m11_base.proofs.SameNames.{same_name_itself, same_name_equal}
 use Rattle.m11_link_modules.specs.Parts.{Part}
-use Rattle.m11_link_modules.specs.Places.{section_names}
+use Rattle.m11_link_modules.specs.Positions.{section_names}
 use Rattle.m11_link_layout.specs.Tables.{size_cap}
 use Rattle.m11_link_layout.specs.Plan.{Bases, bases_onto}
 use Rattle.m11_link_layout.specs.Sections.{first_attributes, flags_of, is_relocatable, is_too_large, names_before, section_base, section_size, top}

@@ -11,7 +11,7 @@ use Rattle.m11_obj.specs.declared.gsd.GsdKind.{GsdKind}
 use Rattle.m11_obj.specs.declared.gsd.GsdKind.TheVariants.{ModuleName, ControlSection, InternalSymbol, TransferAddress, GlobalSymbol, ProgramSection, Identification}
 use Rattle.m11_link_modules.specs.declared.fault.ModuleFault.TheVariants.{BadOrder, TooManySections}
 use Rattle.m11_link_modules.specs.Parts.{Part, Directory, Entry, EndOfDirectory, Text, Relocations, Relocated, EndOfModule, EndOfFile}
-use Rattle.m11_link_modules.specs.Places.{global_of, known_of, modules_in, section_by, section_in, sections_in, this_module}
+use Rattle.m11_link_modules.specs.Positions.{global_of, known_of, modules_in, section_by, section_in, sections_in, this_module}
 use Rattle.m11_link_modules.specs.Rules.{entry_fault, fault_known, fault_of, first_there, is_past, most_sections}
 use Rattle.m11_link_layout.specs.Tables.{Gathered, gathered_after, is_contribution, next_offset, nothing_gathered, with_entry}
 use Rattle.m11_link_layout.specs.Modules.{module_at}

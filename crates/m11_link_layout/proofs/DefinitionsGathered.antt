@@ -8,11 +8,11 @@ use Rattle.m11_obj.specs.declared.gsd.GsdEntry.{GsdEntry}
 use Rattle.m11_obj.specs.declared.gsd.GsdKind.{GsdKind}
 use Rattle.m11_obj.specs.declared.gsd.GsdKind.TheVariants.{ModuleName, ControlSection, InternalSymbol, TransferAddress, GlobalSymbol, ProgramSection, Identification}
 use Rattle.m11_link_modules.specs.Parts.{Part, Directory, Entry, EndOfDirectory, Text, Relocations, Relocated, EndOfModule, EndOfFile}
-use Rattle.m11_link_modules.specs.Places.{distinct, global_of, modules_in, this_module}
+use Rattle.m11_link_modules.specs.Positions.{distinct, global_of, modules_in, this_module}
 use Rattle.m11_link_modules.specs.Rules.{defines}
 use Rattle.m11_obj.specs.Gsd.{has_bits}
 use Rattle.m11_link_layout.specs.Tables.{Gathered, gathered_after, nothing_gathered, with_definition, with_entry, with_first, with_reference, with_relocated, with_weak}
-use Rattle.m11_link_layout.specs.Globals.{definition_by, definition_in, definitions_of, first_definition, last_section, place_of}
+use Rattle.m11_link_layout.specs.Globals.{definition_by, definition_in, definitions_of, first_definition, last_section, location_of}
 use Rattle.m11_link_layout.specs.declared.definition.Definition.{Definition}
 use Rattle.std.specs.Option.{option_or}
 use Rattle.std.proofs.lemmas.Map.Made.{is_some-lookup}
@@ -98,7 +98,7 @@ symbol_definitions : (b c : Bool) (entry : GsdEntry) (g : Gathered)
     → (if b then with_definition entry g else if c then with_weak entry.name g else with_reference entry.name true
     g).definitions
     ≡ with_first g.definitions
-    (if b then Some (entry.name, record { module_index = length g.names; place = place_of g.section entry })
+    (if b then Some (entry.name, record { module_index = length g.names; location = location_of g.section entry })
     else None)
 symbol_definitions true c entry g = refl
 symbol_definitions false true entry g = refl

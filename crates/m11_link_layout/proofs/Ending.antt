@@ -7,7 +7,7 @@ use Rattle.m11_link_modules.specs.declared.fault.ModuleFault.TheVariants as rule
 use Rattle.m11_link_modules.specs.declared.stage.Stage.{Stage}
 use Rattle.m11_link_modules.specs.declared.stage.Stage.TheVariants.{Between, InDirectory, InBody}
 use Rattle.m11_link_modules.specs.Parts.{Part, EndOfFile}
-use Rattle.m11_link_modules.specs.Places.{known_of}
+use Rattle.m11_link_modules.specs.Positions.{known_of}
 use Rattle.m11_link_modules.specs.Rules.{fault_known, fault_of, first_fault, may_stand}
 use Rattle.m11_link_layout.specs.Tables.{Gathered, gathered_after, gathered_after_all, nothing_gathered}
 use Rattle.m11_link_layout.specs.Plan.{LayoutEnds, IsPlan, PlacesAll, Planned, Plans, StopsAtSection, bases_onto}

@@ -3,7 +3,7 @@
 use Rattle.std.proofs.Common.{◌≡◌, ℕ, ◌+◌, ◌%◌, max, sum, sum_by, nat_eq, Bool, true, false, ◌&&◌, not, if◌then◌else◌, List, [], ◌∷◌, map, is_some, Option, Some, None, refl, sym, ap, subst, arith}
 use Rattle.std.proofs.lemmas.List.Sums.{sum_by-cons}
 use Rattle.m11_link_modules.specs.Parts.{Part}
-use Rattle.m11_link_modules.specs.Places.{section_names}
+use Rattle.m11_link_modules.specs.Positions.{section_names}
 use Rattle.m11_link_layout.specs.Tables.{is_even_after}
 use Rattle.m11_link_layout.specs.Modules.{modules_before}
 use Rattle.m11_link_layout.specs.Sections.{base_entered, contribution_base, first_attributes, greatest, is_overlaid, is_relocatable, module_base, names_before, room_of, rounded, section_base, section_size, sizes_of}

@@ -4,7 +4,7 @@ use Rattle.indexmap.specs.IndexSet.{insert_key}
 use Rattle.m11_base.specs.Rad50.{is_same_name}
 use Rattle.m11_base.proofs.SameNames.{same_name_itself, same_name_equal}
 use Rattle.m11_link_modules.specs.Names.{is_among}
-use Rattle.m11_link_modules.specs.Places.{distinct, distinct_after}
+use Rattle.m11_link_modules.specs.Positions.{distinct, distinct_after}
 use Rattle.m11_link_layout.proofs.ReferenceSteps.{among_inserted}
 use Rattle.m11_link_layout.proofs.Finding.{Apart, apart_distinct, or_true}
 

@@ -9,7 +9,7 @@ use Rattle.indexmap.specs.IndexMap.{insert_entry}
 use Rattle.indexmap.specs.IndexSet.{insert_key}
 use Rattle.m11_base.specs.Rad50.{is_same_name}
 use Rattle.m11_base.proofs.SameNames.{same_name_equal, same_name_itself}
-use Rattle.m11_link_modules.specs.Places.{distinct, distinct_after}
+use Rattle.m11_link_modules.specs.Positions.{distinct, distinct_after}
 use Rattle.m11_link_layout.specs.Tables.{is_contribution}
 
 -- ---- two names are one where the test says so

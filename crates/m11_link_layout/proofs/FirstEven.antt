@@ -5,7 +5,7 @@ use Rattle.std.proofs.lemmas.Bool.Decides.{nat_tests}
 use Rattle.m11_base.specs.Rad50.{is_same_name}
 use Rattle.m11_base.specs.Names.{absolute_name}
 use Rattle.m11_link_modules.specs.Parts.{Part, EndOfModule}
-use Rattle.m11_link_modules.specs.Places.{modules_in}
+use Rattle.m11_link_modules.specs.Positions.{modules_in}
 use Rattle.m11_link_layout.specs.Tables.{transfer_after}
 use Rattle.m11_link_layout.specs.Transfers.{transfer_in, transfers_of}
 use Rattle.m11_link_layout.specs.declared.definition.Transfer.{Transfer}

@@ -19,8 +19,8 @@ use Rattle.m11_link_modules.specs.declared.stage.Stage.{Stage}
 use Rattle.m11_link_modules.specs.declared.stage.Stage.TheVariants.{Between, InDirectory, InBody}
 use Rattle.m11_link_modules.specs.Names.{is_among}
 use Rattle.m11_link_modules.specs.Parts.{Part, Directory, Entry, EndOfDirectory, Text, Relocations, Relocated, EndOfModule, EndOfFile}
-use Rattle.m11_link_modules.specs.Places.{Known}
-use Rattle.m11_link_modules.specs.Rules.{InLimits, begin_fault, entering_fault, entry_fault, fault_known, first_there, global_fault, is_past, may_stand, most_globals, most_modules, most_sections, place_fault, relocation_by}
+use Rattle.m11_link_modules.specs.Positions.{Known}
+use Rattle.m11_link_modules.specs.Rules.{InLimits, begin_fault, entering_fault, entry_fault, fault_known, first_there, global_fault, is_past, location_fault, may_stand, most_globals, most_modules, most_sections, relocation_by}
 use Rattle.m11_link_modules.specs.Steps.{known_after, with_entry, with_global, with_section, with_target}
 use Rattle.m11_link_layout.proofs.Finding.{Apart, apart_inserted}
 use Rattle.m11_link_layout.proofs.Walking.{rest_none}
@@ -120,13 +120,13 @@ target_bounded : (t : Target) (relocation : Relocation) (known : Known)
     → relocation_by t relocation known.entered known.text known.globals ≡ None → Bounded known
     → Bounded (with_target t known)
 target_bounded (target.Global name) relocation known e b =
-    global_bounded name known (rest_none (place_fault relocation known.text) (global_fault known.globals name) e) b
+    global_bounded name known (rest_none (location_fault relocation known.text) (global_fault known.globals name) e) b
 target_bounded (target.GlobalDisplaced name) relocation known e b =
-    global_bounded name known (rest_none (place_fault relocation known.text) (global_fault known.globals name) e) b
+    global_bounded name known (rest_none (location_fault relocation known.text) (global_fault known.globals name) e) b
 target_bounded (target.GlobalAdditive name constant) relocation known e b =
-    global_bounded name known (rest_none (place_fault relocation known.text) (global_fault known.globals name) e) b
+    global_bounded name known (rest_none (location_fault relocation known.text) (global_fault known.globals name) e) b
 target_bounded (target.GlobalAdditiveDisplaced name constant) relocation known e b =
-    global_bounded name known (rest_none (place_fault relocation known.text) (global_fault known.globals name) e) b
+    global_bounded name known (rest_none (location_fault relocation known.text) (global_fault known.globals name) e) b
 target_bounded (target.Internal constant) relocation known e b = b
 target_bounded (target.InternalDisplaced constant) relocation known e b = b
 target_bounded (target.LocationCounterDefinition name constant) relocation known e b = b

@@ -8,7 +8,7 @@ use Rattle.m11_obj.specs.declared.gsd.GsdEntry.{GsdEntry}
 use Rattle.m11_obj.specs.declared.gsd.GsdKind.{GsdKind}
 use Rattle.m11_obj.specs.declared.gsd.GsdKind.TheVariants.{ModuleName, ControlSection, InternalSymbol, TransferAddress, GlobalSymbol, ProgramSection, Identification}
 use Rattle.m11_link_modules.specs.Parts.{Part, Directory, Entry, EndOfDirectory, Text, Relocations, Relocated, EndOfModule, EndOfFile}
-use Rattle.m11_link_modules.specs.Places.{ends_module, global_of, section_by, section_in, sections_in, this_module}
+use Rattle.m11_link_modules.specs.Positions.{ends_module, global_of, section_by, section_in, sections_in, this_module}
 use Rattle.m11_link_modules.proofs.KnownAfter.{this_module_ended, this_module_goes_on}
 use Rattle.m11_link_layout.specs.Tables.{Gathered, gathered_after, nothing_gathered, with_entry}
 use Rattle.m11_link_layout.specs.Globals.{last_of, last_section}

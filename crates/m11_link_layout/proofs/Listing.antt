@@ -116,7 +116,7 @@ base_listed plan module_index section index offset base at found e =
 -- ---- values
 
 valued : (plan : Planned) (entry : Option ((ℕ × ℕ) × Definition)) (found : Option Definition) (value : ℕ)
-    → option_map (λ e. value_at plan e.1.module_index e.1.place) entry ≡ Some value
+    → option_map (λ e. value_at plan e.1.module_index e.1.location) entry ≡ Some value
     → option_map (λ e. e.1) entry ≡ found → Some value ≡ defined_value plan found
 valued plan None found value e f = absurd (none_some value e)
 valued plan (Some entry) found value e f = sym e ∙ ap (λ (o : Option Definition). defined_value plan o) f
@@ -127,7 +127,7 @@ pub value_listed : (plan : Planned) (name : ℕ × ℕ) (index value : ℕ)
     → slice_get (definition_values plan) index ≡ Some value → Some value ≡ planned_value plan name
 value_listed plan name index value at e =
     valued plan (slice_get plan.gathered.definitions index) (lookup (is_same_name name) plan.gathered.definitions) value
-    (sym (slice_get-map (λ entry. value_at plan entry.1.module_index entry.1.place) plan.gathered.definitions index) ∙ e)
+    (sym (slice_get-map (λ entry. value_at plan entry.1.module_index entry.1.location) plan.gathered.definitions index) ∙ e)
     (sym (slice_get-map (λ entry. entry.1) plan.gathered.definitions index) ∙ at)
 
 -- ---- what a look-up finds, by what a call saw
@@ -186,7 +186,7 @@ bases_counted plan = length-map plan.gathered.contributions
 
 pub values_counted : (plan : Planned) → length (definition_values plan) ≡ length plan.gathered.definitions
 values_counted plan =
-    length-map plan.gathered.definitions (λ entry. value_at plan entry.1.module_index entry.1.place)
+    length-map plan.gathered.definitions (λ entry. value_at plan entry.1.module_index entry.1.location)
 
 abbrev section_and_offset : (ℕ × (ℕ × ℕ)) × ℕ → (ℕ × ℕ) × ℕ
 section_and_offset entry = (entry.0.1, entry.1)

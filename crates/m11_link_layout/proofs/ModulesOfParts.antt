@@ -4,7 +4,7 @@ use Rattle.std.specs.List.{cons_option, filter_map}
 use Rattle.std.proofs.lemmas.Bool.Decides.{nat_tests}
 use Rattle.std.proofs.lemmas.List.Elements.{filter_map-append}
 use Rattle.m11_link_modules.specs.Parts.{Part, Directory, Entry, EndOfDirectory, Text, Relocations, Relocated, EndOfModule, EndOfFile}
-use Rattle.m11_link_modules.specs.Places.{ends_module, modules_in, this_module}
+use Rattle.m11_link_modules.specs.Positions.{ends_module, modules_in, this_module}
 use Rattle.m11_link_modules.proofs.KnownAfter.{this_module_ended, this_module_goes_on}
 use Rattle.m11_link_layout.specs.Modules.{indexed, module_at, modules_before, part_at, part_before}
 use Rattle.m11_link_layout.proofs.Walking.{grown}

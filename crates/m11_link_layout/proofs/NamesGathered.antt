@@ -9,7 +9,7 @@ use Rattle.m11_obj.specs.declared.gsd.GsdEntry.{GsdEntry}
 use Rattle.m11_obj.specs.declared.gsd.GsdKind.{GsdKind}
 use Rattle.m11_obj.specs.declared.gsd.GsdKind.TheVariants.{ModuleName, ControlSection, InternalSymbol, TransferAddress, GlobalSymbol, ProgramSection, Identification}
 use Rattle.m11_link_modules.specs.Parts.{Part, Directory, Entry, EndOfDirectory, Text, Relocations, Relocated, EndOfModule, EndOfFile}
-use Rattle.m11_link_modules.specs.Places.{ends_module, global_of, modules_in, this_module}
+use Rattle.m11_link_modules.specs.Positions.{ends_module, global_of, modules_in, this_module}
 use Rattle.m11_link_modules.proofs.KnownAfter.{this_module_ended, this_module_goes_on}
 use Rattle.m11_link_layout.specs.Tables.{Gathered, gathered_after, nothing_gathered, with_entry, with_relocated}
 use Rattle.m11_link_layout.specs.Modules.{first_of, module_at, module_name, name_at, name_by, name_in, name_reported}

@@ -8,7 +8,7 @@ use Rattle.m11_obj.specs.declared.gsd.GsdKind.{GsdKind}
 use Rattle.m11_obj.specs.declared.gsd.GsdKind.TheVariants.{ModuleName, ControlSection, InternalSymbol, TransferAddress, GlobalSymbol, ProgramSection, Identification}
 use Rattle.m11_link_modules.specs.Names.{is_among}
 use Rattle.m11_link_modules.specs.Parts.{Part, Directory, Entry, EndOfDirectory, Text, Relocations, Relocated, EndOfModule, EndOfFile}
-use Rattle.m11_link_modules.specs.Places.{ends_module, global_by, global_in, global_of, modules_in, this_module}
+use Rattle.m11_link_modules.specs.Positions.{ends_module, global_by, global_in, global_of, modules_in, this_module}
 use Rattle.m11_link_modules.specs.Rules.{defines}
 use Rattle.m11_obj.specs.Gsd.{has_bits}
 use Rattle.m11_link_layout.specs.Globals.{definition_by, definition_in, definitions_of, last_section, reference_by, reference_in, references_of, relocated_reference, weak_by, weak_in, weak_names}

@@ -4,7 +4,7 @@ use Rattle.std.proofs.lemmas.List.{drop_all}
 use Rattle.m11_obj.specs.declared.gsd.GsdEntry.{GsdEntry}
 use Rattle.m11_obj.specs.declared.relocations.Relocation.{Relocation}
 use Rattle.m11_link_modules.specs.Parts.{Part, Entry, Relocated}
-use Rattle.m11_link_modules.specs.Places.{global_of}
+use Rattle.m11_link_modules.specs.Positions.{global_of}
 use Rattle.m11_link_modules.proofs.Indexing.{drop_at}
 use Rattle.m11_link_layout.specs.Tables.{Gathered, gathered_after, gathered_after_all, with_entry, with_relocated}
 

@@ -10,7 +10,7 @@ use Rattle.m11_obj.specs.declared.gsd.GsdEntry.{GsdEntry}
 use Rattle.m11_obj.specs.declared.gsd.GsdKind.{GsdKind}
 use Rattle.m11_obj.specs.declared.gsd.GsdKind.TheVariants.{ModuleName, ControlSection, InternalSymbol, TransferAddress, GlobalSymbol, ProgramSection, Identification}
 use Rattle.m11_link_modules.specs.Parts.{Part, Directory, Entry, EndOfDirectory, Text, Relocations, Relocated, EndOfModule, EndOfFile}
-use Rattle.m11_link_modules.specs.Places.{modules_in, section_by, section_in, sections_in, this_module}
+use Rattle.m11_link_modules.specs.Positions.{modules_in, section_by, section_in, sections_in, this_module}
 use Rattle.m11_link_layout.specs.Tables.{is_concatenated, next_offset, size_cap}
 use Rattle.m11_link_layout.specs.Modules.{module_at, modules_before}
 use Rattle.m11_link_layout.specs.Sections.{attribute_bits, attributes_by, attributes_in, control_attributes, first_attributes, greatest, is_overlaid, is_relocatable, offset_after, rounded, size_under, sizes_of}

@@ -7,7 +7,7 @@ use Rattle.std.proofs.lemmas.Bool.Decides.{nat_tests}
 use Rattle.m11_base.specs.Rad50.{is_same_name}
 use Rattle.m11_base.proofs.SameNames.{same_name_equal}
 use Rattle.m11_link_modules.specs.Parts.{Part}
-use Rattle.m11_link_modules.specs.Places.{modules_in, section_in, sections_in, this_module}
+use Rattle.m11_link_modules.specs.Positions.{modules_in, section_in, sections_in, this_module}
 use Rattle.m11_link_layout.specs.Tables.{is_contribution, next_offset, size_cap}
 use Rattle.m11_link_layout.specs.Modules.{modules_before}
 use Rattle.m11_link_layout.specs.Sections.{attributes_in, first_attributes, offset_after, size_under, sizes_of}

@@ -10,7 +10,7 @@ use Rattle.std.proofs.lemmas.Map.Made.{is_some-lookup}
 use Rattle.m11_base.specs.Rad50.{is_same_name}
 use Rattle.m11_base.proofs.SameNames.{same_name_equal}
 use Rattle.m11_link_modules.specs.Parts.{Part}
-use Rattle.m11_link_modules.specs.Places.{known_of, modules_in, section_in, section_names}
+use Rattle.m11_link_modules.specs.Positions.{known_of, modules_in, section_in, section_names}
 use Rattle.m11_link_layout.specs.Tables.{size_cap}
 use Rattle.m11_link_layout.specs.Modules.{modules_before}
 use Rattle.m11_link_layout.specs.Plan.{Planned, after_offset, planned_base}

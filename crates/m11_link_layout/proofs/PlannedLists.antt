@@ -8,14 +8,14 @@ use Rattle.std.proofs.lemmas.Option.{slice_get-map}
 use Rattle.m11_base.specs.Rad50.{is_same_name}
 use Rattle.m11_base.proofs.SameNames.{same_name_itself, same_name_equal}
 use Rattle.m11_link_modules.specs.Parts.{Part}
-use Rattle.m11_link_modules.specs.Places.{section_names}
+use Rattle.m11_link_modules.specs.Positions.{section_names}
 use Rattle.m11_link_layout.specs.Tables.{size_cap}
-use Rattle.m11_link_layout.specs.Globals.{first_definition, global_defined, global_reported, globals_of, place_value}
+use Rattle.m11_link_layout.specs.Globals.{first_definition, global_defined, global_reported, globals_of, location_value}
 use Rattle.m11_link_layout.specs.Modules.{name_at}
 use Rattle.m11_link_layout.specs.Plan.{Planned, attributes_reported, global_planned, planned_attributes, planned_globals, planned_module, planned_section_base, planned_sections, section_planned, value_at}
 use Rattle.m11_link_layout.specs.Sections.{entered_attributes, first_attributes, flags_of, most_size, section_base, section_size, section_reported, sections_of, sizes_of}
 use Rattle.m11_link_layout.specs.declared.definition.Definition.{Definition}
-use Rattle.m11_link_layout.specs.declared.definition.GlobalPlace.{GlobalPlace}
+use Rattle.m11_link_layout.specs.declared.definition.GlobalLocation.{GlobalLocation}
 use Rattle.m11_link_layout.specs.declared.definition.Total.{Total}
 use Rattle.m11_link_layout.specs.declared.planned.PlannedGlobal.{PlannedGlobal}
 use Rattle.m11_link_layout.specs.declared.planned.PlannedSection.{PlannedSection}
@@ -102,14 +102,14 @@ abbrev global_as : ℕ × ℕ → ℕ → ℕ × ℕ → PlannedGlobal
 global_as name value module_name = record { name = name; value = value; module_name = module_name }
 
 pub globals_listed : (bottom : ℕ) (parts : List Part) (plan : Planned) → DefinitionsOf parts plan.gathered.definitions
-    → ((index : ℕ) (place : GlobalPlace) → value_at plan index place ≡ place_value bottom parts index place)
+    → ((index : ℕ) (location : GlobalLocation) → value_at plan index location ≡ location_value bottom parts index location)
     → ((index : ℕ) → planned_module plan index ≡ name_at parts index) → planned_globals plan ≡ globals_of bottom parts
 unfolding planned_globals globals_of
 globals_listed bottom parts plan d values names =
     let P : List (ℕ × ℕ) → Type 0 = λ these. Apart is_same_name these in
     let apart = subst P (sym d.names) (apart_distinct _) in
     let alike = mapped_alike (global_planned plan) (λ e. global_reported bottom parts e.0 e.1)
-    (λ e j. global_as e.0 (values e.1.module_index e.1.place j) (names e.1.module_index j)) plan.gathered.definitions in
+    (λ e j. global_as e.0 (values e.1.module_index e.1.location j) (names e.1.module_index j)) plan.gathered.definitions in
     let reported = each_reported is_same_name same_name_equal same_name_itself (global_reported bottom parts) (first_definition parts)
     plan.gathered.definitions apart (λ name t. sym (d.found name)) in
     alike ∙ sym reported ∙ ap (λ these. filter_map (global_defined bottom parts) these) d.names

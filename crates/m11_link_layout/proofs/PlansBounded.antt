@@ -3,7 +3,7 @@ use Rattle.std.proofs.Common.{◌≡◌, ℕ, suc, ◌+◌, ◌*◌, ◌≤◌, 
 use Rattle.indexmap.specs.IndexMap.{insert_entry}
 use Rattle.m11_base.specs.Rad50.{is_same_name}
 use Rattle.m11_link_modules.specs.Parts.{Part}
-use Rattle.m11_link_modules.specs.Places.{global_names, known_of, modules_in, section_names, sections_in, stage_after, this_module}
+use Rattle.m11_link_modules.specs.Positions.{global_names, known_of, modules_in, section_names, sections_in, stage_after, this_module}
 use Rattle.m11_link_modules.specs.Rules.{first_fault, most_globals, most_modules, most_sections}
 use Rattle.m11_link_layout.specs.Plan.{Bases, IsPlan, Planned, TablesBounded, TablesGrow, address_limit, bases_onto, placed}
 use Rattle.m11_link_layout.specs.Sections.{is_relocatable}

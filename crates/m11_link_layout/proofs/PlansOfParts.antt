@@ -3,16 +3,16 @@ use Rattle.std.proofs.Common.{◌≡◌, ℕ, ◌+◌, ◌%◌, Bool, true, fals
 use Rattle.std.specs.Option.{option_map}
 use Rattle.m11_base.specs.Rad50.{is_same_name}
 use Rattle.m11_link_modules.specs.Parts.{Part}
-use Rattle.m11_link_modules.specs.Places.{known_of, section_names, this_module}
+use Rattle.m11_link_modules.specs.Positions.{known_of, section_names, this_module}
 use Rattle.m11_link_modules.specs.Rules.{fault_of, first_fault}
 use Rattle.m11_link_layout.specs.Tables.{Gathered, gathered_after, gathered_after_all, nothing_gathered}
-use Rattle.m11_link_layout.specs.Globals.{definition_value, first_definition, global_value, last_section, place_value}
+use Rattle.m11_link_layout.specs.Globals.{definition_value, first_definition, global_value, last_section, location_value}
 use Rattle.m11_link_layout.specs.Modules.{name_at}
 use Rattle.m11_link_layout.specs.Plan.{Bases, IsPlan, IsPlanOf, Planned, TablesBounded, TablesGrow, bases_onto, defined_value, planned_base, planned_module, planned_value, value_at}
 use Rattle.m11_link_layout.specs.Sections.{is_too_large, module_base, top}
 use Rattle.m11_link_layout.specs.declared.definition.Definition.{Definition}
-use Rattle.m11_link_layout.specs.declared.definition.GlobalPlace.{GlobalPlace}
-use Rattle.m11_link_layout.specs.declared.definition.GlobalPlace.TheVariants.{Absolute, In}
+use Rattle.m11_link_layout.specs.declared.definition.GlobalLocation.{GlobalLocation}
+use Rattle.m11_link_layout.specs.declared.definition.GlobalLocation.TheVariants.{Absolute, In}
 use Rattle.m11_link_layout.specs.declared.definition.Total.{Total}
 use Rattle.m11_link_layout.proofs.BasesPlaced.{bases_placed}
 use Rattle.m11_link_layout.proofs.ContributionsGathered.{ContributionsOf, contributions_none, contributions_step}
@@ -104,17 +104,17 @@ abbrev HasBases : ℕ → List Part → Planned → Type 0
 HasBases bottom parts plan =
     (index : ℕ) (name : ℕ × ℕ) → planned_base plan index name ≡ module_base bottom parts index name
 
-place_is : (bottom : ℕ) (parts : List Part) (plan : Planned) (index : ℕ) (place : GlobalPlace)
+location_is : (bottom : ℕ) (parts : List Part) (plan : Planned) (index : ℕ) (location : GlobalLocation)
     → HasBases bottom parts plan
-    → value_at plan index place ≡ place_value bottom parts index place
-place_is bottom parts plan index (Absolute value) b = refl
-place_is bottom parts plan index (In section value) b = ap (λ base. (base + value) % 0o200000) (b index section)
+    → value_at plan index location ≡ location_value bottom parts index location
+location_is bottom parts plan index (Absolute value) b = refl
+location_is bottom parts plan index (In section value) b = ap (λ base. (base + value) % 0o200000) (b index section)
 
 defined_is : (bottom : ℕ) (parts : List Part) (plan : Planned) (found : Option Definition) → HasBases bottom parts plan
     → defined_value plan found ≡ option_map (definition_value bottom parts) found
 defined_is bottom parts plan None b = refl
 defined_is bottom parts plan (Some definition) b =
-    ap (λ n. Some n) (place_is bottom parts plan definition.module_index definition.place b)
+    ap (λ n. Some n) (location_is bottom parts plan definition.module_index definition.location b)
 
 value_is : (bottom : ℕ) (parts : List Part) (plan : Planned) (name : ℕ × ℕ) → HasBases bottom parts plan
     → DefinitionsOf parts plan.gathered.definitions → planned_value plan name ≡ global_value bottom parts name
@@ -145,7 +145,7 @@ plan_is bottom parts plan n is grow bounded =
           means.transfers bases;
       sections = sections_listed bottom parts plan means.sections (ap (λ these. these.bases) placed.1);
       globals = globals_listed bottom parts plan means.definitions
-          (λ index place. place_is bottom parts plan index place bases) names;
+          (λ index location. location_is bottom parts plan index location bases) names;
       attributes = λ name. attributes_are parts plan name means.sections;
       definitions = means.definitions.found;
       defined = means.definitions.names;

@@ -12,7 +12,7 @@ use Rattle.indexmap.proofs.SetLemmas.{keys_insert_entry}
 use Rattle.m11_base.specs.Rad50.{is_same_name}
 use Rattle.m11_base.proofs.SameNames.{same_name_itself, same_name_equal}
 use Rattle.m11_link_modules.specs.Parts.{Part}
-use Rattle.m11_link_modules.specs.Places.{distinct}
+use Rattle.m11_link_modules.specs.Positions.{distinct}
 use Rattle.m11_link_layout.specs.Globals.{is_strong_to, reference_in, references_of}
 use Rattle.m11_link_layout.proofs.Finding.{Apart, apart_inserted, lookup_inserted, pairs_found}
 use Rattle.m11_link_layout.proofs.Reporting.{names_more, reported_more}

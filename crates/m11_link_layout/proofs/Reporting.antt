@@ -7,7 +7,7 @@ use Rattle.std.proofs.lemmas.List.{map-append}
 use Rattle.indexmap.specs.IndexSet.{insert_key}
 use Rattle.m11_base.specs.Rad50.{is_same_name}
 use Rattle.m11_link_modules.specs.Parts.{Part}
-use Rattle.m11_link_modules.specs.Places.{distinct, distinct_after}
+use Rattle.m11_link_modules.specs.Positions.{distinct, distinct_after}
 use Rattle.m11_link_layout.specs.Modules.{reported_after}
 
 module _ {X : Type 0} (report : List Part → Part → Option X) where

@@ -14,7 +14,7 @@ use Rattle.m11_obj.specs.declared.gsd.GsdEntry.{GsdEntry}
 use Rattle.m11_obj.specs.declared.gsd.GsdKind.{GsdKind}
 use Rattle.m11_obj.specs.declared.gsd.GsdKind.TheVariants.{ModuleName, ControlSection, InternalSymbol, TransferAddress, GlobalSymbol, ProgramSection, Identification}
 use Rattle.m11_link_modules.specs.Parts.{Part, Directory, Entry, EndOfDirectory, Text, Relocations, Relocated, EndOfModule, EndOfFile}
-use Rattle.m11_link_modules.specs.Places.{Known, distinct, global_of, known_of, section_by, section_in, section_names, sections_in}
+use Rattle.m11_link_modules.specs.Positions.{Known, distinct, global_of, known_of, section_by, section_in, section_names, sections_in}
 use Rattle.m11_link_modules.specs.Rules.{fault_of, first_fault}
 use Rattle.m11_link_modules.specs.Steps.{known_after}
 use Rattle.m11_link_modules.specs.Steps as steps

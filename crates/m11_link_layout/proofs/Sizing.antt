@@ -13,7 +13,7 @@ use Rattle.m11_obj.specs.declared.gsd.GsdEntry.{GsdEntry}
 use Rattle.m11_obj.specs.declared.gsd.GsdKind.{GsdKind}
 use Rattle.m11_obj.specs.declared.gsd.GsdKind.TheVariants.{ModuleName, ControlSection, InternalSymbol, TransferAddress, GlobalSymbol, ProgramSection, Identification}
 use Rattle.m11_link_modules.specs.Parts.{Part, Directory, Entry, EndOfDirectory, Text, Relocations, Relocated, EndOfModule, EndOfFile}
-use Rattle.m11_link_modules.specs.Places.{section_by, section_in, section_names, sections_in}
+use Rattle.m11_link_modules.specs.Positions.{section_by, section_in, section_names, sections_in}
 use Rattle.m11_link_layout.specs.Tables.{size_cap, total_after}
 use Rattle.m11_link_layout.specs.Sections.{attributes_by, attributes_in, first_attributes, flags_of, greatest, is_overlaid, is_relocatable, attribute_bits, control_attributes, rounded, section_size, size_under, sizes_of, total}
 use Rattle.m11_link_layout.specs.declared.definition.Total.{Total}

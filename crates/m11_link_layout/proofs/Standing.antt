@@ -10,7 +10,7 @@ use Rattle.m11_link_modules.proofs.KnownAfter.{taken_after}
 use Rattle.m11_link_modules.specs.Grammar.{directory_parts}
 use Rattle.m11_link_modules.specs.Laws.{TakesAfter}
 use Rattle.m11_link_modules.specs.Parts.{Part, Entry, EndOfDirectory, EndOfFile, EndOfModule, Text, record_parts}
-use Rattle.m11_link_modules.specs.Places.{Known, known_of}
+use Rattle.m11_link_modules.specs.Positions.{Known, known_of}
 use Rattle.m11_link_modules.specs.Rules.{fault_of, first_fault}
 use Rattle.m11_link_modules.specs.Steps.{RulesTake}
 use Rattle.m11_link_layout.specs.Fault.{of_module}

@@ -13,7 +13,7 @@ use Rattle.m11_obj.specs.declared.gsd.GsdKind.{GsdKind}
 use Rattle.m11_obj.specs.declared.gsd.GsdKind.TheVariants.{ModuleName, ControlSection, InternalSymbol, TransferAddress, GlobalSymbol, ProgramSection, Identification}
 use Rattle.m11_link_modules.specs.Names.{is_among}
 use Rattle.m11_link_modules.specs.Parts.{Part, Directory, Entry, EndOfDirectory, Text, Relocations, Relocated, EndOfModule, EndOfFile}
-use Rattle.m11_link_modules.specs.Places.{Known, distinct, ends_module, global_in, global_names, global_of, known_of, modules_in, section_by, section_in, section_names, sections_in, stage_after, this_module}
+use Rattle.m11_link_modules.specs.Positions.{Known, distinct, ends_module, global_in, global_names, global_of, known_of, modules_in, section_by, section_in, section_names, sections_in, stage_after, this_module}
 use Rattle.m11_link_modules.specs.Rules.{defines, fault_of, first_fault}
 use Rattle.m11_obj.specs.Gsd.{has_bits}
 use Rattle.m11_link_modules.proofs.KnownAfter.{known_after_part, this_module_goes_on}

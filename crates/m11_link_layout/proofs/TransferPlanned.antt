@@ -10,7 +10,7 @@ use Rattle.m11_obj.specs.declared.gsd.GsdKind.{GsdKind}
 use Rattle.m11_obj.specs.declared.gsd.GsdKind.TheVariants.{ModuleName, ControlSection, InternalSymbol, TransferAddress, GlobalSymbol, ProgramSection, Identification}
 use Rattle.m11_link_modules.specs.declared.fault.ModuleFault.TheVariants.{UnknownSection}
 use Rattle.m11_link_modules.specs.Parts.{Part, Directory, Entry, EndOfDirectory, Text, Relocations, Relocated, EndOfModule, EndOfFile}
-use Rattle.m11_link_modules.specs.Places.{global_of, known_of, modules_in, sections_in, this_module}
+use Rattle.m11_link_modules.specs.Positions.{global_of, known_of, modules_in, sections_in, this_module}
 use Rattle.m11_link_modules.specs.Rules.{entry_fault, fault_of, first_there}
 use Rattle.m11_link_layout.specs.Tables.{Gathered, gathered_after, is_even_after, nothing_gathered, with_entry, with_relocated}
 use Rattle.m11_link_layout.specs.Plan.{Planned, planned_base, planned_transfer, transfer_at}

@@ -7,7 +7,7 @@ use Rattle.m11_base.proofs.SameNames.{same_name_equal}
 use Rattle.m11_base.specs.Names.{absolute_name}
 use Rattle.m11_obj.specs.declared.gsd.GsdEntry.{GsdEntry}
 use Rattle.m11_link_modules.specs.Parts.{Part, EndOfModule}
-use Rattle.m11_link_modules.specs.Places.{modules_in}
+use Rattle.m11_link_modules.specs.Positions.{modules_in}
 use Rattle.m11_link_layout.specs.Tables.{Gathered, entered_total, is_even_after, is_relocated, settled, transfer_after, with_transfer}
 use Rattle.m11_link_layout.specs.Sections.{first_attributes, is_relocatable}
 use Rattle.m11_link_layout.specs.Transfers.{transfer_in, transfers_of}

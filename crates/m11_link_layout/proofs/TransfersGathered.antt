@@ -7,7 +7,7 @@ use Rattle.m11_base.specs.Rad50.{is_same_name}
 use Rattle.m11_base.proofs.SameNames.{same_name_equal}
 use Rattle.m11_base.specs.Names.{absolute_name}
 use Rattle.m11_link_modules.specs.Parts.{Part}
-use Rattle.m11_link_modules.specs.Places.{modules_in}
+use Rattle.m11_link_modules.specs.Positions.{modules_in}
 use Rattle.m11_link_layout.specs.Tables.{Gathered, entered_total, is_contribution, is_even_after, is_relocated}
 use Rattle.m11_link_layout.specs.Sections.{first_attributes, is_relocatable, sizes_of}
 use Rattle.m11_link_layout.specs.Transfers.{transfer_in, transfers_of}

@@ -7,7 +7,7 @@ use Rattle.std.proofs.lemmas.Bool.Decides.{nat_tests}
 use Rattle.m11_base.specs.Rad50.{is_same_name}
 use Rattle.m11_base.specs.Names.{absolute_name}
 use Rattle.m11_link_modules.specs.Parts.{Part, EndOfModule}
-use Rattle.m11_link_modules.specs.Places.{modules_in}
+use Rattle.m11_link_modules.specs.Positions.{modules_in}
 use Rattle.m11_link_layout.specs.Sections.{attributes_in, first_attributes, is_relocatable}
 use Rattle.m11_link_layout.specs.declared.definition.Transfer.{Transfer}
 use Rattle.m11_link_layout.proofs.Evenness.{relocated_at}

@@ -9,14 +9,14 @@ use Rattle.m11_obj.specs.declared.gsd.GsdKind.{GsdKind}
 use Rattle.m11_obj.specs.declared.gsd.GsdKind.TheVariants.{GlobalSymbol}
 use Rattle.m11_link_modules.specs.Names.{is_among}
 use Rattle.m11_link_modules.specs.Parts.{Part, Entry, Relocated}
-use Rattle.m11_link_modules.specs.Places.{distinct, this_module, modules_in, sections_in, global_of}
+use Rattle.m11_link_modules.specs.Positions.{distinct, this_module, modules_in, sections_in, global_of}
 use Rattle.m11_link_modules.specs.Rules.{defines}
 use Rattle.m11_obj.specs.Gsd.{has_bits}
 use Rattle.m11_link_layout.specs.Modules.{name_at, reported_after}
 use Rattle.m11_link_layout.specs.Sections.{module_base}
 use Rattle.m11_link_layout.specs.declared.definition.Definition.{Definition}
-use Rattle.m11_link_layout.specs.declared.definition.GlobalPlace.{GlobalPlace}
-use Rattle.m11_link_layout.specs.declared.definition.GlobalPlace.TheVariants.{Absolute, In}
+use Rattle.m11_link_layout.specs.declared.definition.GlobalLocation.{GlobalLocation}
+use Rattle.m11_link_layout.specs.declared.definition.GlobalLocation.TheVariants.{Absolute, In}
 use Rattle.m11_link_layout.specs.declared.planned.PlannedGlobal.{PlannedGlobal}
 
 -- ---- definitions
@@ -31,16 +31,16 @@ unfoldable pub last_section : List Part → Option Name
 last_section parts = last_of (keys_of (sections_in parts))
 
 -- a relocatable symbol stands in the section that its module entered last, octal 40 being its bit
-abbrev pub place_in : Option Name → ℕ → GlobalPlace
-place_in None value = Absolute value
-place_in (Some section) value = In section value
+abbrev pub location_in : Option Name → ℕ → GlobalLocation
+location_in None value = Absolute value
+location_in (Some section) value = In section value
 
-abbrev pub place_of : Option Name → GsdEntry → GlobalPlace
-place_of section entry = if has_bits 0o40 entry.flags then place_in section entry.value else Absolute entry.value
+abbrev pub location_of : Option Name → GsdEntry → GlobalLocation
+location_of section entry = if has_bits 0o40 entry.flags then location_in section entry.value else Absolute entry.value
 
 abbrev pub definition_by : GsdKind → GsdEntry → ℕ → Option Name → Option (Name × Definition)
 definition_by GlobalSymbol entry modules section =
-    if defines entry then Some (entry.name, record { module_index = modules; place = place_of section entry }) else None
+    if defines entry then Some (entry.name, record { module_index = modules; location = location_of section entry }) else None
 definition_by kind entry modules section = None
 
 -- the definition in a part, after the parts before it
@@ -55,13 +55,13 @@ definitions_of parts = reported_after definition_in [] parts
 
 -- ---- values
 
--- the value of a definition's place: a relocatable one lies after its module's contribution
-abbrev pub place_value : ℕ → List Part → ℕ → GlobalPlace → ℕ
-place_value bottom parts index (Absolute value) = value
-place_value bottom parts index (In section value) = (module_base bottom parts index section + value) % 0o200000
+-- the value of a definition's location: a relocatable one lies after its module's contribution
+abbrev pub location_value : ℕ → List Part → ℕ → GlobalLocation → ℕ
+location_value bottom parts index (Absolute value) = value
+location_value bottom parts index (In section value) = (module_base bottom parts index section + value) % 0o200000
 
 abbrev pub definition_value : ℕ → List Part → Definition → ℕ
-definition_value bottom parts definition = place_value bottom parts definition.module_index definition.place
+definition_value bottom parts definition = location_value bottom parts definition.module_index definition.location
 
 -- the first definition of a global
 abbrev pub first_definition : List Part → Name → Option Definition

@@ -4,7 +4,7 @@ use Rattle.m11_base.specs.Devices.{Bytes}
 use Rattle.m11_obj.specs.Reading.{content_of}
 use Rattle.m11_link_modules.specs.declared.fault.ModuleFault.{ModuleFault}
 use Rattle.m11_link_modules.specs.Parts.{Part}
-use Rattle.m11_link_modules.specs.Places.{Known, known_of}
+use Rattle.m11_link_modules.specs.Positions.{Known, known_of}
 use Rattle.m11_link_modules.specs.Rules.{StopsAtName, first_fault}
 use Rattle.m11_link_modules.specs.Parts.{record_parts}
 use Rattle.m11_link_layout.specs.Fault.{of_module}

@@ -9,7 +9,7 @@ use Rattle.m11_obj.specs.declared.gsd.GsdEntry.{GsdEntry}
 use Rattle.m11_obj.specs.declared.gsd.GsdKind.{GsdKind}
 use Rattle.m11_obj.specs.declared.gsd.GsdKind.TheVariants.{ModuleName}
 use Rattle.m11_link_modules.specs.Parts.{Part, Entry, EndOfModule}
-use Rattle.m11_link_modules.specs.Places.{modules_in}
+use Rattle.m11_link_modules.specs.Positions.{modules_in}
 
 -- each part with the index of its module, from this one on; an end belongs to the module that it ends
 abbrev pub indexed : ℕ → List Part → List (ℕ × Part)

@@ -12,8 +12,8 @@ use Rattle.m11_link_layout.specs.Modules.{name_at}
 use Rattle.m11_link_layout.specs.Sections.{entered_attributes, is_relocatable, is_too_large, module_base, most_size, sections_of, top}
 use Rattle.m11_link_layout.specs.Transfers.{transfer_address}
 use Rattle.m11_link_layout.specs.declared.definition.Definition.{Definition}
-use Rattle.m11_link_layout.specs.declared.definition.GlobalPlace.{GlobalPlace}
-use Rattle.m11_link_layout.specs.declared.definition.GlobalPlace.TheVariants.{Absolute, In}
+use Rattle.m11_link_layout.specs.declared.definition.GlobalLocation.{GlobalLocation}
+use Rattle.m11_link_layout.specs.declared.definition.GlobalLocation.TheVariants.{Absolute, In}
 use Rattle.m11_link_layout.specs.declared.definition.Total.{Total}
 use Rattle.m11_link_layout.specs.declared.definition.Transfer.{Transfer}
 use Rattle.m11_link_layout.specs.declared.planned.PlannedGlobal.{PlannedGlobal}
@@ -22,7 +22,7 @@ use Rattle.m11_link_layout.specs.declared.fault.LinkFault.{LinkFault}
 use Rattle.m11_link_layout.specs.declared.fault.LinkFault.TheVariants.{BadOrder, TooLarge, NoMemory}
 use Rattle.m11_link_modules.specs.declared.fault.ModuleFault.TheVariants as rule
 use Rattle.m11_link_modules.specs.Parts.{Part, EndOfFile}
-use Rattle.m11_link_modules.specs.Places.{distinct, global_names, modules_in, section_names, sections_in}
+use Rattle.m11_link_modules.specs.Positions.{distinct, global_names, modules_in, section_names, sections_in}
 use Rattle.m11_link_modules.specs.Rules.{fault_of, most_globals, most_modules, most_sections}
 
 -- ---- bases
@@ -99,17 +99,17 @@ abbrev pub contribution_bases : Planned → List ℕ
 contribution_bases plan = map (λ entry. after_offset (Some entry.1) (planned_section_base plan entry.0.1))
     plan.gathered.contributions
 
-abbrev pub value_at : Planned → ℕ → GlobalPlace → ℕ
+abbrev pub value_at : Planned → ℕ → GlobalLocation → ℕ
 value_at plan module_index (Absolute value) = value
 value_at plan module_index (In section value) = (planned_base plan module_index section + value) % 0o200000
 
 -- the values of all globals that are defined, in order
 abbrev pub definition_values : Planned → List ℕ
-definition_values plan = map (λ entry. value_at plan entry.1.module_index entry.1.place) plan.gathered.definitions
+definition_values plan = map (λ entry. value_at plan entry.1.module_index entry.1.location) plan.gathered.definitions
 
 abbrev pub defined_value : Planned → Option Definition → Option ℕ
 defined_value plan None = None
-defined_value plan (Some definition) = Some (value_at plan definition.module_index definition.place)
+defined_value plan (Some definition) = Some (value_at plan definition.module_index definition.location)
 
 -- the value of a global, where it is defined
 abbrev pub planned_value : Planned → Name → Option ℕ
@@ -160,7 +160,7 @@ pub record Lists (plan : Planned) (bases values : List ℕ) : Type 0 where
 abbrev pub global_planned : Planned → Name × Definition → PlannedGlobal
 global_planned plan global = record {
   name = global.0;
-  value = value_at plan global.1.module_index global.1.place;
+  value = value_at plan global.1.module_index global.1.location;
   module_name = planned_module plan global.1.module_index;
 }
 

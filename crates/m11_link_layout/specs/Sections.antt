@@ -13,7 +13,7 @@ use Rattle.m11_obj.specs.declared.gsd.GsdEntry.{GsdEntry}
 use Rattle.m11_obj.specs.declared.gsd.GsdKind.{GsdKind}
 use Rattle.m11_obj.specs.declared.gsd.GsdKind.TheVariants.{ControlSection, ProgramSection}
 use Rattle.m11_link_modules.specs.Parts.{Part, Entry}
-use Rattle.m11_link_modules.specs.Places.{sections_in, section_names}
+use Rattle.m11_link_modules.specs.Positions.{sections_in, section_names}
 use Rattle.m11_obj.specs.Gsd.{has_bits}
 use Rattle.m11_link_layout.specs.Modules.{module_at, modules_before}
 use Rattle.m11_link_layout.specs.declared.planned.PlannedSection.{PlannedSection}

@@ -13,7 +13,7 @@ use Rattle.m11_obj.specs.declared.gsd.GsdKind.{GsdKind}
 use Rattle.m11_obj.specs.declared.gsd.GsdKind.TheVariants.{ModuleName, ControlSection, TransferAddress, GlobalSymbol, ProgramSection}
 use Rattle.m11_link_modules.specs.Names.{is_among}
 use Rattle.m11_link_modules.specs.Parts.{Part, Entry, Relocated, EndOfModule}
-use Rattle.m11_link_modules.specs.Places.{global_of}
+use Rattle.m11_link_modules.specs.Positions.{global_of}
 use Rattle.m11_link_modules.specs.Rules.{defines}
 use Rattle.m11_obj.specs.Gsd.{has_bits}
 use Rattle.m11_link_layout.specs.declared.definition.Definition.{Definition}
@@ -21,7 +21,7 @@ use Rattle.m11_link_layout.specs.declared.definition.Total.{Total}
 use Rattle.m11_link_layout.specs.declared.definition.Transfer.{Transfer}
 use Rattle.m11_link_layout.specs.Sections.{is_relocatable, is_overlaid, rounded, control_attributes, attribute_bits, flags_of}
 use Rattle.m11_link_layout.specs.Transfers.{is_even}
-use Rattle.m11_link_layout.specs.Globals.{place_of}
+use Rattle.m11_link_layout.specs.Globals.{location_of}
 
 pub record Gathered : Type 0 where
   -- sections, in order of first appearance
@@ -114,7 +114,7 @@ with_first found (Some pair) =
 abbrev pub with_definition : GsdEntry → Gathered → Gathered
 with_definition entry g = record g {
   definitions = with_first g.definitions
-      (Some (entry.name, record { module_index = length g.names; place = place_of g.section entry }));
+      (Some (entry.name, record { module_index = length g.names; location = location_of g.section entry }));
 }
 
 abbrev pub with_weak : Name → Gathered → Gathered

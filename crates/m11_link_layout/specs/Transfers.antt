@@ -7,7 +7,7 @@ use Rattle.m11_obj.specs.declared.gsd.GsdEntry.{GsdEntry}
 use Rattle.m11_obj.specs.declared.gsd.GsdKind.{GsdKind}
 use Rattle.m11_obj.specs.declared.gsd.GsdKind.TheVariants.{TransferAddress}
 use Rattle.m11_link_modules.specs.Parts.{Part, Entry}
-use Rattle.m11_link_modules.specs.Places.{modules_in}
+use Rattle.m11_link_modules.specs.Positions.{modules_in}
 use Rattle.m11_link_layout.specs.Modules.{reported_after}
 use Rattle.m11_link_layout.specs.Sections.{module_base}
 use Rattle.m11_link_layout.specs.declared.definition.Transfer.{Transfer}

@@ -12,7 +12,7 @@ pub(crate) struct Total {
 
 /// Where a global is defined.
 #[derive(Clone, Copy, Debug, PartialEq, Eq)]
-pub(crate) enum GlobalPlace {
+pub(crate) enum GlobalLocation {
     /// At an absolute address.
     Absolute(u16),
     /// N bytes after the base of its module's contribution to a section.
@@ -23,7 +23,7 @@ pub(crate) enum GlobalPlace {
 #[derive(Clone, Copy, Debug, PartialEq, Eq)]
 pub(crate) struct Definition {
     pub(crate) module_index: usize,
-    pub(crate) place: GlobalPlace,
+    pub(crate) location: GlobalLocation,
 }
 
 /// A transfer address: n bytes after the base of a module's contribution to a section.

@@ -42,7 +42,7 @@ pub enum LinkFault {
     /// 6: a relocation has no text before it in its module.
     #[error("a relocation has no text")]
     NoText,
-    /// 7: a relocated place isn't wholly inside the text before it.
+    /// 7: a relocated location isn't wholly inside the text before it.
     #[error("a relocation lies outside its text")]
     BadDisplacement,
     /// 8: a section other than `. ABS.` is named that the module didn't enter before.

@@ -6,7 +6,7 @@ ghost use Rattle.m11_obj.specs.Contents.{unread_content, unread_directory};
 ghost use Rattle.m11_obj.specs.Reading.{AreEntries, AreRelocations, IsRecord, checked, content_of, relocations_left, relocations_of};
 ghost use Rattle.m11_link_modules.specs.Grammar.{directory_parts};
 ghost use Rattle.m11_link_modules.specs.Parts.{Part, EndOfDirectory, EndOfFile, EndOfModule, Relocated, Relocations, Text};
-ghost use Rattle.m11_link_modules.specs.Places.{global_of};
+ghost use Rattle.m11_link_modules.specs.Positions.{global_of};
 ghost use Rattle.m11_link_modules.specs.Steps.{RulesTake, TakesOne};
 ghost use Rattle.m11_link_layout.specs.Tables.{gathered_after_all, with_relocated};
 ghost use Rattle.m11_link_layout.specs.Plan.{LayoutEnds};

@@ -6,7 +6,7 @@ ghost use Rattle.m11_link_layout.specs.Plan.{Plans, contribution_bases, definiti
 ghost use Rattle.m11_link_layout.specs.Sections.{most_size};
 
 use crate::bases::place_all;
-use crate::definition::GlobalPlace;
+use crate::definition::GlobalLocation;
 use crate::fault::LinkFault;
 use crate::planned::{PlannedGlobal, PlannedSection};
 use crate::tables::Tables;
@@ -129,7 +129,7 @@ impl Plan {
         ensures { slice_get (definition_values self.now) index ≡ Some result }
     {
         let (_, definition) = self.tables.definition_at(index);
-        self.value_at(definition.module_index, definition.place)
+        self.value_at(definition.module_index, definition.location)
     }
 
     // Lists the bases of contributions and the values of globals. Where there are no sections there are no contributions,
@@ -174,13 +174,13 @@ impl Plan {
         Ok(listed)
     }
 
-    // The value of a global that a module defines at this place.
-    fn value_at(&self, module_index: usize, place: GlobalPlace) -> u16
-        ensures { result ≡ value_at self.now module_index place }
+    // The value of a global that a module defines at this location.
+    fn value_at(&self, module_index: usize, location: GlobalLocation) -> u16
+        ensures { result ≡ value_at self.now module_index location }
     {
-        match place {
-            GlobalPlace::Absolute(value) => value,
-            GlobalPlace::In(section, value) => self.base(module_index, section).wrapping_add(value),
+        match location {
+            GlobalLocation::Absolute(value) => value,
+            GlobalLocation::In(section, value) => self.base(module_index, section).wrapping_add(value),
         }
     }
 
@@ -251,7 +251,7 @@ impl Plan {
         let (name, definition) = self.tables.definition_at(index);
         PlannedGlobal {
             name,
-            value: self.value_at(definition.module_index, definition.place),
+            value: self.value_at(definition.module_index, definition.location),
             module_name: self.module_name(definition.module_index),
         }
     }

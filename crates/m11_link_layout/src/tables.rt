@@ -5,13 +5,13 @@ ghost use Rattle.m11_link_modules.specs.Parts.{Entry};
 ghost use Rattle.std.specs.Map.{lookup};
 ghost use Rattle.m11_base.specs.Names.{blank_name};
 ghost use Rattle.m11_base.specs.Rad50.{is_same_name};
-ghost use Rattle.m11_link_modules.specs.Places.{global_of};
+ghost use Rattle.m11_link_modules.specs.Positions.{global_of};
 ghost use Rattle.m11_link_layout.specs.Tables.{StandsAt, TablesKeep, is_contribution, contributed, gathered_after_all, nothing_gathered, entered_total, is_concatenated, is_even_after, is_relocated, joined, next_offset, settled, total_after, with_definition, with_end, with_entry, with_name, with_reference, with_relocated, with_contribution, with_section, with_settled, with_symbol, with_total, with_transfer, with_weak};
-ghost use Rattle.m11_link_layout.specs.Globals.{place_of};
+ghost use Rattle.m11_link_layout.specs.Globals.{location_of};
 ghost use Rattle.m11_link_layout.specs.Sections.{control_attributes};
 
 use crate::attributes::{attributes_in, control_attributes};
-use crate::definition::{Definition, GlobalPlace, Total, Transfer};
+use crate::definition::{Definition, GlobalLocation, Total, Transfer};
 use bitflags::Flags;
 use indexmap::{IndexMap, IndexSet};
 use m11_base::{Name, absolute_section, blank_name};
@@ -144,15 +144,15 @@ fn is_relocated(total: Option<Total>, assumed: bool) -> bool
 }
 
 // Where an entry defines its symbol, the section that its module entered last being this one.
-fn place_of(section: Option<Name>, entry: &GsdEntry) -> GlobalPlace
-    ensures { result ≡ place_of section entry.now }
+fn location_of(section: Option<Name>, entry: &GsdEntry) -> GlobalLocation
+    ensures { result ≡ location_of section entry.now }
 {
     let flags = SymbolFlags::from_bits_retain(entry.flags);
     match section {
         Some(section) if flags.contains(SymbolFlags::RELOCATABLE) => {
-            GlobalPlace::In(section, entry.value)
+            GlobalLocation::In(section, entry.value)
         }
-        _ => GlobalPlace::Absolute(entry.value),
+        _ => GlobalLocation::Absolute(entry.value),
     }
 }
 
@@ -361,7 +361,7 @@ impl Tables {
             None => {
                 let definition = Definition {
                     module_index: self.names.len(),
-                    place: place_of(self.section, entry),
+                    location: location_of(self.section, entry),
                 };
                 self.definitions.insert(entry.name, definition)?;
                 Ok(())

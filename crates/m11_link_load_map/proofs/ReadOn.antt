@@ -3,7 +3,7 @@ use Rattle.std.proofs.Common.{◌≡◌, ◌∙◌, ℕ, ◌+◌, ◌<◌, ◌�
 use Rattle.m11_base.specs.Feed.{Text}
 use Rattle.m11_base.proofs.FeedsRead.{all_read, begin, read_more}
 use Rattle.m11_obj_blocks.specs.Blocks.{first_block}
-use Rattle.m11_obj_blocks.specs.Limited.{EndsBetween, Reads, Stops, most_bytes, place}
+use Rattle.m11_obj_blocks.specs.Limited.{EndsBetween, Reads, Stops, most_bytes, position}
 use Rattle.m11_link_modules.specs.Parts.{Part, EndOfFile, record_parts}
 use Rattle.m11_obj.specs.Reading.{IsRecord}
 use Rattle.m11_link_layout.specs.Layout.{LayoutState, LayoutStands, TakesBlock, TakesParts}
@@ -72,7 +72,7 @@ stands_here text text' faults faults' room bottom before layout noted l = record
 module _ (text text1 : Option Text) (faults faults1 room1 bottom : ℕ) (before : List Part) (layout1 : LayoutState)
     (noted1 : List Noted) (l : Seen text text1 faults faults1 room1 bottom before layout1 noted1) (text2 : Option Text)
     (faults2 room2 : ℕ) (layout2 : LayoutState) (noted2 : List Noted) where
-  pub seen_more : (content : List ℕ) → Reads first_block (place text1 faults1 room1) (place text2 faults2 room2) content
+  pub seen_more : (content : List ℕ) → Reads first_block (position text1 faults1 room1) (position text2 faults2 room2) content
       → Stands bottom (l.laid.parts ++ record_parts content) layout2 noted2 → IsRecord content
       → Seen text text2 faults faults2 room2 bottom before layout2 noted2
   seen_more content r s is = record {
@@ -88,7 +88,7 @@ module _ (text text1 : Option Text) (faults faults1 room1 bottom : ℕ) (before 
     noted-are = s.noted-are;
   }
 
-  pub seen_ends : Stops first_block (place text1 faults1 room1) (place text2 faults2 room2) EndsBetween
+  pub seen_ends : Stops first_block (position text1 faults1 room1) (position text2 faults2 room2) EndsBetween
       → (result : Result (Unit {0}) LinkFault) → TakesParts bottom l.laid.parts layout2 (EndOfFile ∷ []) result
       → noted2 ≡ noted1 → NotesObject text faults faults2 bottom before layout2 noted2 result
   seen_ends s (Ok done) t e =

@@ -10,7 +10,7 @@ use Rattle.m11_base.specs.Octal.{octal_text}
 use Rattle.m11_base.specs.Rad50.{Name, name_text}
 use Rattle.m11_obj_print.specs.Lines.{line_of}
 use Rattle.m11_link_modules.specs.Parts.{Part}
-use Rattle.m11_link_modules.specs.Places.{section_in}
+use Rattle.m11_link_modules.specs.Positions.{section_in}
 use Rattle.m11_link_layout.specs.Globals.{globals_of}
 use Rattle.m11_link_layout.specs.Modules.{indexed, name_at}
 use Rattle.m11_link_layout.specs.Sections.{module_base, top}

@@ -5,7 +5,7 @@ ghost use Rattle.std.specs.List.{filter_map};
 ghost use Rattle.m11_link_layout.specs.Modules.{module_at};
 ghost use Rattle.m11_link_load_map.specs.LoadMap.{IsLoadMap, contribution_in, contributions_of};
 ghost use Rattle.m11_link_modules.specs.Parts.{Part};
-ghost use Rattle.m11_link_modules.specs.Places.{sections_in};
+ghost use Rattle.m11_link_modules.specs.Positions.{sections_in};
 
 /// The map shows each section that a module enters once, in the order of the entries, with its size in the module.
 #[tactic(auto, using(crate::proofs::Shown::each_shown))]

@@ -10,7 +10,7 @@ use Rattle.m11_link_modules.specs.declared.stage.Stage.TheVariants.{Between, InD
 use Rattle.m11_link_modules.specs.Grammar.{BodyRecord, TextRecord, RelocationRecord, Module, directory_parts, body_parts, module_parts, file_parts, files_parts, Item, RecordOf, FileEnds, items_parts}
 use Rattle.m11_link_modules.specs.Laws.{AreFiles, AreInOrder}
 use Rattle.m11_link_modules.specs.Parts.{Part, Directory, Entry, EndOfDirectory, Text, Relocations, Relocated, EndOfModule, EndOfFile}
-use Rattle.m11_link_modules.specs.Places.{stage_from, stage_after}
+use Rattle.m11_link_modules.specs.Positions.{stage_from, stage_after}
 use Rattle.m11_link_modules.specs.Rules.{may_stand}
 
 -- parts that stand where they may, from one stage to another

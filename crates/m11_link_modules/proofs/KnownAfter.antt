@@ -22,7 +22,7 @@ use Rattle.m11_link_modules.specs.declared.fault.ModuleFault.TheVariants.{BadOrd
 use Rattle.m11_link_modules.specs.Rules.{first_there, entry_fault, is_past, most_sections, fault_known, fault_of, first_fault}
 use Rattle.m11_link_modules.specs.Laws.{TakesAfter}
 use Rattle.m11_link_modules.specs.Steps.{known_after, known_after_all, first_known_fault, RulesTake, with_entry, with_end, with_optional_global}
-use Rattle.m11_link_modules.specs.Places.{global_of, section_by, global_by, this_module, ends_module, modules_in, stage_from, stage_after, section_in, sections_in, selected_by, section_after, current_section, length_after, text_length, distinct, distinct_after, global_in, global_names, section_names, Known, known_of}
+use Rattle.m11_link_modules.specs.Positions.{global_of, section_by, global_by, this_module, ends_module, modules_in, stage_from, stage_after, section_in, sections_in, selected_by, section_after, current_section, length_after, text_length, distinct, distinct_after, global_in, global_names, section_names, Known, known_of}
 
 -- ---- the parts of the module
 

@@ -14,8 +14,8 @@ use Rattle.m11_link_modules.specs.declared.fault.ModuleFault.TheVariants.{BadOrd
 use Rattle.m11_link_modules.specs.declared.stage.Stage.{Stage}
 use Rattle.m11_link_modules.specs.declared.stage.Stage.TheVariants.{Between, InDirectory, InBody}
 use Rattle.m11_link_modules.specs.Parts.{Part, Directory, Entry, EndOfDirectory, Text, Relocated}
-use Rattle.m11_link_modules.specs.Places.{Known}
-use Rattle.m11_link_modules.specs.Rules.{begin_fault, entering_fault, entry_fault, fault_in_order, fault_known, first_there, global_fault, is_past, may_stand, most_sections, place_fault, relocation_by, section_fault, symbol_fault, target_fault}
+use Rattle.m11_link_modules.specs.Positions.{Known}
+use Rattle.m11_link_modules.specs.Rules.{begin_fault, entering_fault, entry_fault, fault_in_order, fault_known, first_there, global_fault, is_past, location_fault, may_stand, most_sections, relocation_by, section_fault, symbol_fault, target_fault}
 
 abbrev NotMemory : Option ModuleFault → Type 0
 NotMemory fault = fault ≡ Some NoMemory → ⊥
@@ -62,9 +62,9 @@ entry_is TransferAddress entry entered sections globals = section_is entered ent
 entry_is GlobalSymbol entry entered sections globals = symbol_is entry entered globals
 entry_is kind entry entered sections globals = none_is
 
-place_is : (relocation : Relocation) (text : Option ℕ) → NotMemory (place_fault relocation text)
-place_is relocation None e = cc
-place_is relocation (Some count) e = last_is _ BadDisplacement (λ n. cc) e
+location_is : (relocation : Relocation) (text : Option ℕ) → NotMemory (location_fault relocation text)
+location_is relocation None e = cc
+location_is relocation (Some count) e = last_is _ BadDisplacement (λ n. cc) e
 
 target_is : (stored : Target) (entered : List (Name × ℕ)) (globals : List Name) → NotMemory (target_fault stored entered globals)
 target_is (target.Section name) entered globals = section_is entered name
@@ -82,7 +82,7 @@ relocation_is : (stored : Target) (relocation : Relocation) (entered : List (Nam
 relocation_is (target.LocationCounterDefinition name constant) relocation entered text globals = section_is entered name
 relocation_is (target.LocationCounterModification constant) relocation entered text globals = none_is
 relocation_is other relocation entered text globals =
-    either _ _ (place_is relocation text) (target_is other entered globals)
+    either _ _ (location_is relocation text) (target_is other entered globals)
 
 in_order_is : (known : Known) (part : Part) → NotMemory (fault_in_order known part)
 in_order_is known Directory = begin_is known.stage known.modules

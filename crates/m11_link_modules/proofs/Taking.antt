@@ -6,7 +6,7 @@ use Rattle.m11_link_modules.specs.declared.fault.ModuleFault.{ModuleFault}
 use Rattle.m11_link_modules.specs.declared.fault.ModuleFault.TheVariants.{BadOrder, NoText, BadDisplacement, UnknownSection, TextOutside, TooManyGlobals, TooManySections, TooManyModules, NoMemory}
 use Rattle.m11_obj.specs.declared.relocations.Relocation.{Relocation}
 use Rattle.m11_link_modules.specs.Parts.{Part, Relocated}
-use Rattle.m11_link_modules.specs.Places.{Known}
+use Rattle.m11_link_modules.specs.Positions.{Known}
 use Rattle.m11_link_modules.specs.Rules.{returned, fault_known, relocation_fault}
 use Rattle.m11_link_modules.specs.Steps.{RulesTake, TakesOne, known_after, known_after_all, first_known_fault}
 use Rattle.m11_link_modules.proofs.Indexing.{drop_at}

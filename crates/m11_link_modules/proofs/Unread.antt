@@ -8,7 +8,7 @@ use Rattle.m11_obj.specs.Records.{Content}
 use Rattle.m11_obj.proofs.Unread.{are_left, are_where_checked, checked_next, checked_none, left_next, left_none, record_read}
 use Rattle.m11_link_modules.specs.declared.fault.ModuleFault.{ModuleFault}
 use Rattle.m11_link_modules.specs.Parts.{Part, Relocated, Relocations, parts_in, record_parts}
-use Rattle.m11_link_modules.specs.Places.{Known}
+use Rattle.m11_link_modules.specs.Positions.{Known}
 use Rattle.m11_link_modules.specs.Steps.{RulesTake, TakesOne}
 use Rattle.m11_link_modules.proofs.Taking.{GoesOn, Outcome, walk_ended, walk_refused, walk_taken}
 

@@ -4,7 +4,7 @@ use Rattle.m11_link_modules.specs.declared.fault.ModuleFault.{ModuleFault}
 use Rattle.m11_link_modules.specs.declared.fault.ModuleFault.TheVariants.{NoMemory}
 use Rattle.m11_link_modules.specs.Grammar.{Module, files_parts}
 use Rattle.m11_link_modules.specs.Parts.{Part}
-use Rattle.m11_link_modules.specs.Places.{Known, known_of, stage_after}
+use Rattle.m11_link_modules.specs.Positions.{Known, known_of, stage_after}
 use Rattle.m11_link_modules.specs.Rules.{StopsAtName, first_fault, may_stand}
 
 -- parts that come after others are taken, and then stand after them; or their first fault is returned; or memory was

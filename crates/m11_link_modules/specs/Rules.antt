@@ -16,7 +16,7 @@ use Rattle.m11_link_modules.specs.declared.fault.ModuleFault.{ModuleFault}
 use Rattle.m11_link_modules.specs.declared.fault.ModuleFault.TheVariants.{BadOrder, NoText, BadDisplacement, UnknownSection, TextOutside, TooManyGlobals, TooManySections, TooManyModules}
 use Rattle.m11_link_modules.specs.Names.{is_among}
 use Rattle.m11_link_modules.specs.Parts.{Part, Directory, Entry, EndOfDirectory, Text, Relocations, Relocated, EndOfModule, EndOfFile}
-use Rattle.m11_link_modules.specs.Places.{Known, adds_name, known_of, size_known}
+use Rattle.m11_link_modules.specs.Positions.{Known, adds_name, known_of, size_known}
 use Rattle.m11_link_modules.specs.declared.stage.Stage.{Stage}
 use Rattle.m11_link_modules.specs.declared.stage.Stage.TheVariants.{Between, InBody}
 
@@ -115,10 +115,10 @@ abbrev pub lies_within : Relocation → ℕ → Bool
 lies_within relocation count = nat_le 4 relocation.displacement
     && nat_le (relocation.displacement + width_of relocation.is_byte relocation.target) (4 + count)
 
--- the faults of a place: there has to be a text, of n bytes, and the place has to lie within
-abbrev pub place_fault : Relocation → Option ℕ → Option ModuleFault
-place_fault relocation None = Some NoText
-place_fault relocation (Some count) = first_there ((not (lies_within relocation count), BadDisplacement) ∷ [])
+-- the faults of a location: there has to be a text, of n bytes, and the location has to lie within
+abbrev pub location_fault : Relocation → Option ℕ → Option ModuleFault
+location_fault relocation None = Some NoText
+location_fault relocation (Some count) = first_there ((not (lies_within relocation count), BadDisplacement) ∷ [])
 
 -- the faults of what is stored
 abbrev pub target_fault : Target → List (Name × ℕ) → List Name → Option ModuleFault
@@ -137,7 +137,7 @@ abbrev pub relocation_by : Target → Relocation → List (Name × ℕ) → Opti
 relocation_by (target.LocationCounterDefinition name constant) relocation entered text globals = section_fault entered name
 relocation_by (target.LocationCounterModification constant) relocation entered text globals = None
 relocation_by other relocation entered text globals =
-    option_or (place_fault relocation text) (target_fault other entered globals)
+    option_or (location_fault relocation text) (target_fault other entered globals)
 
 abbrev pub relocation_fault : Relocation → List (Name × ℕ) → Option ℕ → List Name → Option ModuleFault
 relocation_fault relocation entered text globals = relocation_by relocation.target relocation entered text globals

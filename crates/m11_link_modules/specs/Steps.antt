@@ -1,5 +1,5 @@
 -- What is known after a part, from what was known before it. (This project's own: how the rules are kept while records
--- come. That it is what Places.antt says of all parts is proved.)
+-- come. That it is what Positions.antt says of all parts is proved.)
 use Rattle.std.specs.Prelude.{◌≡◌, ◌+◌, true, List, [], ◌∷◌, length, ⊤, Option, Some, None, Result, Ok, Err}
 use Rattle.std.specs.Option.{option_or}
 use Rattle.indexmap.specs.IndexMap.{insert_entry}
@@ -14,7 +14,7 @@ use Rattle.m11_link_modules.specs.declared.fault.ModuleFault.{ModuleFault}
 use Rattle.m11_link_modules.specs.declared.fault.ModuleFault.TheVariants.{NoMemory}
 use Rattle.m11_link_modules.specs.declared.stage.Stage.TheVariants.{Between, InDirectory, InBody}
 use Rattle.m11_link_modules.specs.Parts.{Part, Directory, Entry, EndOfDirectory, Text, Relocations, Relocated, EndOfModule, EndOfFile}
-use Rattle.m11_link_modules.specs.Places.{Known, adds_name, selected_by, global_of}
+use Rattle.m11_link_modules.specs.Positions.{Known, adds_name, selected_by, global_of}
 use Rattle.m11_link_modules.specs.Rules.{StopsAtName, fault_known}
 
 abbrev pub with_section : GsdEntry → Known → Known

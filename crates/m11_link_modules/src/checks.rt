@@ -1,8 +1,8 @@
 //! What is wrong with one part of an object, by what is known before it.
 
 ghost use Rattle.std.specs.Prelude.{◌≡◌, length, IfOk, Some};
-ghost use Rattle.m11_link_modules.specs.Places.{size_known};
-ghost use Rattle.m11_link_modules.specs.Rules.{returned, outcome_of, entering_fault, entry_fault, is_past, opening_fault, place_fault, relocation_fault, section_fault, symbol_fault, global_fault, target_fault, text_fault, defines_relocatable};
+ghost use Rattle.m11_link_modules.specs.Positions.{size_known};
+ghost use Rattle.m11_link_modules.specs.Rules.{returned, outcome_of, entering_fault, entry_fault, is_past, opening_fault, location_fault, relocation_fault, section_fault, symbol_fault, global_fault, target_fault, text_fault, defines_relocatable};
 ghost use Rattle.m11_link_modules.specs.TextRelocation.{in_text_before, stored_in};
 
 use crate::fault::ModuleFault;
@@ -122,7 +122,7 @@ fn check_symbol(
     check_global(globals, entry.name)
 }
 
-// Whether an entry of a global symbol defines it, at a place of a section.
+// Whether an entry of a global symbol defines it, at a location of a section.
 fn defines_relocatable(entry: &GsdEntry) -> bool
     ensures { result ≡ defines_relocatable entry.now }
 {
@@ -150,9 +150,9 @@ fn check_global(globals: &IndexSet<Name>, name: Name) -> Result<(), ModuleFault>
     Ok(())
 }
 
-// The place of a relocation has to lie within the text before it.
-fn check_place(relocation: &Relocation, text: Option<usize>) -> Result<TextRelocation, ModuleFault>
-    ensures judged { outcome_of result ≡ returned (place_fault relocation.now text) }
+// The location of a relocation has to lie within the text before it.
+fn check_location(relocation: &Relocation, text: Option<usize>) -> Result<TextRelocation, ModuleFault>
+    ensures judged { outcome_of result ≡ returned (location_fault relocation.now text) }
     ensures within { IfOk result (λ within. Some within ≡ in_text_before relocation.now text) }
 {
     let Some(count) = text else {
@@ -202,7 +202,7 @@ pub(crate) fn check_relocation(
         }
         Target::LocationCounterModification(_) => Ok(None),
         target => {
-            let within = check_place(relocation, text)?;
+            let within = check_location(relocation, text)?;
             check_target(target, entered, globals)?;
             Ok(Some(within))
         }

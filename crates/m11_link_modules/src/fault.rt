@@ -16,7 +16,7 @@ pub enum ModuleFault {
     /// A relocation has no text before it in its module.
     #[error("a relocation has no text")]
     NoText,
-    /// A relocated place isn't wholly inside the text before it.
+    /// A relocated location isn't wholly inside the text before it.
     #[error("a relocation lies outside its text")]
     BadDisplacement,
     /// A section other than `. ABS.` is named that the module didn't enter before.

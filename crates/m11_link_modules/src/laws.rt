@@ -3,7 +3,7 @@
 ghost use Rattle.std.specs.Prelude.{◌≡◌, List, [], ◌∷◌, ◌++◌};
 ghost use Rattle.m11_link_modules.specs.Grammar.{FileEnds, Item, Module, files_parts, items_parts};
 ghost use Rattle.m11_link_modules.specs.Laws.{AreFiles, AreInOrder};
-ghost use Rattle.m11_link_modules.specs.Places.{stage_after};
+ghost use Rattle.m11_link_modules.specs.Positions.{stage_after};
 ghost use Rattle.m11_link_modules.specs.declared.stage.Stage.TheVariants.{Between};
 
 /// In files, each of which is a list of modules, each part stands where it may, and after them no module is open.

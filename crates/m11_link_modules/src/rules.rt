@@ -4,7 +4,7 @@ ghost use Rattle.std.specs.Prelude.{◌≡◌, ◌∷◌, [], List, Result, Ok, 
 ghost use Rattle.m11_obj.specs.Reading.{record_entries, record_relocations};
 ghost use Rattle.m11_link_modules.specs.Laws.{TakesAfter};
 ghost use Rattle.m11_link_modules.specs.Parts.{Part, Directory, Entry, EndOfDirectory, Text, Relocations, Relocated, EndOfModule, EndOfFile, record_parts};
-ghost use Rattle.m11_link_modules.specs.Places.{adds_name, global_of, known_of};
+ghost use Rattle.m11_link_modules.specs.Positions.{adds_name, global_of, known_of};
 ghost use Rattle.m11_link_modules.specs.Rules.{outcome_of};
 ghost use Rattle.m11_link_modules.specs.Steps.{Notes, RulesTake, TakesOne, with_section, with_global, with_entry, with_target};
 ghost use Rattle.m11_link_modules.specs.TextRelocation.{stored_in};
@@ -32,7 +32,7 @@ pub struct Rules {
 }
 
 impl Model for Rules {
-    ghost use Rattle.m11_link_modules.specs.Places.{Known};
+    ghost use Rattle.m11_link_modules.specs.Positions.{Known};
     ghost use Rattle.m11_link_modules.specs.Rules.{InLimits};
 
     ghost Value = { Known };
@@ -52,7 +52,7 @@ impl Model for Rules {
 
 impl Rules {
     /// No record came so far.
-    #[tactic(auto, unfolding(crate::specs::Places::known_of, crate::specs::Places::stage_after, crate::specs::Places::modules_in, crate::specs::Places::section_names, crate::specs::Places::global_names, crate::specs::Places::distinct, crate::specs::Places::sections_in, crate::specs::Places::this_module, crate::specs::Places::current_section, crate::specs::Places::text_length))]
+    #[tactic(auto, unfolding(crate::specs::Positions::known_of, crate::specs::Positions::stage_after, crate::specs::Positions::modules_in, crate::specs::Positions::section_names, crate::specs::Positions::global_names, crate::specs::Positions::distinct, crate::specs::Positions::sections_in, crate::specs::Positions::this_module, crate::specs::Positions::current_section, crate::specs::Positions::text_length))]
     pub fn new(alloc: Global) -> Rules
         ensures { result ≡ known_of [] }
     {

@@ -73,6 +73,6 @@ fn width_of(relocation: &Relocation) -> usize
 fn lies_within(relocation: &Relocation, count: usize) -> bool
     ensures { result ≡ lies_within relocation.now count }
 {
-    let place = usize::from(relocation.displacement);
-    place >= 4 && place + width_of(relocation) - 4 <= count
+    let location = usize::from(relocation.displacement);
+    location >= 4 && location + width_of(relocation) - 4 <= count
 }

@@ -53,7 +53,7 @@ abbrev pub value_bytes : Bool → ℕ → Bytes
 value_bytes is_byte value = if is_byte then (value % 256) ∷ [] else word_bytes value
 
 -- the bytes that a relocation stores: the two limits of the program, no bytes for the commands that only select a
--- place, and else those of the value
+-- location, and else those of the value
 abbrev pub stored_bytes : Findings → ℕ → ℕ → ℕ → Bool → Target → Bytes
 stored_bytes found module_index own location is_byte target.ProgramLimits =
     word_bytes found.bottom ++ word_bytes found.top

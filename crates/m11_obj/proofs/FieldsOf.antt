@@ -141,23 +141,23 @@ entries_length (suc n) (byte ∷ bytes) entries le e =
     let others = entries_length n o.0.1 o.1 (omega (arith, t.enough)) o.3 in
     omega (arith, t.enough, ap length o.4)
 
-pub entry_place : (n i : ℕ) (bytes : List ℕ) (entries : List GsdEntry) (d : GsdEntry)
+pub entry_is_at : (n i : ℕ) (bytes : List ℕ) (entries : List GsdEntry) (d : GsdEntry)
     → items_within first_entry n bytes ≡ Ok entries → i < length entries
     → (rest : List ℕ) × (first_entry (drop (8 * i) bytes) ≡ Ok (get_or entries i d, rest))
 unfolding items_within
-entry_place zero i bytes entries d e lt = let none = ok_is [] entries e in absurd (omega (arith, ap length none))
-entry_place (suc n) i [] entries d e lt = let none = ok_is [] entries e in absurd (omega (arith, ap length none))
-entry_place (suc n) zero (byte ∷ bytes) entries d e lt =
+entry_is_at zero i bytes entries d e lt = let none = ok_is [] entries e in absurd (omega (arith, ap length none))
+entry_is_at (suc n) i [] entries d e lt = let none = ok_is [] entries e in absurd (omega (arith, ap length none))
+entry_is_at (suc n) zero (byte ∷ bytes) entries d e lt =
     let o = others_of n byte bytes entries e in
     (o.0.1, o.2 ∙ ap (λ (es : List GsdEntry). Ok (get_or es 0 d, o.0.1)) o.4)
-entry_place (suc n) (suc i) (byte ∷ bytes) entries d e lt =
+entry_is_at (suc n) (suc i) (byte ∷ bytes) entries d e lt =
     let o = others_of n byte bytes entries e in
     let t = entry_takes (byte ∷ bytes) o.0 o.2 in
-    let found = entry_place n i o.0.1 o.1 d o.3 (omega (arith, ap length o.4)) in
-    let place : drop (8 * i) o.0.1 ≡ drop (8 * suc i) (byte ∷ bytes) =
+    let found = entry_is_at n i o.0.1 o.1 d o.3 (omega (arith, ap length o.4)) in
+    let there : drop (8 * i) o.0.1 ≡ drop (8 * suc i) (byte ∷ bytes) =
     ap (drop (8 * i)) t.following ∙ drop-drop (8 * i) 8 (byte ∷ bytes)
     ∙ ap (λ (k : ℕ). drop k (byte ∷ bytes)) (omega arith) in
-    (found.0, ap first_entry (sym place) ∙ found.1 ∙ ap (λ (es : List GsdEntry). Ok (get_or es (suc i) d, found.0)) o.4)
+    (found.0, ap first_entry (sym there) ∙ found.1 ∙ ap (λ (es : List GsdEntry). Ok (get_or es (suc i) d, found.0)) o.4)
 
 -- ---- records
 

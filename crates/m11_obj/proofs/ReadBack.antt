@@ -38,7 +38,7 @@ begins_then bytes first middle second rest one two = record {
 
 -- ---- words and names
 
--- a field that fits its place, as it is written
+-- a field that fits its room, as it is written
 pub record Reads {A : Type 0} (write : A → List ℕ) (P : A → Type 0) (bytes : List ℕ) (x : A × List ℕ) : Type 0 where
   pub begins : Begins bytes (write x.0) x.1
   pub fits : P x.0

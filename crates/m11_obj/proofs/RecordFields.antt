@@ -1,4 +1,4 @@
--- The fields of a record, each at its place.
+-- The fields of a record, each at its index.
 use Rattle.std.proofs.Common.{◌≡◌, ◌≢◌, ℕ, ◌+◌, ◌*◌, ◌<◌, ◌≤◌, List, length, drop, get_or, Some, Result, Ok, Err, refl, sym, ap, subst, ◌∙◌, arith, length-drop}
 use Rattle.std.specs.Prelude.{IsSome, slice_get}
 use Rattle.std.proofs.lemmas.List.{drop-drop}
@@ -10,7 +10,7 @@ use Rattle.m11_obj.specs.declared.records.RecordKind.{RecordKind}
 use Rattle.m11_obj.specs.declared.records.RecordKind.TheVariants as kind
 use Rattle.m11_obj.specs.Records.{Content, Gsd, EndOfGsd, Text, Relocations, InternalSymbols, EndOfModule}
 use Rattle.m11_obj.specs.Reading.{◌>>=◌, first_word, first_entry, items_of, entries_of, first_type, content_after, content_of, IsRecord, kind_in, record_kind, entries_in, record_entries, text_in, record_text}
-use Rattle.m11_obj.proofs.FieldsOf.{bind_ok, ok_value, parts_of, entries_length, entry_place, word_takes}
+use Rattle.m11_obj.proofs.FieldsOf.{bind_ok, ok_value, parts_of, entries_length, entry_is_at, word_takes}
 
 -- ---- the type
 
@@ -100,7 +100,7 @@ pub no_entries : (bytes : List ℕ) (k : RecordKind) → record_kind bytes ≡ O
     → length (record_entries bytes) ≡ 0
 no_entries bytes k e ne = none_by_kind (content_of bytes) k e ne
 
--- an entry's place, and what is read there
+-- an entry's index, and what is read there
 abbrev FoundAt : List ℕ → List GsdEntry → ℕ → GsdEntry → Type 0
 FoundAt bytes entries i d =
     (2 + 8 * i ≤ length bytes)
@@ -111,7 +111,7 @@ found_by_content : (bytes : List ℕ) (r : Result Content RecordFault) (i : ℕ)
 unfolding entries_of items_of
 found_by_content bytes (Ok (Gsd entries)) i d is lt =
     let p = gsd_parts bytes entries is in
-    let found = entry_place (length (drop 2 bytes)) i (drop 2 bytes) entries d p.1 lt in
+    let found = entry_is_at (length (drop 2 bytes)) i (drop 2 bytes) entries d p.1 lt in
     (omega (arith, gsd_length bytes entries is), (found.0, ap first_entry (sym (drop-drop (8 * i) 2 bytes)) ∙ found.1))
 found_by_content bytes (Ok EndOfGsd) i d is lt = absurd (omega arith)
 found_by_content bytes (Ok (Text address text)) i d is lt = absurd (omega arith)
@@ -183,9 +183,9 @@ pub entry_read : (bytes back : List ℕ) (i : ℕ) (entry : GsdEntry) (others : 
     → slice_get (record_entries bytes) i ≡ Some entry
 entry_read bytes back i entry others lt is read =
     let found = (entry_found bytes i entry lt).1 in
-    let place : first_entry back ≡ Ok (get_or (record_entries bytes) i entry, found.0) = ap first_entry is ∙ found.1 in
+    let there : first_entry back ≡ Ok (get_or (record_entries bytes) i entry, found.0) = ap first_entry is ∙ found.1 in
     let same : get_or (record_entries bytes) i entry ≡ entry =
-    entry_is (get_or (record_entries bytes) i entry, found.0) (entry, others) (sym place ∙ read) in
+    entry_is (get_or (record_entries bytes) i entry, found.0) (entry, others) (sym there ∙ read) in
     slice_get-get_or (record_entries bytes) i entry lt ∙ ap (λ (e : GsdEntry). Some e) same
 
 pub entry_is_read : (bytes back : List ℕ) (i : ℕ) (fault : RecordFault) → i < length (record_entries bytes)

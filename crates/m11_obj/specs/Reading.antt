@@ -1,7 +1,7 @@
 -- What the bytes of a block mean: a record, or the first fault in the order of the bytes. (RT-11
 -- Volume and File Formats Manual, "Object file format".) Which types and commands are refused is this
 -- project's own: libraries, mapped arrays and complex relocation are left out. A missing byte is
--- BadLength at the place where the bytes end.
+-- BadLength at the location where the bytes end.
 use Rattle.std.specs.Prelude.{◌≡◌, is_ok, true, ℕ, zero, suc, ◌+◌, ◌*◌, ◌%◌, ◌≤◌, Bool, ◌&&◌, List, [], ◌∷◌, length, slice_get, unwrap_or, Option, Some, None, Result, Ok, Err, nat_lt, nat_le, if◌then◌else◌}
 use Rattle.std.specs.Result.{result_unwrap_or}
 use Rattle.m11_base.specs.Devices.{Bytes}
@@ -67,7 +67,7 @@ items_of first bytes = items_within first (length bytes) bytes
 
 -- ---- entries of the global symbol directory
 
--- the types of entries, each at the place of its code
+-- the types of entries, each at the index of its code
 abbrev pub kinds : List (Result GsdKind RecordFault)
 kinds =
     Ok ModuleName ∷ Ok ControlSection ∷ Ok InternalSymbol ∷ Ok TransferAddress ∷ Ok GlobalSymbol
@@ -97,7 +97,7 @@ pub data Form : Type 0 where
   Name : (rad50.Name → Target) → Form
   NameAndConstant : (rad50.Name → ℕ → Target) → Form
 
--- the commands, each at the place of its code
+-- the commands, each at the index of its code
 abbrev pub forms : List (Result Form RecordFault)
 forms =
     Err UnknownRelocation
@@ -156,7 +156,7 @@ relocations_of bytes = items_of first_relocation bytes
 
 -- ---- records
 
--- the types of records, each at the place of its code
+-- the types of records, each at the index of its code
 abbrev pub types : List (Result RecordKind RecordFault)
 types =
     Err UnknownType ∷ Ok kind.Gsd ∷ Ok kind.EndOfGsd ∷ Ok kind.Text ∷ Ok kind.Relocations

@@ -26,7 +26,7 @@ record_data (Relocations relocations) = word_bytes 4 ++ relocations_bytes reloca
 record_data InternalSymbols = word_bytes 5
 record_data EndOfModule = word_bytes 6
 
--- contents whose bytes fit a block and whose fields fit their places
+-- contents whose bytes fit a block and whose fields fit their room
 abbrev pub Fits : Content → Type 0
 Fits (Gsd entries) = (length entries ≤ entry_limit) × EntriesFit entries
 Fits EndOfGsd = Unit {0}

@@ -11,8 +11,8 @@ use crate::gsd::{put_name, put_word};
 use m11_base::Name;
 use m11_obj_blocks::Block;
 
-/// What is stored at a relocated place, the base of a section being that of this module's part of it.
-/// Displaced values are less the place and 2. The numbers are those of the commands, in octal.
+/// What is stored at a relocated location, the base of a section being that of this module's part of it.
+/// Displaced values are less the location and 2. The numbers are those of the commands, in octal.
 #[derive(Clone, Copy, Debug, PartialEq, Eq)]
 pub enum Target {
     /// 1: a constant and the base of the text's own section.
@@ -27,9 +27,9 @@ pub enum Target {
     GlobalAdditive(Name, u16),
     /// 6: a global symbol and a constant, displaced.
     GlobalAdditiveDisplaced(Name, u16),
-    /// 7: nothing is stored; selects a section, and a place in it.
+    /// 7: nothing is stored; selects a section, and a location in it.
     LocationCounterDefinition(Name, u16),
-    /// 10: nothing is stored; a place in the same section.
+    /// 10: nothing is stored; a location in the same section.
     LocationCounterModification(u16),
     /// 11: the two limits of the program, in two words.
     ProgramLimits,
@@ -91,12 +91,12 @@ impl Target {
     }
 }
 
-/// One relocation of a place of the text before it.
+/// One relocation of a location of the text before it.
 #[derive(Clone, Copy, Debug, PartialEq, Eq)]
 pub struct Relocation {
     /// The low byte of the value is stored, and not its word.
     pub is_byte: bool,
-    /// The place, counted in bytes from the text record's type word: its first data byte is 4.
+    /// The location, counted in bytes from the text record's type word: its first data byte is 4.
     pub displacement: u8,
     /// What is stored there.
     pub target: Target,

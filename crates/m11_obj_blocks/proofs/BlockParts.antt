@@ -5,7 +5,7 @@ use Rattle.m11_obj_blocks.specs.declared.limited.Lack.{Lack}
 use Rattle.m11_obj_blocks.specs.declared.limited.Lack.TheVariants as lack
 use Rattle.m11_obj_blocks.specs.declared.block_fault.BlockFault.{BlockFault}
 use Rattle.m11_obj_blocks.specs.declared.block_fault.BlockFault.TheVariants as fault
-use Rattle.m11_obj_blocks.specs.Limited.{Place, Took, TookInto, Lacks, TookThenLacks, Inside, Refused, Read, ◌>>=◌, Why, Reads, Stops}
+use Rattle.m11_obj_blocks.specs.Limited.{Position, Took, TookInto, Lacks, TookThenLacks, Inside, Refused, Read, ◌>>=◌, Why, Reads, Stops}
 use Rattle.m11_obj_blocks.specs.Frames.{content_limit, header, word_bytes}
 use Rattle.m11_obj_blocks.specs.Blocks.{start, second, count, count_of, front_of, content_of, summed, first_block, missing, why_of}
 use Rattle.m11_obj_blocks.proofs.FrameReads.{word_again}
@@ -13,14 +13,14 @@ use Rattle.m11_obj_blocks.proofs.Limits.{took_nothing, took_then, first_stops, r
 use Rattle.m11_obj_blocks.proofs.Limits.{missing_stops as stops_missing}
 
 -- a byte is missing inside a block
-pub missing_stops : {A : Type 0} (read : List ℕ → Read BlockFault A) (a b : Place) (given : List ℕ) (why : Lack)
+pub missing_stops : {A : Type 0} (read : List ℕ → Read BlockFault A) (a b : Position) (given : List ℕ) (why : Lack)
     → TookThenLacks a b given why → read given ≡ Err Inside → Stops read a b (why_of (missing why))
 missing_stops read a b given lack.Device lacks e = stops_missing read a b given lack.Device lacks e
 missing_stops read a b given lack.End lacks e = stops_missing read a b given lack.End lacks e
 missing_stops read a b given lack.TooMuch lacks e = stops_missing read a b given lack.TooMuch lacks e
 
 -- its first byte is
-pub first_missing : {A : Type 0} (read : List ℕ → Read BlockFault A) (a b : Place) (why : Lack) → Lacks a b why
+pub first_missing : {A : Type 0} (read : List ℕ → Read BlockFault A) (a b : Position) (why : Lack) → Lacks a b why
     → read [] ≡ Err Inside → Stops read a b (why_of (missing why))
 first_missing read a b why lacks e = missing_stops read a b [] why (a, took_nothing a, lacks) e
 
@@ -30,7 +30,7 @@ content_short : (count : ℕ) (bytes : List ℕ) → length bytes < count → co
 content_short count bytes short = rw (lt-ltb (length bytes) count short) refl
 
 -- a byte of it is missing, where none was ready
-pub content_missing : (count taken : ℕ) (a b c d : Place) (content after : List ℕ) (why : Lack) → Took a b content
+pub content_missing : (count taken : ℕ) (a b c d : Position) (content after : List ℕ) (why : Lack) → Took a b content
     → length content < count → taken ≡ 0 → TookInto b c content after taken → Lacks c d why
     → Stops (content_of count) a d (why_of (missing why))
 content_missing count taken a b c d content after why took short none into lacks =
@@ -88,16 +88,16 @@ second_then second = count second.1
 abbrev start_then : Unit {0} × List ℕ → Read BlockFault ℕ
 start_then start = second start.1 >>= second_then
 
-module _ (a b : Place) where
+module _ (a b : Position) where
   pub start_stops : (why : Why BlockFault) → Stops start a b why → Stops front_of a b why
   start_stops why s = first_stops start start_then a b why s
 
-  module _ (started : Reads start a b tt) (c : Place) where
+  module _ (started : Reads start a b tt) (c : Position) where
     pub second_stops : (why : Why BlockFault) → Stops second b c why → Stops front_of a c why
     second_stops why s =
         then_stops start start_then a b c tt started why (first_stops second second_then b c why s)
 
-    module _ (begun : Reads second b c tt) (d : Place) where
+    module _ (begun : Reads second b c tt) (d : Position) where
       pub count_stops : (why : Why BlockFault) → Stops count c d why → Stops front_of a d why
       count_stops why s = then_stops start start_then a b d tt started why
           (then_stops second second_then b c d tt begun why s)
@@ -106,7 +106,7 @@ module _ (a b : Place) where
       front_read n r = then_reads start start_then a b d tt started n (then_reads second second_then b c d tt begun n r)
 
 -- or all of it at once
-pub front_taken : (a b : Place) (n : ℕ) → n ≤ content_limit → Took a b (header n) → Reads front_of a b n
+pub front_taken : (a b : Position) (n : ℕ) → n ≤ content_limit → Took a b (header n) → Reads front_of a b n
 front_taken a b n fits took = record { given = header n; took = took; is = λ rest. count_again n rest fits }
 
 bind_twice : {A B C E : Type 0} (r : Result A E) (f : A → Result B E) (g : B → Result C E)
@@ -129,7 +129,7 @@ is_by_front : (bytes : List ℕ) → first_block bytes ≡ by_front bytes
 unfolding first_block
 is_by_front bytes = by_start (start bytes)
 
-module _ (a b : Place) where
+module _ (a b : Position) where
   stops_so : (why : Why BlockFault) → Stops by_front a b why → Stops first_block a b why
   stops_so why s = stops_after first_block by_front a a b [] (took_nothing a) is_by_front why s
 
@@ -139,12 +139,12 @@ module _ (a b : Place) where
   pub front_stops : (why : Why BlockFault) → Stops front_of a b why → Stops first_block a b why
   front_stops why s = stops_so why (first_stops front_of after_count a b why s)
 
-module _ (a b : Place) (n : ℕ) (counted : Reads front_of a b n) (c : Place) where
+module _ (a b : Position) (n : ℕ) (counted : Reads front_of a b n) (c : Position) where
   pub content_stops : (why : Why BlockFault) → Stops (content_of n) b c why → Stops first_block a c why
   content_stops why s = stops_so a c why (then_stops front_of after_count a b c n counted why
       (first_stops (content_of n) after_content b c why s))
 
-  module _ (xs : List ℕ) (held : Reads (content_of n) b c xs) (d : Place) where
+  module _ (xs : List ℕ) (held : Reads (content_of n) b c xs) (d : Position) where
     pub sum_stops : (why : Why BlockFault) → Stops (summed xs) c d why → Stops first_block a d why
     sum_stops why s = stops_so a d why (then_stops front_of after_count a b d n counted why
         (then_stops (content_of n) after_content b c d xs held why s))

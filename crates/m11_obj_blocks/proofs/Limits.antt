@@ -3,7 +3,7 @@ use Rattle.std.proofs.Common.{◌≡◌, ℕ, List, [], ◌++◌, Option, Some, 
 use Rattle.m11_base.specs.Feed.{Text, GivesBytes}
 use Rattle.m11_obj_blocks.specs.declared.limited.Lack.{Lack}
 use Rattle.m11_obj_blocks.specs.declared.limited.Lack.TheVariants as lack
-use Rattle.m11_obj_blocks.specs.Limited.{Place, Took, TookThenLacks, Stop, Between, Inside, Refused, Read, ◌>>=◌, IsShort, Why, Fails, EndsBetween, EndsInside, Passes, Refuses, Never, Reads, Stops}
+use Rattle.m11_obj_blocks.specs.Limited.{Position, Took, TookThenLacks, Stop, Between, Inside, Refused, Read, ◌>>=◌, IsShort, Why, Fails, EndsBetween, EndsInside, Passes, Refuses, Never, Reads, Stops}
 use Rattle.m11_obj_blocks.proofs.ReadSteps.{bytes_then}
 
 -- ---- what was given
@@ -18,10 +18,10 @@ gave_then (Some t) t1 t2 xs ys g h =
     let next = rw g.2 at h in
     (next.0, g.1 ∙ ap (λ (zs : List ℕ). xs ++ zs) next.1 ∙ sym (append_assoc xs ys next.0), next.2)
 
-pub took_nothing : (p : Place) → Took p p []
+pub took_nothing : (p : Position) → Took p p []
 took_nothing p = record { gave = gave_nothing p.text; faults = refl; room = omega arith; bytes = tt }
 
-pub took_then : (a b c : Place) (xs ys : List ℕ) → Took a b xs → Took b c ys → Took a c (xs ++ ys)
+pub took_then : (a b c : Position) (xs ys : List ℕ) → Took a b xs → Took b c ys → Took a c (xs ++ ys)
 took_then a b c xs ys first second = record {
   gave = gave_then a.text b.text c.text xs ys first.gave second.gave;
   faults = second.faults ∙ first.faults;
@@ -29,13 +29,13 @@ took_then a b c xs ys first second = record {
   bytes = bytes_then xs ys first.bytes second.bytes;
 }
 
-pub lacks_then : (a b c : Place) (xs ys : List ℕ) (lack : Lack) → Took a b xs → TookThenLacks b c ys lack
+pub lacks_then : (a b c : Position) (xs ys : List ℕ) (lack : Lack) → Took a b xs → TookThenLacks b c ys lack
     → TookThenLacks a c (xs ++ ys) lack
 lacks_then a b c xs ys lack first second = (second.0, took_then a b second.0 xs ys first second.1, second.2)
 
 -- ---- reading goes on after what was given
 
-module _ {Fault A : Type 0} (read read' : List ℕ → Read Fault A) (a b c : Place) (front : List ℕ)
+module _ {Fault A : Type 0} (read read' : List ℕ → Read Fault A) (a b c : Position) (front : List ℕ)
     (took : Took a b front) (leads : (rest : List ℕ) → read (front ++ rest) ≡ read' rest) where
   pub reads_after : (x : A) → Reads read' b c x → Reads read a c x
   reads_after x r = record {
@@ -77,7 +77,7 @@ module _ {Fault A B : Type 0} (first : List ℕ → Read Fault A) (then : A × L
   on_error bytes stop e = ap (λ (r : Read Fault A). r >>= then) e
 
   -- the first part gives no value
-  pub first_stops : (a b : Place) (why : Why Fault) → Stops first a b why → Stops both a b why
+  pub first_stops : (a b : Position) (why : Why Fault) → Stops first a b why → Stops both a b why
   first_stops a b Fails s = (s.0, s.1, short_on (first s.0) then s.2)
   first_stops a b EndsBetween s = (s.0, s.1, on_error s.0 Between s.2)
   first_stops a b EndsInside s = (s.0, s.1, on_error s.0 Inside s.2)
@@ -85,7 +85,7 @@ module _ {Fault A B : Type 0} (first : List ℕ → Read Fault A) (then : A × L
   first_stops a b (Refuses fault) s = (s.0, s.1, λ rest. on_error (s.0 ++ rest) (Refused fault rest) (s.2 rest))
   first_stops a b Never s = s
 
-  module _ (a b c : Place) (x : A) (part : Reads first a b x) where
+  module _ (a b c : Position) (x : A) (part : Reads first a b x) where
     leads_on : (rest : List ℕ) → both (part.given ++ rest) ≡ then (x, rest)
     leads_on rest = ap (λ (r : Read Fault A). r >>= then) (part.is rest)
 
@@ -103,7 +103,7 @@ why_missing lack.Device = Fails
 why_missing lack.End = EndsInside
 why_missing lack.TooMuch = Passes
 
-pub missing_stops : {Fault A : Type 0} (read : List ℕ → Read Fault A) (a b : Place) (given : List ℕ) (why : Lack)
+pub missing_stops : {Fault A : Type 0} (read : List ℕ → Read Fault A) (a b : Position) (given : List ℕ) (why : Lack)
     → TookThenLacks a b given why → read given ≡ Err Inside → Stops read a b (why_missing why)
 missing_stops read a b given lack.Device lacks e = (given, lacks, rw e tt)
 missing_stops read a b given lack.End lacks e = (given, lacks, e)

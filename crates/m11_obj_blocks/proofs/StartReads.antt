@@ -1,10 +1,10 @@
 -- Bytes are passed over up to the 001 that begins a block.
 use Rattle.std.proofs.Common.{◌≡◌, ◌∙◌, List, ℕ, [], ◌∷◌, ◌++◌, Ok, Err, sym, ap, subst, append_assoc}
 use Rattle.m11_obj_blocks.specs.declared.limited.Lack.TheVariants as lack
-use Rattle.m11_obj_blocks.specs.Limited.{Place, Took, Lacks, Between, Refused, Read, IsShort, Fails, EndsBetween, Passes, Refuses, Reads, Stops}
+use Rattle.m11_obj_blocks.specs.Limited.{Position, Took, Lacks, Between, Refused, Read, IsShort, Fails, EndsBetween, Passes, Refuses, Reads, Stops}
 use Rattle.m11_obj_blocks.proofs.Limits.{took_nothing, took_then, reads_after, stops_after}
 
-module _ {Fault : Type 0} (start : List ℕ → Read Fault (Unit {0})) (nothing : start [] ≡ Err Between) (a b c : Place)
+module _ {Fault : Type 0} (start : List ℕ → Read Fault (Unit {0})) (nothing : start [] ≡ Err Between) (a b c : Position)
     (passed : List ℕ) (took : Took a b passed) (leads : (rest : List ℕ) → start (passed ++ rest) ≡ start rest) where
   pub byte_passed : (byte : ℕ) → ((rest : List ℕ) → start (byte ∷ rest) ≡ start rest) → Took b c (byte ∷ [])
       → (more : List ℕ) × Took a c more × ((rest : List ℕ) → start (more ++ rest) ≡ start rest)

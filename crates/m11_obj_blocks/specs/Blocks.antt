@@ -8,7 +8,7 @@ use Rattle.m11_obj_blocks.specs.declared.block_fault.BlockFault.TheVariants as f
 use Rattle.m11_obj_blocks.specs.declared.limited.Lack.{Lack}
 use Rattle.m11_obj_blocks.specs.declared.limited.Lack.TheVariants as lack
 use Rattle.m11_obj_blocks.specs.Frames.{second_byte, word, closed, header, block, content_limit}
-use Rattle.m11_obj_blocks.specs.Limited.{Place, Between, Inside, Refused, Read, ◌>>=◌, Why, Fails, EndsBetween, EndsInside, Passes, Refuses, Never, Reads, Stops}
+use Rattle.m11_obj_blocks.specs.Limited.{Position, Between, Inside, Refused, Read, ◌>>=◌, Why, Fails, EndsBetween, EndsInside, Passes, Refuses, Never, Reads, Stops}
 
 -- the 001 that begins a block, after zeros
 abbrev pub start : Bytes → Read BlockFault (Unit {0})
@@ -91,31 +91,31 @@ missing lack.End = fault.Truncated
 missing lack.TooMuch = fault.TooMuch
 
 -- a part of a block was read, or why it was not
-abbrev pub ReadsPart : {X A : Type 0} → (X → A) → (Bytes → Read BlockFault A) → Place → Place → Result X BlockFault
+abbrev pub ReadsPart : {X A : Type 0} → (X → A) → (Bytes → Read BlockFault A) → Position → Position → Result X BlockFault
     → Type 0
 ReadsPart view read old new (Ok x) = Reads read old new (view x)
 ReadsPart view read old new (Err e) = Stops read old new (why_of e)
 
 -- the start of a block was read, or the bytes ended before one, or why it was not
-abbrev pub ReadsStart : Place → Place → Result Bool BlockFault → Type 0
+abbrev pub ReadsStart : Position → Position → Result Bool BlockFault → Type 0
 ReadsStart old new (Ok true) = Reads start old new tt
 ReadsStart old new (Ok false) = Stops start old new EndsBetween
 ReadsStart old new (Err e) = Stops start old new (why_of e)
 
 -- what stands before the content of a block was read, or the bytes ended before one, or why it was not
-abbrev pub ReadsFront : Place → Place → Result (Option ℕ) BlockFault → Type 0
+abbrev pub ReadsFront : Position → Position → Result (Option ℕ) BlockFault → Type 0
 ReadsFront old new (Ok (Some count)) = Reads front_of old new count
 ReadsFront old new (Ok None) = Stops front_of old new EndsBetween
 ReadsFront old new (Err e) = Stops front_of old new (why_of e)
 
 -- a block was read, or the bytes ended before one, or why it was not
-abbrev pub ReadsBlock : {X : Type 0} → (X → Bytes) → Place → Place → Result (Option X) BlockFault → Type 0
+abbrev pub ReadsBlock : {X : Type 0} → (X → Bytes) → Position → Position → Result (Option X) BlockFault → Type 0
 ReadsBlock view old new (Ok (Some block)) = Reads first_block old new (view block)
 ReadsBlock view old new (Ok None) = Stops first_block old new EndsBetween
 ReadsBlock view old new (Err e) = Stops first_block old new (why_of e)
 
 -- a block of this content was read, or the bytes ended before one, or why it was not
-abbrev pub ReadsInto : Bytes → Place → Place → Result Bool BlockFault → Type 0
+abbrev pub ReadsInto : Bytes → Position → Position → Result Bool BlockFault → Type 0
 ReadsInto content old new (Ok true) = Reads first_block old new content
 ReadsInto content old new (Ok false) = Stops first_block old new EndsBetween
 ReadsInto content old new (Err e) = Stops first_block old new (why_of e)

@@ -14,30 +14,30 @@ most_bytes = 4194304
 -- ---- what a feed gave
 
 -- a feed, by its text and its count of failures, and how many more bytes of it are within the limit
-pub record Place : Type 0 where
+pub record Position : Type 0 where
   pub text : Option Text
   pub faults : ℕ
   pub room : ℕ
 
-abbrev pub place : Option Text → ℕ → ℕ → Place
-place text faults room = record { text = text; faults = faults; room = room }
+abbrev pub position : Option Text → ℕ → ℕ → Position
+position text faults room = record { text = text; faults = faults; room = room }
 
 -- bytes were given, all within the limit, and the feed did not fail
-pub record Took (old new : Place) (given : Bytes) : Type 0 where
+pub record Took (old new : Position) (given : Bytes) : Type 0 where
   pub gave : GivesBytes old.text new.text given
   pub faults : new.faults ≡ old.faults
   pub room : old.room ≡ length given + new.room
   pub bytes : AllByRecursion (λ byte. byte < 256) given
 
 -- n bytes were given, and put to the end of a content
-pub record TookInto (old new : Place) (before after : Bytes) (count : ℕ) : Type 0 where
+pub record TookInto (old new : Position) (before after : Bytes) (count : ℕ) : Type 0 where
   pub given : Bytes
   pub took : Took old new given
   pub added : after ≡ before ++ given
   pub counted : length given ≡ count
 
 -- no byte came: the feed failed and counted it, or it ended, or its byte is past the limit
-abbrev pub Lacks : Place → Place → Lack → Type 0
+abbrev pub Lacks : Position → Position → Lack → Type 0
 Lacks old new lack.Device =
     GivesFailure old.text new.text old.faults × Rises old.faults new.faults × (new.room ≡ old.room)
 Lacks old new lack.End = GivesEnd old.text new.text × (new.faults ≡ old.faults) × (new.room ≡ old.room)
@@ -45,8 +45,8 @@ Lacks old new lack.TooMuch =
     (byte : ℕ) × GivesByte old.text new.text byte × (new.faults ≡ old.faults) × (old.room ≡ 0) × (new.room ≡ 0)
 
 -- bytes were given, and then no byte came
-abbrev pub TookThenLacks : Place → Place → Bytes → Lack → Type 0
-TookThenLacks old new given why = (middle : Place) × Took old middle given × Lacks middle new why
+abbrev pub TookThenLacks : Position → Position → Bytes → Lack → Type 0
+TookThenLacks old new given why = (middle : Position) × Took old middle given × Lacks middle new why
 
 -- ---- what a function on lists says of it
 
@@ -83,14 +83,14 @@ pub data Why (Fault : Type 0) : Type 0 where
   Never : Why Fault
 
 -- a call took the bytes of a value and no others, whatever follows them
-pub record Reads {Fault A : Type 0} (read : Bytes → Read Fault A) (old new : Place) (value : A) : Type 0 where
+pub record Reads {Fault A : Type 0} (read : Bytes → Read Fault A) (old new : Position) (value : A) : Type 0 where
   pub given : Bytes
   pub took : Took old new given
   pub is : (rest : Bytes) → read (given ++ rest) ≡ Ok (value, rest)
 
 -- a call gives no value: the feed failed, ended or passed the limit after bytes that are too few, or
 -- it gave bytes that are refused, whatever follows them
-abbrev pub Stops : {Fault A : Type 0} → (Bytes → Read Fault A) → Place → Place → Why Fault → Type 0
+abbrev pub Stops : {Fault A : Type 0} → (Bytes → Read Fault A) → Position → Position → Why Fault → Type 0
 Stops read old new Fails = (given : Bytes) × TookThenLacks old new given lack.Device × IsShort (read given)
 Stops read old new EndsBetween = (given : Bytes) × TookThenLacks old new given lack.End × (read given ≡ Err Between)
 Stops read old new EndsInside = (given : Bytes) × TookThenLacks old new given lack.End × (read given ≡ Err Inside)

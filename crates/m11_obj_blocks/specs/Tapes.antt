@@ -13,7 +13,7 @@ use Rattle.m11_obj_blocks.specs.declared.tape_part.TapePart.TheVariants.{Data, S
 use Rattle.m11_obj_blocks.specs.declared.tape_part.TapeStage.{TapeStage}
 use Rattle.m11_obj_blocks.specs.declared.tape_part.TapeStage.TheVariants.{BeforeBlock, InBlock, AtEnd, AfterFault}
 use Rattle.m11_obj_blocks.specs.Frames.{word_bytes, front, with_sum, second_byte, word, closed}
-use Rattle.m11_obj_blocks.specs.Limited.{Place, Between, Inside, Refused, Read, ◌>>=◌, Why, Fails, EndsBetween, EndsInside, Passes, Refuses, Never, Reads, Stops}
+use Rattle.m11_obj_blocks.specs.Limited.{Position, Between, Inside, Refused, Read, ◌>>=◌, Why, Fails, EndsBetween, EndsInside, Passes, Refuses, Never, Reads, Stops}
 
 -- ---- the format
 
@@ -169,13 +169,13 @@ missing lack.End = fault.Truncated
 missing lack.TooMuch = fault.TooMuch
 
 -- something was read, or why it was not
-abbrev pub ReadsPart : {X A : Type 0} → (X → A) → (Bytes → Read TapeFault A) → Place → Place → Result X TapeFault
+abbrev pub ReadsPart : {X A : Type 0} → (X → A) → (Bytes → Read TapeFault A) → Position → Position → Result X TapeFault
     → Type 0
 ReadsPart view read old new (Ok x) = Reads read old new (view x)
 ReadsPart view read old new (Err e) = Stops read old new (why_of e)
 
 -- what the next part is, and where the reader stands then
-abbrev pub ReadsNext : TapeStage → Place → Place → TapeStage → Result TapePart TapeFault → Type 0
+abbrev pub ReadsNext : TapeStage → Position → Position → TapeStage → Result TapePart TapeFault → Type 0
 ReadsNext BeforeBlock old new after result =
     ReadsPart (λ part. part) first_part old new result × (after ≡ stage_after result)
 ReadsNext (InBlock left total) old new after result =
@@ -184,7 +184,7 @@ ReadsNext (AtEnd address) old new after result = result ≡ Ok (Start address)
 ReadsNext AfterFault old new after result = result ≡ Err fault.Failed
 
 -- what the next byte of the open block is, and where the reader stands then
-abbrev pub ReadsByte : TapeStage → Place → Place → TapeStage → Result ℕ TapeFault → Type 0
+abbrev pub ReadsByte : TapeStage → Position → Position → TapeStage → Result ℕ TapeFault → Type 0
 ReadsByte BeforeBlock old new after result = ⊤
 ReadsByte (InBlock left total) old new after result =
     ReadsPart (λ byte. byte) data_byte old new result × (after ≡ stage_within left total result)

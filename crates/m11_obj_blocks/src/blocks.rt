@@ -4,7 +4,7 @@ ghost use Rattle.std.specs.Prelude.{◌≡◌, ◌-◌, ◌<◌, ◌≤◌, ◌�
 ghost use Rattle.std.specs.Bool.{OnTrue, OnFalse};
 ghost use Rattle.std.specs.List.{AllByRecursion};
 ghost use Rattle.m11_obj_blocks.specs.Frames.{content_limit, header, AreBlocks};
-ghost use Rattle.m11_obj_blocks.specs.Limited.{place, most_bytes, Inside, Took};
+ghost use Rattle.m11_obj_blocks.specs.Limited.{position, most_bytes, Inside, Took};
 ghost use Rattle.m11_obj_blocks.specs.Blocks.{first_block, IsCut, AreRead, ReadsPart, ReadsStart, ReadsFront, ReadsBlock, ReadsInto, second, count, content_of, summed};
 
 use crate::block_fault::BlockFault;
@@ -16,8 +16,8 @@ use std::marker::Model;
 
 // Goes after zeros and the 001 that begins a block. It returns whether there is one.
 fn read_start<F: Feed>(feed: &mut F, room: &mut u32) -> Result<bool, BlockFault>
-    ensures { ReadsStart (place (F.text feed.old) (F.faults feed.old) room.old)
-        (place (F.text feed.new) (F.faults feed.new) room.new) result }
+    ensures { ReadsStart (position (F.text feed.old) (F.faults feed.old) room.old)
+        (position (F.text feed.new) (F.faults feed.new) room.new) result }
 {
     'zeros: loop {
         match next_byte(feed, room) {
@@ -32,8 +32,8 @@ fn read_start<F: Feed>(feed: &mut F, room: &mut u32) -> Result<bool, BlockFault>
 }
 
 fn read_second<F: Feed>(feed: &mut F, room: &mut u32) -> Result<(), BlockFault>
-    ensures { ReadsPart (λ _. tt) second (place (F.text feed.old) (F.faults feed.old) room.old)
-        (place (F.text feed.new) (F.faults feed.new) room.new) result }
+    ensures { ReadsPart (λ _. tt) second (position (F.text feed.old) (F.faults feed.old) room.old)
+        (position (F.text feed.new) (F.faults feed.new) room.new) result }
 {
     let byte = next_byte(feed, room)?;
     if byte != 0 {
@@ -44,8 +44,8 @@ fn read_second<F: Feed>(feed: &mut F, room: &mut u32) -> Result<(), BlockFault>
 
 // The length as a count of the content's bytes.
 fn read_count<F: Feed>(feed: &mut F, room: &mut u32) -> Result<u16, BlockFault>
-    ensures part { ReadsPart (λ n. n) count (place (F.text feed.old) (F.faults feed.old) room.old)
-        (place (F.text feed.new) (F.faults feed.new) room.new) result }
+    ensures part { ReadsPart (λ n. n) count (position (F.text feed.old) (F.faults feed.old) room.old)
+        (position (F.text feed.new) (F.faults feed.new) room.new) result }
     ensures fits { IfOk result (λ n. n ≤ content_limit) }
 {
     let length = next_word(feed, room)?;
@@ -67,8 +67,8 @@ fn read_content<F: Feed>(
 ) -> Result<(), BlockFault>
     requires { count ≤ content_limit }
     ensures { ReadsPart (λ _. content.new.items) (content_of count)
-        (place (F.text feed.old) (F.faults feed.old) room.old)
-        (place (F.text feed.new) (F.faults feed.new) room.new) result }
+        (position (F.text feed.old) (F.faults feed.old) room.old)
+        (position (F.text feed.new) (F.faults feed.new) room.new) result }
 {
     content.clear();
     let count = usize::from(count);
@@ -85,8 +85,8 @@ fn read_content<F: Feed>(
 // Goes after the sum byte of a content.
 fn read_sum<F: Feed>(feed: &mut F, room: &mut u32, content: &Block) -> Result<(), BlockFault>
     ensures { ReadsPart (λ _. content.now.items) (summed content.now.items)
-        (place (F.text feed.old) (F.faults feed.old) room.old)
-        (place (F.text feed.new) (F.faults feed.new) room.new) result }
+        (position (F.text feed.old) (F.faults feed.old) room.old)
+        (position (F.text feed.new) (F.faults feed.new) room.new) result }
 {
     let byte = next_byte(feed, room)?;
     if byte != block_sum(content) {
@@ -114,8 +114,8 @@ fn front_count(bytes: &[u8]) -> Option<u16>
 // Goes after what stands before the content of a block, where all of that is ready and within the limit. Else it takes
 // nothing.
 fn take_front<F: Feed>(feed: &mut F, room: &mut u32) -> Option<u16>
-    ensures { let old = place (F.text feed.old) (F.faults feed.old) room.old in
-        let new = place (F.text feed.new) (F.faults feed.new) room.new in
+    ensures { let old = position (F.text feed.old) (F.faults feed.old) room.old in
+        let new = position (F.text feed.new) (F.faults feed.new) room.new in
         MatchOption result (new ≡ old) (λ n. (n ≤ content_limit) × Took old new (header n)) }
 {
     if *room < 4 {
@@ -134,8 +134,8 @@ fn take_front<F: Feed>(feed: &mut F, room: &mut u32) -> Option<u16>
 // Goes after what stands before the content of a block, byte by byte. It returns the count of the content, where there
 // is a block.
 fn read_front_bytes<F: Feed>(feed: &mut F, room: &mut u32) -> Result<Option<u16>, BlockFault>
-    ensures front { ReadsFront (place (F.text feed.old) (F.faults feed.old) room.old)
-        (place (F.text feed.new) (F.faults feed.new) room.new) result }
+    ensures front { ReadsFront (position (F.text feed.old) (F.faults feed.old) room.old)
+        (position (F.text feed.new) (F.faults feed.new) room.new) result }
     ensures fits { IfOk result (λ front. IfSome front (λ n. n ≤ content_limit)) }
 {
     if !read_start(feed, room)? {
@@ -149,8 +149,8 @@ fn read_front_bytes<F: Feed>(feed: &mut F, room: &mut u32) -> Result<Option<u16>
 // Goes after what stands before the content of a block, at once where all of it is ready, else byte by byte. It returns
 // the count of the content, where there is a block.
 fn read_front<F: Feed>(feed: &mut F, room: &mut u32) -> Result<Option<u16>, BlockFault>
-    ensures front { ReadsFront (place (F.text feed.old) (F.faults feed.old) room.old)
-        (place (F.text feed.new) (F.faults feed.new) room.new) result }
+    ensures front { ReadsFront (position (F.text feed.old) (F.faults feed.old) room.old)
+        (position (F.text feed.new) (F.faults feed.new) room.new) result }
     ensures fits { IfOk result (λ front. IfSome front (λ n. n ≤ content_limit)) }
 {
     match take_front(feed, room) {
@@ -165,8 +165,8 @@ fn read_block<F: Feed>(
     room: &mut u32,
     content: &mut Block,
 ) -> Result<bool, BlockFault>
-    ensures { ReadsInto content.new.items (place (F.text feed.old) (F.faults feed.old) room.old)
-        (place (F.text feed.new) (F.faults feed.new) room.new) result }
+    ensures { ReadsInto content.new.items (position (F.text feed.old) (F.faults feed.old) room.old)
+        (position (F.text feed.new) (F.faults feed.new) room.new) result }
 {
     match read_front(feed, room)? {
         Some(count) => {
@@ -231,8 +231,8 @@ impl BlockReader {
     /// in the order of the bytes; after it each call returns `Failed` and reads nothing.
     pub fn next<F: Feed>(&mut self, feed: &mut F) -> Result<Option<Block>, BlockFault>
         ensures reads { OnFalse self.old.has_failed (ReadsBlock (λ b. b.items)
-            (place (F.text feed.old) (F.faults feed.old) self.old.room)
-            (place (F.text feed.new) (F.faults feed.new) self.new.room) result) }
+            (position (F.text feed.old) (F.faults feed.old) self.old.room)
+            (position (F.text feed.new) (F.faults feed.new) self.new.room) result) }
         ensures failed { OnTrue self.old.has_failed
             ((result ≡ Err BlockFault.Failed) × (self.new ≡ self.old) × (feed.new ≡ feed.old)) }
         ensures fails { IsTrue self.new.has_failed ↔ IsErr result }
@@ -253,8 +253,8 @@ impl BlockReader {
         block: &mut Block,
     ) -> Result<bool, BlockFault>
         ensures reads { OnFalse self.old.has_failed (ReadsInto block.new.items
-            (place (F.text feed.old) (F.faults feed.old) self.old.room)
-            (place (F.text feed.new) (F.faults feed.new) self.new.room) result) }
+            (position (F.text feed.old) (F.faults feed.old) self.old.room)
+            (position (F.text feed.new) (F.faults feed.new) self.new.room) result) }
         ensures failed { OnTrue self.old.has_failed
             ((result ≡ Err BlockFault.Failed) × (self.new ≡ self.old) × (feed.new ≡ feed.old)) }
         ensures fails { IsTrue self.new.has_failed ↔ IsErr result }

@@ -4,7 +4,7 @@ ghost use Rattle.std.specs.Prelude.{◌+◌, ◌<◌, ◌≤◌, ℕ, List, [], 
 ghost use Rattle.arrayvec.specs.ArrayVec.{array_vec_len};
 ghost use Rattle.byteorder.specs.Endian.{little_bytes};
 ghost use Rattle.m11_obj_blocks.specs.Frames.{content_limit};
-ghost use Rattle.m11_obj_blocks.specs.Limited.{place, Took, TookInto, Lacks, TookThenLacks};
+ghost use Rattle.m11_obj_blocks.specs.Limited.{position, Took, TookInto, Lacks, TookThenLacks};
 
 use crate::frames::Block;
 use byteorder::{ByteOrder, LittleEndian};
@@ -26,8 +26,8 @@ pub(crate) enum Lack {
 
 /// The next byte of a feed, of which `room` more bytes are within the limit.
 pub(crate) fn next_byte<F: Feed>(feed: &mut F, room: &mut u32) -> Result<u8, Lack>
-    ensures { let old = place (F.text feed.old) (F.faults feed.old) room.old in
-        let new = place (F.text feed.new) (F.faults feed.new) room.new in
+    ensures { let old = position (F.text feed.old) (F.faults feed.old) room.old in
+        let new = position (F.text feed.new) (F.faults feed.new) room.new in
         MatchResult result (λ byte. Took old new (byte ∷ [])) (Lacks old new) }
 {
     match feed.next() {
@@ -45,8 +45,8 @@ pub(crate) fn next_byte<F: Feed>(feed: &mut F, room: &mut u32) -> Result<u8, Lac
 
 /// The next word, its low byte first.
 pub(crate) fn next_word<F: Feed>(feed: &mut F, room: &mut u32) -> Result<u16, Lack>
-    ensures { let old = place (F.text feed.old) (F.faults feed.old) room.old in
-        let new = place (F.text feed.new) (F.faults feed.new) room.new in
+    ensures { let old = position (F.text feed.old) (F.faults feed.old) room.old in
+        let new = position (F.text feed.new) (F.faults feed.new) room.new in
         MatchResult result (λ word. Took old new (little_bytes 2 word))
         (λ lack. (given : List ℕ) × (length given < 2) × TookThenLacks old new given lack) }
 {
@@ -64,8 +64,8 @@ pub(crate) fn take_ready<F: Feed>(
     most: usize,
 ) -> usize
     requires { array_vec_len content.old + most ≤ content_limit }
-    ensures took { TookInto (place (F.text feed.old) (F.faults feed.old) room.old)
-        (place (F.text feed.new) (F.faults feed.new) room.new) content.old.items content.new.items result }
+    ensures took { TookInto (position (F.text feed.old) (F.faults feed.old) room.old)
+        (position (F.text feed.new) (F.faults feed.new) room.new) content.old.items content.new.items result }
     ensures within { result ≤ most }
 {
     let shown = feed.ready();

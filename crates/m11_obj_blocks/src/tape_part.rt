@@ -4,7 +4,7 @@
 #[derive(Clone, Copy, Debug, PartialEq, Eq)]
 pub enum TapePart {
     /// The header of a block: `count` bytes, 1 to 65,529, which follow one a call, belong at
-    /// `address` and the places after it.
+    /// `address` and the addresses after it.
     Data { address: u16, count: u16 },
     /// The transfer block: an even address is where the program starts, an odd one starts nothing.
     Start(u16),

@@ -3,7 +3,7 @@
 ghost use Rattle.std.specs.Prelude.{◌≡◌, ◌+◌, ◌-◌, ◌<◌, ◌≤◌, ◌∷◌, ◌++◌, ◌%◌, ℕ, List, [], length, sum, IfOk, MatchResult, Ok, Err};
 ghost use Rattle.std.specs.List.{AllByRecursion};
 ghost use Rattle.m11_obj_blocks.specs.Frames.{word};
-ghost use Rattle.m11_obj_blocks.specs.Limited.{place, most_bytes};
+ghost use Rattle.m11_obj_blocks.specs.Limited.{position, most_bytes};
 ghost use Rattle.m11_obj_blocks.specs.declared.tape_part.TapeStage.TheVariants.{BeforeBlock, InBlock, AfterFault};
 ghost use Rattle.m11_obj_blocks.specs.declared.tape_part.TapePart.TheVariants.{Start};
 ghost use Rattle.m11_obj_blocks.specs.Tapes.{tape_header, tape_block, data_limit, total_of, IsTape, AreRead, opened, IsReadAgain, ReadsPart, start, second, count, summed, transfer, first_part, next_part, stage_after, stage_within, data_byte, PartFits, left_of, count_of, HasStopped, ReadsNext, ReadsByte};
@@ -23,12 +23,12 @@ fn header(address: u16, count: u16) -> [u8; 6]
     ensures { result ≡ tape_header address count }
 {
     let [one, zero, low, high] = front(count + 6);
-    let mut place = [0; 2];
-    LittleEndian::write_u16(&mut place, address);
-    [one, zero, low, high, place[0], place[1]]
+    let mut position = [0; 2];
+    LittleEndian::write_u16(&mut position, address);
+    [one, zero, low, high, position[0], position[1]]
 }
 
-/// The block of a tape that puts bytes, 1 to 65,529, at an address and the places after it. Error: memory was
+/// The block of a tape that puts bytes, 1 to 65,529, at an address and the addresses after it. Error: memory was
 /// refused.
 #[tactic(auto, unfolding(crate::specs::Tapes::tape_block))]
 pub fn tape_block(alloc: Global, address: u16, bytes: &[u8]) -> Result<Vec<u8>, AllocError>
@@ -57,8 +57,8 @@ pub fn tape_transfer(alloc: Global, address: u16) -> Result<Vec<u8>, AllocError>
 
 // Goes after the 001 that begins a block. Any other byte is skipped.
 fn read_start<F: Feed>(feed: &mut F, room: &mut u32) -> Result<(), TapeFault>
-    ensures { ReadsPart (λ _. tt) start (place (F.text feed.old) (F.faults feed.old) room.old)
-        (place (F.text feed.new) (F.faults feed.new) room.new) result }
+    ensures { ReadsPart (λ _. tt) start (position (F.text feed.old) (F.faults feed.old) room.old)
+        (position (F.text feed.new) (F.faults feed.new) room.new) result }
 {
     'skipped: loop {
         match next_byte(feed, room) {
@@ -72,8 +72,8 @@ fn read_start<F: Feed>(feed: &mut F, room: &mut u32) -> Result<(), TapeFault>
 }
 
 fn read_second<F: Feed>(feed: &mut F, room: &mut u32) -> Result<(), TapeFault>
-    ensures { ReadsPart (λ _. tt) second (place (F.text feed.old) (F.faults feed.old) room.old)
-        (place (F.text feed.new) (F.faults feed.new) room.new) result }
+    ensures { ReadsPart (λ _. tt) second (position (F.text feed.old) (F.faults feed.old) room.old)
+        (position (F.text feed.new) (F.faults feed.new) room.new) result }
 {
     let byte = next_byte(feed, room)?;
     if byte != 0 {
@@ -83,8 +83,8 @@ fn read_second<F: Feed>(feed: &mut F, room: &mut u32) -> Result<(), TapeFault>
 }
 
 fn read_word<F: Feed>(feed: &mut F, room: &mut u32) -> Result<u16, TapeFault>
-    ensures { ReadsPart (λ n. n) word (place (F.text feed.old) (F.faults feed.old) room.old)
-        (place (F.text feed.new) (F.faults feed.new) room.new) result }
+    ensures { ReadsPart (λ n. n) word (position (F.text feed.old) (F.faults feed.old) room.old)
+        (position (F.text feed.new) (F.faults feed.new) room.new) result }
 {
     Ok(next_word(feed, room)?)
 }
@@ -92,8 +92,8 @@ fn read_word<F: Feed>(feed: &mut F, room: &mut u32) -> Result<u16, TapeFault>
 // The count of a block's data.
 #[tactic(auto, unfolding(crate::specs::Tapes::count))]
 fn read_count<F: Feed>(feed: &mut F, room: &mut u32) -> Result<u16, TapeFault>
-    ensures part { ReadsPart (λ n. n) count (place (F.text feed.old) (F.faults feed.old) room.old)
-        (place (F.text feed.new) (F.faults feed.new) room.new) result }
+    ensures part { ReadsPart (λ n. n) count (position (F.text feed.old) (F.faults feed.old) room.old)
+        (position (F.text feed.new) (F.faults feed.new) room.new) result }
     ensures fits { IfOk result (λ n. n ≤ data_limit) }
 {
     let length = read_word(feed, room)?;
@@ -106,8 +106,8 @@ fn read_count<F: Feed>(feed: &mut F, room: &mut u32) -> Result<u16, TapeFault>
 // Goes after the sum byte of bytes that have this sum.
 fn read_sum<F: Feed>(feed: &mut F, room: &mut u32, total: u8) -> Result<(), TapeFault>
     ensures { ReadsPart (λ _. tt) (summed total)
-        (place (F.text feed.old) (F.faults feed.old) room.old)
-        (place (F.text feed.new) (F.faults feed.new) room.new) result }
+        (position (F.text feed.old) (F.faults feed.old) room.old)
+        (position (F.text feed.new) (F.faults feed.new) room.new) result }
 {
     let byte = next_byte(feed, room)?;
     if byte != closing_byte(total) {
@@ -126,8 +126,8 @@ fn header_total(address: u16, count: u16) -> u8
 
 fn read_transfer<F: Feed>(feed: &mut F, room: &mut u32, address: u16) -> Result<TapePart, TapeFault>
     ensures part { ReadsPart (λ part. part) (transfer address)
-        (place (F.text feed.old) (F.faults feed.old) room.old)
-        (place (F.text feed.new) (F.faults feed.new) room.new) result }
+        (position (F.text feed.old) (F.faults feed.old) room.old)
+        (position (F.text feed.new) (F.faults feed.new) room.new) result }
     ensures fits { IfOk result PartFits }
 {
     read_sum(feed, room, header_total(address, 0))?;
@@ -137,8 +137,8 @@ fn read_transfer<F: Feed>(feed: &mut F, room: &mut u32, address: u16) -> Result<
 // The header of a block of data, or the whole transfer block.
 fn read_part<F: Feed>(feed: &mut F, room: &mut u32) -> Result<TapePart, TapeFault>
     ensures part { ReadsPart (λ part. part) first_part
-        (place (F.text feed.old) (F.faults feed.old) room.old)
-        (place (F.text feed.new) (F.faults feed.new) room.new) result }
+        (position (F.text feed.old) (F.faults feed.old) room.old)
+        (position (F.text feed.new) (F.faults feed.new) room.new) result }
     ensures fits { IfOk result PartFits }
 {
     read_start(feed, room)?;
@@ -154,8 +154,8 @@ fn read_part<F: Feed>(feed: &mut F, room: &mut u32) -> Result<TapePart, TapeFaul
 // The part after the data of a block whose bytes have this sum.
 fn read_next<F: Feed>(feed: &mut F, room: &mut u32, total: u8) -> Result<TapePart, TapeFault>
     ensures part { ReadsPart (λ part. part) (next_part total)
-        (place (F.text feed.old) (F.faults feed.old) room.old)
-        (place (F.text feed.new) (F.faults feed.new) room.new) result }
+        (position (F.text feed.old) (F.faults feed.old) room.old)
+        (position (F.text feed.new) (F.faults feed.new) room.new) result }
     ensures fits { IfOk result PartFits }
 {
     read_sum(feed, room, total)?;
@@ -164,8 +164,8 @@ fn read_next<F: Feed>(feed: &mut F, room: &mut u32, total: u8) -> Result<TapePar
 
 fn read_byte<F: Feed>(feed: &mut F, room: &mut u32) -> Result<u8, TapeFault>
     ensures { ReadsPart (λ byte. byte) data_byte
-        (place (F.text feed.old) (F.faults feed.old) room.old)
-        (place (F.text feed.new) (F.faults feed.new) room.new) result }
+        (position (F.text feed.old) (F.faults feed.old) room.old)
+        (position (F.text feed.new) (F.faults feed.new) room.new) result }
 {
     Ok(next_byte(feed, room)?)
 }
@@ -257,8 +257,8 @@ impl TapeReader {
     pub fn next<F: Feed>(&mut self, feed: &mut F) -> Result<TapePart, TapeFault>
         requires { left_of self.old.stage ≡ 0 }
         ensures reads { ReadsNext self.old.stage
-            (place (F.text feed.old) (F.faults feed.old) self.old.room)
-            (place (F.text feed.new) (F.faults feed.new) self.new.room) self.new.stage result }
+            (position (F.text feed.old) (F.faults feed.old) self.old.room)
+            (position (F.text feed.new) (F.faults feed.new) self.new.room) self.new.stage result }
         ensures fits { IfOk result PartFits }
         ensures left { MatchResult result (λ part. left_of self.new.stage ≡ count_of part)
             (λ _. self.new.stage ≡ AfterFault) }
@@ -279,8 +279,8 @@ impl TapeReader {
     pub fn byte<F: Feed>(&mut self, feed: &mut F) -> Result<u8, TapeFault>
         requires { left_of self.old.stage ≡ 0 → self.old.stage ≡ AfterFault }
         ensures reads { ReadsByte self.old.stage
-            (place (F.text feed.old) (F.faults feed.old) self.old.room)
-            (place (F.text feed.new) (F.faults feed.new) self.new.room) self.new.stage result }
+            (position (F.text feed.old) (F.faults feed.old) self.old.room)
+            (position (F.text feed.new) (F.faults feed.new) self.new.room) self.new.stage result }
         ensures left { MatchResult result
             (λ _. left_of self.old.stage ≡ left_of self.new.stage + 1)
             (λ _. self.new.stage ≡ AfterFault) }

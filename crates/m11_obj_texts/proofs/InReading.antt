@@ -92,26 +92,26 @@ section-kept section (r ∷ rs) e =
 
 -- ---- one text
 
-reads_text : (section : ℕ × ℕ) (place : ℕ) (bytes : List ℕ) (relocations : List Relocation) (more : List Content)
+reads_text : (section : ℕ × ℕ) (location : ℕ) (bytes : List ℕ) (relocations : List Relocation) (more : List Content)
     → list_all is_stored relocations ≡ true → relocations_after more ≡ []
-    → texts_read section (Text place bytes ∷ (relocation_records relocations ++ more))
-    ≡ record { section = section; place = place; bytes = bytes; relocations = relocations } ∷ texts_read section more
-reads_text section place bytes [] more e f = ap (λ (t : List Relocation).
-    record { section = section; place = place; bytes = bytes; relocations = t } ∷ texts_read section more) f
-reads_text section place bytes (r ∷ rs) more e f =
-    ap (λ (t : List Relocation). record { section = section; place = place; bytes = bytes; relocations = t }
+    → texts_read section (Text location bytes ∷ (relocation_records relocations ++ more))
+    ≡ record { section = section; location = location; bytes = bytes; relocations = relocations } ∷ texts_read section more
+reads_text section location bytes [] more e f = ap (λ (t : List Relocation).
+    record { section = section; location = location; bytes = bytes; relocations = t } ∷ texts_read section more) f
+reads_text section location bytes (r ∷ rs) more e f =
+    ap (λ (t : List Relocation). record { section = section; location = location; bytes = bytes; relocations = t }
     ∷ texts_read (section_after section (r ∷ rs)) more)
     (ap (λ (t : List Relocation). filter is_stored (r ∷ rs) ++ t) f ∙ append-nil (filter is_stored (r ∷ rs))
     ∙ filter-all (r ∷ rs) e)
-    ∙ ap (λ (s : ℕ × ℕ). record { section = section; place = place; bytes = bytes; relocations = r ∷ rs }
+    ∙ ap (λ (s : ℕ × ℕ). record { section = section; location = location; bytes = bytes; relocations = r ∷ rs }
     ∷ texts_read s more) (section-kept section (r ∷ rs) e)
 
 -- ---- all texts
 
-begins_anew : (b : Bool) (section : ℕ × ℕ) (place : ℕ) (bytes : List ℕ) (others more : List Content)
-    → relocations_after ((cond b [] (selection section place ∷ []) ++ Text place bytes ∷ others) ++ more) ≡ []
-begins_anew true section place bytes others more = refl
-begins_anew false section place bytes others more = refl
+begins_anew : (b : Bool) (section : ℕ × ℕ) (location : ℕ) (bytes : List ℕ) (others more : List Content)
+    → relocations_after ((cond b [] (selection section location ∷ []) ++ Text location bytes ∷ others) ++ more) ≡ []
+begins_anew true section location bytes others more = refl
+begins_anew false section location bytes others more = refl
 
 no_relocations : (before : Option (ℕ × ℕ)) (fronts : List (List Piece))
     → relocations_after (flat_map records_of (texts_after before fronts)) ≡ []
@@ -119,7 +119,7 @@ no_relocations before [] = refl
 no_relocations before ([] ∷ fronts) = no_relocations before fronts
 no_relocations before ((first ∷ rest) ∷ fronts) =
     let text = text_of before first rest in
-    begins_anew (is_in_section before first.section) first.section first.place text.bytes
+    begins_anew (is_in_section before first.section) first.section first.location text.bytes
     (relocation_records text.relocations) (flat_map records_of (texts_after (Some first.section) fronts))
 
 abbrev Agrees : Option (ℕ × ℕ) → ℕ × ℕ → Type 0
@@ -131,17 +131,17 @@ in_section : (before : Option (ℕ × ℕ)) (section own : ℕ × ℕ) → is_in
 in_section None section own e h = absurd (cc)
 in_section (Some before) section own e h = sym h ∙ same_name_equal before own e
 
-reads_one : (b : Bool) (section own : ℕ × ℕ) (place : ℕ) (bytes : List ℕ) (relocations : List Relocation)
+reads_one : (b : Bool) (section own : ℕ × ℕ) (location : ℕ) (bytes : List ℕ) (relocations : List Relocation)
     (more : List Content) → (b ≡ true → section ≡ own) → list_all is_stored relocations ≡ true
     → relocations_after more ≡ []
-    → texts_read section ((cond b [] (selection own place ∷ []) ++ Text place bytes ∷ relocation_records relocations)
+    → texts_read section ((cond b [] (selection own location ∷ []) ++ Text location bytes ∷ relocation_records relocations)
     ++ more)
-    ≡ record { section = own; place = place; bytes = bytes; relocations = relocations } ∷ texts_read own more
-reads_one true section own place bytes relocations more same e f =
-    reads_text section place bytes relocations more e f
-    ∙ ap (λ (s : ℕ × ℕ). record { section = s; place = place; bytes = bytes; relocations = relocations }
+    ≡ record { section = own; location = location; bytes = bytes; relocations = relocations } ∷ texts_read own more
+reads_one true section own location bytes relocations more same e f =
+    reads_text section location bytes relocations more e f
+    ∙ ap (λ (s : ℕ × ℕ). record { section = s; location = location; bytes = bytes; relocations = relocations }
     ∷ texts_read s more) (same refl)
-reads_one false section own place bytes relocations more same e f = reads_text own place bytes relocations more e f
+reads_one false section own location bytes relocations more same e f = reads_text own location bytes relocations more e f
 
 reads : (section : ℕ × ℕ) (before : Option (ℕ × ℕ)) → Agrees before section → (fronts : List (List Piece))
     → texts_read section (flat_map records_of (texts_after before fronts)) ≡ map as_read (texts_after before fronts)
@@ -149,7 +149,7 @@ reads section before h [] = refl
 reads section before h ([] ∷ fronts) = reads section before h fronts
 reads section before h ((first ∷ rest) ∷ fronts) =
     let text = text_of before first rest in
-    reads_one (is_in_section before first.section) section first.section first.place text.bytes text.relocations
+    reads_one (is_in_section before first.section) section first.section first.location text.bytes text.relocations
     (flat_map records_of (texts_after (Some first.section) fronts))
     (λ e. in_section before section first.section e h) (stores_pieces 4 (first ∷ rest))
     (no_relocations (Some first.section) fronts)

@@ -18,8 +18,8 @@ use Rattle.m11_obj_texts.specs.declared.pieces.Piece.{Piece}
 use Rattle.m11_obj_texts.specs.declared.pieces.PieceContent.{PieceContent}
 use Rattle.m11_obj_texts.specs.declared.pieces.PieceContent.TheVariants.{Byte, Word, Limits}
 use Rattle.m11_obj_texts.specs.Fronts.{fronts_of}
-use Rattle.m11_obj_texts.specs.Pieces.{target_of, relocation, content_bytes, size_of, last_place, relocation_at, text_bytes, relocations_from, relocations_of}
-use Rattle.m11_obj_texts.specs.Texts.{TextParts, follows, are_contiguous, is_one_text, cutting, place_after, text_of, texts_after, records_of, text_records}
+use Rattle.m11_obj_texts.specs.Pieces.{target_of, relocation, content_bytes, size_of, last_location, relocation_at, text_bytes, relocations_from, relocations_of}
+use Rattle.m11_obj_texts.specs.Texts.{TextParts, follows, are_contiguous, is_one_text, cutting, location_after, text_of, texts_after, records_of, text_records}
 use Rattle.m11_obj_texts.specs.OpenText.{relocations_in, takes_in, with_piece, last_section, IsOpenText, records_in}
 use Rattle.m11_obj_texts.proofs.Cutting.{first_front, the_last_passes, fronts-grown, fronts-opened}
 
@@ -148,15 +148,15 @@ alone x = both_of (leb (length (text_bytes (x ∷ []))) 32)
 
 contiguous-push : (first : Piece) (rest : List Piece) (p : Piece) → are_contiguous first rest ≡ true
     → are_contiguous first (rest ++ p ∷ [])
-    ≡ (is_same_name p.section first.section && (p.place == place_after first rest))
+    ≡ (is_same_name p.section first.section && (p.location == location_after first rest))
 contiguous-push first [] p e = and-true (follows first p)
 contiguous-push first (next ∷ rest) p e =
     let after : Bool = are_contiguous next rest in
     ap (λ (b : Bool). b && are_contiguous next (rest ++ p ∷ [])) (left_of (follows first next) after e)
     ∙ contiguous-push next rest p (right_of (follows first next) after e)
-    ∙ ap (λ (section : ℕ × ℕ). is_same_name p.section section && (p.place == place_after next rest))
+    ∙ ap (λ (section : ℕ × ℕ). is_same_name p.section section && (p.location == location_after next rest))
     (same_name_equal next.section first.section
-    (left_of (is_same_name next.section first.section) (next.place == last_place first + 1)
+    (left_of (is_same_name next.section first.section) (next.location == last_location first + 1)
     (left_of (follows first next) after e)))
 
 takes_one : (before : Option (ℕ × ℕ)) (first : Piece) (rest : List Piece) (p : Piece)
@@ -178,15 +178,15 @@ takes_one before first rest p e =
     ap (λ (b : Bool). b && (leb (length (text_bytes (front ++ p ∷ []))) 32
     && leb (length (relocations_bytes (relocations_of (front ++ p ∷ [])))) 120))
     (contiguous-push first rest p (left_of (are_contiguous first rest) _ e))
-    ∙ ap (λ (n : ℕ). (is_same_name p.section first.section && (p.place == place_after first rest)) && (leb n 32
+    ∙ ap (λ (n : ℕ). (is_same_name p.section first.section && (p.location == location_after first rest)) && (leb n 32
     && leb (length (relocations_bytes (relocations_of (front ++ p ∷ [])))) 120)) bytes
-    ∙ ap (λ (n : ℕ). (is_same_name p.section first.section && (p.place == place_after first rest))
+    ∙ ap (λ (n : ℕ). (is_same_name p.section first.section && (p.location == location_after first rest))
     && (leb (length (text_bytes front) + size_of p) 32 && leb n 120)) relocations
 
-place_after-push : (first : Piece) (rest : List Piece) (p : Piece)
-    → place_after first (rest ++ p ∷ []) ≡ last_place p + 1
-place_after-push first [] p = refl
-place_after-push first (next ∷ rest) p = place_after-push next rest p
+location_after-push : (first : Piece) (rest : List Piece) (p : Piece)
+    → location_after first (rest ++ p ∷ []) ≡ last_location p + 1
+location_after-push first [] p = refl
+location_after-push first (next ∷ rest) p = location_after-push next rest p
 
 text-push : (before : Option (ℕ × ℕ)) (first : Piece) (rest : List Piece) (p : Piece)
     → with_piece (text_of before first rest) p ≡ text_of before first (rest ++ p ∷ [])
@@ -196,17 +196,17 @@ text-push before first rest p =
     let with_all : ℕ → List ℕ → List Relocation → TextParts = λ n bytes relocations. record {
       before = before;
       section = first.section;
-      place = first.place;
+      location = first.location;
       next = n;
       bytes = bytes;
       relocations = relocations;
     } in
     ap (λ (n : ℕ). with_all n (text_bytes front ++ content_bytes p.content) (relocations_of front ++ relocations_in text p))
-    (sym (place_after-push first rest p))
-    ∙ ap (λ (t : List ℕ). with_all (place_after first (rest ++ p ∷ [])) t (relocations_of front ++ relocations_in text p))
+    (sym (location_after-push first rest p))
+    ∙ ap (λ (t : List ℕ). with_all (location_after first (rest ++ p ∷ [])) t (relocations_of front ++ relocations_in text p))
     (ap (λ (t : List ℕ). text_bytes front ++ t) (sym (append-nil (content_bytes p.content)))
     ∙ sym (text_bytes-append front (p ∷ [])))
-    ∙ ap (λ (t : List Relocation). with_all (place_after first (rest ++ p ∷ [])) (text_bytes (front ++ p ∷ [])) t)
+    ∙ ap (λ (t : List Relocation). with_all (location_after first (rest ++ p ∷ [])) (text_bytes (front ++ p ∷ [])) t)
     (ap (λ (t : List Relocation). relocations_of front ++ t) (sym (append-nil (relocations_in text p)))
     ∙ sym (relocations-append 4 front (p ∷ [])))
 

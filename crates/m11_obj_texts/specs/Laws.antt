@@ -15,15 +15,15 @@ pub record HoldsPieces (pieces : List Piece) : Type 0 where
   pub exact : joined (cutting pieces) ≡ pieces
   pub longest : AreLongest is_one_text (cutting pieces)
 
--- the place at which pieces begin
-abbrev pub place_of : List Piece → ℕ
-place_of [] = 0
-place_of (first ∷ rest) = first.place
+-- the location at which pieces begin
+abbrev pub location_of : List Piece → ℕ
+location_of [] = 0
+location_of (first ∷ rest) = first.location
 
 -- a piece of a text, those before it and those after it: its bytes stand in the text where it was placed, and its relocation, if
 -- it has one, has the displacement of its first byte
 pub record LiesInText (before : List Piece) (piece : Piece) (after : List Piece) : Type 0 where
-  pub place : piece.place ≡ (place_of (before ++ piece ∷ after) + length (text_bytes before)) % 65536
+  pub location : piece.location ≡ (location_of (before ++ piece ∷ after) + length (text_bytes before)) % 65536
   pub bytes : text_bytes (before ++ piece ∷ after)
       ≡ text_bytes before ++ (content_bytes piece.content ++ text_bytes after)
   pub relocations : relocations_of (before ++ piece ∷ after)

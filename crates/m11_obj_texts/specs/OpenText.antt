@@ -7,7 +7,7 @@ use Rattle.m11_obj_texts.specs.declared.pieces.Piece.{Piece}
 use Rattle.m11_obj.specs.declared.relocations.Relocation.{Relocation}
 use Rattle.m11_obj.specs.Records.{Content}
 use Rattle.m11_obj.specs.Relocations.{relocations_bytes}
-use Rattle.m11_obj_texts.specs.Pieces.{content_bytes, size_of, last_place, relocation_at}
+use Rattle.m11_obj_texts.specs.Pieces.{content_bytes, size_of, last_location, relocation_at}
 use Rattle.m11_obj_texts.specs.Texts.{TextParts, most_bytes, most_relocation_bytes, cutting, text_of, texts_after, records_of}
 
 -- ---- one piece
@@ -18,7 +18,7 @@ relocations_in text piece = option_to_list (relocation_at (4 + length text.bytes
 
 -- a piece comes into a text that it follows directly, while it stays within the limits
 abbrev pub takes_in : TextParts → Piece → Bool
-takes_in text piece = (is_same_name piece.section text.section && (piece.place == text.next))
+takes_in text piece = (is_same_name piece.section text.section && (piece.location == text.next))
     && (nat_le (length text.bytes + size_of piece) most_bytes
     && nat_le (length (relocations_bytes text.relocations) + length (relocations_bytes (relocations_in text piece)))
     most_relocation_bytes)
@@ -27,8 +27,8 @@ abbrev pub with_piece : TextParts → Piece → TextParts
 with_piece text piece = record {
   before = text.before;
   section = text.section;
-  place = text.place;
-  next = last_place piece + 1;
+  location = text.location;
+  next = last_location piece + 1;
   bytes = text.bytes ++ content_bytes piece.content;
   relocations = text.relocations ++ relocations_in text piece;
 }

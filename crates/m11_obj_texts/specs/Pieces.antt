@@ -1,5 +1,5 @@
 -- What one piece of a program puts into its object: its bytes, and the relocation of them. (RT-11 Volume and File Formats Manual,
--- "Object file format", TXT and RLD blocks. That a relocated place holds 0, and that a command with an addition stands only
+-- "Object file format", TXT and RLD blocks. That a relocated location holds 0, and that a command with an addition stands only
 -- where the constant isn't 0, is this project's own.)
 use Rattle.std.specs.Prelude.{ℕ, ◌+◌, ◌-◌, ◌%◌, ◌==◌, Bool, true, false, if◌then◌else◌, List, [], ◌∷◌, ◌++◌, length, Option, Some, None, option_map}
 use Rattle.std.specs.List.{flat_map}
@@ -58,9 +58,9 @@ relocation_at displacement Limits = Some (relocation false displacement target.P
 abbrev pub size_of : Piece → ℕ
 size_of piece = length (content_bytes piece.content)
 
--- the place of a piece's last byte, modulo 65536
-abbrev pub last_place : Piece → ℕ
-last_place piece = (piece.place + (size_of piece - 1)) % 65536
+-- the location of a piece's last byte, modulo 65536
+abbrev pub last_location : Piece → ℕ
+last_location piece = (piece.location + (size_of piece - 1)) % 65536
 
 -- the bytes of pieces that stand one after another
 abbrev pub text_bytes : List Piece → Bytes

@@ -14,13 +14,13 @@ use Rattle.m11_obj_texts.specs.Texts.{TextParts, cutting, texts_after, text_reco
 -- a text as it is read: the section that was selected last, its address there, its bytes, and the relocations of them
 pub record ReadText : Type 0 where
   pub section : Name
-  pub place : ℕ
+  pub location : ℕ
   pub bytes : Bytes
   pub relocations : List Relocation
 
 -- command 7 selects a section, and no other command does
 abbrev pub selected : Name → Target → Name
-selected section (LocationCounterDefinition name place) = name
+selected section (LocationCounterDefinition name location) = name
 selected section target = section
 
 abbrev pub section_after : Name → List Relocation → Name
@@ -29,8 +29,8 @@ section_after section (relocation ∷ relocations) = section_after (selected sec
 
 -- all commands but 7 and 10 store something
 abbrev pub stores : Target → Bool
-stores (LocationCounterDefinition name place) = false
-stores (LocationCounterModification place) = false
+stores (LocationCounterDefinition name location) = false
+stores (LocationCounterModification location) = false
 stores target = true
 
 abbrev pub is_stored : Relocation → Bool
@@ -44,17 +44,17 @@ relocations_after _ = []
 -- the texts of some records, a section being selected
 abbrev pub texts_read : Name → List Content → List ReadText
 texts_read section [] = []
-texts_read section (Text place bytes ∷ contents) =
-    record { section = section; place = place; bytes = bytes; relocations = relocations_after contents }
+texts_read section (Text location bytes ∷ contents) =
+    record { section = section; location = location; bytes = bytes; relocations = relocations_after contents }
     ∷ texts_read section contents
 texts_read section (Relocations relocations ∷ contents) = texts_read (section_after section relocations) contents
 texts_read section (_ ∷ contents) = texts_read section contents
 
 abbrev pub as_read : TextParts → ReadText
 as_read text =
-    record { section = text.section; place = text.place; bytes = text.bytes; relocations = text.relocations }
+    record { section = text.section; location = text.location; bytes = text.bytes; relocations = text.relocations }
 
--- each text is read in the section of its pieces, at its place, with its relocations. Before any selection `. ABS.` is selected
+-- each text is read in the section of its pieces, at its location, with its relocations. Before any selection `. ABS.` is selected
 abbrev pub AreReadAgain : List Piece → Type 0
 AreReadAgain pieces =
     texts_read absolute_name (text_records pieces) ≡ map as_read (texts_after None (cutting pieces))

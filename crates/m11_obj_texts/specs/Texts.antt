@@ -10,13 +10,13 @@ use Rattle.m11_obj.specs.declared.relocations.Target.TheVariants.{LocationCounte
 use Rattle.m11_obj.specs.Records.{Content, Text, Relocations}
 use Rattle.m11_obj.specs.Relocations.{relocations_bytes}
 use Rattle.m11_obj_texts.specs.Fronts.{fronts_of}
-use Rattle.m11_obj_texts.specs.Pieces.{last_place, text_bytes, relocation, relocations_of}
+use Rattle.m11_obj_texts.specs.Pieces.{last_location, text_bytes, relocation, relocations_of}
 
 -- ---- the cutting
 
--- a piece stands directly after another one: in its section, at the place after its last byte. Place 000000 doesn't follow 177777
+-- a piece stands directly after another one: in its section, at the location after its last byte. Location 000000 doesn't follow 177777
 abbrev pub follows : Piece → Piece → Bool
-follows before piece = is_same_name piece.section before.section && (piece.place == last_place before + 1)
+follows before piece = is_same_name piece.section before.section && (piece.location == last_location before + 1)
 
 abbrev pub are_contiguous : Piece → List Piece → Bool
 are_contiguous first [] = true
@@ -41,27 +41,27 @@ cutting pieces = fronts_of is_one_text pieces
 
 -- ---- the records
 
--- a text: the section of the text before it, if there is one, its own section, the place of its first byte, the place after its
+-- a text: the section of the text before it, if there is one, its own section, the location of its first byte, the location after its
 -- last one, its bytes and their relocations
 pub record TextParts : Type 0 where
   pub before : Option Name
   pub section : Name
-  pub place : ℕ
+  pub location : ℕ
   pub next : ℕ
   pub bytes : Bytes
   pub relocations : List Relocation
 
-abbrev pub place_after : Piece → List Piece → ℕ
-place_after first [] = last_place first + 1
-place_after first (next ∷ rest) = place_after next rest
+abbrev pub location_after : Piece → List Piece → ℕ
+location_after first [] = last_location first + 1
+location_after first (next ∷ rest) = location_after next rest
 
 -- the text of a piece and those after it
 abbrev pub text_of : Option Name → Piece → List Piece → TextParts
 text_of before first rest = record {
   before = before;
   section = first.section;
-  place = first.place;
-  next = place_after first rest;
+  location = first.location;
+  next = location_after first rest;
   bytes = text_bytes (first ∷ rest);
   relocations = relocations_of (first ∷ rest);
 }
@@ -76,13 +76,13 @@ abbrev pub is_in_section : Option Name → Name → Bool
 is_in_section None section = false
 is_in_section (Some before) section = is_same_name before section
 
--- the record that selects a section and a place in it; its displacement means nothing
+-- the record that selects a section and a location in it; its displacement means nothing
 abbrev pub selection : Name → ℕ → Content
-selection section place = Relocations (relocation false 0 (LocationCounterDefinition section place) ∷ [])
+selection section location = Relocations (relocation false 0 (LocationCounterDefinition section location) ∷ [])
 
 -- before the first text, and one of another section than the text before it
 abbrev pub selections_of : TextParts → List Content
-selections_of text = if is_in_section text.before text.section then [] else selection text.section text.place ∷ []
+selections_of text = if is_in_section text.before text.section then [] else selection text.section text.location ∷ []
 
 -- after a text that has relocations
 abbrev pub relocation_records : List Relocation → List Content
@@ -91,7 +91,7 @@ relocation_records (first ∷ rest) = Relocations (first ∷ rest) ∷ []
 
 -- the records of a text
 abbrev pub records_of : TextParts → List Content
-records_of text = selections_of text ++ Text text.place text.bytes ∷ relocation_records text.relocations
+records_of text = selections_of text ++ Text text.location text.bytes ∷ relocation_records text.relocations
 
 -- the records of all texts that pieces make
 abbrev pub text_records : List Piece → List Content

@@ -107,7 +107,7 @@ fn reference_flags(is_weak: bool) -> u8
 /// The entries that wait for a record to be full.
 #[derive(Drop)]
 pub struct OpenDirectory {
-    places: [GsdEntry; MOST_ENTRIES],
+    slots: [GsdEntry; MOST_ENTRIES],
     count: usize,
 }
 
@@ -117,9 +117,9 @@ impl Model for OpenDirectory {
 
     ghost Value = { List GsdEntry };
 
-    ghost view = { λ d. take d.count d.places };
+    ghost view = { λ d. take d.count d.slots };
 
-    ghost invariant = { λ d. (length (take d.count d.places) ≡ d.count) × (d.count ≤ 15) };
+    ghost invariant = { λ d. (length (take d.count d.slots) ≡ d.count) × (d.count ≤ 15) };
 }
 
 impl OpenDirectory {
@@ -131,7 +131,7 @@ impl OpenDirectory {
         ensures stands { IsOpenDirectory [] [] result }
     {
         OpenDirectory {
-            places: [entry(absolute_section(), 0, GsdKind::ModuleName, 0); MOST_ENTRIES],
+            slots: [entry(absolute_section(), 0, GsdKind::ModuleName, 0); MOST_ENTRIES],
             count: 0,
         }
     }
@@ -143,7 +143,7 @@ impl OpenDirectory {
         if self.count == 0 {
             return None;
         }
-        Some(Record::gsd(&self.places[..self.count]))
+        Some(Record::gsd(&self.slots[..self.count]))
     }
 
     // Adds an entry to those that wait.
@@ -151,7 +151,7 @@ impl OpenDirectory {
         requires { length self.old ≤ 14 }
         ensures { self.new ≡ self.old ++ entry ∷ [] }
     {
-        self.places[self.count] = entry;
+        self.slots[self.count] = entry;
         self.count += 1;
     }
 

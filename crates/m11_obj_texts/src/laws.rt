@@ -12,13 +12,13 @@ pub fn texts_hold_the_pieces()
     ensures { (pieces : List Piece) → HoldsPieces pieces }
 {}
 
-/// Each piece of a text stands at its place, counted modulo 65536, and its relocation points at it.
+/// Each piece of a text stands at its location, counted modulo 65536, and its relocation points at it.
 pub fn pieces_lie_in_their_text()
-    ensures { (before after : List Piece) (piece : Piece) → piece.place < 2 ^ 16
+    ensures { (before after : List Piece) (piece : Piece) → piece.location < 2 ^ 16
         → is_one_text (before ++ piece ∷ after) ≡ true → LiesInText before piece after }
 {}
 
-/// A reader of the records, which goes by the sections that they select, finds each text again: its section, its place, its bytes and
+/// A reader of the records, which goes by the sections that they select, finds each text again: its section, its location, its bytes and
 /// its relocations.
 pub fn texts_are_read_again()
     ensures { (pieces : List Piece) → AreReadAgain pieces }

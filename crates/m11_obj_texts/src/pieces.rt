@@ -1,4 +1,4 @@
-//! The pieces of a program: what a line puts at a place. (MACRO-11 Language Reference Manual, "Relocation and linking"; RT-11 Volume
+//! The pieces of a program: what a line puts at a location. (MACRO-11 Language Reference Manual, "Relocation and linking"; RT-11 Volume
 //! and File Formats Manual, "Object file format", RLD block.)
 
 ghost use Rattle.std.specs.Prelude.{◌≡◌, ◌+◌, ◌≤◌, ◌++◌, length, true, IfSome};
@@ -6,7 +6,7 @@ ghost use Rattle.arrayvec.specs.ArrayVec.{array_vec_len};
 ghost use Rattle.std.specs.Option.{option_to_list};
 ghost use Rattle.m11_obj_blocks.specs.Frames.{word_bytes};
 ghost use Rattle.m11_obj.specs.Relocations.{relocations_bytes};
-ghost use Rattle.m11_obj_texts.specs.Pieces.{target_of, standing, content_bytes, relocation_at, last_place};
+ghost use Rattle.m11_obj_texts.specs.Pieces.{target_of, standing, content_bytes, relocation_at, last_location};
 ghost use Rattle.m11_obj_texts.specs.RelocationList.{has_byte_form, has_form};
 ghost use Rattle.m11_obj_texts.specs.Texts.{most_bytes};
 
@@ -15,14 +15,14 @@ use byteorder::{ByteOrder, LittleEndian};
 use m11_base::Name;
 use m11_obj::{Relocation, Target};
 
-/// What becomes of a constant when its object is linked. A displaced one is less the place and 2.
+/// What becomes of a constant when its object is linked. A displaced one is less the location and 2.
 #[derive(Clone, Copy, Debug, PartialEq, Eq)]
 pub enum RelocationKind {
     /// It stands as it is: there is no relocation.
     Fixed,
     /// Command 1: it is moved with its own section.
     Internal,
-    /// Command 3: it is an absolute place, displaced.
+    /// Command 3: it is an absolute location, displaced.
     InternalDisplaced,
     /// Commands 2 and 5: it is added to a global symbol.
     Global(Name),
@@ -43,7 +43,7 @@ pub struct Stored {
     pub kind: RelocationKind,
 }
 
-/// What stands at a place.
+/// What stands at a location.
 #[derive(Clone, Copy, Debug, PartialEq, Eq)]
 pub enum PieceContent {
     /// The low byte of a number.
@@ -54,13 +54,13 @@ pub enum PieceContent {
     Limits,
 }
 
-/// A piece: a byte, a word or a pair of limits at a place of a section.
+/// A piece: a byte, a word or a pair of limits at a location of a section.
 #[derive(Clone, Copy, Debug, PartialEq, Eq)]
 pub struct Piece {
     /// The name of its section.
     pub section: Name,
-    /// The place of its first byte, from the beginning of the section.
-    pub place: u16,
+    /// The location of its first byte, from the beginning of the section.
+    pub location: u16,
     /// The byte, word or pair of limits, with how each is relocated.
     pub content: PieceContent,
 }
@@ -166,12 +166,12 @@ fn put_word(bytes: &mut ArrayVec<u8, 32>, word: u16)
 }
 
 impl Piece {
-    // The place after the last byte, from 1 to 65536: only the last byte's place is counted modulo 65536.
-    pub(crate) fn place_after(&self) -> u32
-        ensures { result ≡ last_place self.now + 1 }
+    // The location after the last byte, from 1 to 65536: only the last byte's location is counted modulo 65536.
+    pub(crate) fn location_after(&self) -> u32
+        ensures { result ≡ last_location self.now + 1 }
     {
-        let place = self.place;
+        let location = self.location;
         let size = self.content.byte_count() as u32;
-        (u32::from(place) + (size - 1)) % 65536 + 1
+        (u32::from(location) + (size - 1)) % 65536 + 1
     }
 }

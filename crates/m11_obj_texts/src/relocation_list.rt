@@ -18,7 +18,7 @@ const MOST_RELOCATIONS: usize = 60;
 /// Relocations in order, of at most 120 bytes together.
 #[derive(Drop)]
 pub(crate) struct RelocationList {
-    places: [Relocation; MOST_RELOCATIONS],
+    slots: [Relocation; MOST_RELOCATIONS],
     count: usize,
     byte_count: usize,
 }
@@ -32,12 +32,12 @@ impl Model for RelocationList {
 
     ghost Value = { List Relocation };
 
-    ghost view = { λ l. take l.count l.places };
+    ghost view = { λ l. take l.count l.slots };
 
-    ghost invariant = { λ l. (length (take l.count l.places) ≡ l.count)
-        × (l.byte_count ≡ length (relocations_bytes (take l.count l.places)))
+    ghost invariant = { λ l. (length (take l.count l.slots) ≡ l.count)
+        × (l.byte_count ≡ length (relocations_bytes (take l.count l.slots)))
         × (2 * l.count ≤ l.byte_count) × (l.byte_count ≤ 120)
-        × (list_all has_form (take l.count l.places) ≡ true) };
+        × (list_all has_form (take l.count l.slots) ≡ true) };
 }
 
 impl RelocationList {
@@ -50,7 +50,7 @@ impl RelocationList {
             target: Target::ProgramLimits,
         };
         RelocationList {
-            places: [blank; MOST_RELOCATIONS],
+            slots: [blank; MOST_RELOCATIONS],
             count: 0,
             byte_count: 0,
         }
@@ -69,7 +69,7 @@ impl RelocationList {
         requires form { has_form relocation ≡ true }
         ensures { self.new ≡ self.old ++ relocation ∷ [] }
     {
-        self.places[self.count] = relocation;
+        self.slots[self.count] = relocation;
         self.count += 1;
         self.byte_count += relocation.byte_count();
     }
@@ -79,6 +79,6 @@ impl RelocationList {
         ensures form { list_all has_form self.now ≡ true }
         ensures most { length (relocations_bytes self.now) ≤ most_relocation_bytes }
     {
-        &self.places[..self.count]
+        &self.slots[..self.count]
     }
 }

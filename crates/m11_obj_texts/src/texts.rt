@@ -26,8 +26,8 @@ pub struct Text {
     // The section of the text before it, if there is one.
     before: Option<Name>,
     section: Name,
-    place: u16,
-    // The place after the last byte, up to 65536.
+    location: u16,
+    // The location after the last byte, up to 65536.
     next: u32,
     bytes: ArrayVec<u8, MOST_BYTES>,
     relocations: RelocationList,
@@ -41,7 +41,7 @@ impl Model for Text {
     ghost view = { λ t. record {
       before = t.before;
       section = t.section;
-      place = t.place;
+      location = t.location;
       next = t.next;
       bytes = t.bytes.items;
       relocations = t.relocations;
@@ -67,8 +67,8 @@ impl Text {
         let mut text = Text {
             before,
             section: piece.section,
-            place: piece.place,
-            next: u32::from(piece.place),
+            location: piece.location,
+            next: u32::from(piece.location),
             bytes: ArrayVec::new(),
             relocations: RelocationList::new(),
         };
@@ -95,7 +95,7 @@ impl Text {
     pub(crate) fn takes(&self, piece: &Piece) -> bool
         ensures { result ≡ takes_in self.now piece.now }
     {
-        let is_next = piece.section.is_same(self.section) && u32::from(piece.place) == self.next;
+        let is_next = piece.section.is_same(self.section) && u32::from(piece.location) == self.next;
         let size = self.bytes.len() + piece.content.byte_count();
         let relocations_size = self.relocations.byte_count()
             + relocation_size(self.relocation(piece));
@@ -113,10 +113,10 @@ impl Text {
             self.relocations.push(relocation);
         }
         piece.content.put(&mut self.bytes);
-        self.next = piece.place_after();
+        self.next = piece.location_after();
     }
 
-    // The record that selects the section and the place, where the text before it stands in another section or there is none.
+    // The record that selects the section and the location, where the text before it stands in another section or there is none.
     fn selection(&self) -> Option<Block>
         ensures { AreRecords (option_to_list result) (selections_of self.now) }
     {
@@ -128,7 +128,7 @@ impl Text {
         Some(Record::relocations(&[Relocation {
             is_byte: false,
             displacement: 0,
-            target: Target::LocationCounterDefinition(self.section, self.place),
+            target: Target::LocationCounterDefinition(self.section, self.location),
         }]))
     }
 
@@ -143,7 +143,7 @@ impl Text {
         Some(Record::relocations(relocations))
     }
 
-    /// The records of the text, in order, each to be written as a block: one that selects its section and place, where it is the
+    /// The records of the text, in order, each to be written as a block: one that selects its section and location, where it is the
     /// first text or the text before it stands in another section; the text; its relocations, if it has any.
     pub fn records(&self) -> ArrayVec<Block, 3>
         ensures { AreRecords result.items (records_of self.now) }
@@ -152,7 +152,7 @@ impl Text {
         if let Some(selection) = self.selection() {
             records.push(selection);
         }
-        records.push(Record::text(self.place, self.bytes.as_slice()));
+        records.push(Record::text(self.location, self.bytes.as_slice()));
         if let Some(relocations) = self.relocation_record() {
             records.push(relocations);
         }

@@ -163,19 +163,19 @@ lexemes_at-folded line start end Blank = refl
 lexemes_at-folded line start end Comment = refl
 lexemes_at-folded line start end Skipped = refl
 
-lexemes_from-folded : (line : List ℕ) (place : ℕ) (pieces : List Piece)
-    → lexemes_from (map folded line) place pieces ≡ map folded_token (lexemes_from line place pieces)
-lexemes_from-folded line place [] = refl
-lexemes_from-folded line place (piece ∷ pieces) =
-    let end = place + piece.length in
-    (λ i. lexemes_at-folded line place end piece.form i ++ lexemes_from-folded line end pieces i)
-    ∙ sym (map-append folded_token (lexemes_at line place end piece.form) (lexemes_from line end pieces))
+lexemes_from-folded : (line : List ℕ) (column : ℕ) (pieces : List Piece)
+    → lexemes_from (map folded line) column pieces ≡ map folded_token (lexemes_from line column pieces)
+lexemes_from-folded line column [] = refl
+lexemes_from-folded line column (piece ∷ pieces) =
+    let end = column + piece.length in
+    (λ i. lexemes_at-folded line column end piece.form i ++ lexemes_from-folded line end pieces i)
+    ∙ sym (map-append folded_token (lexemes_at line column end piece.form) (lexemes_from line end pieces))
 
-pub tokens_from-folded : (line : List ℕ) (place : ℕ) → tokens_from (map folded line) place ≡ map folded_token (tokens_from line place)
-tokens_from-folded line place =
-    ap (λ text. lexemes_from (map folded line) place (pieces_of text)) (drop-map folded place line)
-    ∙ ap (lexemes_from (map folded line) place) (pieces_after-folded 0 (drop place line))
-    ∙ lexemes_from-folded line place (pieces_of (drop place line))
+pub tokens_from-folded : (line : List ℕ) (column : ℕ) → tokens_from (map folded line) column ≡ map folded_token (tokens_from line column)
+tokens_from-folded line column =
+    ap (λ text. lexemes_from (map folded line) column (pieces_of text)) (drop-map folded column line)
+    ∙ ap (lexemes_from (map folded line) column) (pieces_after-folded 0 (drop column line))
+    ∙ lexemes_from-folded line column (pieces_of (drop column line))
 
 pub skipped_between-folded : (line : List ℕ) (start end : ℕ)
     → skipped_between (map folded line) start end ≡ skipped_between line start end
@@ -184,10 +184,10 @@ skipped_between-folded line start end =
     ∙ ap (list_any (λ (piece : Piece). is_skipped piece.form)) (pieces_after-folded 0 (text_between line start end))
 
 -- names
-character-folded : (text : List ℕ) (place : ℕ) → character_at (map folded text) place ≡ character_at text place
-character-folded text place =
-    if_cong (ap (nat_lt place) (length-map text folded))
-    (ap folded (get_or-map folded text place 0) ∙ folded-twice (get_or text place 0)) refl
+character-folded : (text : List ℕ) (column : ℕ) → character_at (map folded text) column ≡ character_at text column
+character-folded text column =
+    if_cong (ap (nat_lt column) (length-map text folded))
+    (ap folded (get_or-map folded text column 0) ∙ folded-twice (get_or text column 0)) refl
 
 pub six_of-folded : (text : List ℕ) → six_of (map folded text) ≡ six_of text
 six_of-folded text =

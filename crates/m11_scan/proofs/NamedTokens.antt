@@ -164,20 +164,20 @@ with_piece line start end Blank tokens le within is named = named
 with_piece line start end Comment tokens le within is named = named
 with_piece line start end Skipped tokens le within is named = named
 
-named : (line : List ℕ) (place : ℕ) (pieces : List Piece) → place ≤ length line → IsCut pieces (drop place line)
-    → AreNamed (lexemes_from line place pieces)
-named line place [] le cut = refl
-named line place (piece ∷ pieces) le (next, cut) =
+named : (line : List ℕ) (column : ℕ) (pieces : List Piece) → column ≤ length line → IsCut pieces (drop column line)
+    → AreNamed (lexemes_from line column pieces)
+named line column [] le cut = refl
+named line column (piece ∷ pieces) le (next, cut) =
     let within = next.within in
-    let left = length-drop place line in
-    let size : piece.length ≡ (place + piece.length) - place = omega arith in
-    with_piece line place (place + piece.length) piece.form (lexemes_from line (place + piece.length) pieces)
-    (omega arith) (omega arith) (ap (λ n. form_of (take n (drop place line))) (sym size) ∙ next.form)
-    (named line (place + piece.length) pieces (omega arith) (subst (IsCut pieces) (drop-drop piece.length place line) cut))
+    let left = length-drop column line in
+    let size : piece.length ≡ (column + piece.length) - column = omega arith in
+    with_piece line column (column + piece.length) piece.form (lexemes_from line (column + piece.length) pieces)
+    (omega arith) (omega arith) (ap (λ n. form_of (take n (drop column line))) (sym size) ∙ next.form)
+    (named line (column + piece.length) pieces (omega arith) (subst (IsCut pieces) (drop-drop piece.length column line) cut))
 
--- the token that stands next from a place on, if it is a name
-pub name_named : (line : List ℕ) (place : ℕ) (first : Lexeme) (tokens : List Lexeme) → place ≤ length line
-    → tokens_from line place ≡ first ∷ tokens → first.sort ≡ Name → has_name_characters_alone first.text ≡ true
-name_named line place first tokens le stands name =
-    let all = subst AreNamed stands (named line place (pieces_of (drop place line)) le (pieces_of-cut (drop place line))) in
+-- the token that stands next from a column on, if it is a name
+pub name_named : (line : List ℕ) (column : ℕ) (first : Lexeme) (tokens : List Lexeme) → column ≤ length line
+    → tokens_from line column ≡ first ∷ tokens → first.sort ≡ Name → has_name_characters_alone first.text ≡ true
+name_named line column first tokens le stands name =
+    let all = subst AreNamed stands (named line column (pieces_of (drop column line)) le (pieces_of-cut (drop column line))) in
     all.0 (ap names_sort name)

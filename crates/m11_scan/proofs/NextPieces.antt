@@ -31,7 +31,7 @@ pieces_of-first (byte ∷ text) nonempty begins =
     (pieces_after-drop ((first_piece (byte ∷ text)).length - 1) text
     ∙ ap pieces_of (sym (drop_first (first_piece (byte ∷ text)).length byte text begins)))
 
--- a slice from a place on is what stands after that place
+-- a slice from a column on is what stands after that column
 pub cut_from : (line text : List ℕ) (start : ℕ) (piece : Piece) → text ≡ line
     → piece ≡ first_piece (take (length text - start) (drop start text)) → piece ≡ first_piece (drop start line)
 cut_from line text start piece same is =

@@ -26,18 +26,18 @@ with_piece line size start end Blank tokens lt o = from_earlier size start end t
 with_piece line size start end Comment tokens lt o = from_earlier size start end tokens (omega arith) o
 with_piece line size start end Skipped tokens lt o = from_earlier size start end tokens (omega arith) o
 
-ordered : (line : List ℕ) (place : ℕ) (pieces : List Piece) → place ≤ length line → IsCut pieces (drop place line)
-    → AreOrdered (length line) place (lexemes_from line place pieces)
-ordered line place [] le cut = le
-ordered line place (piece ∷ pieces) le (next, cut) =
+ordered : (line : List ℕ) (column : ℕ) (pieces : List Piece) → column ≤ length line → IsCut pieces (drop column line)
+    → AreOrdered (length line) column (lexemes_from line column pieces)
+ordered line column [] le cut = le
+ordered line column (piece ∷ pieces) le (next, cut) =
     let begins = next.begins in
     let within = next.within in
-    let left = length-drop place line in
-    with_piece line (length line) place (place + piece.length) piece.form
-    (lexemes_from line (place + piece.length) pieces) (omega arith)
-    (ordered line (place + piece.length) pieces (omega arith) (subst (IsCut pieces) (drop-drop piece.length place line) cut))
+    let left = length-drop column line in
+    with_piece line (length line) column (column + piece.length) piece.form
+    (lexemes_from line (column + piece.length) pieces) (omega arith)
+    (ordered line (column + piece.length) pieces (omega arith) (subst (IsCut pieces) (drop-drop piece.length column line) cut))
 
--- what stands between two places, and what stands after the second
+-- what stands between two columns, and what stands after the second
 between : (line : List ℕ) (start end : ℕ) → start ≤ end → end ≤ length line
     → text_between line start end ++ drop end line ≡ drop start line
 between line start end ordered within =
@@ -48,7 +48,7 @@ between line start end ordered within =
     (take-append-drop (end - start) (drop start line))
 
 joined_with : (line : List ℕ) (before start end : ℕ) (form : Form) (tokens : List Lexeme) → before ≤ start → start < end
-    → end ≤ length line → ((place : ℕ) → place ≤ end → joined_from line place tokens ≡ drop place line)
+    → end ≤ length line → ((column : ℕ) → column ≤ end → joined_from line column tokens ≡ drop column line)
     → joined_from line before (lexemes_at line start end form ++ tokens) ≡ drop before line
 joined_with line before start end (Cut sort) tokens le lt within rest =
     ap (λ text. text_between line before start ++ (text_between line start end ++ text)) (rest end (omega arith))
@@ -58,22 +58,22 @@ joined_with line before start end Blank tokens le lt within rest = rest before (
 joined_with line before start end Comment tokens le lt within rest = rest before (omega arith)
 joined_with line before start end Skipped tokens le lt within rest = rest before (omega arith)
 
-joined : (line : List ℕ) (place : ℕ) (pieces : List Piece) → place ≤ length line → IsCut pieces (drop place line)
-    → (before : ℕ) → before ≤ place → joined_from line before (lexemes_from line place pieces) ≡ drop before line
-joined line place [] le cut before early = refl
-joined line place (piece ∷ pieces) le (next, cut) before early =
+joined : (line : List ℕ) (column : ℕ) (pieces : List Piece) → column ≤ length line → IsCut pieces (drop column line)
+    → (before : ℕ) → before ≤ column → joined_from line before (lexemes_from line column pieces) ≡ drop before line
+joined line column [] le cut before early = refl
+joined line column (piece ∷ pieces) le (next, cut) before early =
     let begins = next.begins in
     let within = next.within in
-    let left = length-drop place line in
-    joined_with line before place (place + piece.length) piece.form (lexemes_from line (place + piece.length) pieces)
+    let left = length-drop column line in
+    joined_with line before column (column + piece.length) piece.form (lexemes_from line (column + piece.length) pieces)
     early (omega arith) (omega arith)
-    (joined line (place + piece.length) pieces (omega arith) (subst (IsCut pieces) (drop-drop piece.length place line) cut))
+    (joined line (column + piece.length) pieces (omega arith) (subst (IsCut pieces) (drop-drop piece.length column line) cut))
 
 pub tokens_of-ordered : (line : List ℕ) → AreOrdered (length line) 0 (tokens_of line)
 tokens_of-ordered line = ordered line 0 (pieces_of line) (omega arith) (pieces_of-cut line)
 
-pub tokens_from-ordered : (line : List ℕ) (place : ℕ) → place ≤ length line → AreOrdered (length line) place (tokens_from line place)
-tokens_from-ordered line place le = ordered line place (pieces_of (drop place line)) le (pieces_of-cut (drop place line))
+pub tokens_from-ordered : (line : List ℕ) (column : ℕ) → column ≤ length line → AreOrdered (length line) column (tokens_from line column)
+tokens_from-ordered line column le = ordered line column (pieces_of (drop column line)) le (pieces_of-cut (drop column line))
 
 -- where no token begins, the next one begins later
 pub next_later : (line : List ℕ) (start : ℕ) (piece : Piece) → start < length line → piece ≡ first_piece (drop start line)

@@ -43,16 +43,16 @@ name_some (Some a) None x y = y
 name_some None b x y = x
 
 module _ (text : List ℕ) (fits : (i : ℕ) → get_or text i 0 < 256) (all : list_all is_name_character text ≡ true) where
-  named : (place : ℕ) → place < length text → is_name_character (get_or text place 0) ≡ true
-  named place lt = elim (cases_Bool (is_name_character (get_or text place 0))) [
+  named : (index : ℕ) → index < length text → is_name_character (get_or text index 0) ≡ true
+  named index lt = elim (cases_Bool (is_name_character (get_or text index 0))) [
     | inl name ↦ name
-    | inr other ↦ absurd (false≢true (sym (list_all_at is_name_character text place 0 lt other) ∙ all))
+    | inr other ↦ absurd (false≢true (sym (list_all_at is_name_character text index 0 lt other) ∙ all))
   ]
 
-  coded : (place : ℕ) → is_some (code_of (character_at text place)) ≡ true
-  coded place = elim (cases_lt place (length text)) [
-    | inl lt ↦ rw (lt-ltb place (length text) lt) (coded_character (get_or text place 0) (fits place) (named place lt))
-    | inr le ↦ rw (le-ltb place (length text) le) blank_coded
+  coded : (index : ℕ) → is_some (code_of (character_at text index)) ≡ true
+  coded index = elim (cases_lt index (length text)) [
+    | inl lt ↦ rw (lt-ltb index (length text) lt) (coded_character (get_or text index 0) (fits index) (named index lt))
+    | inr le ↦ rw (le-ltb index (length text) le) blank_coded
   ]
 
   pub six_some : is_some (name_of (six_of text)) ≡ true

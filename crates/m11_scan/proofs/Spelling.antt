@@ -6,9 +6,9 @@ use Rattle.std.proofs.lemmas.Nat.{div-add-mod', pow-add}
 use Rattle.std.proofs.Math.Nat.{le-mul_of_pos_right, mod-eq_of_lt, mul-add-mod_self_right, pow-suc, pow-zero}
 use Rattle.m11_scan.specs.Numbers.{spelled}
 
-regroup : (digit places moved front back : ℕ)
-    → digit * (places * moved) + (front * moved + back) ≡ (digit * places + front) * moved + back
-regroup digit places moved front back = omega arith
+regroup : (digit columns moved front back : ℕ)
+    → digit * (columns * moved) + (front * moved + back) ≡ (digit * columns + front) * moved + back
+regroup digit columns moved front back = omega arith
 
 spelled-append : (base : ℕ) (front back : List ℕ)
     → spelled base (front ++ back) ≡ spelled base front * base ^ length back + spelled base back

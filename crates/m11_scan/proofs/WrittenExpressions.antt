@@ -10,7 +10,7 @@ use Rattle.m11_scan.specs.declared.sort.Sort.TheVariants.{Less, Greater}
 use Rattle.m11_scan.specs.Expressions.{count_from, expression_length, goes_on, role_of, taken}
 use Rattle.m11_scan.specs.Grammar.{IsWritten, Single, Prefixed, Signed, Grouped, Alone, Added, Joined, MayFollow}
 
--- a place where a term is due, and one after a term
+-- where a term is due, and after a term
 due : ℕ → Within
 due depth = record { depth = depth; is_due = true }
 
@@ -18,10 +18,10 @@ after : ℕ → Within
 after depth = record { depth = depth; is_due = false }
 
 -- a token of a role with which an expression goes on
-one_taken : (sort : Sort) (sorts : List Sort) (role : Role) (place next : Within) → role_of sort ≡ role
-    → goes_on role place ≡ Some next → taken (sort ∷ sorts) place ≡ suc (taken sorts next)
-one_taken sort sorts role place next is goes =
-    ap (λ r. count_from (goes_on r place) (λ p. taken sorts p)) is ∙ ap (λ n. count_from n (λ p. taken sorts p)) goes
+one_taken : (sort : Sort) (sorts : List Sort) (role : Role) (within next : Within) → role_of sort ≡ role
+    → goes_on role within ≡ Some next → taken (sort ∷ sorts) within ≡ suc (taken sorts next)
+one_taken sort sorts role within next is goes =
+    ap (λ r. count_from (goes_on r within) (λ p. taken sorts p)) is ∙ ap (λ n. count_from n (λ p. taken sorts p)) goes
 
 close_goes : (depth : ℕ) → goes_on Closes (after (depth + 1)) ≡ Some (after depth)
 unfolding after

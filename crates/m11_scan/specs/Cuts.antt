@@ -81,14 +81,14 @@ abbrev pub IsCut : List Piece → Bytes → Type 0
 IsCut [] text = text ≡ []
 IsCut (piece ∷ pieces) text = IsNext piece text × IsCut pieces (drop piece.length text)
 
--- tokens in order, the first of which begins no earlier than a place, and all of which end within a length
+-- tokens in order, the first of which begins no earlier than a column, and all of which end within a length
 abbrev pub AreOrdered : ℕ → ℕ → List Lexeme → Type 0
-AreOrdered size place [] = place ≤ size
-AreOrdered size place (token ∷ tokens) =
-    (place ≤ token.start) × (token.start < token.end) × AreOrdered size token.end tokens
+AreOrdered size column [] = column ≤ size
+AreOrdered size column (token ∷ tokens) =
+    (column ≤ token.start) × (token.start < token.end) × AreOrdered size token.end tokens
 
--- the characters of tokens, and those between them, of a line from a place on
+-- the characters of tokens, and those between them, of a line from a column on
 abbrev pub joined_from : Bytes → ℕ → List Lexeme → Bytes
-joined_from line place [] = drop place line
-joined_from line place (token ∷ tokens) =
-    text_between line place token.start ++ (token.text ++ joined_from line token.end tokens)
+joined_from line column [] = drop column line
+joined_from line column (token ∷ tokens) =
+    text_between line column token.start ++ (token.text ++ joined_from line token.end tokens)

@@ -1,4 +1,4 @@
--- The tokens of a line, with their places. (MACRO-11 Language Reference Manual, "Symbols and expressions".)
+-- The tokens of a line, with their columns. (MACRO-11 Language Reference Manual, "Symbols and expressions".)
 use Rattle.std.specs.Prelude.{ℕ, zero, suc, ◌+◌, ◌-◌, nat_le, ◌&&◌, if◌then◌else◌, List, [], ◌∷◌, ◌++◌, length, take, drop}
 use Rattle.m11_base.specs.Devices.{Bytes}
 use Rattle.m11_scan.specs.declared.sort.Sort.{Sort}
@@ -25,12 +25,12 @@ pub record Lexeme : Type 0 where
   pub end : ℕ
   pub text : Bytes
 
--- the characters of a line between two places, if both are in it and in this order
+-- the characters of a line between two columns, if both are in it and in this order
 abbrev pub text_between : Bytes → ℕ → ℕ → Bytes
 text_between line start end =
     if nat_le start end && nat_le end (length line) then take (end - start) (drop start line) else []
 
--- the token of a piece at a place of a line, if it is one
+-- the token of a piece at a column of a line, if it is one
 abbrev pub lexemes_at : Bytes → ℕ → ℕ → Form → List Lexeme
 lexemes_at line start end (Cut sort) =
     record { sort = sort; start = start; end = end; text = text_between line start end } ∷ []
@@ -38,15 +38,15 @@ lexemes_at line start end Blank = []
 lexemes_at line start end Comment = []
 lexemes_at line start end Skipped = []
 
--- the tokens among pieces that stand one after the other from a place of a line on
+-- the tokens among pieces that stand one after the other from a column of a line on
 abbrev pub lexemes_from : Bytes → ℕ → List Piece → List Lexeme
-lexemes_from line place [] = []
-lexemes_from line place (piece ∷ pieces) =
-    lexemes_at line place (place + piece.length) piece.form ++ lexemes_from line (place + piece.length) pieces
+lexemes_from line column [] = []
+lexemes_from line column (piece ∷ pieces) =
+    lexemes_at line column (column + piece.length) piece.form ++ lexemes_from line (column + piece.length) pieces
 
--- the tokens of a line from a place on
+-- the tokens of a line from a column on
 abbrev pub tokens_from : Bytes → ℕ → List Lexeme
-tokens_from line place = lexemes_from line place (pieces_of (drop place line))
+tokens_from line column = lexemes_from line column (pieces_of (drop column line))
 
 -- the tokens of a line
 abbrev pub tokens_of : Bytes → List Lexeme

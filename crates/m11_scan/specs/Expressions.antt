@@ -43,29 +43,29 @@ role_of TwoColons = Foreign
 role_of Equals = Foreign
 role_of TwoEquals = Foreign
 
--- a place in an expression, where something holds
-abbrev pub place_if : Bool → ℕ → Bool → Option Within
-place_if holds depth is_due = if holds then Some (record { depth = depth; is_due = is_due }) else None
+-- where an expression has come to, where something holds
+abbrev pub within_if : Bool → ℕ → Bool → Option Within
+within_if holds depth is_due = if holds then Some (record { depth = depth; is_due = is_due }) else None
 
--- the place after a token, if an expression goes on with it: a term, what stands before a term and `<` only where a term is due;
+-- where an expression has come to after a token, if it goes on with it: a term, what stands before a term and `<` only where a term is due;
 -- what stands between two terms anywhere, since a term may be missing; `>` where a bracket is open
 abbrev pub goes_on : Role → Within → Option Within
-goes_on Term place = place_if place.is_due place.depth false
-goes_on Prefix place = place_if place.is_due place.depth true
-goes_on Sign place = place_if true place.depth true
-goes_on Operator place = place_if true place.depth true
-goes_on Opens place = place_if place.is_due (place.depth + 1) true
-goes_on Closes place = if place.depth == 0 then None else place_if true (place.depth - 1) false
-goes_on Foreign place = None
+goes_on Term within = within_if within.is_due within.depth false
+goes_on Prefix within = within_if within.is_due within.depth true
+goes_on Sign within = within_if true within.depth true
+goes_on Operator within = within_if true within.depth true
+goes_on Opens within = within_if within.is_due (within.depth + 1) true
+goes_on Closes within = if within.depth == 0 then None else within_if true (within.depth - 1) false
+goes_on Foreign within = None
 
 abbrev pub count_from : Option Within → (Within → ℕ) → ℕ
 count_from None count = 0
-count_from (Some place) count = suc (count place)
+count_from (Some within) count = suc (count within)
 
--- how many tokens an expression takes from a place on
+-- how many tokens an expression takes from there on
 abbrev pub taken : List Sort → Within → ℕ
-taken [] place = 0
-taken (sort ∷ sorts) place = count_from (goes_on (role_of sort) place) (λ next. taken sorts next)
+taken [] within = 0
+taken (sort ∷ sorts) within = count_from (goes_on (role_of sort) within) (λ next. taken sorts next)
 
 -- at first a term is due
 abbrev pub begin : Within

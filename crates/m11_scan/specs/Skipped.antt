@@ -30,6 +30,6 @@ abbrev pub has_unkept : Bytes → Bool
 has_unkept [] = false
 has_unkept (byte ∷ text) = if is_kept byte then has_unkept text else not (byte == 0o73)
 
--- some piece between two places of a line is one
+-- some piece between two columns of a line is one
 abbrev pub skipped_between : Bytes → ℕ → ℕ → Bool
 skipped_between line start end = has_skipped (text_between line start end)

@@ -1,4 +1,4 @@
--- What the definitions see of values of the code: of a token its sort, its place in a line, and its characters; of a set
+-- What the definitions see of values of the code: of a token its sort, its column in a line, and its characters; of a set
 -- of flags its bits.
 use Rattle.std.specs.Prelude.{ℕ}
 use Rattle.m11_base.specs.Devices.{Bytes}

@@ -14,9 +14,9 @@ use m11_scan_lines::Line;
 pub struct Token {
     /// A name, a number, or which of the operators and marks.
     pub sort: Sort,
-    /// The place of its first character in the line.
+    /// The column of its first character in the line.
     pub start: u8,
-    /// The place after its last character.
+    /// The column after its last character.
     pub end: u8,
 }
 
@@ -29,7 +29,7 @@ impl Token {
     }
 }
 
-/// The characters of a line between two places, if both are in it and in this order.
+/// The characters of a line between two columns, if both are in it and in this order.
 pub fn text_between(line: &Line, start: u8, end: u8) -> &[u8]
     ensures { result.now ≡ text_between line.now.text start end }
 {
@@ -43,18 +43,18 @@ pub fn text_between(line: &Line, start: u8, end: u8) -> &[u8]
     }
 }
 
-/// The token that stands next in a line from a place on, if one does.
-pub fn next_token(line: &Line, place: usize) -> Option<Token>
-    requires { place ≤ length line.now.text }
-    ensures token { MatchOption result (tokens_from line.now.text place ≡ [])
-        (λ token. tokens_from line.now.text place ≡ lexeme line.now.text token ∷ tokens_from line.now.text token.end) }
-    ensures place { IfSome result (λ token. place ≤ token.start) }
+/// The token that stands next in a line from a column on, if one does.
+pub fn next_token(line: &Line, column: usize) -> Option<Token>
+    requires { column ≤ length line.now.text }
+    ensures token { MatchOption result (tokens_from line.now.text column ≡ [])
+        (λ token. tokens_from line.now.text column ≡ lexeme line.now.text token ∷ tokens_from line.now.text token.end) }
+    ensures column { IfSome result (λ token. column ≤ token.start) }
     ensures begins { IfSome result (λ token. token.start < token.end) }
     ensures within { IfSome result (λ token. token.end ≤ length line.now.text) }
     ensures limited { length line.now.text ≤ line_limit }
 {
     let text = line.text();
-    let mut begin = place;
+    let mut begin = column;
     'pieces: while begin < text.len() {
         let piece = first_piece(&text[begin..]);
         let end = begin + piece.length;
@@ -70,28 +70,28 @@ pub fn next_token(line: &Line, place: usize) -> Option<Token>
     None
 }
 
-/// The token that begins at a place of a line, if one does.
-pub fn token_at(line: &Line, place: usize) -> Option<Token>
-    requires { place ≤ length line.now.text }
-    ensures token { IfSome result (λ token. tokens_from line.now.text place
+/// The token that begins at a column of a line, if one does.
+pub fn token_at(line: &Line, column: usize) -> Option<Token>
+    requires { column ≤ length line.now.text }
+    ensures token { IfSome result (λ token. tokens_from line.now.text column
         ≡ lexeme line.now.text token ∷ tokens_from line.now.text token.end) }
     ensures later { result ≡ None → (token : Lexeme) → (tokens : List Lexeme)
-        → tokens_from line.now.text place ≡ token ∷ tokens → place < token.start }
-    ensures place { IfSome result (λ token. token.start ≡ place) }
-    ensures begins { IfSome result (λ token. place < token.end) }
+        → tokens_from line.now.text column ≡ token ∷ tokens → column < token.start }
+    ensures column { IfSome result (λ token. token.start ≡ column) }
+    ensures begins { IfSome result (λ token. column < token.end) }
     ensures within { IfSome result (λ token. token.end ≤ length line.now.text) }
     ensures limited { length line.now.text ≤ line_limit }
 {
     let text = line.text();
-    if place >= text.len() {
+    if column >= text.len() {
         return None;
     }
-    let piece = first_piece(&text[place..]);
+    let piece = first_piece(&text[column..]);
     match piece.form {
         Form::Cut(sort) => Some(Token {
             sort,
-            start: place as u8,
-            end: (place + piece.length) as u8,
+            start: column as u8,
+            end: (column + piece.length) as u8,
         }),
         _ => None,
     }

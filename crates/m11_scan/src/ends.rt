@@ -10,11 +10,11 @@ use crate::expressions::{Within, goes_on, role_of};
 use arrayvec::ArrayVec;
 use m11_scan_lines::{LINE_LIMIT, Line};
 
-/// The place after the expression that begins at a place of a line, or that place where no token of an expression stands there.
-pub fn expression_end(line: &Line, place: usize) -> usize
-    requires { place ≤ length line.now.text }
-    ensures end { result ≡ expression_end line.now.text place }
-    ensures least { place ≤ result }
+/// The column after the expression that begins at a column of a line, or that column where no token of an expression stands there.
+pub fn expression_end(line: &Line, column: usize) -> usize
+    requires { column ≤ length line.now.text }
+    ensures end { result ≡ expression_end line.now.text column }
+    ensures least { column ≤ result }
     ensures most { result ≤ length line.now.text }
     ensures limited { length line.now.text ≤ line_limit }
 {
@@ -22,7 +22,7 @@ pub fn expression_end(line: &Line, place: usize) -> usize
         depth: 0,
         is_due: true,
     };
-    let mut end = place;
+    let mut end = column;
     'tokens: while let Some(token) = next_token(line, end) {
         match goes_on(role_of(token.sort), within) {
             Some(next) => within = next,
@@ -38,16 +38,16 @@ pub fn expression_end(line: &Line, place: usize) -> usize
 pub struct Expression {
     /// The tokens, in order.
     pub tokens: ArrayVec<Token, LINE_LIMIT>,
-    /// The place after them.
+    /// The column after them.
     pub end: usize,
 }
 
-/// The expression that begins at a place of a line. Where no token of one stands there, it has none.
-pub fn expression_at(line: &Line, place: usize) -> Expression
-    requires { place ≤ length line.now.text }
-    ensures tokens { map (lexeme line.now.text) result.tokens.items ≡ expression_at line.now.text place }
-    ensures end { result.end ≡ expression_end line.now.text place }
-    ensures least { place ≤ result.end }
+/// The expression that begins at a column of a line. Where no token of one stands there, it has none.
+pub fn expression_at(line: &Line, column: usize) -> Expression
+    requires { column ≤ length line.now.text }
+    ensures tokens { map (lexeme line.now.text) result.tokens.items ≡ expression_at line.now.text column }
+    ensures end { result.end ≡ expression_end line.now.text column }
+    ensures least { column ≤ result.end }
     ensures most { result.end ≤ length line.now.text }
     ensures limited { length line.now.text ≤ line_limit }
 {
@@ -56,7 +56,7 @@ pub fn expression_at(line: &Line, place: usize) -> Expression
         is_due: true,
     };
     let mut tokens = ArrayVec::new();
-    let mut end = place;
+    let mut end = column;
     'tokens: while let Some(token) = next_token(line, end) {
         match goes_on(role_of(token.sort), within) {
             Some(next) => within = next,

@@ -1,7 +1,7 @@
 //! Where an expression ends. (MACRO-11 Language Reference Manual, "Terms" and "Expressions".)
 
 ghost use Rattle.std.specs.Prelude.{◌≡◌, ◌+◌, ◌<◌, ◌≤◌, IfSome};
-ghost use Rattle.m11_scan.specs.Expressions.{goes_on, place_if, role_of};
+ghost use Rattle.m11_scan.specs.Expressions.{goes_on, role_of, within_if};
 
 use crate::sort::Sort;
 
@@ -24,7 +24,7 @@ pub enum Role {
     Foreign,
 }
 
-/// A place in an expression.
+/// Where in an expression something stands: within how many brackets, and whether a term is due.
 #[derive(Clone, Copy, PartialEq, Eq, Debug)]
 pub struct Within {
     /// How many brackets are open.
@@ -33,30 +33,30 @@ pub struct Within {
     pub is_due: bool,
 }
 
-// The place after a token of a role, if an expression goes on with it.
-pub(crate) fn goes_on(role: Role, place: Within) -> Option<Within>
-    requires { place.depth < usize.MAX }
-    ensures place { result ≡ goes_on role place }
-    ensures deep { IfSome result (λ next. next.depth ≤ place.depth + 1) }
+// Where an expression has come to after a token of a role, if an expression goes on with it.
+pub(crate) fn goes_on(role: Role, within: Within) -> Option<Within>
+    requires { within.depth < usize.MAX }
+    ensures within { result ≡ goes_on role within }
+    ensures deep { IfSome result (λ next. next.depth ≤ within.depth + 1) }
 {
     match role {
-        Role::Term => place_if(place.is_due, place.depth, false),
-        Role::Prefix => place_if(place.is_due, place.depth, true),
-        Role::Sign | Role::Operator => place_if(true, place.depth, true),
-        Role::Opens => place_if(place.is_due, place.depth + 1, true),
+        Role::Term => within_if(within.is_due, within.depth, false),
+        Role::Prefix => within_if(within.is_due, within.depth, true),
+        Role::Sign | Role::Operator => within_if(true, within.depth, true),
+        Role::Opens => within_if(within.is_due, within.depth + 1, true),
         Role::Closes => {
-            if place.depth == 0 {
+            if within.depth == 0 {
                 None
             } else {
-                place_if(true, place.depth - 1, false)
+                within_if(true, within.depth - 1, false)
             }
         }
         Role::Foreign => None,
     }
 }
 
-fn place_if(holds: bool, depth: usize, is_due: bool) -> Option<Within>
-    ensures { result ≡ place_if holds depth is_due }
+fn within_if(holds: bool, depth: usize, is_due: bool) -> Option<Within>
+    ensures { result ≡ within_if holds depth is_due }
 {
     if holds {
         Some(Within { depth, is_due })

@@ -54,17 +54,17 @@ fn name_of_words(first: Option<u16>, second: Option<u16>) -> Option<Name>
     }
 }
 
-// The word of the three characters from a place of a text on, if each has a code.
-fn word_at(text: &[u8], place: usize) -> Option<u16>
-    requires { place + 2 < 2 ^ 64 }
-    ensures word { result ≡ word_of_codes (code_of (character_at text.now place)) (code_of (character_at text.now (place + 1)))
-        (code_of (character_at text.now (place + 2))) }
+// The word of the three characters from an index of a text on, if each has a code.
+fn word_at(text: &[u8], index: usize) -> Option<u16>
+    requires { index + 2 < 2 ^ 64 }
+    ensures word { result ≡ word_of_codes (code_of (character_at text.now index)) (code_of (character_at text.now (index + 1)))
+        (code_of (character_at text.now (index + 2))) }
     ensures below { IfSome result (λ word. word < word_limit) }
 {
     word_of_codes(
-        code_at(text, place),
-        code_at(text, place + 1),
-        code_at(text, place + 2),
+        code_at(text, index),
+        code_at(text, index + 1),
+        code_at(text, index + 2),
     )
 }
 
@@ -79,12 +79,12 @@ fn word_of_codes(first: u8, second: u8, third: u8) -> Option<u16>
     Some(u16::from(first) * 1600 + u16::from(second) * 40 + u16::from(third))
 }
 
-// The code of a text's character at a place. After its end blanks stand.
+// The code of a text's character at an index. After its end blanks stand.
 #[tactic(auto, using(crate::proofs::TableOfCodes::blank_code))]
-fn code_at(text: &[u8], place: usize) -> u8
-    ensures { result ≡ code_or_none (code_of (character_at text.now place)) }
+fn code_at(text: &[u8], index: usize) -> u8
+    ensures { result ≡ code_or_none (code_of (character_at text.now index)) }
 {
-    match text.get(place) {
+    match text.get(index) {
         Some(byte) => code_in_table(*byte),
         None => 0,
     }
@@ -143,11 +143,11 @@ fn word_or_none(word: Option<u16>) -> u16
     }
 }
 
-// A text's character at a place in upper case, or a blank after its end.
-fn character_at(text: &[u8], place: usize) -> u8
-    ensures { result ≡ character_at text.now place }
+// A text's character at an index in upper case, or a blank after its end.
+fn character_at(text: &[u8], index: usize) -> u8
+    ensures { result ≡ character_at text.now index }
 {
-    match text.get(place) {
+    match text.get(index) {
         Some(byte) => byte.to_ascii_uppercase(),
         None => b' ',
     }

@@ -8,7 +8,7 @@ use crate::pieces::first_piece;
 use crate::sort::Form;
 use m11_scan_lines::Line;
 
-/// Whether some character between two places of a line begins no token, and is part of none. Such a character is skipped, and
+/// Whether some character between two columns of a line begins no token, and is part of none. Such a character is skipped, and
 /// its line has I.
 #[inline(always)]
 pub fn skipped_between(line: &Line, start: usize, end: usize) -> bool

@@ -6,7 +6,7 @@ use Rattle.m11_base.specs.Feed.{Text, GiveAll, NoneFailed, OneFailed}
 use Rattle.m11_scan_lines.specs.declared.fault.LineFault.TheVariants.{Read, TooMuchSource, TooManyLines}
 use Rattle.m11_scan_lines.specs.Line.{SourceLine}
 use Rattle.m11_scan_lines.specs.Lines.{input_of}
-use Rattle.m11_scan_lines.specs.Reader.{Place, place_at, Gave, Fails, ReadsNext}
+use Rattle.m11_scan_lines.specs.Reader.{Position, position_at, Gave, Fails, ReadsNext}
 use Rattle.m11_scan_lines.proofs.Cuts.{bytes_of}
 use Rattle.m11_scan_lines.proofs.Gaves.{gave_both}
 use Rattle.m11_scan_line_laws.specs.Readings.{reading_of_input}
@@ -37,7 +37,7 @@ module _ {F : Type 0} (text : F → Option Text) (faults : F → ℕ) where
   given (feed ∷ feeds) [] h = absurd h
   given (feed ∷ feeds) (source ∷ sources) h = (h.0, given feeds sources h.1)
 
-  -- the feed at the place where the sources have come to failed
+  -- the feed at the position where the sources have come to failed
   one_failed : (old new : List F) (texts : List (Option Text)) (left : Option Text) (later : List (Option Text))
       (count : ℕ) (sources : List (List ℕ)) (beginning : List ℕ) → GiveParts (map text old) texts sources beginning
       → texts ≡ left ∷ later → Rises (get_or (map faults old) (length sources) 0) count
@@ -73,12 +73,12 @@ module _ {F : Type 0} (text : F → Option Text) (faults : F → ℕ) where
   parts_length (text ∷ texts) new left later (source ∷ sources) beginning h here =
       omega (arith, parts_length texts new left later sources beginning h.1 here)
 
-  place_is : (old new : List F) (texts : List (Option Text)) (left left' : Option Text) (later : List (Option Text))
+  position_is : (old new : List F) (texts : List (Option Text)) (left left' : Option Text) (later : List (Option Text))
       (source count : ℕ) (sources : List (List ℕ)) (beginning : List ℕ)
       → GiveParts (map text old) texts sources beginning → texts ≡ left ∷ later
       → drop source (map text new) ≡ left' ∷ later → map faults new ≡ set (map faults old) source count
       → source ≡ length sources
-  place_is old new texts left left' later source count sources beginning h here there e =
+  position_is old new texts left left' later source count sources beginning h here there e =
       let olds = parts_length (map text old) texts left later sources beginning h here in
       let one : length (map text old) ≡ length old = length-map old text in
       let two : length (map text new) ≡ length new = length-map new text in
@@ -92,11 +92,11 @@ module _ {F : Type 0} (text : F → Option Text) (faults : F → ℕ) where
       omega arith
 
   module _ (old new : List F) (source bytes_left lines_left : ℕ) (lines : List SourceLine) where
-    abbrev first : Place
+    abbrev first : Position
     first = start text faults old
 
-    abbrev last : Place
-    last = place_at text faults new source bytes_left lines_left
+    abbrev last : Position
+    last = position_at text faults new source bytes_left lines_left
 
     pub so_far : HasRead first last lines → BeginReading text faults old new lines
     so_far h =
@@ -110,7 +110,7 @@ module _ {F : Type 0} (text : F → Option Text) (faults : F → ℕ) where
           ap (λ (input : List (Option ℕ)). (reading_of_input input).lines) whole.is ∙ more.1,
         )
 
-    module _ (middle : Place) (h : HasRead first middle lines) where
+    module _ (middle : Position) (h : HasRead first middle lines) where
       pub all : ReadsNext middle last (Ok None)
           → HaveReading text faults old new (record { lines = lines; fault = None })
       all read =
@@ -127,7 +127,7 @@ module _ {F : Type 0} (text : F → Option Text) (faults : F → ℕ) where
           )
 
       -- a byte comes, and more after it
-      module _ (now : Place) (r : Reached first now lines) (byte : ℕ)
+      module _ (now : Position) (r : Reached first now lines) (byte : ℕ)
           (gave : Gave now.texts last.texts (Some byte ∷ [])) where
         pub whole_more : Whole (map text old) (r.given ++ Some byte ∷ [])
         whole_more = whole_of (map text old) last.texts (r.given ++ Some byte ∷ [])
@@ -139,7 +139,7 @@ module _ {F : Type 0} (text : F → Option Text) (faults : F → ℕ) where
       pub too_much : ReadsNext middle last (Err TooMuchSource)
           → HaveReading text faults old new (record { lines = lines; fault = Some TooMuchSource })
       too_much read =
-          let now : Place = read.1 in
+          let now : Position = read.1 in
           let r = after_more first middle now lines read.0 h read.2 in
           let came = read.3 in
           let whole = whole_more now r came.0 came.1 in (
@@ -153,7 +153,7 @@ module _ {F : Type 0} (text : F → Option Text) (faults : F → ℕ) where
       pub too_many : ReadsNext middle last (Err TooManyLines)
           → HaveReading text faults old new (record { lines = lines; fault = Some TooManyLines })
       too_many read =
-          let now : Place = read.1 in
+          let now : Position = read.1 in
           let r = after_more first middle now lines read.0 h read.2 in
           let came = read.3 in
           let whole = whole_more now r came.0 came.1 in (
@@ -164,11 +164,11 @@ module _ {F : Type 0} (text : F → Option Text) (faults : F → ℕ) where
                 ∙ stops_at_lines first now lines r refl refl came.0 bytes_left whole.rest came.3 came.4 came.5,
           )
 
-      -- the place of the feed that failed is that of the reader
+      -- the position of the feed that failed is that of the reader
       pub failed : ReadsNext middle last (Err Read)
           → FailReading text faults old new (record { lines = lines; fault = None })
       failed read =
-          let now : Place = read.1 in
+          let now : Position = read.1 in
           let r = after_more first middle now lines read.0 h read.2 in
           let fails : Fails now last = read.3 in
           let at : now.source ≡ source = sym fails.source in
@@ -176,16 +176,16 @@ module _ {F : Type 0} (text : F → Option Text) (faults : F → ℕ) where
           let changed : map faults new ≡ set (map faults old) source fails.count =
           fails.faults ∙ ap (λ (l : List ℕ). set l now.source fails.count) r.faults
           ∙ ap (λ i. set (map faults old) i fails.count) at in
-          let place : source ≡ length parts.sources =
-          place_is old new now.texts fails.text fails.text' fails.texts source fails.count parts.sources parts.beginning
+          let position : source ≡ length parts.sources =
+          position_is old new now.texts fails.text fails.text' fails.texts source fails.count parts.sources parts.beginning
           parts.give fails.was fails.is changed in
           let P : ℕ → Type 0 = λ n. Rises n fails.count in
           let rises : Rises (get_or (map faults old) (length parts.sources) 0) fails.count =
-          subst P (ap (λ (l : List ℕ). get_or l now.source 0) r.faults ∙ ap (λ i. get_or (map faults old) i 0) (at ∙ place))
+          subst P (ap (λ (l : List ℕ). get_or l now.source 0) r.faults ∙ ap (λ i. get_or (map faults old) i 0) (at ∙ position))
           fails.rises in (
             parts.sources,
             parts.beginning,
             one_failed old new now.texts fails.text fails.texts fails.count parts.sources parts.beginning parts.give
-                fails.was rises (changed ∙ ap (λ i. set (map faults old) i fails.count) place),
+                fails.was rises (changed ∙ ap (λ i. set (map faults old) i fails.count) position),
             ap reading_of_input (sym parts.is) ∙ reading_so_far first now lines r refl refl,
           )

@@ -6,7 +6,7 @@ use Rattle.m11_scan_lines.specs.declared.fault.LineFault.{LineFault}
 use Rattle.m11_scan_lines.specs.declared.fault.LineFault.TheVariants.{Read, TooMuchSource, TooManyLines}
 use Rattle.m11_scan_lines.specs.Line.{SourceLine}
 use Rattle.m11_scan_lines.specs.Lines.{cut, input_of}
-use Rattle.m11_scan_lines.specs.Reader.{Place, place_at, Gave, Fails, ReadsNext}
+use Rattle.m11_scan_lines.specs.Reader.{Position, position_at, Gave, Fails, ReadsNext}
 use Rattle.m11_scan_lines.proofs.Cuts.{bytes_of}
 use Rattle.m11_scan_lines.proofs.SourceSteps.{gave_one, gave_then}
 use Rattle.m11_scan_line_laws.specs.Readings.{reading_of_input}
@@ -24,7 +24,7 @@ text_first t t' ts ts' e = ap (λ (l : Texts). get_or l 0 None) e
 texts_after : (t t' : Option Text) (ts ts' : Texts) → t ∷ ts ≡ t' ∷ ts' → ts ≡ ts'
 texts_after t t' ts ts' e = ap (λ (l : Texts). drop 1 l) e
 
--- ---- the feeds at their places
+-- ---- the feeds at their positions
 
 no_more_texts : (texts new : Texts) (sources : List (List ℕ)) (beginning : List ℕ) → GiveParts texts new sources beginning
     → length new ≤ length texts
@@ -119,11 +119,11 @@ module _ {F : Type 0} (text : F → Option Text) (faults : F → ℕ) where
   same_length old new e = omega (arith, length-map new faults, length-map old faults, ap length e)
 
   module _ (old new : List F) (source bytes_left lines_left : ℕ) (lines : List SourceLine) where
-    abbrev first : Place
+    abbrev first : Position
     first = start text faults old
 
-    abbrev last : Place
-    last = place_at text faults new source bytes_left lines_left
+    abbrev last : Position
+    last = position_at text faults new source bytes_left lines_left
 
     pub just_lines : HasRead first last lines → GaveLines text old new lines
     just_lines h =
@@ -135,7 +135,7 @@ module _ {F : Type 0} (text : F → Option Text) (faults : F → ℕ) where
           comes = record { pieces = h.pieces; is_cut = ap cut (sym parts.is) ∙ h.is_cut; are = h.are; ends = h.ends };
         }
 
-    module _ (middle : Place) (h : HasRead first middle lines) where
+    module _ (middle : Position) (h : HasRead first middle lines) where
       pub all_given : ReadsNext middle last (Ok None) → GaveAll text old new lines
       all_given read =
           let r = after_more first middle last lines read.given h read.came in
@@ -154,7 +154,7 @@ module _ {F : Type 0} (text : F → Option Text) (faults : F → ℕ) where
 
       pub till_failure : ReadsNext middle last (Err Read) → GaveTill text old new lines
       till_failure read =
-          let now : Place = read.1 in
+          let now : Position = read.1 in
           let r = after_more first middle now lines read.0 h read.2 in
           let fails : Fails now last = read.3 in
           let parts = parts_of (map text old) now.texts r.given r.gave in
@@ -171,7 +171,7 @@ module _ {F : Type 0} (text : F → Option Text) (faults : F → ℕ) where
             is_reading = ap reading_of_input (sym parts.is) ∙ reading_so_far first now lines r refl refl;
           }
 
-      module _ (now : Place) (r : Reached first now lines) (byte : ℕ) (gave : Gave now.texts last.texts (Some byte ∷ []))
+      module _ (now : Position) (r : Reached first now lines) (byte : ℕ) (gave : Gave now.texts last.texts (Some byte ∷ []))
           (same : last.faults ≡ now.faults) (limit : LineFault)
           (stops : reading_of_input (r.given ++ Some byte ∷ []) ≡ record { lines = lines; fault = Some limit }) where
         past_byte : GavePast text old new lines limit

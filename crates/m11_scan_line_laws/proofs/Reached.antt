@@ -6,7 +6,7 @@ use Rattle.m11_scan_lines.specs.declared.fault.LineFault.{LineFault}
 use Rattle.m11_scan_lines.specs.declared.fault.LineFault.TheVariants.{TooMuchSource, TooManyLines}
 use Rattle.m11_scan_lines.specs.Line.{SourceLine, line_of}
 use Rattle.m11_scan_lines.specs.Lines.{RawLine, Cut, cut, cleaned, is_line, line_text, bytes_in, lines_in, most_bytes, most_lines}
-use Rattle.m11_scan_lines.specs.Reader.{Place, Gave, Came, ReadsLine}
+use Rattle.m11_scan_lines.specs.Reader.{Position, Gave, Came, ReadsLine}
 use Rattle.m11_scan_lines.proofs.Cuts.{cut_joined}
 use Rattle.m11_scan_lines.proofs.Gaves.{gave_none, gave_both}
 use Rattle.m11_scan_line_laws.specs.Readings.{Reading, lines_of, reading_from, reading_of_input}
@@ -15,11 +15,11 @@ use Rattle.m11_scan_line_laws.proofs.Limits.{open_within, too_much_at_line_feed,
 use Rattle.m11_scan_line_laws.proofs.Passing.{passed, extends, reading_after, stopped, stops_at}
 use Rattle.m11_scan_line_laws.proofs.Pieces.{following, joined, cut_more, after_none, bytes_in-append, lines_in-append, bytes_in-push, lines_in-more, lines_of-append, no_lines}
 
-pub begins : (place : Place) → HasRead place place []
-begins place = record {
+pub begins : (position : Position) → HasRead position position []
+begins position = record {
   given = [];
   pieces = [];
-  gave = gave_none place.texts;
+  gave = gave_none position.texts;
   is_cut = refl;
   are = refl;
   ends = inl refl;
@@ -32,7 +32,7 @@ line_alone : (piece : RawLine) → is_line piece ≡ true → lines_of (piece �
 line_alone piece is =
     ap (λ b. map (λ p. line_of (line_text p)) (cond b (piece ∷ []) [])) is
 
-pub goes_on : (first middle now : Place) (lines : List SourceLine) (line : SourceLine) → HasRead first middle lines
+pub goes_on : (first middle now : Position) (lines : List SourceLine) (line : SourceLine) → HasRead first middle lines
     → ReadsLine middle now line → HasRead first now (lines ++ line ∷ [])
 goes_on first middle now lines line h r =
     let pieces : List RawLine = r.passed ++ r.raw ∷ [] in
@@ -55,9 +55,9 @@ goes_on first middle now lines line h r =
       faults = r.faults ∙ h.faults;
     }
 
--- ---- up to a place in a piece
+-- ---- up to a position in a piece
 
-pub record Reached (first now : Place) (lines : List SourceLine) : Type 0 where
+pub record Reached (first now : Position) (lines : List SourceLine) : Type 0 where
   pub given : List (Option ℕ)
   pub pieces : List RawLine
   pub unclosed : List ℕ
@@ -69,7 +69,7 @@ pub record Reached (first now : Place) (lines : List SourceLine) : Type 0 where
   pub begins : now.lines_left ≡ 0 → cleaned unclosed ≡ []
   pub faults : now.faults ≡ first.faults
 
-pub after_lines : (first now : Place) (lines : List SourceLine) → HasRead first now lines → Reached first now lines
+pub after_lines : (first now : Position) (lines : List SourceLine) → HasRead first now lines → Reached first now lines
 after_lines first now lines h = record {
   given = h.given;
   pieces = h.pieces;
@@ -83,7 +83,7 @@ after_lines first now lines h = record {
   faults = h.faults;
 }
 
-pub after_more : (first middle now : Place) (lines : List SourceLine) (given : List (Option ℕ))
+pub after_more : (first middle now : Position) (lines : List SourceLine) (given : List (Option ℕ))
     → HasRead first middle lines → Came middle now given → Reached first now lines
 after_more first middle now lines given h c = record {
   given = h.given ++ given;
@@ -102,7 +102,7 @@ after_more first middle now lines given h c = record {
 
 -- ---- the reading of what came
 
-module _ (first now : Place) (lines : List SourceLine) (r : Reached first now lines)
+module _ (first now : Position) (lines : List SourceLine) (r : Reached first now lines)
     (bytes : first.bytes_left ≡ most_bytes) (count : first.lines_left ≡ most_lines) where
   full : most_lines < lines_in r.pieces + 1 → cleaned r.unclosed ≡ []
   full h = r.begins (omega (arith, r.lines_left, count))

@@ -5,13 +5,13 @@ use Rattle.m11_base.specs.Devices.{Bytes}
 use Rattle.m11_base.specs.Feed.{Text, GiveAll, NoneFailed, OneFailed}
 use Rattle.m11_scan_lines.specs.Line.{SourceLine}
 use Rattle.m11_scan_lines.specs.Lines.{RawLine, input_of, cut, bytes_in, lines_in, most_bytes, most_lines}
-use Rattle.m11_scan_lines.specs.Reader.{Place, place_at, Gave}
+use Rattle.m11_scan_lines.specs.Reader.{Position, position_at, Gave}
 use Rattle.m11_scan_line_laws.specs.Extents.{EndWithLine}
 use Rattle.m11_scan_line_laws.specs.Readings.{Reading, lines_of, reading_of, reading_of_input}
 
 -- calls that were Ok returned these lines: the sources gave pieces, all of them whole and within the limits, and the
 -- lines are those among them, with nothing after the last one
-pub record HasRead (first now : Place) (lines : List SourceLine) : Type 0 where
+pub record HasRead (first now : Position) (lines : List SourceLine) : Type 0 where
   pub given : List (Option ℕ)
   pub pieces : List RawLine
   pub gave : Gave first.texts now.texts given
@@ -22,9 +22,9 @@ pub record HasRead (first now : Place) (lines : List SourceLine) : Type 0 where
   pub lines_left : first.lines_left ≡ lines_in pieces + now.lines_left
   pub faults : now.faults ≡ first.faults
 
--- the place of a new reader
-abbrev pub start : {F : Type 0} → (F → Option Text) → (F → ℕ) → List F → Place
-start text faults feeds = place_at text faults feeds 0 most_bytes most_lines
+-- the position of a new reader
+abbrev pub start : {F : Type 0} → (F → Option Text) → (F → ℕ) → List F → Position
+start text faults feeds = position_at text faults feeds 0 most_bytes most_lines
 
 -- no feed failed, and sources that they give have this reading
 abbrev pub HaveReading : {F : Type 0} → (F → Option Text) → (F → ℕ) → List F → List F → Reading → Type 0

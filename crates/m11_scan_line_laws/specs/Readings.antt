@@ -43,7 +43,7 @@ reading_from before [] unclosed = record {
 reading_from before (piece ∷ pieces) unclosed =
     unless_fault (fault_at before piece) before (reading_from (before ++ piece ∷ []) pieces unclosed)
 
--- the reading of what came of sources, up to their ends or to a place in one of them
+-- the reading of what came of sources, up to their ends or to a position in one of them
 abbrev pub reading_of_input : List (Option ℕ) → Reading
 reading_of_input input = reading_from [] (cut input).lines (cut input).unclosed
 

@@ -6,7 +6,7 @@ ghost use Rattle.m11_base.specs.Feed.{Text};
 ghost use Rattle.m11_scan_lines.specs.declared.fault.LineFault.TheVariants.{Read, TooMuchSource, TooManyLines};
 ghost use Rattle.m11_scan_lines.specs.Line.{SourceLine, line_of};
 ghost use Rattle.m11_scan_lines.specs.Lines.{most_bytes, most_lines};
-ghost use Rattle.m11_scan_lines.specs.Reader.{Place, place_at, ReadsNext};
+ghost use Rattle.m11_scan_lines.specs.Reader.{Position, position_at, ReadsNext};
 ghost use Rattle.m11_scan_line_laws.specs.Calls.{BeginReading, FailReading, HasRead, HaveReading, start};
 ghost use Rattle.m11_scan_line_laws.specs.Extents.{GaveAll, GaveLines, GavePast, GaveTill};
 ghost use Rattle.m11_scan_line_laws.specs.Laws.{HaveLines};
@@ -14,8 +14,8 @@ ghost use Rattle.m11_scan_line_laws.specs.Readings.{reading_of};
 
 /// Before the first call no line was read, and each call that returns one adds it to those before.
 pub fn calls_read_lines_in_order()
-    ensures begins { (place : Place) → HasRead place place [] }
-    ensures goes_on { (first middle now : Place) (lines : List SourceLine) (line : SourceLine)
+    ensures begins { (position : Position) → HasRead position position [] }
+    ensures goes_on { (first middle now : Position) (lines : List SourceLine) (line : SourceLine)
         → HasRead first middle lines → ReadsNext middle now (Ok (Some line)) → HasRead first now (lines ++ line ∷ []) }
 {}
 
@@ -39,23 +39,23 @@ pub fn plain_lines_are_read_as_they_stand()
 pub fn lines_read_are_those_of_the_sources<F>()
     ensures so_far { (text : F → Option Text) (faults : F → ℕ) (old new : List F) (source bytes_left lines_left : ℕ)
         (lines : List SourceLine)
-        → HasRead (start text faults old) (place_at text faults new source bytes_left lines_left) lines
+        → HasRead (start text faults old) (position_at text faults new source bytes_left lines_left) lines
         → BeginReading text faults old new lines }
     ensures all { (text : F → Option Text) (faults : F → ℕ) (old new : List F) (source bytes_left lines_left : ℕ)
-        (lines : List SourceLine) (middle : Place) → HasRead (start text faults old) middle lines
-        → ReadsNext middle (place_at text faults new source bytes_left lines_left) (Ok None)
+        (lines : List SourceLine) (middle : Position) → HasRead (start text faults old) middle lines
+        → ReadsNext middle (position_at text faults new source bytes_left lines_left) (Ok None)
         → HaveReading text faults old new (record { lines = lines; fault = None }) }
     ensures too_much { (text : F → Option Text) (faults : F → ℕ) (old new : List F) (source bytes_left lines_left : ℕ)
-        (lines : List SourceLine) (middle : Place) → HasRead (start text faults old) middle lines
-        → ReadsNext middle (place_at text faults new source bytes_left lines_left) (Err TooMuchSource)
+        (lines : List SourceLine) (middle : Position) → HasRead (start text faults old) middle lines
+        → ReadsNext middle (position_at text faults new source bytes_left lines_left) (Err TooMuchSource)
         → HaveReading text faults old new (record { lines = lines; fault = Some TooMuchSource }) }
     ensures too_many { (text : F → Option Text) (faults : F → ℕ) (old new : List F) (source bytes_left lines_left : ℕ)
-        (lines : List SourceLine) (middle : Place) → HasRead (start text faults old) middle lines
-        → ReadsNext middle (place_at text faults new source bytes_left lines_left) (Err TooManyLines)
+        (lines : List SourceLine) (middle : Position) → HasRead (start text faults old) middle lines
+        → ReadsNext middle (position_at text faults new source bytes_left lines_left) (Err TooManyLines)
         → HaveReading text faults old new (record { lines = lines; fault = Some TooManyLines }) }
     ensures failed { (text : F → Option Text) (faults : F → ℕ) (old new : List F) (source bytes_left lines_left : ℕ)
-        (lines : List SourceLine) (middle : Place) → HasRead (start text faults old) middle lines
-        → ReadsNext middle (place_at text faults new source bytes_left lines_left) (Err Read)
+        (lines : List SourceLine) (middle : Position) → HasRead (start text faults old) middle lines
+        → ReadsNext middle (position_at text faults new source bytes_left lines_left) (Err Read)
         → FailReading text faults old new (record { lines = lines; fault = None }) }
 {}
 
@@ -64,20 +64,20 @@ pub fn lines_read_are_those_of_the_sources<F>()
 pub fn feeds_give_as_far_as_they_are_read<F>()
     ensures lines { (text : F → Option Text) (faults : F → ℕ) (old new : List F) (source bytes_left lines_left : ℕ)
         (lines : List SourceLine)
-        → HasRead (start text faults old) (place_at text faults new source bytes_left lines_left) lines
+        → HasRead (start text faults old) (position_at text faults new source bytes_left lines_left) lines
         → GaveLines text old new lines }
     ensures all { (text : F → Option Text) (faults : F → ℕ) (old new : List F) (source bytes_left lines_left : ℕ)
-        (lines : List SourceLine) (middle : Place) → HasRead (start text faults old) middle lines
-        → ReadsNext middle (place_at text faults new source bytes_left lines_left) (Ok None) → GaveAll text old new lines }
+        (lines : List SourceLine) (middle : Position) → HasRead (start text faults old) middle lines
+        → ReadsNext middle (position_at text faults new source bytes_left lines_left) (Ok None) → GaveAll text old new lines }
     ensures failed { (text : F → Option Text) (faults : F → ℕ) (old new : List F) (source bytes_left lines_left : ℕ)
-        (lines : List SourceLine) (middle : Place) → HasRead (start text faults old) middle lines
-        → ReadsNext middle (place_at text faults new source bytes_left lines_left) (Err Read) → GaveTill text old new lines }
+        (lines : List SourceLine) (middle : Position) → HasRead (start text faults old) middle lines
+        → ReadsNext middle (position_at text faults new source bytes_left lines_left) (Err Read) → GaveTill text old new lines }
     ensures too_much { (text : F → Option Text) (faults : F → ℕ) (old new : List F) (source bytes_left lines_left : ℕ)
-        (lines : List SourceLine) (middle : Place) → HasRead (start text faults old) middle lines
-        → ReadsNext middle (place_at text faults new source bytes_left lines_left) (Err TooMuchSource)
+        (lines : List SourceLine) (middle : Position) → HasRead (start text faults old) middle lines
+        → ReadsNext middle (position_at text faults new source bytes_left lines_left) (Err TooMuchSource)
         → GavePast text old new lines TooMuchSource }
     ensures too_many { (text : F → Option Text) (faults : F → ℕ) (old new : List F) (source bytes_left lines_left : ℕ)
-        (lines : List SourceLine) (middle : Place) → HasRead (start text faults old) middle lines
-        → ReadsNext middle (place_at text faults new source bytes_left lines_left) (Err TooManyLines)
+        (lines : List SourceLine) (middle : Position) → HasRead (start text faults old) middle lines
+        → ReadsNext middle (position_at text faults new source bytes_left lines_left) (Err TooManyLines)
         → GavePast text old new lines TooManyLines }
 {}

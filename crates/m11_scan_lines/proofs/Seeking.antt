@@ -13,25 +13,25 @@ use Rattle.m11_scan_lines.specs.Lines.{RawLine, cut, cleaned, is_empty, is_line,
 use Rattle.m11_scan_lines.specs.Line.{SourceLine, line_of}
 use Rattle.m11_scan_lines.specs.OpenLine.{OpenLine, nothing_open, with_return, with_all, is_unbegun}
 use Rattle.m11_scan_lines.specs.Sources.{Source, source, Took, StopsAt}
-use Rattle.m11_scan_lines.specs.Reader.{Place, place_at, Gave, Came, ReadsLine, ReadsEnd, FaultComes, ReadsNext}
+use Rattle.m11_scan_lines.specs.Reader.{Position, position_at, Gave, Came, ReadsLine, ReadsEnd, FaultComes, ReadsNext}
 use Rattle.m11_scan_lines.proofs.Cuts.{either, raw, bytes_of, cut_joined, cut_open, cut_line_feed, cut_end}
 use Rattle.m11_scan_lines.proofs.Gaves.{gave_none, gave_both, gave_bytes, gave_byte, gave_end}
 use Rattle.m11_scan_lines.proofs.OpenLines.{at_line_feed, at_end, tells, stays_unbegun}
 
 -- as far as the sources were read: no line has come, and none has begun
-pub record Seeks (old now : Place) (line : OpenLine) : Type 0 where
+pub record Seeks (old now : Position) (line : OpenLine) : Type 0 where
   pub given : List (Option ℕ)
   pub came : Came old now given
   pub closed : came.unclosed ≡ []
   pub none : line ≡ nothing_open
 
-pub begins : (place : Place) → Seeks place place nothing_open
-begins place = record {
+pub begins : (position : Position) → Seeks position position nothing_open
+begins position = record {
   given = [];
   came = record {
     passed = [];
     unclosed = [];
-    gave = gave_none place.texts;
+    gave = gave_none position.texts;
     is_cut = refl;
     none = refl;
     bytes_left = omega arith;
@@ -51,10 +51,10 @@ lines_in-push : (lines : List RawLine) (line : RawLine)
 lines_in-push lines line = omega (arith, sum_by-append (λ l. cond (is_line l) 1 0) lines (line ∷ []))
 
 -- one more source was read, and bytes of it came
-module _ (old now : Place) (line : OpenLine) (seeks : Seeks old now line) (text : Option Text)
+module _ (old now : Position) (line : OpenLine) (seeks : Seeks old now line) (text : Option Text)
     (texts : List (Option Text)) (fault : ℕ) (here : now.texts ≡ text ∷ texts) (middle : Source) (given : List ℕ)
     (took : Took (ltb 0 now.lines_left) (source text fault now.bytes_left line) middle given) where
-  abbrev pub inside : Place
+  abbrev pub inside : Position
   inside = record {
     source = now.source;
     texts = middle.text ∷ texts;
@@ -109,7 +109,7 @@ module _ (old now : Place) (line : OpenLine) (seeks : Seeks old now line) (text 
     abbrev piece : RawLine
     piece = raw given has_line_feed
 
-    pub line_closed : (new : Place) (kept : SourceLine) → new.texts ≡ new_texts → is_line piece ≡ true
+    pub line_closed : (new : Position) (kept : SourceLine) → new.texts ≡ new_texts → is_line piece ≡ true
         → kept ≡ line_of (line_text piece)
         → middle.bytes_left ≡ cond has_line_feed 1 0 + new.bytes_left → now.lines_left ≡ 1 + new.lines_left
         → new.faults ≡ now.faults → ReadsLine old new kept
@@ -127,7 +127,7 @@ module _ (old now : Place) (line : OpenLine) (seeks : Seeks old now line) (text 
       faults = faults ∙ seeks.came.faults;
     }
 
-    pub piece_passed : (new : Place) (line' : OpenLine) → new.texts ≡ new_texts → is_line piece ≡ false
+    pub piece_passed : (new : Position) (line' : OpenLine) → new.texts ≡ new_texts → is_line piece ≡ false
         → middle.bytes_left ≡ cond has_line_feed 1 0 + new.bytes_left → new.lines_left ≡ now.lines_left
         → new.faults ≡ now.faults → line' ≡ nothing_open → Seeks old new line'
     piece_passed new line' texts-are none bytes lines faults nothing = record {
@@ -175,7 +175,7 @@ module _ {F : Type 0} (text : F → Option Text) (faults : F → ℕ) (feeds : L
   pub fault_here : get_or (map faults feeds) i 0 ≡ faults x
   fault_here = get_or-map faults feeds i d 0 within ∙ ap faults (sym x-is)
 
--- ---- how the reading of a source leaves the place
+-- ---- how the reading of a source leaves the position
 
 empty_is : (xs : List ℕ) → is_empty xs ≡ true → xs ≡ []
 empty_is [] e = refl
@@ -186,10 +186,10 @@ not_both true A e f = absurd (cc)
 not_both false A e f = absurd (cc)
 
 module _ {F : Type 0} (text : F → Option Text) (faults : F → ℕ) (feeds : List F) (i : ℕ) (within : i < length feeds)
-    (d x z : F) (x-is : x ≡ get_or feeds i d) (old : Place) (left left' lines : ℕ) (line line' : OpenLine)
-    (seeks : Seeks old (place_at text faults feeds i left lines) line) where
-  abbrev now : Place
-  now = place_at text faults feeds i left lines
+    (d x z : F) (x-is : x ≡ get_or feeds i d) (old : Position) (left left' lines : ℕ) (line line' : OpenLine)
+    (seeks : Seeks old (position_at text faults feeds i left lines) line) where
+  abbrev now : Position
+  now = position_at text faults feeds i left lines
 
   abbrev before : Source
   before = source (text x) (faults x) left line
@@ -213,7 +213,7 @@ module _ {F : Type 0} (text : F → Option Text) (faults : F → ℕ) (feeds : L
   same = faults_same text faults feeds i within d x z x-is
 
   module _ (fault : LineFault) (s : StopsAt (ltb 0 lines) before after (Err fault)) where
-    abbrev middle : Place
+    abbrev middle : Position
     middle = inside old now line seeks (text x) later (faults x) here s.middle s.given s.took
 
     counted : s.middle.faults ≡ get_or (map faults feeds) i 0
@@ -224,7 +224,7 @@ module _ {F : Type 0} (text : F → Option Text) (faults : F → ℕ) (feeds : L
     byte_came byte g = rw gone (gave_byte s.middle.text (text z) later byte g)
 
   faulty : (fault : LineFault) (s : StopsAt (ltb 0 lines) before after (Err fault))
-      → FaultComes (middle fault s) (place_at text faults (set feeds i z) i left' lines) fault
+      → FaultComes (middle fault s) (position_at text faults (set feeds i z) i left' lines) fault
   faulty Read s =
       let P : ℕ → Type 0 = λ n. GivesFailure s.middle.text (text z) n in
       let Q : ℕ → Type 0 = λ n. Rises n (faults z) in
@@ -253,7 +253,7 @@ module _ {F : Type 0} (text : F → Option Text) (faults : F → ℕ) (feeds : L
       )
 
   pub fault_met : (fault : LineFault) → StopsAt (ltb 0 lines) before after (Err fault)
-      → ReadsNext old (place_at text faults (set feeds i z) i left' lines) (Err fault)
+      → ReadsNext old (position_at text faults (set feeds i z) i left' lines) (Err fault)
   fault_met fault s = (
     seeks.given ++ bytes_of s.given,
     middle fault s,
@@ -262,7 +262,7 @@ module _ {F : Type 0} (text : F → Option Text) (faults : F → ℕ) (feeds : L
   )
 
   pub line_feed_met : (kept : SourceLine) → StopsAt (ltb 0 lines) before after (Ok LineFeed) → kept ≡ line'.kept
-      → ReadsLine old (place_at text faults (set feeds i z) i left' (lines - 1)) kept
+      → ReadsLine old (position_at text faults (set feeds i z) i left' (lines - 1)) kept
   line_feed_met kept s is =
       let all : line' ≡ with_all nothing_open s.given =
       s.last.3 ∙ s.took.line ∙ ap (λ (l : OpenLine). with_all l s.given) seeks.none in
@@ -270,7 +270,7 @@ module _ {F : Type 0} (text : F → Option Text) (faults : F → ℕ) (feeds : L
       line_closed old now line seeks (text x) later (faults x) here s.middle s.given s.took (Some 10) true
       (text z ∷ later) (cut_line_feed s.given s.took.in_line)
       (gave_byte s.middle.text (text z) later 10 s.last.0)
-      (place_at text faults (set feeds i z) i left' (lines - 1)) kept gone refl
+      (position_at text faults (set feeds i z) i left' (lines - 1)) kept gone refl
       (is ∙ at_line_feed line' s.given all) s.last.2 (omega arith) (same (s.last.1 ∙ s.took.faults))
 
   module _ (s : StopsAt (ltb 0 lines) before after (Ok SourceEnd)) where
@@ -288,29 +288,29 @@ module _ {F : Type 0} (text : F → Option Text) (faults : F → ℕ) (feeds : L
     ]
 
     pub end_met : (kept : SourceLine) → is_unbegun line' ≡ false → kept ≡ with_return line'
-        → ReadsLine old (place_at text faults (set feeds i z) (i + 1) left' (lines - 1)) kept
+        → ReadsLine old (position_at text faults (set feeds i z) (i + 1) left' (lines - 1)) kept
     end_met kept e is =
         let room : 1 ≤ lines = room_for_line e in
         let some = begun e in
         line_closed old now line seeks (text x) later (faults x) here s.middle s.given s.took None false later
         (cut_end s.given s.took.in_line) (gave_end s.middle.text (text z) later s.last.0)
-        (place_at text faults (set feeds i z) (i + 1) left' (lines - 1)) kept past (rw some refl)
+        (position_at text faults (set feeds i z) (i + 1) left' (lines - 1)) kept past (rw some refl)
         (is ∙ at_end line' s.given all_kept) (omega (arith, s.last.2)) (omega arith)
         (same (s.last.1 ∙ s.took.faults))
 
     pub end_passed : is_unbegun line' ≡ true
-        → Seeks old (place_at text faults (set feeds i z) (i + 1) left' lines) line'
+        → Seeks old (position_at text faults (set feeds i z) (i + 1) left' lines) line'
     end_passed e =
         let empty : is_empty (cleaned s.given) ≡ true = sym (tells line' s.given all_kept) ∙ e in
         piece_passed old now line seeks (text x) later (faults x) here s.middle s.given s.took None false later
         (cut_end s.given s.took.in_line) (gave_end s.middle.text (text z) later s.last.0)
-        (place_at text faults (set feeds i z) (i + 1) left' lines) line' past (rw empty refl)
+        (position_at text faults (set feeds i z) (i + 1) left' lines) line' past (rw empty refl)
         (omega (arith, s.last.2)) refl (same (s.last.1 ∙ s.took.faults))
         (stays_unbegun line' s.given all_kept (empty_is (cleaned s.given) empty))
 
 pub all_ended : {F : Type 0} (text : F → Option Text) (faults : F → ℕ) (feeds : List F) (i left lines : ℕ)
-    (old : Place) (line : OpenLine) → Seeks old (place_at text faults feeds i left lines) line → length feeds ≤ i
-    → ReadsEnd old (place_at text faults feeds i left lines)
+    (old : Position) (line : OpenLine) → Seeks old (position_at text faults feeds i left lines) line → length feeds ≤ i
+    → ReadsEnd old (position_at text faults feeds i left lines)
 all_ended text faults feeds i left lines old line seeks le = record {
   given = seeks.given;
   came = seeks.came;

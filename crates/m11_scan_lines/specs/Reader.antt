@@ -23,15 +23,15 @@ unread =
     record { source = 0; bytes_left = most_bytes; lines_left = most_lines; line = no_line; fault = None }
 
 -- sources between two calls: the texts of those that are not at their ends, and all counts of failures
-pub record Place : Type 0 where
+pub record Position : Type 0 where
   pub source : ℕ
   pub texts : List (Option Text)
   pub faults : List ℕ
   pub bytes_left : ℕ
   pub lines_left : ℕ
 
-abbrev pub place_at : {F : Type 0} → (F → Option Text) → (F → ℕ) → List F → ℕ → ℕ → ℕ → Place
-place_at text faults feeds source bytes_left lines_left = record {
+abbrev pub position_at : {F : Type 0} → (F → Option Text) → (F → ℕ) → List F → ℕ → ℕ → ℕ → Position
+position_at text faults feeds source bytes_left lines_left = record {
   source = source;
   texts = drop source (map text feeds);
   faults = map faults feeds;
@@ -39,9 +39,9 @@ place_at text faults feeds source bytes_left lines_left = record {
   lines_left = lines_left;
 }
 
-abbrev pub place : {F : Type 0} → (F → Option Text) → (F → ℕ) → List F → LineReading → Place
-place text faults feeds reading =
-    place_at text faults feeds reading.source reading.bytes_left reading.lines_left
+abbrev pub position : {F : Type 0} → (F → Option Text) → (F → ℕ) → List F → LineReading → Position
+position text faults feeds reading =
+    position_at text faults feeds reading.source reading.bytes_left reading.lines_left
 
 -- the sources gave this, one after another: bytes, and after each source its end
 abbrev pub Gave : List (Option Text) → List (Option Text) → List (Option ℕ) → Type 0
@@ -53,7 +53,7 @@ Gave (text ∷ texts) new (Some byte ∷ input) =
 Gave (text ∷ texts) new (None ∷ input) = (text' : Option Text) × GivesEnd text text' × Gave texts new input
 
 -- pieces of sources came that are no lines, and bytes after them, all within the limits
-pub record Came (old new : Place) (given : List (Option ℕ)) : Type 0 where
+pub record Came (old new : Position) (given : List (Option ℕ)) : Type 0 where
   pub passed : List RawLine
   pub unclosed : Bytes
   pub gave : Gave old.texts new.texts given
@@ -65,7 +65,7 @@ pub record Came (old new : Place) (given : List (Option ℕ)) : Type 0 where
   pub faults : new.faults ≡ old.faults
 
 -- what came are such pieces and then a line, up to its line feed or the end of its source
-pub record ReadsLine (old new : Place) (line : SourceLine) : Type 0 where
+pub record ReadsLine (old new : Position) (line : SourceLine) : Type 0 where
   pub given : List (Option ℕ)
   pub passed : List RawLine
   pub raw : RawLine
@@ -79,14 +79,14 @@ pub record ReadsLine (old new : Place) (line : SourceLine) : Type 0 where
   pub faults : new.faults ≡ old.faults
 
 -- what came has no line, and no source is left
-pub record ReadsEnd (old new : Place) : Type 0 where
+pub record ReadsEnd (old new : Position) : Type 0 where
   pub given : List (Option ℕ)
   pub came : Came old new given
   pub closed : came.unclosed ≡ []
   pub ended : new.texts ≡ []
 
 -- the source that is read failed, and no other did
-pub record Fails (old new : Place) : Type 0 where
+pub record Fails (old new : Position) : Type 0 where
   pub text : Option Text
   pub text' : Option Text
   pub texts : List (Option Text)
@@ -100,7 +100,7 @@ pub record Fails (old new : Place) : Type 0 where
 
 -- a fault came, after what has no line: a failure, the byte past the limit on bytes, or the first byte of a line past
 -- the limit on lines that is no NUL
-abbrev pub FaultComes : Place → Place → LineFault → Type 0
+abbrev pub FaultComes : Position → Position → LineFault → Type 0
 FaultComes old new Read = Fails old new
 FaultComes old new TooMuchSource = (byte : ℕ) × Gave old.texts new.texts (Some byte ∷ [])
     × (new.faults ≡ old.faults) × (old.bytes_left ≡ 0)
@@ -114,8 +114,8 @@ found line (Ok false) = Ok None
 found line (Err fault) = Err fault
 
 -- a call read the next line, found that there is none, or met a fault
-abbrev pub ReadsNext : Place → Place → Result (Option SourceLine) LineFault → Type 0
+abbrev pub ReadsNext : Position → Position → Result (Option SourceLine) LineFault → Type 0
 ReadsNext old new (Ok (Some line)) = ReadsLine old new line
 ReadsNext old new (Ok None) = ReadsEnd old new
 ReadsNext old new (Err fault) =
-    (given : List (Option ℕ)) × (middle : Place) × Came old middle given × FaultComes middle new fault
+    (given : List (Option ℕ)) × (middle : Position) × Came old middle given × FaultComes middle new fault

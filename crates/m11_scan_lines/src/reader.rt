@@ -2,7 +2,7 @@
 
 ghost use Rattle.std.specs.Prelude.{◌≡◌, Some, None, Err};
 ghost use Rattle.std.specs.Result.{result_err};
-ghost use Rattle.m11_scan_lines.specs.Reader.{ReadsNext, found, place, unread};
+ghost use Rattle.m11_scan_lines.specs.Reader.{ReadsNext, found, position, unread};
 
 use crate::fault::LineFault;
 use crate::line::Line;
@@ -59,8 +59,8 @@ impl LineReader {
     /// feeds have to be those of the calls before. A fault is the first one in the order of the bytes; after it each call returns the
     /// same and reads nothing.
     pub fn next<F: Feed>(&mut self, feeds: &mut [F]) -> Result<bool, LineFault>
-        ensures reads { self.old.fault ≡ None → ReadsNext (place F.text F.faults feeds.old self.old)
-            (place F.text F.faults feeds.new self.new) (found self.new.line result) }
+        ensures reads { self.old.fault ≡ None → ReadsNext (position F.text F.faults feeds.old self.old)
+            (position F.text F.faults feeds.new self.new) (found self.new.line result) }
         ensures failed { (fault : LineFault) → self.old.fault ≡ Some fault
             → (result ≡ Err fault) × (self.new ≡ self.old) × (feeds.new ≡ feeds.old) }
         ensures keeps { self.new.fault ≡ result_err result }
@@ -78,8 +78,8 @@ impl LineReader {
     }
 
     fn read_line<F: Feed>(&mut self, feeds: &mut [F]) -> Result<bool, LineFault>
-        ensures reads { ReadsNext (place F.text F.faults feeds.old self.old)
-            (place F.text F.faults feeds.new self.new) (found self.new.line result) }
+        ensures reads { ReadsNext (position F.text F.faults feeds.old self.old)
+            (position F.text F.faults feeds.new self.new) (found self.new.line result) }
         ensures keeps { self.new.fault ≡ self.old.fault }
     {
         self.line.clear();

@@ -138,44 +138,44 @@ other_begins byte text other =
     subst P (sym other) refl
 
 module _ (line : Bytes) (target : Lexeme) where
-  form_unset : (place end : ℕ) (form : Form) (tokens : List Lexeme) → IsOther form
-      → assignment_to line target (lexemes_at line place end form ++ tokens) ≡ None
-  form_unset place end (Cut sort) tokens other =
-      unset_before line target (record { sort = sort; start = place; end = end; text = text_between line place end }) tokens other
-  form_unset place end Blank tokens other = absurd other
-  form_unset place end Comment tokens other = absurd other
-  form_unset place end Skipped tokens other = absurd other
+  form_unset : (column end : ℕ) (form : Form) (tokens : List Lexeme) → IsOther form
+      → assignment_to line target (lexemes_at line column end form ++ tokens) ≡ None
+  form_unset column end (Cut sort) tokens other =
+      unset_before line target (record { sort = sort; start = column; end = end; text = text_between line column end }) tokens other
+  form_unset column end Blank tokens other = absurd other
+  form_unset column end Comment tokens other = absurd other
+  form_unset column end Skipped tokens other = absurd other
 
   abbrev Unset : ℕ → List ℕ → Type 0
-  Unset place text = assignment_to line target (lexemes_from line place (pieces_of text)) ≡ None
+  Unset column text = assignment_to line target (lexemes_from line column (pieces_of text)) ≡ None
 
-  first_unset : (place : ℕ) (byte : ℕ) (text : List ℕ) → is_operand_start byte ≡ true → Unset place (byte ∷ text)
-  first_unset place byte text start =
-      form_unset place (place + (first_piece (byte ∷ text)).length) (first_piece (byte ∷ text)).form
-      (lexemes_from line (place + (first_piece (byte ∷ text)).length)
+  first_unset : (column : ℕ) (byte : ℕ) (text : List ℕ) → is_operand_start byte ≡ true → Unset column (byte ∷ text)
+  first_unset column byte text start =
+      form_unset column (column + (first_piece (byte ∷ text)).length) (first_piece (byte ∷ text)).form
+      (lexemes_from line (column + (first_piece (byte ∷ text)).length)
       (pieces_after ((first_piece (byte ∷ text)).length - 1) text))
       (start_other byte text (is_name_character byte) (byte == 0o43) (byte == 0o100) (byte == 0o50) (byte == 0o55) refl refl refl refl
       refl start)
 
-  blank_unset : (place : ℕ) (byte : ℕ) (text : List ℕ) → is_blank byte ≡ true → Unset (place + 1) text → Unset place (byte ∷ text)
-  blank_unset place byte text blank later =
-      let P : Piece → Type 0 = λ p. assignment_to line target (lexemes_at line place (place + p.length) p.form
-      ++ lexemes_from line (place + p.length) (pieces_after (p.length - 1) text)) ≡ None in
+  blank_unset : (column : ℕ) (byte : ℕ) (text : List ℕ) → is_blank byte ≡ true → Unset (column + 1) text → Unset column (byte ∷ text)
+  blank_unset column byte text blank later =
+      let P : Piece → Type 0 = λ p. assignment_to line target (lexemes_at line column (column + p.length) p.form
+      ++ lexemes_from line (column + p.length) (pieces_after (p.length - 1) text)) ≡ None in
       subst P (sym (blank_is byte text (byte == 0o40) (byte == 0o11) refl refl blank)) later
 
-  byte_unset : (place : ℕ) (byte : ℕ) (text : List ℕ) (blank : Bool) → blank ≡ is_blank byte
+  byte_unset : (column : ℕ) (byte : ℕ) (text : List ℕ) (blank : Bool) → blank ≡ is_blank byte
       → begins_operand (byte ∷ text) ≡ true → ((later : ℕ) → begins_operand text ≡ true → Unset later text)
-      → Unset place (byte ∷ text)
-  byte_unset place byte text true is begins unset =
-      blank_unset place byte text (sym is) (unset (place + 1) (blank_begins byte text (sym is) ∙ begins))
-  byte_unset place byte text false is begins unset =
-      first_unset place byte text (other_begins byte text (sym is) ∙ begins)
+      → Unset column (byte ∷ text)
+  byte_unset column byte text true is begins unset =
+      blank_unset column byte text (sym is) (unset (column + 1) (blank_begins byte text (sym is) ∙ begins))
+  byte_unset column byte text false is begins unset =
+      first_unset column byte text (other_begins byte text (sym is) ∙ begins)
 
-  text_unset : (text : List ℕ) (place : ℕ) → begins_operand text ≡ true → Unset place text
-  text_unset [] place begins = refl
-  text_unset (byte ∷ text) place begins =
-      byte_unset place byte text (is_blank byte) refl begins (λ later found. text_unset text later found)
+  text_unset : (text : List ℕ) (column : ℕ) → begins_operand text ≡ true → Unset column text
+  text_unset [] column begins = refl
+  text_unset (byte ∷ text) column begins =
+      byte_unset column byte text (is_blank byte) refl begins (λ later found. text_unset text later found)
 
-  pub operand_unset : (place : ℕ) → begins_operand (drop place line) ≡ true
-      → assignment_to line target (tokens_from line place) ≡ None
-  operand_unset place begins = text_unset (drop place line) place begins
+  pub operand_unset : (column : ℕ) → begins_operand (drop column line) ≡ true
+      → assignment_to line target (tokens_from line column) ≡ None
+  operand_unset column begins = text_unset (drop column line) column begins

@@ -17,15 +17,15 @@ abbrev pub begins_with_comma : Bytes → Bool
 begins_with_comma [] = false
 begins_with_comma (byte ∷ text) = byte == 0o54
 
--- the place after the blanks that stand from a place on
+-- the column after the blanks that stand from a column on
 abbrev pub after_blanks : Bytes → ℕ → ℕ
-after_blanks line place = place + prefix_len is_blank (drop place line)
+after_blanks line column = column + prefix_len is_blank (drop column line)
 
 -- blanks, one comma with the blanks after it, or both
 abbrev pub separator_at : Bytes → ℕ → Separator
-separator_at line place = record {
-  has_comma = begins_with_comma (drop (prefix_len is_blank (drop place line)) (drop place line));
-  end = place + separator_length (drop place line);
+separator_at line column = record {
+  has_comma = begins_with_comma (drop (prefix_len is_blank (drop column line)) (drop column line));
+  end = column + separator_length (drop column line);
 }
 
 -- an actual that needs no closing mark
@@ -33,7 +33,7 @@ abbrev pub whole_actual : ActualKind → ℕ → ℕ → Actual
 whole_actual kind start end =
     record { kind = kind; inside = record { start = start; end = end }; is_closed = true; end = end }
 
--- the inside of brackets, from the place after the `<` on
+-- the inside of brackets, from the column after the `<` on
 abbrev pub in_brackets : ℕ → Enclosed → Actual
 in_brackets start enclosed = record {
   kind = Bracketed;
@@ -45,7 +45,7 @@ in_brackets start enclosed = record {
 abbrev pub bracketed_actual : Bytes → ℕ → Actual
 bracketed_actual line start = in_brackets start (bracketed (drop start line))
 
--- an expression, from the place after the `\` on
+-- an expression, from the column after the `\` on
 abbrev pub digits_actual : Bytes → ℕ → Actual
 digits_actual line start = whole_actual Digits start (expression_end line start)
 
@@ -61,7 +61,7 @@ actual_in line start gives_digits (byte ∷ text) =
     else (if byte == 0o74 then Some (bracketed_actual line (start + 1))
     else (if byte == 0o134 && gives_digits then Some (digits_actual line (start + 1)) else Some (bare_actual line start)))
 
--- the actual that stands next from a place on, after blanks
+-- the actual that stands next from a column on, after blanks
 abbrev pub next_actual : Bytes → ℕ → Bool → Option Actual
-next_actual line place gives_digits =
-    actual_in line (after_blanks line place) gives_digits (drop (after_blanks line place) line)
+next_actual line column gives_digits =
+    actual_in line (after_blanks line column) gives_digits (drop (after_blanks line column) line)

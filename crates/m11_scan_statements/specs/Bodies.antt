@@ -75,7 +75,7 @@ abbrev pub body_in : Bytes → List Lexeme → Body
 body_in line [] = Nothing
 body_in line (first ∷ tokens) = begun_body line first tokens
 
--- the place after the operator of a line of a size, or the line's end where none stands
+-- the column after the operator of a line of a size, or the line's end where none stands
 abbrev pub end_of : Body → ℕ → ℕ
 end_of Nothing size = size
 end_of (Assign assignment) size = size

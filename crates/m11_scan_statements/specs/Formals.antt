@@ -10,9 +10,9 @@ use Rattle.m11_scan_statements.specs.declared.formals.NextFormal.TheVariants.{En
 abbrev pub named : ℕ → ℕ → Bool → NextFormal
 named start end is_created = Named (record { name = record { start = start; end = end }; is_created = is_created })
 
--- a `?` stands directly before a place
+-- a `?` stands directly before a column
 abbrev pub follows_question : Bytes → ℕ → Bool
-follows_question line place = nat_lt 0 place && slice_index line (place - 1) == 0o77
+follows_question line column = nat_lt 0 column && slice_index line (column - 1) == 0o77
 
 -- a name, for which symbols are created where a `?` stands directly before it; or what is none
 abbrev pub formal_in : Bytes → List Lexeme → NextFormal
@@ -20,17 +20,17 @@ formal_in line [] = Ends
 formal_in line (token ∷ tokens) =
     if is_name token then named token.start token.end (follows_question line token.start) else Bad
 
--- what stands next from a place on
+-- what stands next from a column on
 abbrev pub next_formal : Bytes → ℕ → NextFormal
-next_formal line place = formal_in line (tokens_from line place)
+next_formal line column = formal_in line (tokens_from line column)
 
--- a formal ends after a place, and no later than another
+-- a formal ends after a column, and no later than another
 abbrev pub EndsAfter : ℕ → NextFormal → Type 0
-EndsAfter place Ends = Unit {0}
-EndsAfter place Bad = Unit {0}
-EndsAfter place (Named formal) = place < formal.name.end
+EndsAfter column Ends = Unit {0}
+EndsAfter column Bad = Unit {0}
+EndsAfter column (Named formal) = column < formal.name.end
 
 abbrev pub EndsBefore : ℕ → NextFormal → Type 0
-EndsBefore place Ends = Unit {0}
-EndsBefore place Bad = Unit {0}
-EndsBefore place (Named formal) = formal.name.end ≤ place
+EndsBefore column Ends = Unit {0}
+EndsBefore column Bad = Unit {0}
+EndsBefore column (Named formal) = formal.name.end ≤ column

@@ -68,11 +68,11 @@ labels_in (name ∷ (colon ∷ tokens)) = before_labels (label_of name colon) (l
 abbrev pub labels_at : Bytes → List Label
 labels_at line = labels_in (tokens_of line)
 
--- the place after the last of some labels that begin at a place
+-- the column after the last of some labels that begin at a column
 abbrev pub end_of : ℕ → List Label → ℕ
-end_of place [] = place
-end_of place (label ∷ labels) = end_of label.end labels
+end_of column [] = column
+end_of column (label ∷ labels) = end_of label.end labels
 
--- the place after a line's labels
+-- the column after a line's labels
 abbrev pub labels_end : Bytes → ℕ
 labels_end line = end_of 0 (labels_at line)

@@ -36,12 +36,12 @@ after_name name (token ∷ tokens) =
 
 -- what is no name goes up to the next comma
 abbrev pub passed_over : ℕ → List Lexeme → ListedName
-passed_over place [] = element None false place
-passed_over place (token ∷ tokens) =
+passed_over column [] = element None false column
+passed_over column (token ∷ tokens) =
     if is_comma token.sort then element None true token.end else passed_over token.end tokens
 
--- the element that begins at a place, before some tokens
+-- the element that begins at a column, before some tokens
 abbrev pub listed_name : ℕ → List Lexeme → ListedName
-listed_name place [] = passed_over place []
-listed_name place (token ∷ tokens) =
-    if is_name token then after_name token tokens else passed_over place (token ∷ tokens)
+listed_name column [] = passed_over column []
+listed_name column (token ∷ tokens) =
+    if is_name token then after_name token tokens else passed_over column (token ∷ tokens)

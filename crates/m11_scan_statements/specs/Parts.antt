@@ -55,24 +55,24 @@ part_in line start is_first (byte ∷ text) =
     if byte == 0o73 && not is_first then None
     else (if byte == 0o74 then Some (expression_part line (start + 1)) else Some (text_part line (start + 1) byte))
 
--- the place of the next character that prints
+-- the column of the next character that prints
 abbrev pub next_printed : Bytes → ℕ → ℕ
-next_printed line place = place + prefix_len is_unprinted (drop place line)
+next_printed line column = column + prefix_len is_unprinted (drop column line)
 
--- the part that stands next from a place on
+-- the part that stands next from a column on
 abbrev pub next_part : Bytes → ℕ → Bool → Option Part
-next_part line place is_first = part_in line (next_printed line place) is_first (drop (next_printed line place) line)
+next_part line column is_first = part_in line (next_printed line column) is_first (drop (next_printed line column) line)
 
--- parts that stand one after the other from a place on, the first of which is the text's first or not, and the place after them
+-- parts that stand one after the other from a column on, the first of which is the text's first or not, and the column after them
 pub data AreParts (line : Bytes) : Bool → ℕ → List Part → ℕ → Type 0 where
   -- where no part stands, they end
-  End : (is_first : Bool) (place : ℕ) → next_part line place is_first ≡ None → AreParts line is_first place [] place
+  End : (is_first : Bool) (column : ℕ) → next_part line column is_first ≡ None → AreParts line is_first column [] column
   -- a part without its end is the last
-  Break : (is_first : Bool) (place : ℕ) (part : Part) → next_part line place is_first ≡ Some part → part.is_closed ≡ false
-      → AreParts line is_first place (part ∷ []) part.end
+  Break : (is_first : Bool) (column : ℕ) (part : Part) → next_part line column is_first ≡ Some part → part.is_closed ≡ false
+      → AreParts line is_first column (part ∷ []) part.end
   -- after any other the next one stands
-  Then : (is_first : Bool) (place : ℕ) (part : Part) (parts : List Part) (end : ℕ) → next_part line place is_first ≡ Some part
-      → part.is_closed ≡ true → AreParts line false part.end parts end → AreParts line is_first place (part ∷ parts) end
+  Then : (is_first : Bool) (column : ℕ) (part : Part) (parts : List Part) (end : ℕ) → next_part line column is_first ≡ Some part
+      → part.is_closed ≡ true → AreParts line false part.end parts end → AreParts line is_first column (part ∷ parts) end
 
 abbrev pub flag_of : PartKind → ℕ
 flag_of Text = flag_A

@@ -30,7 +30,7 @@ has_outside labels = list_any (λ label. is_outside label.kind) labels
 abbrev pub flag_if : Bool → ℕ → ℕ
 flag_if holds flag = if holds then flag else 0
 
--- L for an over-long line, A for a local symbol outside 1 to 65535 among its labels, I for a skipped character up to a place
+-- L for an over-long line, A for a local symbol outside 1 to 65535 among its labels, I for a skipped character up to a column
 abbrev pub flags_of : SourceLine → List Label → ℕ → ℕ
 flags_of line labels end =
     bit_or (bit_or (flag_if line.is_over_long flag_L) (flag_if (has_outside labels) flag_A))

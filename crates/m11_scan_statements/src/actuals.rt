@@ -29,7 +29,7 @@ pub struct Actual {
     pub inside: Span,
     /// Whether its end was found. Without its `>` it goes to the end of the line, and has A.
     pub is_closed: bool,
-    /// The place after it.
+    /// The column after it.
     pub end: u8,
 }
 
@@ -38,22 +38,22 @@ pub struct Actual {
 pub struct Separator {
     /// Whether it has the comma.
     pub has_comma: bool,
-    /// The place after it.
+    /// The column after it.
     pub end: u8,
 }
 
-/// What separates the arguments before and after a place of a line.
-pub fn separator_at(line: &Line, place: usize) -> Separator
-    requires { place ≤ length line.now.text }
-    ensures separator { result ≡ spec.separator_at line.now.text place }
-    ensures least { place ≤ result.end }
+/// What separates the arguments before and after a column of a line.
+pub fn separator_at(line: &Line, column: usize) -> Separator
+    requires { column ≤ length line.now.text }
+    ensures separator { result ≡ spec.separator_at line.now.text column }
+    ensures least { column ≤ result.end }
     ensures most { result.end ≤ length line.now.text }
 {
-    let text = text_from(line, place);
+    let text = text_from(line, column);
     let blanks = blanks_length(text);
     Separator {
         has_comma: begins_with_comma(&text[blanks..]),
-        end: (place + separator_length(text)) as u8,
+        end: (column + separator_length(text)) as u8,
     }
 }
 
@@ -63,16 +63,16 @@ fn begins_with_comma(text: &[u8]) -> bool
     matches!(text, [b',', ..])
 }
 
-/// The actual that stands next in a line from a place on, after blanks, if the line has one more there. `\` is a character
+/// The actual that stands next in a line from a column on, after blanks, if the line has one more there. `\` is a character
 /// like others where no digits are given.
-pub fn next_actual(line: &Line, place: usize, gives_digits: bool) -> Option<Actual>
-    requires { place ≤ length line.now.text }
-    ensures actual { result ≡ spec.next_actual line.now.text place gives_digits }
-    ensures least { IfSome result (λ actual. place ≤ actual.end) }
+pub fn next_actual(line: &Line, column: usize, gives_digits: bool) -> Option<Actual>
+    requires { column ≤ length line.now.text }
+    ensures actual { result ≡ spec.next_actual line.now.text column gives_digits }
+    ensures least { IfSome result (λ actual. column ≤ actual.end) }
     ensures begins { IfSome result (λ actual. actual.inside.start ≤ actual.end) }
     ensures most { IfSome result (λ actual. actual.end ≤ length line.now.text) }
 {
-    let start = place + blanks_length(text_from(line, place));
+    let start = column + blanks_length(text_from(line, column));
     match text_from(line, start) {
         [] | [b';', ..] => None,
         [b'<', ..] => Some(bracketed_actual(line, start + 1)),

@@ -18,7 +18,7 @@ pub struct Assignment {
     pub name: Span,
     /// Whether it is made global, by `==`.
     pub is_global: bool,
-    /// The place after the `=` or `==`, where the value begins.
+    /// The column after the `=` or `==`, where the value begins.
     pub value: u8,
 }
 
@@ -29,22 +29,22 @@ pub enum Body {
     Nothing,
     /// `name=e` or `name==e`.
     Assign(Assignment),
-    /// `.=e`: the place after the `=`.
+    /// `.=e`: the column after the `=`.
     SetCounter(u8),
     /// A name, in the place of an operator's: whether it is one is asked where it stands. What stands after it is the operator's to
     /// cut.
     Operate(Span),
-    /// Anything else, which counts as the elements of a `.WORD`: the place where they begin.
+    /// Anything else, which counts as the elements of a `.WORD`: the column where they begin.
     Words(u8),
 }
 
-// The body that stands in a line from a place on, by the token that stands next there.
-pub(crate) fn body_at(line: &Line, place: usize, next: Option<Token>) -> Body
-    requires within { place ≤ length line.now.text }
-    requires next { MatchOption next (tokens_from line.now.text place ≡ [])
-        (λ token. tokens_from line.now.text place ≡ lexeme line.now.text token ∷ tokens_from line.now.text token.end) }
+// The body that stands in a line from a column on, by the token that stands next there.
+pub(crate) fn body_at(line: &Line, column: usize, next: Option<Token>) -> Body
+    requires within { column ≤ length line.now.text }
+    requires next { MatchOption next (tokens_from line.now.text column ≡ [])
+        (λ token. tokens_from line.now.text column ≡ lexeme line.now.text token ∷ tokens_from line.now.text token.end) }
     requires next_within { IfSome next (λ token. token.end ≤ length line.now.text) }
-    ensures body { result ≡ spec.body_in line.now.text (tokens_from line.now.text place) }
+    ensures body { result ≡ spec.body_in line.now.text (tokens_from line.now.text column) }
     ensures within { spec.end_of result (length line.now.text) ≤ length line.now.text }
 {
     match next {
@@ -87,12 +87,12 @@ fn assignment_to(line: &Line, target: Token) -> Option<Body>
     }
 }
 
-// Whether the first character from a place on that is no blank begins an operand, or there is none.
-fn begins_operand(line: &Line, place: usize) -> bool
-    requires { place ≤ length line.now.text }
-    ensures { result ≡ spec.begins_operand (drop place line.now.text) }
+// Whether the first character from a column on that is no blank begins an operand, or there is none.
+fn begins_operand(line: &Line, column: usize) -> bool
+    requires { column ≤ length line.now.text }
+    ensures { result ≡ spec.begins_operand (drop column line.now.text) }
 {
-    let text = &line.text()[place..];
+    let text = &line.text()[column..];
     match &text[blanks_length(text)..] {
         [first, ..] => is_operand_start(*first),
         [] => true,

@@ -28,26 +28,26 @@ pub enum NextFormal {
     Named(Formal),
 }
 
-/// What stands next in a list of formals from a place of a line on.
-pub fn next_formal(line: &Line, place: usize) -> NextFormal
-    requires { place ≤ length line.now.text }
-    ensures formal { result ≡ spec.next_formal line.now.text place }
-    ensures least { spec.EndsAfter place result }
+/// What stands next in a list of formals from a column of a line on.
+pub fn next_formal(line: &Line, column: usize) -> NextFormal
+    requires { column ≤ length line.now.text }
+    ensures formal { result ≡ spec.next_formal line.now.text column }
+    ensures least { spec.EndsAfter column result }
     ensures most { spec.EndsBefore (length line.now.text) result }
 {
-    match next_token(line, place) {
+    match next_token(line, column) {
         Some(token) if is_name(line, token) => named(token, follows_question(line, token.start)),
         Some(_) => NextFormal::Bad,
         None => NextFormal::Ends,
     }
 }
 
-// Whether a `?` stands directly before a place.
-fn follows_question(line: &Line, place: u8) -> bool
-    requires { place ≤ length line.now.text }
-    ensures { result ≡ spec.follows_question line.now.text place }
+// Whether a `?` stands directly before a column.
+fn follows_question(line: &Line, column: u8) -> bool
+    requires { column ≤ length line.now.text }
+    ensures { result ≡ spec.follows_question line.now.text column }
 {
-    place > 0 && line.text()[usize::from(place - 1)] == b'?'
+    column > 0 && line.text()[usize::from(column - 1)] == b'?'
 }
 
 fn named(token: Token, is_created: bool) -> NextFormal

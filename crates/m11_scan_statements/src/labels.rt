@@ -35,7 +35,7 @@ pub struct Label {
     pub kind: LabelKind,
     /// Its name or local symbol.
     pub name: Span,
-    /// The place after its colon.
+    /// The column after its colon.
     pub end: u8,
 }
 
@@ -58,7 +58,7 @@ pub fn labels_of(line: &Line) -> ArrayVec<Label, LABEL_LIMIT>
 // What a statement keeps of the labels of its line.
 #[derive(Clone, Copy)]
 pub(crate) struct LabelField {
-    // The place after the last label.
+    // The column after the last label.
     pub end: usize,
     // The label, where there is one alone.
     pub single: Option<Label>,
@@ -116,17 +116,17 @@ fn is_outside(kind: LabelKind) -> bool
     matches!(kind, LabelKind::Outside)
 }
 
-// The label that stands next in a line from a place on, if one does.
-fn label_at(line: &Line, place: usize) -> Option<Label>
-    requires { place ≤ length line.now.text }
-    ensures label { MatchOption result (spec.labels_in (tokens_from line.now.text place) ≡ [])
-        (λ label. spec.labels_in (tokens_from line.now.text place)
+// The label that stands next in a line from a column on, if one does.
+fn label_at(line: &Line, column: usize) -> Option<Label>
+    requires { column ≤ length line.now.text }
+    ensures label { MatchOption result (spec.labels_in (tokens_from line.now.text column) ≡ [])
+        (λ label. spec.labels_in (tokens_from line.now.text column)
         ≡ label ∷ spec.labels_in (tokens_from line.now.text label.end)) }
-    ensures after { IfSome result (λ label. place + 2 ≤ label.end) }
+    ensures after { IfSome result (λ label. column + 2 ≤ label.end) }
     ensures within { IfSome result (λ label. label.end ≤ length line.now.text) }
     ensures limited { IfSome result (λ label. label.end ≤ line_limit) }
 {
-    let name = next_token(line, place)?;
+    let name = next_token(line, column)?;
     label_by(line, name)
 }
 

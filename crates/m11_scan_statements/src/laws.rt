@@ -14,7 +14,7 @@ pub fn labels_and_body_stand_in_order()
     ensures body { (line : Bytes) → BodyStands (labels_end line) (length line) (body_of line) }
 {}
 
-/// Upper or lower case makes no difference to labels, to what stands after them, to their places and to their flags.
+/// Upper or lower case makes no difference to labels, to what stands after them, to their columns and to their flags.
 #[tactic(auto, using(crate::proofs::Folded::cases))]
 pub fn case_makes_no_difference()
     ensures labels { (a b : Bytes) → map folded a ≡ map folded b → labels_at a ≡ labels_at b }

@@ -16,21 +16,21 @@ pub struct ListedName {
     pub name: Option<Span>,
     /// Whether a comma stands after it, and with it a further element.
     pub goes_on: bool,
-    /// The place after it, and after its comma.
+    /// The column after it, and after its comma.
     pub end: u8,
 }
 
-/// The element of a list of names that begins at a place of a line. What stands after its end, where the list doesn't go on, is
+/// The element of a list of names that begins at a column of a line. What stands after its end, where the list doesn't go on, is
 /// left over.
-pub fn listed_name(line: &Line, place: usize) -> ListedName
-    requires { place ≤ length line.now.text }
-    ensures element { result ≡ spec.listed_name place (tokens_from line.now.text place) }
-    ensures grows { result.goes_on ≡ true → place < result.end }
+pub fn listed_name(line: &Line, column: usize) -> ListedName
+    requires { column ≤ length line.now.text }
+    ensures element { result ≡ spec.listed_name column (tokens_from line.now.text column) }
+    ensures grows { result.goes_on ≡ true → column < result.end }
     ensures within { result.end ≤ length line.now.text }
 {
-    match next_token(line, place) {
+    match next_token(line, column) {
         Some(token) if is_name(line, token) => after_name(line, token),
-        _ => passed_over(line, place),
+        _ => passed_over(line, column),
     }
 }
 
@@ -74,13 +74,13 @@ fn is_comma(sort: Sort) -> bool
 }
 
 // An element that is no name: it goes up to the next comma.
-fn passed_over(line: &Line, place: usize) -> ListedName
-    requires { place ≤ length line.now.text }
-    ensures element { result ≡ spec.passed_over place (tokens_from line.now.text place) }
-    ensures grows { result.goes_on ≡ true → place < result.end }
+fn passed_over(line: &Line, column: usize) -> ListedName
+    requires { column ≤ length line.now.text }
+    ensures element { result ≡ spec.passed_over column (tokens_from line.now.text column) }
+    ensures grows { result.goes_on ≡ true → column < result.end }
     ensures within { result.end ≤ length line.now.text }
 {
-    let mut end = place;
+    let mut end = column;
     'tokens: while let Some(token) = next_token(line, end) {
         if is_comma(token.sort) {
             return element(None, true, token.end);

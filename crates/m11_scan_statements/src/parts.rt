@@ -28,7 +28,7 @@ pub struct Part {
     pub inside: Span,
     /// Whether its end was found. A text without its end goes to the end of the line.
     pub is_closed: bool,
-    /// The place after it.
+    /// The column after it.
     pub end: u8,
 }
 
@@ -45,17 +45,17 @@ impl Part {
     }
 }
 
-/// The part that stands next in a line from a place on, if one does. Blanks before it, and characters that don't print, are passed
+/// The part that stands next in a line from a column on, if one does. Blanks before it, and characters that don't print, are passed
 /// over. `;` is a delimiter in the first part alone; after that it begins the comment.
-pub fn next_part(line: &Line, place: usize, is_first: bool) -> Option<Part>
-    requires { place ≤ length line.now.text }
-    ensures part { result ≡ spec.next_part line.now.text place is_first }
-    ensures after { IfSome result (λ part. place < part.end) }
-    ensures closed { IfSome result (λ part. part.is_closed ≡ true → place + 2 ≤ part.end) }
+pub fn next_part(line: &Line, column: usize, is_first: bool) -> Option<Part>
+    requires { column ≤ length line.now.text }
+    ensures part { result ≡ spec.next_part line.now.text column is_first }
+    ensures after { IfSome result (λ part. column < part.end) }
+    ensures closed { IfSome result (λ part. part.is_closed ≡ true → column + 2 ≤ part.end) }
     ensures most { IfSome result (λ part. part.end ≤ length line.now.text) }
     ensures limited { length line.now.text ≤ line_limit }
 {
-    let start = place + unprinted_length(text_from(line, place));
+    let start = column + unprinted_length(text_from(line, column));
     match text_from(line, start) {
         [] => None,
         [b';', ..] if !is_first => None,

@@ -1,4 +1,4 @@
-//! Places in a line.
+//! Columns in a line.
 
 ghost use Rattle.std.specs.Prelude.{◌≡◌, ◌+◌, ◌≤◌, drop, length};
 ghost use Rattle.m11_scan_lines.specs.Line.{line_limit};
@@ -9,9 +9,9 @@ use m11_scan::{Line, text_between};
 /// Some characters of a line that stand together.
 #[derive(Clone, Copy, PartialEq, Eq, Debug, Default)]
 pub struct Span {
-    /// The place of the first one.
+    /// The column of the first one.
     pub start: u8,
-    /// The place after the last one.
+    /// The column after the last one.
     pub end: u8,
 }
 
@@ -24,12 +24,12 @@ impl Span {
     }
 }
 
-// The characters of a line from a place on.
-pub(crate) fn text_from(line: &Line, place: usize) -> &[u8]
-    requires { place ≤ length line.now.text }
-    ensures text { result.now ≡ drop place line.now.text }
-    ensures size { place + length result.now ≡ length line.now.text }
+// The characters of a line from a column on.
+pub(crate) fn text_from(line: &Line, column: usize) -> &[u8]
+    requires { column ≤ length line.now.text }
+    ensures text { result.now ≡ drop column line.now.text }
+    ensures size { column + length result.now ≡ length line.now.text }
     ensures limited { length line.now.text ≤ line_limit }
 {
-    &line.text()[place..]
+    &line.text()[column..]
 }

@@ -4,10 +4,10 @@ use crate::bodies::Body;
 use crate::labels::Label;
 use m11_scan::ErrorFlags;
 
-/// What a line says beside what its labels are. It names places of the line that it was read from.
+/// What a line says beside what its labels are. It names columns of the line that it was read from.
 #[derive(Clone, Copy)]
 pub struct Statement {
-    /// The place after the last label: 0 where the line has none.
+    /// The column after the last label: 0 where the line has none.
     pub labels_end: u8,
     /// Its label, where it has one alone.
     pub only_label: Option<Label>,

@@ -22,12 +22,12 @@ pub(crate) fn same<T: PartialEq + Debug>(rt: &impl Abort, row: &impl Display, go
     assert_eq!(rt; got, wanted, "{row}");
 }
 
-// The token that stands next in a line from a place on, if one does.
-pub(crate) fn token_after(line: &Line, place: usize) -> Option<Token> {
-    next_token(line, place.min(line.text().len()))
+// The token that stands next in a line from a column on, if one does.
+pub(crate) fn token_after(line: &Line, column: usize) -> Option<Token> {
+    next_token(line, column.min(line.text().len()))
 }
 
-// The part of a text that stands next in a line from a place on, if one does.
-pub(crate) fn part_after(line: &Line, place: u8, is_first: bool) -> Option<Part> {
-    next_part(line, usize::from(place).min(line.text().len()), is_first)
+// The part of a text that stands next in a line from a column on, if one does.
+pub(crate) fn part_after(line: &Line, column: u8, is_first: bool) -> Option<Part> {
+    next_part(line, usize::from(column).min(line.text().len()), is_first)
 }

@@ -15,7 +15,7 @@ use Rattle.m11_scan_values.specs.declared.prefixes.Prefix.{Prefix}
 use Rattle.m11_scan_values.specs.declared.prefixes.Prefix.TheVariants.{Plus, Minus, Complement, Register, InRadix}
 use Rattle.m11_scan_values.specs.Laws.{IsTerm}
 use Rattle.m11_scan_values.specs.Operations.{as_register, complemented, negated}
-use Rattle.m11_scan_values.specs.Places.{last_operator, later}
+use Rattle.m11_scan_values.specs.Splits.{last_operator, later}
 use Rattle.m11_scan_values.specs.Prefixes.{applied, prefix_of, radix_under, reach}
 use Rattle.m11_scan_values.specs.Quantities.{Quantity, absolute}
 use Rattle.m11_scan_values.specs.Terms.{Item, item}

@@ -20,35 +20,35 @@ use Rattle.m11_scan_values.proofs.Meanings.{with_atom}
 
 -- a character in upper case
 abbrev at_folded : List ℕ → ℕ → ℕ
-at_folded text place = if nat_lt place (length text) then get_or text place 0 else 32
+at_folded text column = if nat_lt column (length text) then get_or text column 0 else 32
 
-folded_character : (text : List ℕ) (place : ℕ) → at_folded (map folded text) place ≡ character_at text place
-folded_character text place =
+folded_character : (text : List ℕ) (column : ℕ) → at_folded (map folded text) column ≡ character_at text column
+folded_character text column =
     let size : length (map folded text) ≡ length text = length-map text folded in
-    elim (cases_lt place (length text)) [
+    elim (cases_lt column (length text)) [
       | inl lt ↦
-          let a : nat_lt place (length (map folded text)) ≡ true = lt-ltb place (length (map folded text)) (omega arith) in
-          let b : nat_lt place (length text) ≡ true = lt-ltb place (length text) lt in
-          let c = get_or-map folded text place 0 0 lt in
-          ap (λ (t : Bool). if t then get_or (map folded text) place 0 else 32) a ∙ c
-          ∙ sym (ap (λ (t : Bool). if t then folded (get_or text place 0) else 32) b)
+          let a : nat_lt column (length (map folded text)) ≡ true = lt-ltb column (length (map folded text)) (omega arith) in
+          let b : nat_lt column (length text) ≡ true = lt-ltb column (length text) lt in
+          let c = get_or-map folded text column 0 0 lt in
+          ap (λ (t : Bool). if t then get_or (map folded text) column 0 else 32) a ∙ c
+          ∙ sym (ap (λ (t : Bool). if t then folded (get_or text column 0) else 32) b)
       | inr ge ↦
-          let a : nat_lt place (length (map folded text)) ≡ false = le-ltb place (length (map folded text)) (omega arith) in
-          let b : nat_lt place (length text) ≡ false = le-ltb place (length text) ge in
-          ap (λ (t : Bool). if t then get_or (map folded text) place 0 else 32) a
-          ∙ sym (ap (λ (t : Bool). if t then folded (get_or text place 0) else 32) b)
+          let a : nat_lt column (length (map folded text)) ≡ false = le-ltb column (length (map folded text)) (omega arith) in
+          let b : nat_lt column (length text) ≡ false = le-ltb column (length text) ge in
+          ap (λ (t : Bool). if t then get_or (map folded text) column 0 else 32) a
+          ∙ sym (ap (λ (t : Bool). if t then folded (get_or text column 0) else 32) b)
     ]
 
-same_character : (a b : List ℕ) (place : ℕ) → map folded a ≡ map folded b → character_at a place ≡ character_at b place
-same_character a b place h =
-    sym (folded_character a place) ∙ ap (λ (t : List ℕ). at_folded t place) h ∙ folded_character b place
+same_character : (a b : List ℕ) (column : ℕ) → map folded a ≡ map folded b → character_at a column ≡ character_at b column
+same_character a b column h =
+    sym (folded_character a column) ∙ ap (λ (t : List ℕ). at_folded t column) h ∙ folded_character b column
 
-same_characters : (a b : List ℕ) (places : List ℕ) → map folded a ≡ map folded b
-    → map (character_at a) places ≡ map (character_at b) places
+same_characters : (a b : List ℕ) (columns : List ℕ) → map folded a ≡ map folded b
+    → map (character_at a) columns ≡ map (character_at b) columns
 same_characters a b [] h = refl
-same_characters a b (place ∷ places) h =
-    ap (λ (c : ℕ). c ∷ map (character_at a) places) (same_character a b place h)
-    ∙ ap (λ (l : List ℕ). character_at b place ∷ l) (same_characters a b places h)
+same_characters a b (column ∷ columns) h =
+    ap (λ (c : ℕ). c ∷ map (character_at a) columns) (same_character a b column h)
+    ∙ ap (λ (l : List ℕ). character_at b column ∷ l) (same_characters a b columns h)
 
 -- no flag is a point
 folded_point : (byte : ℕ) → eqb (folded byte) 46 ≡ eqb byte 46

@@ -9,7 +9,7 @@ use Rattle.m11_scan_values.specs.declared.expressions.Left.{Left}
 use Rattle.m11_scan_values.specs.declared.expressions.Split.{Split}
 use Rattle.m11_scan_values.specs.declared.names.Symbol.{Symbol}
 use Rattle.m11_scan_values.specs.declared.prefixes.Prefix.{Prefix}
-use Rattle.m11_scan_values.specs.Places.{first_operator}
+use Rattle.m11_scan_values.specs.Splits.{first_operator}
 use Rattle.m11_scan_values.specs.Prefixes.{applied, prefix_of, radix_under, reach}
 use Rattle.m11_scan_values.specs.Quantities.{Quantity, missing, quantity}
 use Rattle.m11_scan_values.specs.Terms.{Item, atom_value}
@@ -36,17 +36,17 @@ module _ (stands_for : Symbol → Quantity) (line : List ℕ) (radix : Radix) wh
   pub next_exit : (all tokens : List Token) (left : Option Left) (split : Split) (next : Left) (term : Quantity)
       → Carries radix (items_of stands_for line all) left (items_of stands_for line tokens)
       → Some split ≡ first_operator begin (map sort_of tokens)
-      → term ≡ value_as_term radix (items_of stands_for line (take split.place tokens))
+      → term ≡ value_as_term radix (items_of stands_for line (take split.index tokens))
       → quantity next.value ≡ carried left term → next.operator ≡ split.operator
       → Carries radix (items_of stands_for line all) (Some next)
-      (items_of stands_for line (take (length tokens - (split.place + 1)) (drop (split.place + 1) tokens)))
+      (items_of stands_for line (take (length tokens - (split.index + 1)) (drop (split.index + 1) tokens)))
   next_exit all tokens left split next term carries is t value op =
       let P : List Item → Type 0 = λ l. Carries radix (items_of stands_for line all) (Some next) l in
-      subst P (sym (back_is split.place tokens))
+      subst P (sym (back_is split.index tokens))
       (carries_next radix split next carries
       (is ∙ ap (λ (sorts : List Sort). first_operator begin sorts) (sym (sorts_seen tokens))) op
       (value ∙ ap (λ (v : Quantity). carried left v) t
-      ∙ ap (λ (l : List Item). carried left (value_as_term radix l)) (sym (take-map (seen stands_for line) split.place tokens))))
+      ∙ ap (λ (l : List Item). carried left (value_as_term radix l)) (sym (take-map (seen stands_for line) split.index tokens))))
 
   pub last_exit : (all tokens : List Token) (left : Option Left) (term result : Quantity)
       → Carries radix (items_of stands_for line all) left (items_of stands_for line tokens)

@@ -12,9 +12,9 @@ use Rattle.m11_scan.specs.declared.sort.Sort.TheVariants.{Name, Number, DecimalN
 use Rattle.m11_scan_values.specs.declared.expressions.Split.{Split}
 use Rattle.m11_scan_values.specs.declared.operators.Operator.{Operator}
 use Rattle.m11_scan_values.specs.declared.prefixes.Prefix.{Prefix}
-use Rattle.m11_scan_values.specs.Laws.{AreSteps, NoStep, OneMore, IsOperator, IsTerm, Step, left_fold, place_after, written}
+use Rattle.m11_scan_values.specs.Laws.{AreSteps, NoStep, OneMore, IsOperator, IsTerm, Step, left_fold, within_after, written}
 use Rattle.m11_scan_values.specs.Operations.{combined}
-use Rattle.m11_scan_values.specs.Places.{after, last_operator, later, operator_at, operator_of}
+use Rattle.m11_scan_values.specs.Splits.{after, last_operator, later, operator_at, operator_of}
 use Rattle.m11_scan_values.specs.Prefixes.{prefix_of}
 use Rattle.m11_scan_values.specs.Quantities.{Quantity}
 use Rattle.m11_scan_values.specs.Terms.{Item, atom_value}
@@ -22,19 +22,19 @@ use Rattle.m11_scan_values.specs.Values.{item_sort, sorts_of, split_value, term_
 use Rattle.m11_scan_values.proofs.Parts.{value_by_parts}
 
 abbrev found : ℕ → Operator → Option Split
-found place operator = Some (record { place = place; operator = operator })
+found index operator = Some (record { index = index; operator = operator })
 
 -- an operator after which none stands outside brackets is the last one
-last_found : (place : Within) (front : List Sort) (sort : Sort) (back : List Sort) (operator : Operator)
-    → operator_at sort (place_after place front) ≡ Some operator
-    → last_operator (after (role_of sort) (place_after place front)) back ≡ None
-    → last_operator place (front ++ sort ∷ back) ≡ found (length front) operator
-last_found place [] sort back operator here none =
-    ap (λ (h : Option Operator). later h (last_operator (after (role_of sort) place) back)) here
+last_found : (within : Within) (front : List Sort) (sort : Sort) (back : List Sort) (operator : Operator)
+    → operator_at sort (within_after within front) ≡ Some operator
+    → last_operator (after (role_of sort) (within_after within front)) back ≡ None
+    → last_operator within (front ++ sort ∷ back) ≡ found (length front) operator
+last_found within [] sort back operator here none =
+    ap (λ (h : Option Operator). later h (last_operator (after (role_of sort) within) back)) here
     ∙ ap (λ (m : Option Split). later (Some operator) m) none
-last_found place (first ∷ front) sort back operator here none =
-    ap (λ (m : Option Split). later (operator_at first place) m)
-    (last_found (after (role_of first) place) front sort back operator here none)
+last_found within (first ∷ front) sort back operator here none =
+    ap (λ (m : Option Split). later (operator_at first within) m)
+    (last_found (after (role_of first) within) front sort back operator here none)
 
 -- after an operator a term is due
 due_after : (sort : Sort) (due : Bool) (operator : Operator) → operator_of due sort ≡ Some operator
@@ -81,9 +81,9 @@ at_depth sort (suc depth) due operator h =
     cc
 
 -- outside brackets
-pub operator_outside : (sort : Sort) (place : Within) (operator : Operator) → operator_at sort place ≡ Some operator
-    → after (role_of sort) place ≡ begin
-operator_outside sort place operator h = at_depth sort place.depth place.is_due operator h
+pub operator_outside : (sort : Sort) (within : Within) (operator : Operator) → operator_at sort within ≡ Some operator
+    → after (role_of sort) within ≡ begin
+operator_outside sort within operator h = at_depth sort within.depth within.is_due operator h
 
 -- a token that is a term is neither an operator nor stands before a term
 no_prefix : (sort : Sort) → role_of sort ≡ Term → prefix_of sort ≡ None
@@ -166,9 +166,9 @@ pub joined_value : (radix : Radix) (front back : List Item) (mark : Item) (opera
     → IsOperator operator front mark → IsTerm back
     → value_of radix (front ++ mark ∷ back) ≡ combined operator (value_of radix front) (value_of radix back)
 joined_value radix front back mark operator here none =
-    let rest : last_operator (after (role_of mark.sort) (place_after begin (sorts_of front))) (sorts_of back) ≡ None =
+    let rest : last_operator (after (role_of mark.sort) (within_after begin (sorts_of front))) (sorts_of back) ≡ None =
     ap (λ (p : Within). last_operator p (sorts_of back))
-    (operator_outside mark.sort (place_after begin (sorts_of front)) operator here) ∙ none in
+    (operator_outside mark.sort (within_after begin (sorts_of front)) operator here) ∙ none in
     let last : last_operator begin (sorts_of (front ++ mark ∷ back)) ≡ found (length front) operator =
     ap (λ (s : List Sort). last_operator begin s) (sorts-append front (mark ∷ back))
     ∙ last_found begin (sorts_of front) mark.sort (sorts_of back) operator here rest
@@ -189,23 +189,23 @@ single_value radix term is =
 after_term : Within
 after_term = record { depth = 0; is_due = false }
 
-pub place-append : (place : Within) (front back : List Sort) → place_after place (front ++ back) ≡ place_after (place_after place front) back
-place-append place [] back = refl
-place-append place (sort ∷ front) back = place-append (after (role_of sort) place) front back
+pub within-append : (within : Within) (front back : List Sort) → within_after within (front ++ back) ≡ within_after (within_after within front) back
+within-append within [] back = refl
+within-append within (sort ∷ front) back = within-append (after (role_of sort) within) front back
 
 -- one step more stands after a term again
-step_place : (front : List Item) (step : Step) → place_after begin (sorts_of front) ≡ after_term
+step_within : (front : List Item) (step : Step) → within_after begin (sorts_of front) ≡ after_term
     → operator_of false step.mark.sort ≡ Some step.operator → role_of step.term.sort ≡ Term
-    → place_after begin (sorts_of (front ++ step.mark ∷ step.term ∷ [])) ≡ after_term
+    → within_after begin (sorts_of (front ++ step.mark ∷ step.term ∷ [])) ≡ after_term
 unfolding after_term
-step_place front step ends here term =
-    ap (λ (s : List Sort). place_after begin s) (sorts-append front (step.mark ∷ step.term ∷ []))
-    ∙ place-append begin (sorts_of front) (step.mark.sort ∷ step.term.sort ∷ [])
+step_within front step ends here term =
+    ap (λ (s : List Sort). within_after begin s) (sorts-append front (step.mark ∷ step.term ∷ []))
+    ∙ within-append begin (sorts_of front) (step.mark.sort ∷ step.term.sort ∷ [])
     ∙ ap (λ (p : Within). after (role_of step.term.sort) (after (role_of step.mark.sort) p)) ends
     ∙ ap (λ (p : Within). after (role_of step.term.sort) p) (due_after step.mark.sort false step.operator here)
     ∙ ap (λ (r : Role). after r begin) term
 
-steps_fold : (radix : Radix) (front : List Item) {steps : List Step} → place_after begin (sorts_of front) ≡ after_term
+steps_fold : (radix : Radix) (front : List Item) {steps : List Step} → within_after begin (sorts_of front) ≡ after_term
     → AreSteps steps → value_of radix (front ++ written steps) ≡ left_fold radix (value_of radix front) steps
 unfolding after_term
 steps_fold radix front ends NoStep = ap (λ (l : List Item). value_of radix l) (append-nil front)
@@ -213,7 +213,7 @@ steps_fold radix front ends (OneMore step steps here term more) =
     let is : IsOperator step.operator front step.mark =
     ap (λ (p : Within). operator_at step.mark.sort p) ends ∙ here in
     ap (λ (l : List Item). value_of radix l) (sym (append_assoc front (step.mark ∷ step.term ∷ []) (written steps)))
-    ∙ steps_fold radix (front ++ step.mark ∷ step.term ∷ []) (step_place front step ends here term) more
+    ∙ steps_fold radix (front ++ step.mark ∷ step.term ∷ []) (step_within front step ends here term) more
     ∙ ap (λ (v : Quantity). left_fold radix v steps)
     (joined_value radix front (step.term ∷ []) step.mark step.operator is (no_operator step.term.sort term)
     ∙ ap (λ (v : Quantity). combined step.operator (value_of radix front) v) (single_value radix step.term term))

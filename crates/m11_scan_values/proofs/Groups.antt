@@ -11,8 +11,8 @@ use Rattle.m11_scan.specs.declared.sort.Sort.{Sort}
 use Rattle.m11_scan.specs.declared.sort.Sort.TheVariants.{Less, Greater}
 use Rattle.m11_scan_values.specs.declared.expressions.Split.{Split}
 use Rattle.m11_scan_values.specs.declared.prefixes.Prefix.TheVariants.{Bracket}
-use Rattle.m11_scan_values.specs.Laws.{place_after}
-use Rattle.m11_scan_values.specs.Places.{after, last_operator, later, operator_at, operator_of}
+use Rattle.m11_scan_values.specs.Laws.{within_after}
+use Rattle.m11_scan_values.specs.Splits.{after, last_operator, later, operator_at, operator_of}
 use Rattle.m11_scan_values.specs.Prefixes.{applied, bracket_length, depth_after, one_more, prefix_of}
 use Rattle.m11_scan_values.specs.Terms.{Item}
 use Rattle.m11_scan_values.specs.Values.{sorts_of, split_value, term_value, value_of}
@@ -22,17 +22,17 @@ use Rattle.m11_scan_values.proofs.Folds.{front_is, size_of, sorts-append}
 abbrev pub at : ℕ → Bool → Within
 at depth due = record { depth = depth; is_due = due }
 
--- a place in one bracket more
+-- within one bracket more
 abbrev pub deeper : Within → Within
-deeper place = at (suc place.depth) place.is_due
+deeper within = at (suc within.depth) within.is_due
 
 pub not_zero : (depth : ℕ) → eqb (suc depth) 0 ≡ false
 not_zero depth = ne_eqb (suc depth) 0 (λ e. omega arith)
 
 -- where an expression goes on, no outer bracket is closed, and it goes on after that token
-pub record Goes (role : Role) (place : Within) (count : Within → ℕ) (more : ℕ) : Type 0 where
-  pub stays : depth_after role place.depth ≡ Some (after role place).depth
-  pub rest : count (after role place) ≡ more
+pub record Goes (role : Role) (within : Within) (count : Within → ℕ) (more : ℕ) : Type 0 where
+  pub stays : depth_after role within.depth ≡ Some (after role within).depth
+  pub rest : count (after role within) ≡ more
 
 close_goes : (depth : ℕ) (due : Bool) (count : Within → ℕ) (more : ℕ)
     → count_from (goes_on Closes (at (suc depth) due)) count ≡ suc more → Goes Closes (at (suc depth) due) count more
@@ -74,32 +74,32 @@ deeper_after Closes zero due h = cc
 deeper_after Closes (suc depth) due h = at_depth (suc (suc depth) - 1) (suc (suc depth - 1)) false (omega arith)
 deeper_after Foreign depth due h = refl
 
-no_operator_in : (sort : Sort) (place : Within) → operator_at sort (deeper place) ≡ None
-no_operator_in sort place = ap (λ (b : Bool). if b then operator_of place.is_due sort else None) (not_zero place.depth)
+no_operator_in : (sort : Sort) (within : Within) → operator_at sort (deeper within) ≡ None
+no_operator_in sort within = ap (λ (b : Bool). if b then operator_of within.is_due sort else None) (not_zero within.depth)
 
 -- in brackets no operator stands outside them
-none_inside : (place : Within) (sorts rest : List Sort) → taken sorts place ≡ length sorts
-    → last_operator (deeper (place_after place sorts)) rest ≡ None → last_operator (deeper place) (sorts ++ rest) ≡ None
-none_inside place [] rest whole none = none
-none_inside place (sort ∷ sorts) rest whole none =
-    let g : Goes (role_of sort) place (λ next. taken sorts next) (length sorts) =
-    goes (role_of sort) place.depth place.is_due (λ next. taken sorts next) (length sorts) whole in
-    ap (λ h. later h (last_operator (after (role_of sort) (deeper place)) (sorts ++ rest))) (no_operator_in sort place)
+none_inside : (within : Within) (sorts rest : List Sort) → taken sorts within ≡ length sorts
+    → last_operator (deeper (within_after within sorts)) rest ≡ None → last_operator (deeper within) (sorts ++ rest) ≡ None
+none_inside within [] rest whole none = none
+none_inside within (sort ∷ sorts) rest whole none =
+    let g : Goes (role_of sort) within (λ next. taken sorts next) (length sorts) =
+    goes (role_of sort) within.depth within.is_due (λ next. taken sorts next) (length sorts) whole in
+    ap (λ h. later h (last_operator (after (role_of sort) (deeper within)) (sorts ++ rest))) (no_operator_in sort within)
     ∙ ap (λ (p : Within). later None (last_operator p (sorts ++ rest)))
-    (deeper_after (role_of sort) place.depth place.is_due g.stays)
-    ∙ ap (λ (m : Option Split). later None m) (none_inside (after (role_of sort) place) sorts rest g.rest none)
+    (deeper_after (role_of sort) within.depth within.is_due g.stays)
+    ∙ ap (λ (m : Option Split). later None m) (none_inside (after (role_of sort) within) sorts rest g.rest none)
 
-pub length_inside : (place : Within) (sorts rest : List Sort) → taken sorts place ≡ length sorts
-    → bracket_length place.depth (sorts ++ rest) ≡ length sorts + bracket_length (place_after place sorts).depth rest
-length_inside place [] rest whole = omega arith
-length_inside place (sort ∷ sorts) rest whole =
-    let g : Goes (role_of sort) place (λ next. taken sorts next) (length sorts) =
-    goes (role_of sort) place.depth place.is_due (λ next. taken sorts next) (length sorts) whole in
-    let more = length_inside (after (role_of sort) place) sorts rest g.rest in
+pub length_inside : (within : Within) (sorts rest : List Sort) → taken sorts within ≡ length sorts
+    → bracket_length within.depth (sorts ++ rest) ≡ length sorts + bracket_length (within_after within sorts).depth rest
+length_inside within [] rest whole = omega arith
+length_inside within (sort ∷ sorts) rest whole =
+    let g : Goes (role_of sort) within (λ next. taken sorts next) (length sorts) =
+    goes (role_of sort) within.depth within.is_due (λ next. taken sorts next) (length sorts) whole in
+    let more = length_inside (after (role_of sort) within) sorts rest g.rest in
     ap (λ (d : Option ℕ). one_more d (λ next. bracket_length next (sorts ++ rest))) g.stays ∙ omega arith
 
-one_token : (greater : Sort) (place : Within) → greater ≡ Greater → last_operator (deeper place) (greater ∷ []) ≡ None
-one_token greater place is = ap (λ h. later h None) (no_operator_in greater place)
+one_token : (greater : Sort) (within : Within) → greater ≡ Greater → last_operator (deeper within) (greater ∷ []) ≡ None
+one_token greater within is = ap (λ h. later h None) (no_operator_in greater within)
 
 module _ (radix : Radix) (less greater : Item) (items : List Item) (opens : less.sort ≡ Less) (closes : greater.sort ≡ Greater)
     (whole : expression_length (sorts_of items) ≡ length items) where
@@ -115,12 +115,12 @@ module _ (radix : Radix) (less greater : Item) (items : List Item) (opens : less
       ∙ ap (λ (s : List Sort). later None (last_operator (deeper begin) s)) sorts_are
       ∙ ap (λ (m : Option Split). later None m)
       (none_inside begin (sorts_of items) (greater.sort ∷ []) is_taken
-      (one_token greater.sort (place_after begin (sorts_of items)) closes))
+      (one_token greater.sort (within_after begin (sorts_of items)) closes))
 
-  reaches : (place_after begin (sorts_of items)).depth ≡ 0 → bracket_length 0 (sorts_of (items ++ greater ∷ [])) ≡ length items
+  reaches : (within_after begin (sorts_of items)).depth ≡ 0 → bracket_length 0 (sorts_of (items ++ greater ∷ [])) ≡ length items
   reaches closed =
-      let last : bracket_length (place_after begin (sorts_of items)).depth (greater.sort ∷ []) ≡ 0 =
-      ap (λ (s : Sort). bracket_length (place_after begin (sorts_of items)).depth (s ∷ [])) closes
+      let last : bracket_length (within_after begin (sorts_of items)).depth (greater.sort ∷ []) ≡ 0 =
+      ap (λ (s : Sort). bracket_length (within_after begin (sorts_of items)).depth (s ∷ [])) closes
       ∙ ap (λ (d : ℕ). bracket_length d (Greater ∷ [])) closed in
       let size = size_of items in
       let all = length_inside begin (sorts_of items) (greater.sort ∷ []) is_taken in
@@ -131,7 +131,7 @@ module _ (radix : Radix) (less greater : Item) (items : List Item) (opens : less
       let size = length-append items (greater ∷ []) in
       lt-ltb (length items) (length (items ++ greater ∷ [])) (omega arith)
 
-  pub closed_value : (place_after begin (sorts_of items)).depth ≡ 0
+  pub closed_value : (within_after begin (sorts_of items)).depth ≡ 0
       → value_of radix (less ∷ (items ++ greater ∷ [])) ≡ value_of radix items
   closed_value closed =
       value_by_parts radix (less ∷ (items ++ greater ∷ []))

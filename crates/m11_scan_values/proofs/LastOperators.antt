@@ -5,16 +5,16 @@ use Rattle.m11_scan.specs.declared.expressions.Within.{Within}
 use Rattle.m11_scan.specs.declared.sort.Sort.{Sort}
 use Rattle.m11_scan_values.specs.declared.expressions.Split.{Split}
 use Rattle.m11_scan_values.specs.declared.operators.Operator.{Operator}
-use Rattle.m11_scan_values.specs.Places.{after, last_operator, later, operator_at}
+use Rattle.m11_scan_values.specs.Splits.{after, last_operator, later, operator_at}
 
 -- the last operator of all tokens, where some were passed and one was found among them
 abbrev pub last_or : Option Split → ℕ → Option Split → Option Split
-last_or found passed (Some split) = Some (record { place = passed + split.place; operator = split.operator })
+last_or found passed (Some split) = Some (record { index = passed + split.index; operator = split.operator })
 last_or found passed None = found
 
 abbrev pub IsBelow : ℕ → Option Split → Type 0
 IsBelow size None = Unit {0}
-IsBelow size (Some split) = split.place < size
+IsBelow size (Some split) = split.index < size
 
 later_below : (size : ℕ) (here : Option Operator) (more : Option Split) → IsBelow size more → IsBelow (suc size) (later here more)
 later_below size here (Some split) below = omega arith
@@ -22,8 +22,8 @@ later_below size (Some operator) None below = omega arith
 later_below size None None below = tt
 
 -- it is one of the tokens
-pub last_below : (place : Within) (sorts : List Sort) → IsBelow (length sorts) (last_operator place sorts)
-last_below place [] = tt
-last_below place (sort ∷ sorts) =
-    later_below (length sorts) (operator_at sort place) (last_operator (after (role_of sort) place) sorts)
-    (last_below (after (role_of sort) place) sorts)
+pub last_below : (within : Within) (sorts : List Sort) → IsBelow (length sorts) (last_operator within sorts)
+last_below within [] = tt
+last_below within (sort ∷ sorts) =
+    later_below (length sorts) (operator_at sort within) (last_operator (after (role_of sort) within) sorts)
+    (last_below (after (role_of sort) within) sorts)

@@ -19,9 +19,9 @@ use Rattle.m11_scan_values.specs.declared.operators.Operator.{Operator}
 use Rattle.m11_scan_values.specs.declared.operators.Operator.TheVariants.{Multiply, Divide, And, Or}
 use Rattle.m11_scan_values.specs.declared.prefixes.Prefix.{Prefix}
 use Rattle.m11_scan_values.specs.declared.prefixes.Prefix.TheVariants.{Plus, Minus, Complement, Register, InRadix, Bracket}
-use Rattle.m11_scan_values.specs.Laws.{place_after}
+use Rattle.m11_scan_values.specs.Laws.{within_after}
 use Rattle.m11_scan_values.specs.Operations.{combined}
-use Rattle.m11_scan_values.specs.Places.{after, last_operator, later, operator_at, operator_of}
+use Rattle.m11_scan_values.specs.Splits.{after, last_operator, later, operator_at, operator_of}
 use Rattle.m11_scan_values.specs.Prefixes.{applied, bracket_length, one_more, prefix_of, radix_under, reach}
 use Rattle.m11_scan_values.specs.Quantities.{Quantity, with_flags}
 use Rattle.m11_scan_values.specs.Terms.{Item}
@@ -33,13 +33,13 @@ use Rattle.m11_scan_values.proofs.LastOperators.{IsBelow, last_below}
 use Rattle.m11_scan_values.proofs.Parts.{value_by_parts}
 
 -- an expression goes on through all of some tokens, and a bracket is open after them
-record IsOpen (place : Within) (sorts : List Sort) : Type 0 where
-  whole : taken sorts place ≡ length sorts
-  inside : 0 < (place_after place sorts).depth
+record IsOpen (within : Within) (sorts : List Sort) : Type 0 where
+  whole : taken sorts within ≡ length sorts
+  inside : 0 < (within_after within sorts).depth
 
-rest_open : (place : Within) (rest : List Sort) → suc (taken rest place) ≡ suc (length rest)
-    → 0 < (place_after place rest).depth → IsOpen place rest
-rest_open place rest whole inside = record { whole = omega arith; inside = inside }
+rest_open : (within : Within) (rest : List Sort) → suc (taken rest within) ≡ suc (length rest)
+    → 0 < (within_after within rest).depth → IsOpen within rest
+rest_open within rest whole inside = record { whole = omega arith; inside = inside }
 
 none_here : (here : Option Operator) (more : Option Split) → later here more ≡ None → here ≡ None
 none_here here (Some split) h = absurd (cc)
@@ -90,7 +90,7 @@ data First (sort : Sort) (rest : List Sort) : Type 0 where
   Bracketed : sort ≡ tokens.Less → IsOpen (deeper begin) rest → last_operator (deeper begin) rest ≡ None → First sort rest
 
 no_term : (sort : Sort) (rest : List Sort) (here : Option Operator) → later here (last_operator (at 0 false) rest) ≡ None
-    → suc (taken rest (at 0 false)) ≡ suc (length rest) → 0 < (place_after (at 0 false) rest).depth → First sort rest
+    → suc (taken rest (at 0 false)) ≡ suc (length rest) → 0 < (within_after (at 0 false) rest).depth → First sort rest
 no_term sort rest here none whole inside =
     absurd (no_more rest (rest_open (at 0 false) rest whole inside) (none_later here (last_operator (at 0 false) rest) none))
 
@@ -124,78 +124,78 @@ first sort rest is none = absurd (omega (arith, is.whole))
 -- where a bracket before some tokens isn't closed by them, they are an expression of their own
 abbrev IsWithin : List Sort → Type 0
 IsWithin sorts =
-    (place : Within) → IsOpen (deeper place) sorts → last_operator (deeper place) sorts ≡ None → taken sorts place ≡ length sorts
+    (within : Within) → IsOpen (deeper within) sorts → last_operator (deeper within) sorts ≡ None → taken sorts within ≡ length sorts
 
-within_at : (rest : List Sort) → IsWithin rest → (outer place : Within) → outer ≡ deeper place → IsOpen outer rest
-    → last_operator outer rest ≡ None → taken rest place ≡ length rest
-within_at rest within outer place e is none =
+within_at : (rest : List Sort) → IsWithin rest → (outer within : Within) → outer ≡ deeper within → IsOpen outer rest
+    → last_operator outer rest ≡ None → taken rest within ≡ length rest
+within_at rest are_within outer within e is none =
     let P : Within → Type 0 = λ p. IsOpen p rest in
     let N : Within → Type 0 = λ p. last_operator p rest ≡ None in
-    within place (subst P e is) (subst N e none)
+    are_within within (subst P e is) (subst N e none)
 
 one_within : (role : Role) (depth : ℕ) (due : Bool) (rest : List Sort) → IsWithin rest
     → IsOpen (after role (at (suc depth) due)) rest → last_operator (after role (at (suc depth) due)) rest ≡ None
     → count_from (goes_on role (at (suc depth) due)) (λ next. taken rest next) ≡ suc (length rest)
     → count_from (goes_on role (at depth due)) (λ next. taken rest next) ≡ suc (length rest)
-one_within roles.Term depth true rest within is none h = ap (λ (n : ℕ). suc n) (within (at depth false) is none)
-one_within roles.Term depth false rest within is none h = absurd (omega arith)
-one_within roles.Prefix depth true rest within is none h = ap (λ (n : ℕ). suc n) (within (at depth true) is none)
-one_within roles.Prefix depth false rest within is none h = absurd (omega arith)
-one_within roles.Sign depth due rest within is none h = ap (λ (n : ℕ). suc n) (within (at depth true) is none)
-one_within roles.Operator depth due rest within is none h = ap (λ (n : ℕ). suc n) (within (at depth true) is none)
-one_within roles.Opens depth true rest within is none h =
+one_within roles.Term depth true rest are_within is none h = ap (λ (n : ℕ). suc n) (are_within (at depth false) is none)
+one_within roles.Term depth false rest are_within is none h = absurd (omega arith)
+one_within roles.Prefix depth true rest are_within is none h = ap (λ (n : ℕ). suc n) (are_within (at depth true) is none)
+one_within roles.Prefix depth false rest are_within is none h = absurd (omega arith)
+one_within roles.Sign depth due rest are_within is none h = ap (λ (n : ℕ). suc n) (are_within (at depth true) is none)
+one_within roles.Operator depth due rest are_within is none h = ap (λ (n : ℕ). suc n) (are_within (at depth true) is none)
+one_within roles.Opens depth true rest are_within is none h =
     ap (λ (n : ℕ). suc n)
-    (within_at rest within (at (suc depth + 1) true) (at (depth + 1) true)
+    (within_at rest are_within (at (suc depth + 1) true) (at (depth + 1) true)
     (at_depth (suc depth + 1) (suc (depth + 1)) true (omega arith)) is none)
-one_within roles.Opens depth false rest within is none h = absurd (omega arith)
-one_within roles.Closes zero due rest within is none h = absurd (no_more rest is none)
-one_within roles.Closes (suc depth) due rest within is none h =
+one_within roles.Opens depth false rest are_within is none h = absurd (omega arith)
+one_within roles.Closes zero due rest are_within is none h = absurd (no_more rest is none)
+one_within roles.Closes (suc depth) due rest are_within is none h =
     ap (λ (b : Bool). count_from (if b then None else Some (at (suc depth - 1) false)) (λ next. taken rest next)) (not_zero depth)
     ∙ ap (λ (n : ℕ). suc n)
-    (within_at rest within (at (suc (suc depth) - 1) false) (at (suc depth - 1) false)
+    (within_at rest are_within (at (suc (suc depth) - 1) false) (at (suc depth - 1) false)
     (at_depth (suc (suc depth) - 1) (suc (suc depth - 1)) false (omega arith)) is none)
-one_within roles.Foreign depth due rest within is none h = absurd (omega arith)
+one_within roles.Foreign depth due rest are_within is none h = absurd (omega arith)
 
 all_within : (sorts : List Sort) → IsWithin sorts
-all_within [] place is none = refl
-all_within (sort ∷ rest) place is none =
-    let g : Goes (role_of sort) (deeper place) (λ next. taken rest next) (length rest) =
-    goes (role_of sort) (suc place.depth) place.is_due (λ next. taken rest next) (length rest) is.whole in
-    one_within (role_of sort) place.depth place.is_due rest (all_within rest) (record { whole = g.rest; inside = is.inside })
-    (none_later (operator_at sort (deeper place)) (last_operator (after (role_of sort) (deeper place)) rest) none) is.whole
+all_within [] within is none = refl
+all_within (sort ∷ rest) within is none =
+    let g : Goes (role_of sort) (deeper within) (λ next. taken rest next) (length rest) =
+    goes (role_of sort) (suc within.depth) within.is_due (λ next. taken rest next) (length rest) is.whole in
+    one_within (role_of sort) within.depth within.is_due rest (all_within rest) (record { whole = g.rest; inside = is.inside })
+    (none_later (operator_at sort (deeper within)) (last_operator (after (role_of sort) (deeper within)) rest) none) is.whole
 
 -- what stands after the last operator is an expression of its own, with the same bracket open
-abbrev place_in : Option Split → ℕ
-place_in None = 0
-place_in (Some split) = split.place
+abbrev index_in : Option Split → ℕ
+index_in None = 0
+index_in (Some split) = split.index
 
 open_at : (here : Option Operator) (more : Option Split) (split : Split) (rest : List Sort) → later here more ≡ Some split
-    → ((next : Split) → more ≡ Some next → IsOpen begin (drop (suc next.place) rest))
-    → ((operator : Operator) → here ≡ Some operator → IsOpen begin rest) → IsOpen begin (drop split.place rest)
+    → ((next : Split) → more ≡ Some next → IsOpen begin (drop (suc next.index) rest))
+    → ((operator : Operator) → here ≡ Some operator → IsOpen begin rest) → IsOpen begin (drop split.index rest)
 open_at here (Some next) split rest found more now =
     let P : ℕ → Type 0 = λ n. IsOpen begin (drop n rest) in
-    subst P (ap place_in found) (more next refl)
+    subst P (ap index_in found) (more next refl)
 open_at (Some operator) None split rest found more now =
     let P : ℕ → Type 0 = λ n. IsOpen begin (drop n rest) in
-    subst P (ap place_in found) (now operator refl)
+    subst P (ap index_in found) (now operator refl)
 open_at None None split rest found more now = absurd (cc)
 
-right_open : (place : Within) (sorts : List Sort) (split : Split) → last_operator place sorts ≡ Some split → IsOpen place sorts
-    → IsOpen begin (drop (suc split.place) sorts)
-right_open place [] split found is = absurd (cc)
-right_open place (sort ∷ rest) split found is =
-    let g : Goes (role_of sort) place (λ next. taken rest next) (length rest) =
-    goes (role_of sort) place.depth place.is_due (λ next. taken rest next) (length rest) is.whole in
-    let more : IsOpen (after (role_of sort) place) rest = record { whole = g.rest; inside = is.inside } in
+right_open : (within : Within) (sorts : List Sort) (split : Split) → last_operator within sorts ≡ Some split → IsOpen within sorts
+    → IsOpen begin (drop (suc split.index) sorts)
+right_open within [] split found is = absurd (cc)
+right_open within (sort ∷ rest) split found is =
+    let g : Goes (role_of sort) within (λ next. taken rest next) (length rest) =
+    goes (role_of sort) within.depth within.is_due (λ next. taken rest next) (length rest) is.whole in
+    let more : IsOpen (after (role_of sort) within) rest = record { whole = g.rest; inside = is.inside } in
     let P : Within → Type 0 = λ p. IsOpen p rest in
-    open_at (operator_at sort place) (last_operator (after (role_of sort) place) rest) split rest found
-    (λ next e. right_open (after (role_of sort) place) rest next e more)
-    (λ operator e. subst P (operator_outside sort place operator e) more)
+    open_at (operator_at sort within) (last_operator (after (role_of sort) within) rest) split rest found
+    (λ next e. right_open (after (role_of sort) within) rest next e more)
+    (λ operator e. subst P (operator_outside sort within operator e) more)
 
 -- the value by the parts, in each of the cases
 split_is : (radix : Radix) (items : List Item) (split : Split) → last_operator begin (sorts_of items) ≡ Some split
     → value_of radix items
-    ≡ combined split.operator (value_of radix (take split.place items)) (value_of radix (drop (suc split.place) items))
+    ≡ combined split.operator (value_of radix (take split.index items)) (value_of radix (drop (suc split.index) items))
 split_is radix items split found =
     value_by_parts radix items ∙ ap (λ (s : Option Split). split_value value_of radix items s) found
 
@@ -241,31 +241,31 @@ module _ (greater : Item) (closes : greater.sort ≡ tokens.Greater) where
   abbrev Keeps : Radix → List Item → Type 0
   Keeps radix items = with_flags flag_Q (value_of radix (items ++ greater ∷ [])) ≡ value_of radix items
 
-  last_in : (place : Within) (sorts : List Sort) → last_operator place (sorts ++ greater.sort ∷ []) ≡ last_operator place sorts
-  last_in place [] =
-      ap (λ (s : Sort). later (operator_at s place) None) closes
-      ∙ ap (λ (h : Option Operator). later h None) (no_operator (eqb place.depth 0))
-  last_in place (sort ∷ rest) =
-      ap (λ (m : Option Split). later (operator_at sort place) m) (last_in (after (role_of sort) place) rest)
+  last_in : (within : Within) (sorts : List Sort) → last_operator within (sorts ++ greater.sort ∷ []) ≡ last_operator within sorts
+  last_in within [] =
+      ap (λ (s : Sort). later (operator_at s within) None) closes
+      ∙ ap (λ (h : Option Operator). later h None) (no_operator (eqb within.depth 0))
+  last_in within (sort ∷ rest) =
+      ap (λ (m : Option Split). later (operator_at sort within) m) (last_in (after (role_of sort) within) rest)
 
   same_last : (items : List Item) → last_operator begin (sorts_of (items ++ greater ∷ [])) ≡ last_operator begin (sorts_of items)
   same_last items =
       ap (λ (s : List Sort). last_operator begin s) (sorts-append items (greater ∷ [])) ∙ last_in begin (sorts_of items)
 
   joined : (radix : Radix) (items : List Item) (split : Split) → last_operator begin (sorts_of items) ≡ Some split
-      → Keeps radix (drop (suc split.place) items) → Keeps radix items
+      → Keeps radix (drop (suc split.index) items) → Keeps radix items
   joined radix items split found keeps =
       let P : Option Split → Type 0 = λ s. IsBelow (length (sorts_of items)) s in
-      let inside : split.place < length (sorts_of items) = subst P found (last_below begin (sorts_of items)) in
+      let inside : split.index < length (sorts_of items) = subst P found (last_below begin (sorts_of items)) in
       let size = size_of items in
-      let left = value_of radix (take split.place items) in
+      let left = value_of radix (take split.index items) in
       ap (λ (v : Quantity). with_flags flag_Q v) (split_is radix (items ++ greater ∷ []) split (same_last items ∙ found))
       ∙ ap (λ (l : List Item). with_flags flag_Q
-      (combined split.operator (value_of radix l) (value_of radix (drop (suc split.place) (items ++ greater ∷ [])))))
-      (take-append-le split.place items (greater ∷ []) (omega arith))
+      (combined split.operator (value_of radix l) (value_of radix (drop (suc split.index) (items ++ greater ∷ [])))))
+      (take-append-le split.index items (greater ∷ []) (omega arith))
       ∙ ap (λ (l : List Item). with_flags flag_Q (combined split.operator left (value_of radix l)))
-      (drop-append-le (suc split.place) items (greater ∷ []) (omega arith))
-      ∙ combined_keeps flag_Q split.operator left (value_of radix (drop (suc split.place) items ++ greater ∷ []))
+      (drop-append-le (suc split.index) items (greater ∷ []) (omega arith))
+      ∙ combined_keeps flag_Q split.operator left (value_of radix (drop (suc split.index) items ++ greater ∷ []))
       ∙ ap (λ (v : Quantity). combined split.operator left v) keeps
       ∙ sym (split_is radix items split found)
 
@@ -281,11 +281,11 @@ module _ (greater : Item) (closes : greater.sort ≡ tokens.Greater) where
 
   module _ (radix : Radix) (less : Item) (items : List Item) (opens : less.sort ≡ tokens.Less)
       (whole : expression_length (sorts_of items) ≡ length items) where
-    outer_length : (depth : ℕ) → (place_after begin (sorts_of items)).depth ≡ suc depth
+    outer_length : (depth : ℕ) → (within_after begin (sorts_of items)).depth ≡ suc depth
         → bracket_length 0 (sorts_of (items ++ greater ∷ [])) ≡ length (items ++ greater ∷ [])
     outer_length depth inside =
-        let last : bracket_length (place_after begin (sorts_of items)).depth (greater.sort ∷ []) ≡ 1 =
-        ap (λ (s : Sort). bracket_length (place_after begin (sorts_of items)).depth (s ∷ [])) closes
+        let last : bracket_length (within_after begin (sorts_of items)).depth (greater.sort ∷ []) ≡ 1 =
+        ap (λ (s : Sort). bracket_length (within_after begin (sorts_of items)).depth (s ∷ [])) closes
         ∙ ap (λ (d : ℕ). bracket_length d (tokens.Greater ∷ [])) inside
         ∙ ap (λ (b : Bool). one_more (if b then None else Some (suc depth - 1)) (λ next. bracket_length next [])) (not_zero depth) in
         let size = size_of items in
@@ -294,8 +294,8 @@ module _ (greater : Item) (closes : greater.sort ≡ tokens.Greater) where
         (is_taken radix less greater items opens closes whole) in
         ap (λ (s : List Sort). bracket_length 0 s) (sorts_are radix less greater items opens closes whole) ∙ omega arith
 
-    in_brackets : (depth : ℕ) → (place_after begin (sorts_of items)).depth ≡ depth
-        → (0 < (place_after begin (sorts_of items)).depth → Keeps radix items)
+    in_brackets : (depth : ℕ) → (within_after begin (sorts_of items)).depth ≡ depth
+        → (0 < (within_after begin (sorts_of items)).depth → Keeps radix items)
         → value_of radix (less ∷ (items ++ greater ∷ [])) ≡ value_of radix items
     in_brackets zero closed keeps = closed_value radix less greater items opens closes whole closed
     in_brackets (suc depth) inside keeps =
@@ -314,7 +314,7 @@ module _ (greater : Item) (closes : greater.sort ≡ tokens.Greater) where
   alone radix item items none shorter (Bracketed opens rest last) =
       let own : taken (sorts_of items) begin ≡ length (sorts_of items) = all_within (sorts_of items) begin rest last in
       ap (λ (v : Quantity). with_flags flag_Q v)
-      (in_brackets radix item items opens (own ∙ size_of items) (place_after begin (sorts_of items)).depth refl
+      (in_brackets radix item items opens (own ∙ size_of items) (within_after begin (sorts_of items)).depth refl
       (λ inside. shorter radix items (omega arith) (record { whole = own; inside = inside })))
       ∙ sym (unclosed_value radix item items opens none (whole_length (sorts_of items) own ∙ size_of items))
 
@@ -323,17 +323,17 @@ module _ (greater : Item) (closes : greater.sort ≡ tokens.Greater) where
       → Keeps radix (item ∷ items)
   by_last radix item items (Some split) e is shorter =
       let P : List Sort → Type 0 = λ s. IsOpen begin s in
-      let size = length-drop split.place items in
+      let size = length-drop split.index items in
       joined radix (item ∷ items) split e
-      (shorter radix (drop split.place items) (omega arith)
-      (subst P (drop-map item_sort split.place items) (right_open begin (sorts_of (item ∷ items)) split e is)))
+      (shorter radix (drop split.index items) (omega arith)
+      (subst P (drop-map item_sort split.index items) (right_open begin (sorts_of (item ∷ items)) split e is)))
   by_last radix item items None e is shorter =
       alone radix item items e shorter (first item.sort (sorts_of items) is e)
 
   kept : (bound : ℕ) (radix : Radix) (items : List Item) → length items ≤ bound → IsOpen begin (sorts_of items) → Keeps radix items
-  kept bound radix [] within is = absurd (omega (arith, is.inside))
-  kept zero radix (item ∷ items) within is = absurd (omega arith)
-  kept (suc bound) radix (item ∷ items) within is =
+  kept bound radix [] are_within is = absurd (omega (arith, is.inside))
+  kept zero radix (item ∷ items) are_within is = absurd (omega arith)
+  kept (suc bound) radix (item ∷ items) are_within is =
       by_last radix item items (last_operator begin (sorts_of (item ∷ items))) refl is
       (λ r part le open_part. kept bound r part (omega arith) open_part)
 
@@ -341,6 +341,6 @@ pub bracketed_value : (radix : Radix) (less greater : Item) (items : List Item) 
     → greater.sort ≡ tokens.Greater → expression_length (sorts_of items) ≡ length items
     → value_of radix (less ∷ (items ++ greater ∷ [])) ≡ value_of radix items
 bracketed_value radix less greater items opens closes whole =
-    in_brackets greater closes radix less items opens whole (place_after begin (sorts_of items)).depth refl
+    in_brackets greater closes radix less items opens whole (within_after begin (sorts_of items)).depth refl
     (λ inside. kept greater closes (length items) radix items (omega arith)
     (record { whole = whole ∙ sym (size_of items); inside = inside }))

@@ -6,7 +6,7 @@ use Rattle.m11_scan.specs.declared.radix.Radix.{Radix}
 use Rattle.m11_scan_values.specs.declared.expressions.Split.{Split}
 use Rattle.m11_scan_values.specs.declared.prefixes.Prefix.{Prefix}
 use Rattle.m11_scan_values.specs.Operations.{combined}
-use Rattle.m11_scan_values.specs.Places.{last_operator}
+use Rattle.m11_scan_values.specs.Splits.{last_operator}
 use Rattle.m11_scan_values.specs.Prefixes.{applied, prefix_of, radix_under, reach}
 use Rattle.m11_scan_values.specs.Quantities.{Quantity}
 use Rattle.m11_scan_values.specs.Terms.{Item}
@@ -35,10 +35,10 @@ split_agrees : (f g : Radix → List Item → Quantity) (radix : Radix) (items :
     → IsBelow (length items) split → Agree (length items) f g
     → split_value f radix items split ≡ split_value g radix items split
 split_agrees f g radix items (Some split) below agree =
-    let left = agree radix (take split.place items) (taken_below split.place items below) in
-    let right = agree radix (drop (suc split.place) items) (dropped_below split.place items below) in
-    ap (λ (v : Quantity). combined split.operator v (f radix (drop (suc split.place) items))) left
-    ∙ ap (λ (v : Quantity). combined split.operator (g radix (take split.place items)) v) right
+    let left = agree radix (take split.index items) (taken_below split.index items below) in
+    let right = agree radix (drop (suc split.index) items) (dropped_below split.index items below) in
+    ap (λ (v : Quantity). combined split.operator v (f radix (drop (suc split.index) items))) left
+    ∙ ap (λ (v : Quantity). combined split.operator (g radix (take split.index items)) v) right
 split_agrees f g radix [] None below agree = refl
 split_agrees f g radix (item ∷ items) None below agree = term_agrees f g radix item items (prefix_of item.sort) agree
 

@@ -7,19 +7,19 @@ use Rattle.m11_scan.specs.declared.radix.Radix.{Radix}
 use Rattle.m11_scan.specs.declared.sort.Sort.{Sort}
 use Rattle.m11_scan_values.specs.declared.operators.Operator.{Operator}
 use Rattle.m11_scan_values.specs.Operations.{combined}
-use Rattle.m11_scan_values.specs.Places.{after, last_operator, operator_at, operator_of}
+use Rattle.m11_scan_values.specs.Splits.{after, last_operator, operator_at, operator_of}
 use Rattle.m11_scan_values.specs.Quantities.{Quantity}
 use Rattle.m11_scan_values.specs.Terms.{Item, atom_value}
 use Rattle.m11_scan_values.specs.Values.{sorts_of}
 
--- the place after some tokens
-abbrev pub place_after : Within → List Sort → Within
-place_after place [] = place
-place_after place (sort ∷ sorts) = place_after (after (role_of sort) place) sorts
+-- where an expression has come to after some tokens
+abbrev pub within_after : Within → List Sort → Within
+within_after within [] = within
+within_after within (sort ∷ sorts) = within_after (after (role_of sort) within) sorts
 
 -- a token is an operator outside brackets after some others
 abbrev pub IsOperator : Operator → List Item → Item → Type 0
-IsOperator operator front mark = operator_at mark.sort (place_after begin (sorts_of front)) ≡ Some operator
+IsOperator operator front mark = operator_at mark.sort (within_after begin (sorts_of front)) ≡ Some operator
 
 -- tokens are one term: no operator stands in them outside brackets
 abbrev pub IsTerm : List Item → Type 0

@@ -3,7 +3,7 @@ pub mod Quantities
 pub mod Operations
 pub mod Terms
 pub mod Prefixes
-pub mod Places
+pub mod Splits
 pub mod Values
 pub mod Laws
 pub mod Symbols

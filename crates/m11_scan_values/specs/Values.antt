@@ -12,7 +12,7 @@ use Rattle.m11_scan_values.specs.declared.expressions.Split.{Split}
 use Rattle.m11_scan_values.specs.declared.names.Symbol.{Symbol}
 use Rattle.m11_scan_values.specs.declared.prefixes.Prefix.{Prefix}
 use Rattle.m11_scan_values.specs.Operations.{combined}
-use Rattle.m11_scan_values.specs.Places.{last_operator}
+use Rattle.m11_scan_values.specs.Splits.{last_operator}
 use Rattle.m11_scan_values.specs.Prefixes.{applied, prefix_of, radix_under, reach}
 use Rattle.m11_scan_values.specs.Quantities.{Quantity, missing, quantity}
 use Rattle.m11_scan_values.specs.Terms.{Item, atom_value, item}
@@ -34,7 +34,7 @@ term_value value radix item items (Some prefix) =
 -- after it. Without such an operator it is a term, which may be missing.
 abbrev pub split_value : (Radix → List Item → Quantity) → Radix → List Item → Option Split → Quantity
 split_value value radix items (Some split) =
-    combined split.operator (value radix (take split.place items)) (value radix (drop (suc split.place) items))
+    combined split.operator (value radix (take split.index items)) (value radix (drop (suc split.index) items))
 split_value value radix [] None = missing
 split_value value radix (item ∷ items) None = term_value value radix item items (prefix_of item.sort)
 

@@ -4,7 +4,7 @@ ghost use Rattle.std.specs.Prelude.{◌≡◌, ◌<◌, [], ◌∷◌, length, m
 ghost use Rattle.std.specs.Option.{IfSome};
 ghost use Rattle.m11_scan.specs.Expressions.{begin, role_of, sort_of};
 ghost use Rattle.m11_scan.specs.declared.expressions.Role.TheVariants.{Term};
-ghost use Rattle.m11_scan_values.specs.Places.{after, first_operator, operator_at, operator_of};
+ghost use Rattle.m11_scan_values.specs.Splits.{after, first_operator, operator_at, operator_of};
 ghost use Rattle.m11_scan_values.specs.Quantities.{quantity};
 ghost use Rattle.m11_scan_values.specs.Values.{carried, items_of, value_as_term, value_of};
 
@@ -16,10 +16,10 @@ use crate::terms::atom;
 use crate::values::Value;
 use m11_scan::{Line, Radix, Role, Sort, Token, Within, role_of};
 
-// An operator, and the place of its token.
+// An operator, and the index of its token.
 #[derive(Clone, Copy, PartialEq, Eq, Debug)]
 pub struct Split {
-    pub(crate) place: usize,
+    pub(crate) index: usize,
     pub(crate) operator: Operator,
 }
 
@@ -55,12 +55,12 @@ fn expression<N: Names>(tokens: &[Token], radix: Radix, line: &Line, names: &N) 
     let mut left = None;
     let mut rest = tokens;
     'operators: while let Some(split) = first_operator(rest) {
-        let value = term(&rest[..split.place], radix, line, names);
+        let value = term(&rest[..split.index], radix, line, names);
         left = Some(Left {
             value: joined(left, value),
             operator: split.operator,
         });
-        rest = &rest[split.place + 1..];
+        rest = &rest[split.index + 1..];
     }
     let value = term(rest, radix, line, names);
     joined(left, value)
@@ -97,34 +97,34 @@ fn joined(left: Option<Left>, value: Value) -> Value
 // The first operator between two terms that stands outside brackets.
 fn first_operator(tokens: &[Token]) -> Option<Split>
     ensures first { result ≡ first_operator begin (map sort_of tokens.now) }
-    ensures within { IfSome result (λ split. split.place < length tokens.now) }
+    ensures within { IfSome result (λ split. split.index < length tokens.now) }
 {
     let mut count = 0;
-    let mut place = Within {
+    let mut within = Within {
         depth: 0,
         is_due: true,
     };
     let mut rest = tokens;
     'tokens: while let [token, others @ ..] = rest {
-        if let Some(operator) = operator_at(token.sort, place) {
+        if let Some(operator) = operator_at(token.sort, within) {
             return Some(Split {
-                place: count,
+                index: count,
                 operator,
             });
         }
-        place = after(role_of(token.sort), place);
+        within = after(role_of(token.sort), within);
         count += 1;
         rest = others;
     }
     None
 }
 
-// The operator that a token is at a place, outside brackets.
-fn operator_at(sort: Sort, place: Within) -> Option<Operator>
-    ensures { result ≡ operator_at sort place }
+// The operator that a token is where it stands, outside brackets.
+fn operator_at(sort: Sort, within: Within) -> Option<Operator>
+    ensures { result ≡ operator_at sort within }
 {
-    if place.depth == 0 {
-        operator_of(place.is_due, sort)
+    if within.depth == 0 {
+        operator_of(within.is_due, sort)
     } else {
         None
     }
@@ -151,17 +151,17 @@ fn operator_of(is_due: bool, sort: Sort) -> Option<Operator>
     }
 }
 
-// The place after a token of a role.
-fn after(role: Role, place: Within) -> Within
-    requires { place.depth < usize.MAX }
-    ensures { result ≡ after role place }
+// Where an expression has come to after a token of a role.
+fn after(role: Role, within: Within) -> Within
+    requires { within.depth < usize.MAX }
+    ensures { result ≡ after role within }
 {
     let (depth, is_due) = match role {
-        Role::Term => (place.depth, false),
-        Role::Prefix | Role::Sign | Role::Operator => (place.depth, true),
-        Role::Opens => (place.depth + 1, true),
-        Role::Closes => (place.depth.saturating_sub(1), false),
-        Role::Foreign => (place.depth, place.is_due),
+        Role::Term => (within.depth, false),
+        Role::Prefix | Role::Sign | Role::Operator => (within.depth, true),
+        Role::Opens => (within.depth + 1, true),
+        Role::Closes => (within.depth.saturating_sub(1), false),
+        Role::Foreign => (within.depth, within.is_due),
     };
     Within { depth, is_due }
 }

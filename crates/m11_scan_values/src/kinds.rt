@@ -19,7 +19,7 @@ pub enum Kind {
     Section(Name),
     /// The number is that of a register.
     Register,
-    /// From the place that this name has in another object.
+    /// From the location that this name has in another object.
     Reference(Name),
 }
 
@@ -57,7 +57,7 @@ pub(crate) fn kind_of(operator: Operator, left: Kind, right: Kind) -> Option<Kin
     }
 }
 
-// What is between two places: a number, where both lie in one section.
+// What is between two locations: a number, where both lie in one section.
 fn apart(one: Name, other: Name) -> Option<Kind>
     ensures { result ≡ (if is_same_name one other then Some Kind.Absolute else None) }
 {

@@ -17,7 +17,7 @@ pub enum Symbol {
     Ordinary(Name),
     /// A local symbol, by its number: 1 to 65535.
     Local(u16),
-    /// `.`, the place that is current.
+    /// `.`, the current location.
     Counter,
 }
 

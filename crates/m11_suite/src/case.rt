@@ -26,7 +26,7 @@ pub(crate) struct Command {
 
 // What the lines of content after a line belong to.
 #[derive(Clone, Copy)]
-enum Place {
+enum Destination {
     Nothing,
     File,
     Input,
@@ -39,14 +39,14 @@ enum Place {
 #[derive(Drop)]
 struct Reading {
     commands: Vec<Command>,
-    place: Place,
+    destination: Destination,
 }
 
 /// Reads the text of a case.
 pub(crate) fn read_case(alloc: Global, text: &str) -> Result<Vec<Command>, CaseFault> {
     let mut reading = Reading {
         commands: Vec::new(alloc),
-        place: Place::Nothing,
+        destination: Destination::Nothing,
     };
     let mut number: u64 = 0;
     for line in text.split('\n') {
@@ -85,15 +85,15 @@ impl Reading {
 
     // Adds bytes to what content belongs to.
     fn content(&mut self, bytes: &[u8]) -> Result<(), LineFault> {
-        let place = self.place;
+        let destination = self.destination;
         let command = self.commands.last_mut().ok_or(LineFault::NoCommand)?;
-        match place {
-            Place::Nothing => return Err(LineFault::NoPlace),
-            Place::File => add_to_last(&mut command.files, bytes)?,
-            Place::Input => command.input.extend_from_slice(bytes)?,
-            Place::Printed => command.printed.extend_from_slice(bytes)?,
-            Place::Reported => command.reported.extend_from_slice(bytes)?,
-            Place::Output => add_to_last(&mut command.outputs, bytes)?,
+        match destination {
+            Destination::Nothing => return Err(LineFault::NoDestination),
+            Destination::File => add_to_last(&mut command.files, bytes)?,
+            Destination::Input => command.input.extend_from_slice(bytes)?,
+            Destination::Printed => command.printed.extend_from_slice(bytes)?,
+            Destination::Reported => command.reported.extend_from_slice(bytes)?,
+            Destination::Output => add_to_last(&mut command.outputs, bytes)?,
         }
         Ok(())
     }
@@ -103,26 +103,26 @@ impl Reading {
         let (name, rest) = line.split_once(' ').unwrap_or((line, ""));
         if name == "words" {
             self.commands.push(command_of(alloc, rest)?)?;
-            self.place = Place::Nothing;
+            self.destination = Destination::Nothing;
             return Ok(());
         }
         let command = self.commands.last_mut().ok_or(LineFault::NoCommand)?;
-        self.place = match name {
+        self.destination = match name {
             "file" => {
                 command.files.push(empty_file(alloc, rest)?)?;
-                Place::File
+                Destination::File
             }
             "out" => {
                 command.outputs.push(empty_file(alloc, rest)?)?;
-                Place::Output
+                Destination::Output
             }
             "status" => {
                 command.status = rest.parse::<u8>().or(Err(LineFault::BadStatus))?;
-                Place::Nothing
+                Destination::Nothing
             }
-            "stdin" => Place::Input,
-            "stdout" => Place::Printed,
-            "stderr" => Place::Reported,
+            "stdin" => Destination::Input,
+            "stdout" => Destination::Printed,
+            "stderr" => Destination::Reported,
             _ => return Err(LineFault::UnknownPart),
         };
         Ok(())
@@ -149,7 +149,7 @@ fn command_of(alloc: Global, texts: &str) -> Result<Command, LineFault> {
 
 // Adds bytes to the last of some files.
 fn add_to_last(files: &mut Vec<MemoryFile>, bytes: &[u8]) -> Result<(), LineFault> {
-    let file = files.last_mut().ok_or(LineFault::NoPlace)?;
+    let file = files.last_mut().ok_or(LineFault::NoDestination)?;
     file.bytes.extend_from_slice(bytes)?;
     Ok(())
 }

@@ -20,7 +20,7 @@ pub(crate) struct Found<'a> {
 pub(crate) enum Difference<'a> {
     /// The status that was found.
     Status(u8),
-    /// The bytes of standard output, of standard error or of a file, from this place on, the first being 0.
+    /// The bytes of standard output, of standard error or of a file, from this index on, the first being 0.
     Bytes(&'a str, usize),
     /// A file that was not created.
     Missing(&'a str),
@@ -32,7 +32,7 @@ impl fmt::Display for Difference<'_> {
     fn fmt<W: fmt::Write>(&self, f: &mut fmt::Formatter<W>) -> fmt::Result {
         match self {
             Difference::Status(found) => write!(f, "the status is {found}"),
-            Difference::Bytes(name, place) => write!(f, "{name} differs from byte {place} on"),
+            Difference::Bytes(name, index) => write!(f, "{name} differs from byte {index} on"),
             Difference::Missing(path) => write!(f, "{path} was not created"),
             Difference::Unnamed(path) => write!(f, "{path} was created"),
         }
@@ -101,14 +101,14 @@ fn bytes_differ<'a>(name: &'a str, found: &[u8], wanted: &[u8]) -> Option<Differ
     if found == wanted {
         return None;
     }
-    Some(Difference::Bytes(name, first_place(found, wanted)))
+    Some(Difference::Bytes(name, first_differing(found, wanted)))
 }
 
-// The place of the first byte that isn't that of the other text, or the end.
-fn first_place(found: &[u8], wanted: &[u8]) -> usize {
-    for (place, byte) in found.iter().enumerate() {
-        if wanted.get(place) != Some(byte) {
-            return place;
+// The index of the first byte that isn't that of the other text, or the end.
+fn first_differing(found: &[u8], wanted: &[u8]) -> usize {
+    for (index, byte) in found.iter().enumerate() {
+        if wanted.get(index) != Some(byte) {
+            return index;
         }
     }
     found.len()

@@ -14,7 +14,7 @@ pub(crate) enum LineFault {
     NoCommand,
     /// It is content, and nothing before it takes any.
     #[error("content of nothing")]
-    NoPlace,
+    NoDestination,
     /// A backslash stands before something that makes no escape with it.
     #[error("no escape")]
     BadEscape,

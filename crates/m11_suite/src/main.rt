@@ -85,7 +85,7 @@ fn text_of(rt: &(impl Files + AllocGlobal), folder: &str, name: &str) -> Result<
 // What stands before the name of an index in its path.
 fn folder_of(index: &str) -> &str {
     match index.rfind('/') {
-        Some(place) => &index[..=place],
+        Some(end) => &index[..=end],
         None => "",
     }
 }

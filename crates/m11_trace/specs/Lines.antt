@@ -12,10 +12,10 @@ use Rattle.m11_trace.specs.Changes.{memory_changes}
 use Rattle.m11_trace.specs.Shots.{numbered, shot_of, words_in}
 use Rattle.m11_trace.specs.declared.shots.Shot.{Shot}
 
--- the instruction whose words lie at a place; nothing, where no word lies there
+-- the instruction whose words lie at a location; nothing, where no word lies there
 abbrev pub source_text : ℕ → List ℕ → Bytes
-source_text place [] = []
-source_text place (word ∷ more) = statement_text (statement_of place word more)
+source_text location [] = []
+source_text location (word ∷ more) = statement_text (statement_of location word more)
 
 -- a register that has another value than before
 abbrev pub register_change : Bytes → ℕ → ℕ → Bytes
@@ -46,14 +46,14 @@ status_change before later =
     if before == later then [] else codes "\tPSW " ++ (octal_text later ++ 32 ∷ code_letters later)
 
 -- where a step found its instruction
-abbrev pub place_of : Shot → ℕ
-place_of shot = numbered shot.before.registers 7
+abbrev pub location_of : Shot → ℕ
+location_of shot = numbered shot.before.registers 7
 
 -- a line before the words of memory, and after them
 unfoldable pub line_front : ℕ → Shot → Bytes
 line_front number shot =
-    decimal number ++ (9 ∷ (octal_text (place_of shot)
-    ++ (9 ∷ (source_text (place_of shot) (words_in shot.fetched) ++ register_changes shot.before.registers shot.later.registers))))
+    decimal number ++ (9 ∷ (octal_text (location_of shot)
+    ++ (9 ∷ (source_text (location_of shot) (words_in shot.fetched) ++ register_changes shot.before.registers shot.later.registers))))
 
 abbrev pub line_end : Shot → Bytes
 line_end shot = status_change shot.before.psw shot.later.psw ++ 10 ∷ []

@@ -21,19 +21,19 @@ counter_of m = numbered m.registers 7
 abbrev pub is_at : List ℕ → Machine → Bool
 is_at places m = list_any (λ place. place == counter_of m) places
 
--- the word some bytes after an even place, where the memory has one there
+-- the word some bytes after an even location, where the memory has one there
 abbrev pub word_past : Bytes → ℕ → ℕ → Option ℕ
-word_past memory place distance =
-    if nat_lt (place + distance) (length memory) then Some (word_at memory (place + distance)) else None
+word_past memory location distance =
+    if nat_lt (location + distance) (length memory) then Some (word_at memory (location + distance)) else None
 
--- the words that an instruction at a place may have; none at an odd one
+-- the words that an instruction at a location may have; none at an odd one
 abbrev pub fetched_at : Bytes → ℕ → Fetched
-fetched_at memory place =
-    if place % 2 == 1 then record { first = None; second = None; third = None }
+fetched_at memory location =
+    if location % 2 == 1 then record { first = None; second = None; third = None }
     else record {
-      first = word_past memory place 0;
-      second = word_past memory place 2;
-      third = word_past memory place 4;
+      first = word_past memory location 0;
+      second = word_past memory location 2;
+      third = word_past memory location 4;
     }
 
 -- the words that are there, up to the first that isn't

@@ -10,27 +10,27 @@ use crate::shots::{Fetched, Shot};
 use itoa::Buffer;
 use m11_base_disassembly::disassembled;
 
-// The line of source of words at a place.
-fn add_words(line: &mut Line, place: u16, word: u16, more: &[u16])
+// The line of source of words at a location.
+fn add_words(line: &mut Line, location: u16, word: u16, more: &[u16])
     requires { array_vec_len line.old ≤ 60 }
-    ensures items { line.new.items ≡ line.old.items ++ spec.source_text place (word ∷ more.now) }
+    ensures items { line.new.items ≡ line.old.items ++ spec.source_text location (word ∷ more.now) }
     ensures size { array_vec_len line.new ≤ array_vec_len line.old + 40 }
 {
-    let disassembly = disassembled(place, word, more);
+    let disassembly = disassembled(location, word, more);
     add(line, disassembly.source.as_slice());
 }
 
-// The instruction whose words lie at a place.
-fn add_source(line: &mut Line, place: u16, fetched: Fetched)
+// The instruction whose words lie at a location.
+fn add_source(line: &mut Line, location: u16, fetched: Fetched)
     requires { array_vec_len line.old ≤ 60 }
-    ensures items { line.new.items ≡ line.old.items ++ spec.source_text place (words_in fetched) }
+    ensures items { line.new.items ≡ line.old.items ++ spec.source_text location (words_in fetched) }
     ensures size { array_vec_len line.new ≤ array_vec_len line.old + 40 }
 {
     match (fetched.first, fetched.second, fetched.third) {
         (None, _, _) => {}
-        (Some(first), None, _) => add_words(line, place, first, &[]),
-        (Some(first), Some(second), None) => add_words(line, place, first, &[second]),
-        (Some(first), Some(second), Some(third)) => add_words(line, place, first, &[second, third]),
+        (Some(first), None, _) => add_words(line, location, first, &[]),
+        (Some(first), Some(second), None) => add_words(line, location, first, &[second]),
+        (Some(first), Some(second), Some(third)) => add_words(line, location, first, &[second, third]),
     }
 }
 
@@ -111,12 +111,12 @@ pub(crate) fn line_front(number: u32, shot: &Shot) -> Line
     ensures items { result.items ≡ spec.line_front number shot.now }
     ensures size { array_vec_len result ≤ 158 }
 {
-    let place = shot.before.registers[7];
+    let location = shot.before.registers[7];
     let mut line = Line::new();
     add(&mut line, Buffer::new().format(number).as_bytes());
-    add_word(&mut line, b"\t", place);
+    add_word(&mut line, b"\t", location);
     add(&mut line, b"\t");
-    add_source(&mut line, place, shot.fetched);
+    add_source(&mut line, location, shot.fetched);
     add_registers(&mut line, &shot.before.registers, &shot.later.registers);
     line
 }

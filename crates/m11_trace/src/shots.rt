@@ -36,23 +36,23 @@ pub struct Shot {
     pub later: View,
 }
 
-/// The word some bytes after an even place, where the memory has one there.
-pub(crate) fn word_past(memory: &Memory, place: u16, distance: u16) -> Option<u16>
-    requires place { place % 2 ≡ 0 }
+/// The word some bytes after an even location, where the memory has one there.
+pub(crate) fn word_past(memory: &Memory, location: u16, distance: u16) -> Option<u16>
+    requires location { location % 2 ≡ 0 }
     requires distance { distance % 2 ≡ 0 }
-    ensures { result ≡ spec.word_past memory.now place distance }
+    ensures { result ≡ spec.word_past memory.now location distance }
 {
-    match memory.place_past(place, distance) {
+    match memory.address_past(location, distance) {
         Some(address) => Some(memory.word(address)),
         None => None,
     }
 }
 
-/// The words that an instruction at a place may have.
-pub(crate) fn fetched_at(memory: &Memory, place: u16) -> Fetched
-    ensures { result ≡ spec.fetched_at memory.now place }
+/// The words that an instruction at a location may have.
+pub(crate) fn fetched_at(memory: &Memory, location: u16) -> Fetched
+    ensures { result ≡ spec.fetched_at memory.now location }
 {
-    if place % 2 == 1 {
+    if location % 2 == 1 {
         return Fetched {
             first: None,
             second: None,
@@ -60,9 +60,9 @@ pub(crate) fn fetched_at(memory: &Memory, place: u16) -> Fetched
         };
     }
     Fetched {
-        first: word_past(memory, place, 0),
-        second: word_past(memory, place, 2),
-        third: word_past(memory, place, 4),
+        first: word_past(memory, location, 0),
+        second: word_past(memory, location, 2),
+        third: word_past(memory, location, 4),
     }
 }
 

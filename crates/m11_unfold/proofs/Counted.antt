@@ -29,26 +29,26 @@ one_wanted known line wanted more few (Some actual) =
     let rest = few (separator_at line actual.end).end in
     omega (arith, one, all, rest)
 
-pub few_actuals : (known : Known) (line : List ℕ) (wanted place : ℕ) → length (actuals_from known line wanted place).texts ≤ wanted
-few_actuals known line zero place = omega arith
-few_actuals known line (suc wanted) place =
+pub few_actuals : (known : Known) (line : List ℕ) (wanted column : ℕ) → length (actuals_from known line wanted column).texts ≤ wanted
+few_actuals known line zero column = omega arith
+few_actuals known line (suc wanted) column =
     one_wanted known line wanted (λ next. actuals_from known line wanted next) (λ next. few_actuals known line wanted next)
-    (next_actual line place true)
+    (next_actual line column true)
 
 one_listed : (bound : ℕ) (more : ℕ → FormalList) → ((next : ℕ) → length (more next).list ≤ bound)
     → (listed : NextListed) → length (formals_by more listed).list ≤ suc bound
 one_listed bound more few (Ending flags) = omega arith
 one_listed bound more few (Formally formal flags end) = let rest = few end in omega (arith, rest)
 
-few_formals : (bound : ℕ) (line : List ℕ) (place : ℕ) → length (formals_within bound line place).list ≤ bound
-few_formals zero line place = omega arith
-few_formals (suc bound) line place =
+few_formals : (bound : ℕ) (line : List ℕ) (column : ℕ) → length (formals_within bound line column).list ≤ bound
+few_formals zero line column = omega arith
+few_formals (suc bound) line column =
     one_listed bound (λ next. formals_within bound line next) (λ next. few_formals bound line next)
-    (listed_at line (separator_at line place).end)
+    (listed_at line (separator_at line column).end)
 
-few_told : (line : List ℕ) (place : ℕ) (name : Option NameAt) → IsFew (header_by line place name).named
-few_told line place None = tt
-few_told line place (Some name) = few_formals line_limit line name.end
+few_told : (line : List ℕ) (column : ℕ) (name : Option NameAt) → IsFew (header_by line column name).named
+few_told line column None = tt
+few_told line column (Some name) = few_formals line_limit line name.end
 
-pub few_header : (line : List ℕ) (place : ℕ) → IsFew (header line place).named
-few_header line place = few_told line place (name_at (tokens_from line place))
+pub few_header : (line : List ℕ) (column : ℕ) → IsFew (header line column).named
+few_header line column = few_told line column (name_at (tokens_from line column))

@@ -69,19 +69,19 @@ module _ (stage : Stage) (kept : IsKept stage) where
       let one_more = below (length stage.conditions.entered + conditions_open stage.left) most_conditions room in
       with_conditions _ (omega (arith, one_more)) refl
 
-  kept_within : (change : OpenConditions → OpenConditions) (text : List ℕ) (place : ℕ)
+  kept_within : (change : OpenConditions → OpenConditions) (text : List ℕ) (column : ℕ)
       → length (change stage.conditions).entered ≤ length stage.conditions.entered
-      → (change stage.conditions).nested ≡ stage.conditions.nested → IsKept (acted_within change text place stage).after
-  kept_within change text place fewer same =
+      → (change stage.conditions).nested ≡ stage.conditions.nested → IsKept (acted_within change text column stage).after
+  kept_within change text column fewer same =
       let few = kept.conditions in
-      kept_if (has_none stage.conditions) (own (flagged flag_O text place) stage)
-      (own (flagged 0 text place) (record stage { conditions = change stage.conditions })) (λ _. kept)
+      kept_if (has_none stage.conditions) (own (flagged flag_O text column) stage)
+      (own (flagged 0 text column) (record stage { conditions = change stage.conditions })) (λ _. kept)
       (λ _. with_conditions (change stage.conditions) (omega (arith, few, fewer)) same)
 
-  kept_switch : (p : Part) (text : List ℕ) (place : ℕ) → IsKept (acted_within (switched p) text place stage).after
-  kept_switch p text place =
+  kept_switch : (p : Part) (text : List ℕ) (column : ℕ) → IsKept (acted_within (switched p) text column stage).after
+  kept_switch p text column =
       let alike = with_part_same p stage.conditions.entered in
-      kept_within (switched p) text place (omega (arith, alike)) refl
+      kept_within (switched p) text column (omega (arith, alike)) refl
 
   kept_opening : (purpose : Purpose) → IsKept (opens purpose stage)
   kept_opening purpose =
@@ -108,14 +108,14 @@ module _ (stage : Stage) (kept : IsKept stage) where
       }
 
   kept_statement : (text : List ℕ) (holds : Bool) (begin : Option ℕ) → IsKept (with_statement text holds begin stage)
-  kept_statement text true (Some place) = with_left (Line (line_of (drop place text)) ∷ stage.left) refl
+  kept_statement text true (Some column) = with_left (Line (line_of (drop column text)) ∷ stage.left) refl
   kept_statement text true None = kept
   kept_statement text false begin = kept
 
-  kept_exit : (text : List ℕ) (place : ℕ) → IsKept (acted_exit text place stage).after
-  kept_exit text place =
-      kept_if (is_expanding stage.left) (own (flagged 0 text place) (record stage { left = after_mark stage.left }))
-      (own (flagged flag_O text place) stage) (λ _. with_left (after_mark stage.left) (same_ends stage.left)) (λ _. kept)
+  kept_exit : (text : List ℕ) (column : ℕ) → IsKept (acted_exit text column stage).after
+  kept_exit text column =
+      kept_if (is_expanding stage.left) (own (flagged 0 text column) (record stage { left = after_mark stage.left }))
+      (own (flagged flag_O text column) stage) (λ _. with_left (after_mark stage.left) (same_ends stage.left)) (λ _. kept)
 
   pub kept_created : (created : ℕ) → IsKept (record stage { created = created })
   kept_created created = record {
@@ -140,36 +140,36 @@ module _ (stage : Stage) (kept : IsKept stage) where
   kept_by : (known : Known) (text : List ℕ) (what : Operation) → fault_by stage what ≡ None
       → IsKept (acted_by known text stage what).after
   kept_by known text Foreign fits = kept
-  kept_by known text (Calls macro place) fits =
+  kept_by known text (Calls macro column) fits =
       let so = not_so (nat_le most_expansions (depth stage.left)) _ None fits in
-      let given = actuals_from known text (length macro.formals) place in
+      let given = actuals_from known text (length macro.formals) column in
       let filling = filled macro.formals given.texts stage.created in
       let bytes = kept.bytes in
       opened_kept (Some (length given.texts)) 0 (map formal_name macro.formals) (filling.texts ∷ []) macro.body
       (record stage { created = filling.created }) (kept_created filling.created)
       (under most_expansions (depth stage.left) so.0) (omega (arith, bytes))
-  kept_by known text (OwnDirective word.If place) fits =
-      kept_if (has_room stage) (condition_opened text (condition known text place) stage) _
-      (λ room. kept_condition text (condition known text place) room)
+  kept_by known text (OwnDirective word.If column) fits =
+      kept_if (has_room stage) (condition_opened text (condition known text column) stage) _
+      (λ room. kept_condition text (condition known text column) room)
       (λ _. with_conditions _ kept.conditions refl)
-  kept_by known text (OwnDirective word.Iff place) fits = kept_switch part.False text place
-  kept_by known text (OwnDirective word.Ift place) fits = kept_switch part.True text place
-  kept_by known text (OwnDirective word.Iftf place) fits = kept_switch part.Both text place
-  kept_by known text (OwnDirective word.Endc place) fits =
-      kept_within closed text place (closed_fewer stage.conditions.is_past stage.conditions.entered) refl
-  kept_by known text (OwnDirective word.Iif place) fits =
-      kept_statement text (immediate.immediate known text place).holds (immediate.immediate known text place).statement
-  kept_by known text (OwnDirective word.Macro place) fits = kept_opening (defining (header text place).named)
-  kept_by known text (OwnDirective word.Endm place) fits = kept
-  kept_by known text (OwnDirective word.Rept place) fits = kept_opening _
-  kept_by known text (OwnDirective word.Endr place) fits = kept
-  kept_by known text (OwnDirective word.Irp place) fits =
-      kept_opening (repeating (irp known text place).rounds)
-  kept_by known text (OwnDirective word.Irpc place) fits = kept_opening (repeating (irpc text place).rounds)
-  kept_by known text (OwnDirective word.Mexit place) fits = kept_exit text place
-  kept_by known text (OwnDirective word.Narg place) fits = kept
-  kept_by known text (OwnDirective word.Nchr place) fits = kept
-  kept_by known text (OwnDirective word.End place) fits = kept_ended
+  kept_by known text (OwnDirective word.Iff column) fits = kept_switch part.False text column
+  kept_by known text (OwnDirective word.Ift column) fits = kept_switch part.True text column
+  kept_by known text (OwnDirective word.Iftf column) fits = kept_switch part.Both text column
+  kept_by known text (OwnDirective word.Endc column) fits =
+      kept_within closed text column (closed_fewer stage.conditions.is_past stage.conditions.entered) refl
+  kept_by known text (OwnDirective word.Iif column) fits =
+      kept_statement text (immediate.immediate known text column).holds (immediate.immediate known text column).statement
+  kept_by known text (OwnDirective word.Macro column) fits = kept_opening (defining (header text column).named)
+  kept_by known text (OwnDirective word.Endm column) fits = kept
+  kept_by known text (OwnDirective word.Rept column) fits = kept_opening _
+  kept_by known text (OwnDirective word.Endr column) fits = kept
+  kept_by known text (OwnDirective word.Irp column) fits =
+      kept_opening (repeating (irp known text column).rounds)
+  kept_by known text (OwnDirective word.Irpc column) fits = kept_opening (repeating (irpc text column).rounds)
+  kept_by known text (OwnDirective word.Mexit column) fits = kept_exit text column
+  kept_by known text (OwnDirective word.Narg column) fits = kept
+  kept_by known text (OwnDirective word.Nchr column) fits = kept
+  kept_by known text (OwnDirective word.End column) fits = kept_ended
 
   -- what the operator of a line leaves
   pub kept_acts : (known : Known) (text : List ℕ) → act_fault stage text ≡ None → IsKept (act known stage text).after

@@ -10,12 +10,12 @@ use Rattle.m11_scan_statements.specs.declared.bodies.Body.{Body}
 use Rattle.m11_scan_statements.specs.declared.bodies.Body.TheVariants.{Nothing, Assign, SetCounter, Operate, Words}
 use Rattle.m11_scan_statements.specs.declared.spans.Span.{Span}
 
-in_body : (place size : ℕ) (body : Body) (name : Span) → BodyStands place size body → operator_in body ≡ Some name → name.end ≤ size
-in_body place size Nothing name stands is = absurd (none-some name is)
-in_body place size (Assign assignment) name stands is = absurd (none-some name is)
-in_body place size (SetCounter value) name stands is = absurd (none-some name is)
-in_body place size (Operate other) name stands is = subst (λ (s : Span). s.end ≤ size) (same_Some other name is) stands.2
-in_body place size (Words start) name stands is = absurd (none-some name is)
+in_body : (column size : ℕ) (body : Body) (name : Span) → BodyStands column size body → operator_in body ≡ Some name → name.end ≤ size
+in_body column size Nothing name stands is = absurd (none-some name is)
+in_body column size (Assign assignment) name stands is = absurd (none-some name is)
+in_body column size (SetCounter value) name stands is = absurd (none-some name is)
+in_body column size (Operate other) name stands is = subst (λ (s : Span). s.end ≤ size) (same_Some other name is) stands.2
+in_body column size (Words start) name stands is = absurd (none-some name is)
 
 -- the operator of a line lies in it
 pub operator_within : (line : Bytes) (name : Span) → BodyStands (labels_end line) (length line) (body_of line)

@@ -27,50 +27,50 @@ use m11_unfold_bodies::{CONDITION_LIMIT, Part};
 use std::alloc::{AllocError, Global};
 
 impl State {
-    // Does a directive, whose arguments stand in a line from a place on. Returns whether the line is unfolding's own.
+    // Does a directive, whose arguments stand in a line from a column on. Returns whether the line is unfolding's own.
     #[tactic(auto, using(crate::proofs::Noting::nothing_more))]
     pub(crate) fn direct<N: Names>(
         &mut self,
         alloc: Global,
         line: &Line,
         directive: Directive,
-        place: usize,
+        column: usize,
         names: &N,
         notes: &mut Notes,
     ) -> Result<bool, AllocError>
-        requires within { place ≤ length line.now.text }
+        requires within { column ≤ length line.now.text }
         requires room { length self.old.conditions.entered + conditions_open self.old.left.left ≤ most_conditions }
         requires free { self.old.left.has_statement ≡ false }
         ensures own { IfOk result (λ is_own. is_own ≡ (spec.acted_by
             (known_by (N.base names.now) (N.stands_for names.now)) line.now.text (stage_of self.old)
-            (spec.OwnDirective directive place)).is_own) }
+            (spec.OwnDirective directive column)).is_own) }
         ensures after { IfOk result (λ _. stage_of self.new ≡ (spec.acted_by
             (known_by (N.base names.now) (N.stands_for names.now)) line.now.text (stage_of self.old)
-            (spec.OwnDirective directive place)).after) }
+            (spec.OwnDirective directive column)).after) }
         ensures notes { IfOk result (λ _. notes.new ≡ joined notes.old (spec.acted_by
             (known_by (N.base names.now) (N.stands_for names.now)) line.now.text (stage_of self.old)
-            (spec.OwnDirective directive place)).notes) }
+            (spec.OwnDirective directive column)).notes) }
         ensures unchanged { IfErr result (λ _. stage_of self.new ≡ stage_of self.old) }
     {
         match directive {
-            Directive::If => self.act_if(line, place, names, notes)?,
-            Directive::Iff => self.act_switch(line, place, Part::False, notes),
-            Directive::Ift => self.act_switch(line, place, Part::True, notes),
-            Directive::Iftf => self.act_switch(line, place, Part::Both, notes),
-            Directive::Endc => self.act_close(line, place, notes),
-            Directive::Iif => self.act_immediate(line, place, names, notes)?,
-            Directive::Macro => self.act_header(alloc, line, place, notes)?,
+            Directive::If => self.act_if(line, column, names, notes)?,
+            Directive::Iff => self.act_switch(line, column, Part::False, notes),
+            Directive::Ift => self.act_switch(line, column, Part::True, notes),
+            Directive::Iftf => self.act_switch(line, column, Part::Both, notes),
+            Directive::Endc => self.act_close(line, column, notes),
+            Directive::Iif => self.act_immediate(line, column, names, notes)?,
+            Directive::Macro => self.act_header(alloc, line, column, notes)?,
             Directive::Endm | Directive::Endr => notes.add_flags(ErrorFlags::O),
-            Directive::Rept => self.act_repeat(alloc, line, place, names, notes)?,
+            Directive::Rept => self.act_repeat(alloc, line, column, names, notes)?,
             Directive::Irp => {
-                let rounds = irp(alloc, line, place, names, notes)?;
+                let rounds = irp(alloc, line, column, names, notes)?;
                 self.act_repeated(alloc, rounds)?;
             }
             Directive::Irpc => {
-                let rounds = irpc(alloc, line, place, notes)?;
+                let rounds = irpc(alloc, line, column, notes)?;
                 self.act_repeated(alloc, rounds)?;
             }
-            Directive::Mexit => self.act_exit(line, place, notes),
+            Directive::Mexit => self.act_exit(line, column, notes),
             Directive::Narg | Directive::Nchr => return Ok(false),
             Directive::End => {
                 self.has_ended = true;
@@ -84,20 +84,20 @@ impl State {
     fn act_if<N: Names>(
         &mut self,
         line: &Line,
-        place: usize,
+        column: usize,
         names: &N,
         notes: &mut Notes,
     ) -> Result<(), AllocError>
-        requires within { place ≤ length line.now.text }
+        requires within { column ≤ length line.now.text }
         requires room { length self.old.conditions.entered + conditions_open self.old.left.left ≤ most_conditions }
         ensures after { IfOk result (λ _. stage_of self.new ≡ (spec.acted_if
-            (known_by (N.base names.now) (N.stands_for names.now)) line.now.text place (stage_of self.old)).after) }
+            (known_by (N.base names.now) (N.stands_for names.now)) line.now.text column (stage_of self.old)).after) }
         ensures notes { IfOk result (λ _. notes.new ≡ joined notes.old (spec.acted_if
-            (known_by (N.base names.now) (N.stands_for names.now)) line.now.text place (stage_of self.old)).notes) }
+            (known_by (N.base names.now) (N.stands_for names.now)) line.now.text column (stage_of self.old)).notes) }
         ensures unchanged { IfErr result (λ _. stage_of self.new ≡ stage_of self.old) }
     {
         if self.conditions.count() + self.left.conditions_open() < CONDITION_LIMIT {
-            self.open_condition(line, place, names, notes)?;
+            self.open_condition(line, column, names, notes)?;
         } else {
             notes.add_flags(ErrorFlags::O);
             self.conditions.enter_past();
@@ -110,49 +110,49 @@ impl State {
     fn open_condition<N: Names>(
         &mut self,
         line: &Line,
-        place: usize,
+        column: usize,
         names: &N,
         notes: &mut Notes,
     ) -> Result<(), AllocError>
-        requires within { place ≤ length line.now.text }
+        requires within { column ≤ length line.now.text }
         requires room { length self.old.conditions.entered < most_conditions }
         ensures after { IfOk result (λ _. stage_of self.new ≡ (spec.condition_opened line.now.text (asked_condition
-            (known_by (N.base names.now) (N.stands_for names.now)) line.now.text place) (stage_of self.old)).after) }
+            (known_by (N.base names.now) (N.stands_for names.now)) line.now.text column) (stage_of self.old)).after) }
         ensures notes { IfOk result (λ _. notes.new ≡ joined notes.old (spec.condition_opened line.now.text (asked_condition
-            (known_by (N.base names.now) (N.stands_for names.now)) line.now.text place) (stage_of self.old)).notes) }
+            (known_by (N.base names.now) (N.stands_for names.now)) line.now.text column) (stage_of self.old)).notes) }
         ensures unchanged { IfErr result (λ _. stage_of self.new ≡ stage_of self.old) }
     {
-        let verdict = condition(line, place, names, notes)?;
+        let verdict = condition(line, column, names, notes)?;
         notes.add_flags(left_over(line, usize::from(verdict.end)));
         self.conditions.enter(verdict.holds);
         Ok(())
     }
 
     // `.IFF`, `.IFT` or `.IFTF`: it needs a condition of its own expansion.
-    fn act_switch(&mut self, line: &Line, place: usize, part: Part, notes: &mut Notes)
-        requires { place ≤ length line.now.text }
+    fn act_switch(&mut self, line: &Line, column: usize, part: Part, notes: &mut Notes)
+        requires { column ≤ length line.now.text }
         ensures after { stage_of self.new
-            ≡ (spec.acted_within (switched part) line.now.text place (stage_of self.old)).after }
+            ≡ (spec.acted_within (switched part) line.now.text column (stage_of self.old)).after }
         ensures notes { notes.new
-            ≡ joined notes.old (spec.acted_within (switched part) line.now.text place (stage_of self.old)).notes }
+            ≡ joined notes.old (spec.acted_within (switched part) line.now.text column (stage_of self.old)).notes }
     {
         let has_none = self.conditions.is_empty();
-        notes.add_flags(flags_within(line, place, has_none));
+        notes.add_flags(flags_within(line, column, has_none));
         if !has_none {
             self.conditions.switch(part);
         }
     }
 
     // `.ENDC`: it needs a condition of its own expansion.
-    fn act_close(&mut self, line: &Line, place: usize, notes: &mut Notes)
-        requires { place ≤ length line.now.text }
+    fn act_close(&mut self, line: &Line, column: usize, notes: &mut Notes)
+        requires { column ≤ length line.now.text }
         ensures after { stage_of self.new
-            ≡ (spec.acted_within closed line.now.text place (stage_of self.old)).after }
+            ≡ (spec.acted_within closed line.now.text column (stage_of self.old)).after }
         ensures notes { notes.new
-            ≡ joined notes.old (spec.acted_within closed line.now.text place (stage_of self.old)).notes }
+            ≡ joined notes.old (spec.acted_within closed line.now.text column (stage_of self.old)).notes }
     {
         let has_none = self.conditions.is_empty();
-        notes.add_flags(flags_within(line, place, has_none));
+        notes.add_flags(flags_within(line, column, has_none));
         if !has_none {
             self.conditions.close();
         }
@@ -162,19 +162,19 @@ impl State {
     fn act_immediate<N: Names>(
         &mut self,
         line: &Line,
-        place: usize,
+        column: usize,
         names: &N,
         notes: &mut Notes,
     ) -> Result<(), AllocError>
-        requires within { place ≤ length line.now.text }
+        requires within { column ≤ length line.now.text }
         requires free { self.old.left.has_statement ≡ false }
         ensures after { IfOk result (λ _. stage_of self.new ≡ (spec.acted_immediate
-            (known_by (N.base names.now) (N.stands_for names.now)) line.now.text place (stage_of self.old)).after) }
+            (known_by (N.base names.now) (N.stands_for names.now)) line.now.text column (stage_of self.old)).after) }
         ensures notes { IfOk result (λ _. notes.new ≡ joined notes.old (spec.acted_immediate
-            (known_by (N.base names.now) (N.stands_for names.now)) line.now.text place (stage_of self.old)).notes) }
+            (known_by (N.base names.now) (N.stands_for names.now)) line.now.text column (stage_of self.old)).notes) }
         ensures unchanged { IfErr result (λ _. stage_of self.new ≡ stage_of self.old) }
     {
-        let immediate = iif(line, place, names, notes)?;
+        let immediate = iif(line, column, names, notes)?;
         if immediate.holds
             && let Some(begin) = immediate.statement
         {
@@ -189,17 +189,17 @@ impl State {
         &mut self,
         alloc: Global,
         line: &Line,
-        place: usize,
+        column: usize,
         notes: &mut Notes,
     ) -> Result<(), AllocError>
-        requires { place ≤ length line.now.text }
+        requires { column ≤ length line.now.text }
         ensures after { IfOk result (λ _. stage_of self.new
-            ≡ (spec.acted_header (header line.now.text place) (stage_of self.old)).after) }
+            ≡ (spec.acted_header (header line.now.text column) (stage_of self.old)).after) }
         ensures notes { IfOk result (λ _. notes.new ≡ joined notes.old
-            (spec.acted_header (header line.now.text place) (stage_of self.old)).notes) }
+            (spec.acted_header (header line.now.text column) (stage_of self.old)).notes) }
         ensures unchanged { IfErr result (λ _. stage_of self.new ≡ stage_of self.old) }
     {
-        let header = header_at(alloc, line, place, notes)?;
+        let header = header_at(alloc, line, column, notes)?;
         self.open(alloc, defining(header));
         Ok(())
     }
@@ -209,18 +209,18 @@ impl State {
         &mut self,
         alloc: Global,
         line: &Line,
-        place: usize,
+        column: usize,
         names: &N,
         notes: &mut Notes,
     ) -> Result<(), AllocError>
-        requires { place ≤ length line.now.text }
+        requires { column ≤ length line.now.text }
         ensures after { IfOk result (λ _. stage_of self.new ≡ (spec.acted_repeat
-            (known_by (N.base names.now) (N.stands_for names.now)) line.now.text place (stage_of self.old)).after) }
+            (known_by (N.base names.now) (N.stands_for names.now)) line.now.text column (stage_of self.old)).after) }
         ensures notes { IfOk result (λ _. notes.new ≡ joined notes.old (spec.acted_repeat
-            (known_by (N.base names.now) (N.stands_for names.now)) line.now.text place (stage_of self.old)).notes) }
+            (known_by (N.base names.now) (N.stands_for names.now)) line.now.text column (stage_of self.old)).notes) }
         ensures unchanged { IfErr result (λ _. stage_of self.new ≡ stage_of self.old) }
     {
-        let count = rept_count(line, place, names, notes)?;
+        let count = rept_count(line, column, names, notes)?;
         let rounds = m11_unfold_bodies::Rounds::plain(alloc, count);
         self.open(alloc, Purpose::Repeats(Vec::new(alloc), rounds));
         Ok(())
@@ -253,17 +253,17 @@ impl State {
     }
 
     // `.MEXIT`: what is left up to the end of the innermost expansion isn't taken.
-    fn act_exit(&mut self, line: &Line, place: usize, notes: &mut Notes)
-        requires { place ≤ length line.now.text }
-        ensures after { stage_of self.new ≡ (spec.acted_exit line.now.text place (stage_of self.old)).after }
+    fn act_exit(&mut self, line: &Line, column: usize, notes: &mut Notes)
+        requires { column ≤ length line.now.text }
+        ensures after { stage_of self.new ≡ (spec.acted_exit line.now.text column (stage_of self.old)).after }
         ensures notes { notes.new
-            ≡ joined notes.old (spec.acted_exit line.now.text place (stage_of self.old)).notes }
+            ≡ joined notes.old (spec.acted_exit line.now.text column (stage_of self.old)).notes }
     {
         let is_expanding = self.left.is_expanding();
         notes.add_flags(
             ErrorFlags::O
                 .when(!is_expanding)
-                .with(left_over(line, place)),
+                .with(left_over(line, column)),
         );
         if is_expanding {
             self.left.leave();
@@ -284,10 +284,10 @@ fn defining(header: Option<Header>) -> Purpose
 }
 
 // The flags of a directive that needs a condition of its own expansion, where there may be none.
-fn flags_within(line: &Line, place: usize, has_none: bool) -> ErrorFlags
-    requires { place ≤ length line.now.text }
+fn flags_within(line: &Line, column: usize, has_none: bool) -> ErrorFlags
+    requires { column ≤ length line.now.text }
     ensures { bits_of result
-        ≡ bit_or (if has_none then spec.flag_O else 0) (line_left_over line.now.text place) }
+        ≡ bit_or (if has_none then spec.flag_O else 0) (line_left_over line.now.text column) }
 {
-    ErrorFlags::O.when(has_none).with(left_over(line, place))
+    ErrorFlags::O.when(has_none).with(left_over(line, column))
 }

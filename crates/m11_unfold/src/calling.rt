@@ -57,17 +57,17 @@ impl State {
         let Some(name) = operator else {
             return Ok(false);
         };
-        let place = usize::from(name.end);
+        let column = usize::from(name.end);
         if let Some(named) = self.macro_called(name.text(line)) {
             if self.left.depth() >= EXPANSION_LIMIT {
                 return Err(UnfoldFault::TooDeep);
             }
             let called = named.handle()?;
-            self.call(alloc, called, line, place, names, notes)?;
+            self.call(alloc, called, line, column, names, notes)?;
             return Ok(true);
         }
         match directive_named(name.text(line)) {
-            Some(directive) => Ok(self.direct(alloc, line, directive, place, names, notes)?),
+            Some(directive) => Ok(self.direct(alloc, line, directive, column, names, notes)?),
             None => Ok(false),
         }
     }
@@ -101,24 +101,24 @@ impl State {
         alloc: Global,
         called: Macro,
         line: &Line,
-        place: usize,
+        column: usize,
         names: &N,
         notes: &mut Notes,
     ) -> Result<(), AllocError>
-        requires within { place ≤ length line.now.text }
+        requires within { column ≤ length line.now.text }
         requires room { depth self.old.left.left < most_expansions }
         requires kept { IsKept (stage_of self.old) }
         requires free { self.old.left.has_statement ≡ false }
         ensures after { IfOk result (λ _. stage_of self.new ≡ (spec.acted_call called (actuals_from
-            (known_by (N.base names.now) (N.stands_for names.now)) line.now.text (length called.formals) place)
+            (known_by (N.base names.now) (N.stands_for names.now)) line.now.text (length called.formals) column)
             (stage_of self.old)).after) }
         ensures notes { IfOk result (λ _. notes.new ≡ joined notes.old (spec.acted_call called (actuals_from
-            (known_by (N.base names.now) (N.stands_for names.now)) line.now.text (length called.formals) place)
+            (known_by (N.base names.now) (N.stands_for names.now)) line.now.text (length called.formals) column)
             (stage_of self.old)).notes) }
         ensures kept { IfErr result (λ _. IsKept (stage_of self.new)) }
     {
         let wanted = called.formals().len();
-        let actuals = actuals_from(alloc, line, place, wanted, names, notes)?;
+        let actuals = actuals_from(alloc, line, column, wanted, names, notes)?;
         let filled = fill(alloc, called.formals(), actuals.as_slice(), self.created)?;
         let count = actuals.len() as u16;
         let rounds = one_round(alloc, filled.texts.as_slice())?;

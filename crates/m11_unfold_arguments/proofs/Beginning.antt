@@ -11,7 +11,7 @@ use Rattle.m11_scan.specs.declared.expressions.Within.{Within}
 goes : (next : Option Within) (count : Within → ℕ) (token : Lexeme) (tokens : List Lexeme)
     → is_some next ≡ has_token (take (count_from next count) (token ∷ tokens))
 goes None count token tokens = refl
-goes (Some place) count token tokens = refl
+goes (Some column) count token tokens = refl
 
 pub begins : (token : Lexeme) (tokens : List Lexeme)
     → is_some (goes_on (role_of token.sort) begin) ≡ has_token (expression_in (token ∷ tokens))

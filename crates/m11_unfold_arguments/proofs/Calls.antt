@@ -1,4 +1,4 @@
--- The actuals from a place on, by the one that stands first.
+-- The actuals from a column on, by the one that stands first.
 use Rattle.std.proofs.Common.{◌≡◌, ℕ, suc, true, List, Option, Some, None, sym, ap, ◌∙◌}
 use Rattle.m11_scan_statements.specs.Actuals.{next_actual, separator_at}
 use Rattle.m11_scan_statements.specs.declared.actuals.Actual.{Actual}
@@ -15,10 +15,10 @@ module _ (known : Known) (line : List ℕ) (left next begin : ℕ) (is : left �
   pub no_actual : next_actual line begin true ≡ None → actuals_from known line left begin ≡ nothing_given
   no_actual none = stands None none
 
-  pub actual_on : (actual : Actual) (place : ℕ) → next_actual line begin true ≡ Some actual
-      → place ≡ (separator_at line actual.end).end
+  pub actual_on : (actual : Actual) (column : ℕ) → next_actual line begin true ≡ Some actual
+      → column ≡ (separator_at line actual.end).end
       → actuals_from known line left begin
-      ≡ followed_by (given_by known line actual) (actuals_from known line next place)
-  actual_on actual place some begins =
+      ≡ followed_by (given_by known line actual) (actuals_from known line next column)
+  actual_on actual column some begins =
       stands (Some actual) some
       ∙ ap (λ (n : ℕ). followed_by (given_by known line actual) (actuals_from known line next n)) (sym begins)

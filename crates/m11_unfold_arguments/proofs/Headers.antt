@@ -14,12 +14,12 @@ module _ (line : List ℕ) (left next end begin : ℕ) (is : left ≡ suc next) 
       ∙ ap (λ (n : ℕ). formals_by (λ n. formals_within next line n) (listed_at line n)) (sym begins)
       ∙ ap (λ (f : NextListed). formals_by (λ n. formals_within next line n) f) (sym same)
 
-  pub formal_on : (formal : MacroFormal) (flags place after : ℕ) → Formally formal flags place ≡ listed_at line begin
-      → after ≡ place
+  pub formal_on : (formal : MacroFormal) (flags column after : ℕ) → Formally formal flags column ≡ listed_at line begin
+      → after ≡ column
       → formals_within left line end ≡ record {
         list = formal ∷ (formals_within next line after).list;
         flags = bit_or flags (formals_within next line after).flags;
       }
-  formal_on formal flags place after same ends =
-      listed_on (Formally formal flags place) same
+  formal_on formal flags column after same ends =
+      listed_on (Formally formal flags column) same
       ∙ ap (λ (n : ℕ). formals_by (λ n. formals_within next line n) (Formally formal flags n)) (sym ends)

@@ -11,18 +11,18 @@ use Rattle.m11_unfold_arguments.specs.Notes.{Notes, joined, noting, with_flags}
 use Rattle.m11_unfold_arguments.specs.declared.indefinite.Begun.{Begun}
 use Rattle.m11_unfold_arguments.proofs.Joining.{joined_joins, joined_flags}
 
-pub missing_noted : (line : List ℕ) (place : ℕ) (texts : Actual → Given) (begin after : Notes) (flags : ℕ)
-    (found : Option Begun) → None ≡ found → after ≡ with_flags begin flags → flags ≡ bad_flags line place
-    → after ≡ joined begin (repeated line place texts found).notes
-missing_noted line place texts begin after flags found none added flag =
+pub missing_noted : (line : List ℕ) (column : ℕ) (texts : Actual → Given) (begin after : Notes) (flags : ℕ)
+    (found : Option Begun) → None ≡ found → after ≡ with_flags begin flags → flags ≡ bad_flags line column
+    → after ≡ joined begin (repeated line column texts found).notes
+missing_noted line column texts begin after flags found none added flag =
     added ∙ joined_flags begin flags ∙ ap (λ (l : ℕ). joined begin (noting l [])) flag
-    ∙ ap (λ (b : Option Begun). joined begin (repeated line place texts b).notes) none
+    ∙ ap (λ (b : Option Begun). joined begin (repeated line column texts b).notes) none
 
-module _ (line : List ℕ) (place : ℕ) (texts : Actual → Given) (begin middle after : Notes) (before last : ℕ)
-    (first : middle ≡ with_flags begin before) (is : before ≡ flags_before line place) where
+module _ (line : List ℕ) (column : ℕ) (texts : Actual → Given) (begin middle after : Notes) (before last : ℕ)
+    (first : middle ≡ with_flags begin before) (is : before ≡ flags_before line column) where
   pub rounds_noted : (found : Option Begun) (begun : Begun) (further : Notes) → Some begun ≡ found
       → further ≡ joined middle (texts begun.list).notes → after ≡ with_flags further last
-      → last ≡ left_over line begun.list.end → after ≡ joined begin (repeated line place texts found).notes
+      → last ≡ left_over line begun.list.end → after ≡ joined begin (repeated line column texts found).notes
   rounds_noted found begun further some read added rest =
       let given : Notes = (texts begun.list).notes in
       let over : Notes = noting last [] in
@@ -31,8 +31,8 @@ module _ (line : List ℕ) (place : ℕ) (texts : Actual → Given) (begin middl
       ∙ ap (λ (n : Notes). joined n over) (joined_joins begin (noting before []) given)
       ∙ joined_joins begin (joined (noting before []) given) over
       ∙ ap (λ (l : ℕ). joined begin (joined (joined (noting l []) given) over)) is
-      ∙ ap (λ (l : ℕ). joined begin (joined (joined (noting (flags_before line place) []) given) (noting l []))) rest
-      ∙ ap (λ (b : Option Begun). joined begin (repeated line place texts b).notes) some
+      ∙ ap (λ (l : ℕ). joined begin (joined (joined (noting (flags_before line column) []) given) (noting l []))) rest
+      ∙ ap (λ (b : Option Begun). joined begin (repeated line column texts b).notes) some
 
 -- what is noted of brackets, and then of the list in them
 pub inner_noted : (known : Known) (line : List ℕ) (list : Actual) (begin middle : Notes) (flags : ℕ) (text : List ℕ)

@@ -60,9 +60,9 @@ pub record Leads (notes begin : Notes) (left all : Tested) : Type 0 where
   pub symbols : with_symbols notes left.symbols ≡ with_symbols begin all.symbols
 
 -- what the list says where it ends
-pub record AreAsked (notes begin : Notes) (found : Option Bool) (place : ℕ) (all : Tested) : Type 0 where
+pub record AreAsked (notes begin : Notes) (found : Option Bool) (column : ℕ) (all : Tested) : Type 0 where
   pub verdict : found ≡ all.verdict
-  pub end : place ≡ all.end
+  pub end : column ≡ all.end
   pub symbols : notes ≡ with_symbols begin all.symbols
 
 module _ (notes begin : Notes) (all left : Tested) (leads : Leads notes begin left all) where

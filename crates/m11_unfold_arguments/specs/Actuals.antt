@@ -34,9 +34,9 @@ followed_by first more = record { texts = first.texts ++ more.texts; notes = joi
 
 -- `\` and an expression are the digits of its number in the current radix
 abbrev pub numeral : Known → Bytes → ℕ → Given
-numeral known line place =
-    given (digits_of (base_of known.radix) (number_at known line place))
-    (noting (number_flags known line place) (symbols_at line place))
+numeral known line column =
+    given (digits_of (base_of known.radix) (number_at known line column))
+    (noting (number_flags known line column) (symbols_at line column))
 
 abbrev pub characters : Bytes → Actual → Given
 characters line actual = given (text_of line actual) (noting (actual_flags actual) [])
@@ -60,11 +60,11 @@ wanted_by known line more (Some actual) =
 abbrev pub unwanted : Option Actual → Given
 unwanted actual = record { texts = []; notes = noting (flag_if (is_some actual) flag_Q) [] }
 
--- the actuals from a place of a line on, of which n are wanted
+-- the actuals from a column of a line on, of which n are wanted
 abbrev pub actuals_from : Known → Bytes → ℕ → ℕ → Given
-actuals_from known line zero place = unwanted (next_actual line place true)
-actuals_from known line (suc wanted) place =
-    wanted_by known line (λ next. actuals_from known line wanted next) (next_actual line place true)
+actuals_from known line zero column = unwanted (next_actual line column true)
+actuals_from known line (suc wanted) column =
+    wanted_by known line (λ next. actuals_from known line wanted next) (next_actual line column true)
 
 -- the characters of texts that the code holds
 abbrev pub characters_of : Vec ℕ Global → Bytes

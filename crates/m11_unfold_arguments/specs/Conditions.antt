@@ -28,7 +28,7 @@ use Rattle.m11_unfold_arguments.specs.Expressions.{Known, has_expression, number
 use Rattle.m11_unfold_arguments.specs.LeftOvers.{flags_before, skip_flags}
 use Rattle.m11_unfold_arguments.specs.Notes.{Notes, noting}
 
--- whether a condition holds, the place after it, its flags, and the symbols that it read
+-- whether a condition holds, the column after it, its flags, and the symbols that it read
 pub record Asked : Type 0 where
   pub holds : Bool
   pub end : ℕ
@@ -63,35 +63,35 @@ passes NotNegative number = not (is_negative number)
 passes NotPositive number = number == 0 || is_negative number
 passes condition number = false
 
--- EQ NE GT LT GE LE: the number of the expression at a place
+-- EQ NE GT LT GE LE: the number of the expression at a column
 abbrev pub compared : Known → Bytes → ℕ → Condition → Asked
-compared known line place condition = record {
-  holds = passes condition (number_at known line place);
-  end = expression_end line place;
-  flags = number_flags known line place;
-  symbols = symbols_at line place;
+compared known line column condition = record {
+  holds = passes condition (number_at known line column);
+  end = expression_end line column;
+  flags = number_flags known line column;
+  symbols = symbols_at line column;
 }
 
 abbrev pub numeric : Known → Bytes → ℕ → Condition → Asked
-numeric known line place condition =
-    if has_expression line place then compared known line place condition else refused place
+numeric known line column condition =
+    if has_expression line column then compared known line column condition else refused column
 
 -- DF NDF: the verdict of names
 abbrev pub named : Bytes → ℕ → Option Bool → Tested → Asked
-named line place (Some verdict) names =
-    record { holds = verdict; end = names.end; flags = skip_flags line place names.end; symbols = names.symbols }
-named line place None names = record {
+named line column (Some verdict) names =
+    record { holds = verdict; end = names.end; flags = skip_flags line column names.end; symbols = names.symbols }
+named line column None names = record {
   holds = false;
   end = names.end;
-  flags = bit_or flag_A (skip_flags line place names.end);
+  flags = bit_or flag_A (skip_flags line column names.end);
   symbols = names.symbols;
 }
 
 abbrev pub asked_names : Bytes → ℕ → Tested → Asked
-asked_names line place names = named line place names.verdict names
+asked_names line column names = named line column names.verdict names
 
 abbrev pub defined : Known → Bytes → ℕ → Bool → Asked
-defined known line place wants_defined = asked_names line place (names_at known wants_defined line place)
+defined known line column wants_defined = asked_names line column (names_at known wants_defined line column)
 
 -- the characters of an argument
 abbrev pub text_of : Bytes → Actual → Bytes
@@ -107,8 +107,8 @@ is_blank_text text = prefix_len is_blank text == length text
 
 -- B NB: one argument, which is empty where it is missing
 abbrev pub blank_by : Bytes → ℕ → Bool → Option Actual → Asked
-blank_by line place wants_blank None = record { holds = wants_blank; end = place; flags = 0; symbols = [] }
-blank_by line place wants_blank (Some actual) = record {
+blank_by line column wants_blank None = record { holds = wants_blank; end = column; flags = 0; symbols = [] }
+blank_by line column wants_blank (Some actual) = record {
   holds = is_as wants_blank (is_blank_text (text_of line actual));
   end = actual.end;
   flags = actual_flags actual;
@@ -116,7 +116,7 @@ blank_by line place wants_blank (Some actual) = record {
 }
 
 abbrev pub blank : Bytes → ℕ → Bool → Asked
-blank line place wants_blank = blank_by line place wants_blank (next_actual line place false)
+blank line column wants_blank = blank_by line column wants_blank (next_actual line column false)
 
 -- IDN DIF: two texts, byte for byte
 abbrev pub matched : Bool → Bytes → Bytes → ℕ → ℕ → Asked
@@ -137,21 +137,21 @@ second_at line wants_same first separator =
     second_by line wants_same first separator (next_actual line separator.end false)
 
 abbrev pub first_by : Bytes → ℕ → Bool → Option Actual → Asked
-first_by line place wants_same None = refused place
-first_by line place wants_same (Some first) = second_at line wants_same first (separator_at line first.end)
+first_by line column wants_same None = refused column
+first_by line column wants_same (Some first) = second_at line wants_same first (separator_at line first.end)
 
 abbrev pub same : Bytes → ℕ → Bool → Asked
-same line place wants_same = first_by line place wants_same (next_actual line place false)
+same line column wants_same = first_by line column wants_same (next_actual line column false)
 
--- what a condition asks of its arguments, which begin at a place
+-- what a condition asks of its arguments, which begin at a column
 abbrev pub asked : Known → Bytes → ℕ → Condition → Asked
-asked known line place Defined = defined known line place true
-asked known line place NotDefined = defined known line place false
-asked known line place Blank = blank line place true
-asked known line place NotBlank = blank line place false
-asked known line place Identical = same line place true
-asked known line place Different = same line place false
-asked known line place condition = numeric known line place condition
+asked known line column Defined = defined known line column true
+asked known line column NotDefined = defined known line column false
+asked known line column Blank = blank line column true
+asked known line column NotBlank = blank line column false
+asked known line column Identical = same line column true
+asked known line column Different = same line column false
+asked known line column condition = numeric known line column condition
 
 -- the condition that a token names, if it is one
 abbrev pub condition_of : Sort → Bytes → Option Condition
@@ -160,8 +160,8 @@ condition_of sort text = None
 
 -- an unknown one is false, and its arguments aren't looked at
 abbrev pub asked_by : Known → Bytes → ℕ → Option Condition → Asked
-asked_by known line place (Some condition) = asked known line place condition
-asked_by known line place None = refused (length line)
+asked_by known line column (Some condition) = asked known line column condition
+asked_by known line column None = refused (length line)
 
 -- blanks, a comma or both stand after the name
 abbrev pub asked_at : Known → Bytes → Lexeme → Asked
@@ -180,7 +180,7 @@ with_earlier flags asked = record {
   symbols = asked.symbols;
 }
 
--- the condition at a place, with I for a character that is skipped before its name
+-- the condition at a column, with I for a character that is skipped before its name
 abbrev pub condition : Known → Bytes → ℕ → Asked
-condition known line place =
-    with_earlier (flags_before line place) (named_by known line (tokens_from line place))
+condition known line column =
+    with_earlier (flags_before line column) (named_by known line (tokens_from line column))

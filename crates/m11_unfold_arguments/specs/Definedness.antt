@@ -54,12 +54,12 @@ abbrev pub joint_at : ℕ → Option Joint → Option JointAt
 joint_at end None = None
 joint_at end (Some joint) = Some (record { joint = joint; end = end })
 
--- how the first of some tokens joins, and the place after it
+-- how the first of some tokens joins, and the column after it
 abbrev pub joint_in : List Lexeme → Option JointAt
 joint_in [] = None
 joint_in (mark ∷ tokens) = joint_at mark.end (joining mark.sort)
 
--- what names say: their verdict, the place after them, the symbols that were read; at a bad one there is no verdict
+-- what names say: their verdict, the column after them, the symbols that were read; at a bad one there is no verdict
 pub record Tested : Type 0 where
   pub verdict : Option Bool
   pub end : ℕ
@@ -94,5 +94,5 @@ names_in test size before (name ∷ (mark ∷ tokens)) =
     after_joint (joined_to before (test symbol)) name.end (joining mark.sort) (λ next. names_in test size next tokens))
 
 abbrev pub names_at : Known → Bool → Bytes → ℕ → Tested
-names_at known wants_defined line place =
-    names_in (tested known wants_defined) (length line) None (tokens_from line place)
+names_at known wants_defined line column =
+    names_in (tested known wants_defined) (length line) None (tokens_from line column)

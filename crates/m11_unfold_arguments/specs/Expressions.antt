@@ -1,4 +1,4 @@
--- An expression that stands at a place of a line, where only an absolute number may stand. (MACRO-11 Language Reference Manual,
+-- An expression that stands at a column of a line, where only an absolute number may stand. (MACRO-11 Language Reference Manual,
 -- "Expressions".)
 use Rattle.std.specs.Prelude.{◌≡◌, ℕ, ◌&&◌, Bool, true, false, not, List, [], ◌∷◌, map, take, Option, Some, None}
 use Rattle.std.specs.Int.RustNames.{bit_or}
@@ -31,9 +31,9 @@ known_by radix stands_for = record { radix = radix; stands_for = stands_for }
 abbrev pub expression_in : List Lexeme → List Lexeme
 expression_in tokens = take (expression_length (map sort_in tokens)) tokens
 
--- an expression stands at a place: a token with which one can begin
+-- an expression stands at a column: a token with which one can begin
 abbrev pub has_expression : Bytes → ℕ → Bool
-has_expression line place = has_token (expression_in (tokens_from line place))
+has_expression line column = has_token (expression_in (tokens_from line column))
 
 abbrev pub value_in : Known → List Lexeme → Quantity
 value_in known tokens = value_of known.radix (map (item known.stands_for) (expression_in tokens))
@@ -43,23 +43,23 @@ abbrev pub symbols_in : List Lexeme → List Symbol
 symbols_in [] = []
 symbols_in (token ∷ tokens) = with_symbol (symbol_in token.sort token.text) (symbols_in tokens)
 
--- the value of the expression at a place
+-- the value of the expression at a column
 abbrev pub value_at : Known → Bytes → ℕ → Quantity
-value_at known line place = value_in known (tokens_from line place)
+value_at known line column = value_in known (tokens_from line column)
 
--- the number of the expression at a place, whatever its kind
+-- the number of the expression at a column, whatever its kind
 abbrev pub number_at : Known → Bytes → ℕ → ℕ
-number_at known line place = (value_at known line place).number
+number_at known line column = (value_at known line column).number
 
--- the flags of the expression at a place: those of its value, that of a kind which isn't absolute, and I for a skipped character in it
+-- the flags of the expression at a column: those of its value, that of a kind which isn't absolute, and I for a skipped character in it
 abbrev pub number_flags : Known → Bytes → ℕ → ℕ
-number_flags known line place =
-    bit_or (bit_or (value_at known line place).flags (absence (value_at known line place).kind))
-    (skip_flags line place (expression_end line place))
+number_flags known line column =
+    bit_or (bit_or (value_at known line column).flags (absence (value_at known line column).kind))
+    (skip_flags line column (expression_end line column))
 
 -- the symbols that it reads
 abbrev pub symbols_at : Bytes → ℕ → List Symbol
-symbols_at line place = symbols_in (expression_in (tokens_from line place))
+symbols_at line column = symbols_in (expression_in (tokens_from line column))
 
 -- ---- one term
 
@@ -88,11 +88,11 @@ abbrev pub joins_next : Option Token → Bool
 joins_next (Some token) = joins (role_of token.sort)
 joins_next None = false
 
--- a token of a line is a term, and the expression at a place
+-- a token of a line is a term, and the expression at a column
 abbrev pub IsAlone : Bytes → ℕ → Token → Type 0
-IsAlone line place term =
-    (role_of term.sort ≡ Term) × (expression_in (tokens_from line place) ≡ lexeme line term ∷ [])
+IsAlone line column term =
+    (role_of term.sort ≡ Term) × (expression_in (tokens_from line column) ≡ lexeme line term ∷ [])
 
--- a token is the one that stands next in a line from a place on
+-- a token is the one that stands next in a line from a column on
 abbrev pub IsNext : Bytes → ℕ → Token → Type 0
-IsNext line place token = tokens_from line place ≡ lexeme line token ∷ tokens_from line token.end
+IsNext line column token = tokens_from line column ≡ lexeme line token ∷ tokens_from line token.end

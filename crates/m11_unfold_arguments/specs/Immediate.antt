@@ -12,22 +12,22 @@ use Rattle.m11_unfold_arguments.specs.Expressions.{Known}
 use Rattle.m11_unfold_arguments.specs.LeftOvers.{left_over, skip_flags}
 use Rattle.m11_unfold_arguments.specs.Notes.{Notes, noting}
 
--- the place after the comma that stands next
+-- the column after the comma that stands next
 abbrev pub after_comma : List Lexeme → Option ℕ
 after_comma [] = None
 after_comma (token ∷ tokens) = if is_comma token.sort then Some token.end else None
 
 -- where the statement begins
 abbrev pub statement_at : Bytes → ℕ → Option ℕ
-statement_at line place = after_comma (tokens_from line place)
+statement_at line column = after_comma (tokens_from line column)
 
 -- I for a skipped character before the comma; without it A, and what is left over
 abbrev pub comma_flags : Bytes → ℕ → Option ℕ → ℕ
-comma_flags line place (Some end) = skip_flags line place end
-comma_flags line place None = bit_or flag_A (left_over line place)
+comma_flags line column (Some end) = skip_flags line column end
+comma_flags line column None = bit_or flag_A (left_over line column)
 
 abbrev pub statement_by : Bytes → Asked → Option ℕ → Immediate
-statement_by line asked place = record { holds = asked.holds; statement = place }
+statement_by line asked column = record { holds = asked.holds; statement = column }
 
 abbrev pub immediate_of : Bytes → Asked → Immediate
 immediate_of line asked = statement_by line asked (statement_at line asked.end)
@@ -38,7 +38,7 @@ immediate_notes line asked =
 
 -- whether the condition holds, and where the statement begins
 abbrev pub immediate : Known → Bytes → ℕ → Immediate
-immediate known line place = immediate_of line (condition known line place)
+immediate known line column = immediate_of line (condition known line column)
 
 abbrev pub notes : Known → Bytes → ℕ → Notes
-notes known line place = immediate_notes line (condition known line place)
+notes known line column = immediate_notes line (condition known line column)

@@ -63,34 +63,34 @@ begun_by line gives_digits None = None
 begun_by line gives_digits (Some name) =
     begun name.name (next_actual line (separator_at line name.end).end gives_digits)
 
--- the formal and the list that stand from a place on, if neither is bad or missing
+-- the formal and the list that stand from a column on, if neither is bad or missing
 abbrev pub begun_at : Bytes → ℕ → Bool → Option Begun
-begun_at line place gives_digits = begun_by line gives_digits (name_at (tokens_from line place))
+begun_at line column gives_digits = begun_by line gives_digits (name_at (tokens_from line column))
 
 -- where one is, nothing is repeated
 abbrev pub missing : Bytes → ℕ → Repeated
-missing line place = record { rounds = None; notes = noting (bad_flags line place) [] }
+missing line column = record { rounds = None; notes = noting (bad_flags line column) [] }
 
 -- the rounds of some texts, with what is left over after the list
 abbrev pub with_rounds : Bytes → ℕ → Begun → Given → Repeated
-with_rounds line place begun given = record {
+with_rounds line column begun given = record {
   rounds = Some (record { formal = begun.formal; texts = given.texts });
-  notes = joined (joined (noting (flags_before line place) []) given.notes)
+  notes = joined (joined (noting (flags_before line column) []) given.notes)
       (noting (left_over line begun.list.end) []);
 }
 
 abbrev pub repeated : Bytes → ℕ → (Actual → Given) → Option Begun → Repeated
-repeated line place texts None = missing line place
-repeated line place texts (Some begun) = with_rounds line place begun (texts begun.list)
+repeated line column texts None = missing line column
+repeated line column texts (Some begun) = with_rounds line column begun (texts begun.list)
 
 -- `.IRP`
 abbrev pub irp : Known → Bytes → ℕ → Repeated
-irp known line place =
-    repeated line place (λ list. listed known line list) (begun_at line place true)
+irp known line column =
+    repeated line column (λ list. listed known line list) (begun_at line column true)
 
 -- `.IRPC`
 abbrev pub irpc : Bytes → ℕ → Repeated
-irpc line place = repeated line place (λ list. spelled line list) (begun_at line place false)
+irpc line column = repeated line column (λ list. spelled line list) (begun_at line column false)
 
 -- the rounds that the code holds
 abbrev pub repetition : Rounds → Repetition

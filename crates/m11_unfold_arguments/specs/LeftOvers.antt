@@ -8,34 +8,34 @@ use Rattle.m11_scan.specs.ErrorFlags.{flag_A, flag_I, flag_Q}
 use Rattle.m11_scan.specs.Skipped.{skipped_between}
 use Rattle.m11_scan_statements.specs.Statements.{flag_if}
 
--- I for a skipped character between two places
+-- I for a skipped character between two columns
 abbrev pub skip_flags : Bytes → ℕ → ℕ → ℕ
 skip_flags line start end = flag_if (skipped_between line start end) flag_I
 
--- I for a skipped character from a place on
+-- I for a skipped character from a column on
 abbrev pub rest_flags : Bytes → ℕ → ℕ
-rest_flags line place = skip_flags line place (length line)
+rest_flags line column = skip_flags line column (length line)
 
 -- some token stands there
 abbrev pub has_token : List Lexeme → Bool
 has_token [] = false
 has_token (token ∷ tokens) = true
 
--- Q for a token from a place on, I for a skipped character
+-- Q for a token from a column on, I for a skipped character
 abbrev pub left_over : Bytes → ℕ → ℕ
-left_over line place =
-    bit_or (flag_if (has_token (tokens_from line place)) flag_Q) (rest_flags line place)
+left_over line column =
+    bit_or (flag_if (has_token (tokens_from line column)) flag_Q) (rest_flags line column)
 
--- A for an argument that is bad or missing at a place, from where on nothing more is read: I for a skipped character in all of
+-- A for an argument that is bad or missing at a column, from where on nothing more is read: I for a skipped character in all of
 -- the rest
 abbrev pub bad_flags : Bytes → ℕ → ℕ
-bad_flags line place = bit_or flag_A (rest_flags line place)
+bad_flags line column = bit_or flag_A (rest_flags line column)
 
--- the place where the first of some tokens begins, or the line's end
+-- the column where the first of some tokens begins, or the line's end
 abbrev pub start_of : Bytes → List Lexeme → ℕ
 start_of line [] = length line
 start_of line (token ∷ tokens) = token.start
 
--- I for a skipped character before the token that stands next from a place on
+-- I for a skipped character before the token that stands next from a column on
 abbrev pub flags_before : Bytes → ℕ → ℕ
-flags_before line place = skip_flags line place (start_of line (tokens_from line place))
+flags_before line column = skip_flags line column (start_of line (tokens_from line column))

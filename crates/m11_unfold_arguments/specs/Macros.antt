@@ -28,7 +28,7 @@ abbrev pub name_in : Sort → Bytes → Option Name
 name_in sorts.Name text = if is_counter text then None else name_of (six_of text)
 name_in sort text = None
 
--- a name, and the place after it
+-- a name, and the column after it
 abbrev pub name_before : ℕ → Option Name → Option NameAt
 name_before end None = None
 name_before end (Some name) = Some (record { name = name; end = end })
@@ -38,32 +38,32 @@ abbrev pub name_at : List Lexeme → Option NameAt
 name_at [] = None
 name_at (token ∷ tokens) = name_before token.end (name_in token.sort token.text)
 
--- what stands in a list of formals: its end, with flags; or a formal, with flags and the place after it
+-- what stands in a list of formals: its end, with flags; or a formal, with flags and the column after it
 pub data NextListed : Type 0 where
   Ending : ℕ → NextListed
   Formally : MacroFormal → ℕ → ℕ → NextListed
 
--- the place where a formal begins, with the `?` directly before it
+-- the column where a formal begins, with the `?` directly before it
 abbrev pub formal_start : Formal → ℕ
 formal_start formal = if formal.is_created then formal.name.start - 1 else formal.name.start
 
 -- a formal has I for a character that is skipped before it
 abbrev pub listed_named : Bytes → ℕ → Formal → Option Name → NextListed
-listed_named line place formal None = Ending (bad_flags line place)
-listed_named line place formal (Some name) =
-    Formally (record { name = name; is_created = formal.is_created }) (skip_flags line place (formal_start formal))
+listed_named line column formal None = Ending (bad_flags line column)
+listed_named line column formal (Some name) =
+    Formally (record { name = name; is_created = formal.is_created }) (skip_flags line column (formal_start formal))
     formal.name.end
 
 abbrev pub formal_name : Bytes → Formal → Option Name
 formal_name line formal = name_of (six_of (text_between line formal.name.start formal.name.end))
 
 abbrev pub listed_by : Bytes → ℕ → NextFormal → NextListed
-listed_by line place Ends = Ending (rest_flags line place)
-listed_by line place Bad = Ending (bad_flags line place)
-listed_by line place (Named formal) = listed_named line place formal (formal_name line formal)
+listed_by line column Ends = Ending (rest_flags line column)
+listed_by line column Bad = Ending (bad_flags line column)
+listed_by line column (Named formal) = listed_named line column formal (formal_name line formal)
 
 abbrev pub listed_at : Bytes → ℕ → NextListed
-listed_at line place = listed_by line place (next_formal line place)
+listed_at line column = listed_by line column (next_formal line column)
 
 -- formals, and the flags of their list
 pub record FormalList : Type 0 where
@@ -75,15 +75,15 @@ formals_by more (Ending flags) = record { list = []; flags = flags }
 formals_by more (Formally formal flags end) =
     record { list = formal ∷ (more end).list; flags = bit_or flags (more end).flags }
 
--- at most n formals after a place: blanks, a comma or both stand before each
+-- at most n formals after a column: blanks, a comma or both stand before each
 abbrev pub formals_within : ℕ → Bytes → ℕ → FormalList
-formals_within zero line place = record { list = []; flags = 0 }
-formals_within (suc bound) line place =
-    formals_by (λ next. formals_within bound line next) (listed_at line (separator_at line place).end)
+formals_within zero line column = record { list = []; flags = 0 }
+formals_within (suc bound) line column =
+    formals_by (λ next. formals_within bound line next) (listed_at line (separator_at line column).end)
 
--- the formals after a place: a line has no more than it has characters
+-- the formals after a column: a line has no more than it has characters
 abbrev pub formals_after : Bytes → ℕ → FormalList
-formals_after line place = formals_within line_limit line place
+formals_after line column = formals_within line_limit line column
 
 -- a macro's name, and its formals
 pub record MacroNamed : Type 0 where
@@ -96,21 +96,21 @@ pub record MacroHeader : Type 0 where
   pub flags : ℕ
 
 abbrev pub without_name : Bytes → ℕ → MacroHeader
-without_name line place = record { named = None; flags = bad_flags line place }
+without_name line column = record { named = None; flags = bad_flags line column }
 
 abbrev pub with_name : Bytes → ℕ → Name → FormalList → MacroHeader
-with_name line place name formals = record {
+with_name line column name formals = record {
   named = Some (record { name = name; formals = formals.list });
-  flags = bit_or (flags_before line place) formals.flags;
+  flags = bit_or (flags_before line column) formals.flags;
 }
 
 abbrev pub header_by : Bytes → ℕ → Option NameAt → MacroHeader
-header_by line place None = without_name line place
-header_by line place (Some name) = with_name line place name.name (formals_after line name.end)
+header_by line column None = without_name line column
+header_by line column (Some name) = with_name line column name.name (formals_after line name.end)
 
--- the header that stands at a place of a line
+-- the header that stands at a column of a line
 abbrev pub header : Bytes → ℕ → MacroHeader
-header line place = header_by line place (name_at (tokens_from line place))
+header line column = header_by line column (name_at (tokens_from line column))
 
 -- the header that the code holds
 abbrev pub named_seen : Header → MacroNamed

@@ -15,11 +15,11 @@ abbrev pub rounds_of : ℕ → ℕ
 rounds_of number = if is_negative number then 0 else number
 
 abbrev pub rept_count : Known → Bytes → ℕ → ℕ
-rept_count known line place =
-    if has_expression line place then rounds_of (number_at known line place) else 0
+rept_count known line column =
+    if has_expression line column then rounds_of (number_at known line column) else 0
 
 abbrev pub notes : Known → Bytes → ℕ → Notes
-notes known line place =
-    if has_expression line place then
-    noting (bit_or (number_flags known line place) (left_over line (expression_end line place))) (symbols_at line place)
-    else noting (bit_or flag_A (left_over line place)) []
+notes known line column =
+    if has_expression line column then
+    noting (bit_or (number_flags known line column) (left_over line (expression_end line column))) (symbols_at line column)
+    else noting (bit_or flag_A (left_over line column)) []

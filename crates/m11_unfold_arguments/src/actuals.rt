@@ -18,25 +18,25 @@ use m11_scan_statements::{Actual, ActualKind, next_actual, separator_at};
 use m11_scan_values::Names;
 use std::alloc::{AllocError, Global};
 
-/// The texts of the actuals that stand in a line from a place on, of which at most `wanted` are taken. One more has Q, and neither it
+/// The texts of the actuals that stand in a line from a column on, of which at most `wanted` are taken. One more has Q, and neither it
 /// nor what stands after it is looked at. An actual without its `>` has A. `\` and an expression give the digits of its number in
 /// the current radix. Error: memory may be refused.
 pub fn actuals_from<N: Names>(
     alloc: Global,
     line: &Line,
-    place: usize,
+    column: usize,
     wanted: usize,
     names: &N,
     notes: &mut Notes,
 ) -> Result<Vec<Vec<u8>>, AllocError>
-    requires { place ≤ length line.now.text }
+    requires { column ≤ length line.now.text }
     ensures texts { IfOk result (λ texts. texts_of texts.items ≡ (spec.actuals_from
-        (known_by (N.base names.now) (N.stands_for names.now)) line.now.text wanted place).texts) }
+        (known_by (N.base names.now) (N.stands_for names.now)) line.now.text wanted column).texts) }
     ensures notes { IfOk result (λ _. notes.new ≡ joined notes.old (spec.actuals_from
-        (known_by (N.base names.now) (N.stands_for names.now)) line.now.text wanted place).notes) }
+        (known_by (N.base names.now) (N.stands_for names.now)) line.now.text wanted column).notes) }
 {
     let mut texts = Vec::new(alloc);
-    let mut begin = place;
+    let mut begin = column;
     let mut left = wanted;
     'actuals: while left > 0 {
         let Some(actual) = next_actual(line, begin, true) else {
@@ -50,12 +50,12 @@ pub fn actuals_from<N: Names>(
     Ok(texts)
 }
 
-// Whether one more actual stands in a line from a place on.
-fn has_actual(line: &Line, place: usize) -> bool
-    requires { place ≤ length line.now.text }
-    ensures { result ≡ is_some (next_actual line.now.text place true) }
+// Whether one more actual stands in a line from a column on.
+fn has_actual(line: &Line, column: usize) -> bool
+    requires { column ≤ length line.now.text }
+    ensures { result ≡ is_some (next_actual line.now.text column true) }
 {
-    match next_actual(line, place, true) {
+    match next_actual(line, column, true) {
         Some(_) => true,
         None => false,
     }
@@ -100,17 +100,17 @@ fn characters(
 fn numeral<N: Names>(
     alloc: Global,
     line: &Line,
-    place: usize,
+    column: usize,
     names: &N,
     notes: &mut Notes,
 ) -> Result<Vec<u8>, AllocError>
-    requires { place ≤ length line.now.text }
+    requires { column ≤ length line.now.text }
     ensures text { IfOk result (λ text. text.items ∷ [] ≡ (spec.numeral
-        (known_by (N.base names.now) (N.stands_for names.now)) line.now.text place).texts) }
+        (known_by (N.base names.now) (N.stands_for names.now)) line.now.text column).texts) }
     ensures notes { IfOk result (λ _. notes.new ≡ joined notes.old (spec.numeral
-        (known_by (N.base names.now) (N.stands_for names.now)) line.now.text place).notes) }
+        (known_by (N.base names.now) (N.stands_for names.now)) line.now.text column).notes) }
 {
-    let number = number_at(line, place, names, notes)?;
+    let number = number_at(line, column, names, notes)?;
     notes.add_flags(number.flags);
     digits_of(alloc, names.radix().base(), number.value)
 }

@@ -12,7 +12,7 @@ ghost use Rattle.m11_unfold_arguments.specs.Notes.{joined, with_symbols};
 use crate::definedness::{is_as, names_at};
 use crate::expression_ends::begins_expression;
 use crate::expressions::number_from;
-use crate::left_overs::{place_in, rest_flags, skip_flags};
+use crate::left_overs::{column_in, rest_flags, skip_flags};
 use crate::notes::Notes;
 use m11_scan::{
     Condition, ErrorFlags, Line, Sort, Token, blanks_length, next_token, read_condition,
@@ -26,7 +26,7 @@ use std::alloc::AllocError;
 pub struct Verdict {
     /// Whether it holds.
     pub holds: bool,
-    /// The place after it. What stands from there on isn't the condition's.
+    /// The column after it. What stands from there on isn't the condition's.
     pub end: u8,
 }
 
@@ -38,22 +38,22 @@ pub struct Finding {
     pub(crate) flags: ErrorFlags,
 }
 
-/// The condition whose name stands next in a line from a place on, under names. An unknown one, a bad name in DF and NDF, and a
+/// The condition whose name stands next in a line from a column on, under names. An unknown one, a bad name in DF and NDF, and a
 /// missing argument have A, and don't hold. The flags and the symbols of its arguments are noted. Error: memory may be refused.
 pub fn condition<N: Names>(
     line: &Line,
-    place: usize,
+    column: usize,
     names: &N,
     notes: &mut Notes,
 ) -> Result<Verdict, AllocError>
-    requires { place ≤ length line.now.text }
+    requires { column ≤ length line.now.text }
     ensures verdict { IfOk result (λ verdict. verdict ≡ verdict_of
-        (spec.condition (known_by (N.base names.now) (N.stands_for names.now)) line.now.text place)) }
+        (spec.condition (known_by (N.base names.now) (N.stands_for names.now)) line.now.text column)) }
     ensures notes { IfOk result (λ _. notes.new ≡ joined notes.old (notes_of
-        (spec.condition (known_by (N.base names.now) (N.stands_for names.now)) line.now.text place))) }
+        (spec.condition (known_by (N.base names.now) (N.stands_for names.now)) line.now.text column))) }
     ensures most { IfOk result (λ verdict. verdict.end ≤ length line.now.text) }
 {
-    let finding = named_at(line, place, names, notes)?;
+    let finding = named_at(line, column, names, notes)?;
     notes.add_flags(finding.flags);
     Ok(Verdict {
         holds: finding.holds,
@@ -61,23 +61,23 @@ pub fn condition<N: Names>(
     })
 }
 
-// The condition that is named at a place, with I for a character that is skipped before its name.
+// The condition that is named at a column, with I for a character that is skipped before its name.
 fn named_at<N: Names>(
     line: &Line,
-    place: usize,
+    column: usize,
     names: &N,
     notes: &mut Notes,
 ) -> Result<Finding, AllocError>
-    requires { place ≤ length line.now.text }
+    requires { column ≤ length line.now.text }
     ensures found { IfOk result (λ finding. IsFound finding (spec.condition
-        (known_by (N.base names.now) (N.stands_for names.now)) line.now.text place)) }
+        (known_by (N.base names.now) (N.stands_for names.now)) line.now.text column)) }
     ensures notes { IfOk result (λ _. notes.new ≡ with_symbols notes.old (spec.condition
-        (known_by (N.base names.now) (N.stands_for names.now)) line.now.text place).symbols) }
+        (known_by (N.base names.now) (N.stands_for names.now)) line.now.text column).symbols) }
     ensures most { IfOk result (λ finding. finding.end ≤ length line.now.text) }
 {
-    match next_token(line, place) {
+    match next_token(line, column) {
         Some(name) => {
-            let before = skip_flags(line, place, usize::from(name.start));
+            let before = skip_flags(line, column, usize::from(name.start));
             let finding = asked_by(line, name, names, notes)?;
             Ok(Finding {
                 flags: before.with(finding.flags),
@@ -85,9 +85,9 @@ fn named_at<N: Names>(
             })
         }
         None => {
-            let end = place_in(line, line.text().len());
+            let end = column_in(line, line.text().len());
             Ok(Finding {
-                flags: rest_flags(line, place).with(ErrorFlags::A),
+                flags: rest_flags(line, column).with(ErrorFlags::A),
                 ..refused(end)
             })
         }
@@ -111,7 +111,7 @@ fn asked_by<N: Names>(
     let begin = separator_at(line, usize::from(name.end)).end;
     match condition_of(name.sort, name.text(line)) {
         Some(condition) => asked(line, usize::from(begin), condition, names, notes),
-        None => Ok(refused(place_in(line, line.text().len()))),
+        None => Ok(refused(column_in(line, line.text().len()))),
     }
 }
 
@@ -125,29 +125,29 @@ fn condition_of(sort: Sort, text: &[u8]) -> Option<Condition>
     }
 }
 
-// What a condition asks of its arguments, which begin at a place.
+// What a condition asks of its arguments, which begin at a column.
 fn asked<N: Names>(
     line: &Line,
-    place: usize,
+    column: usize,
     condition: Condition,
     names: &N,
     notes: &mut Notes,
 ) -> Result<Finding, AllocError>
-    requires { place ≤ length line.now.text }
+    requires { column ≤ length line.now.text }
     ensures found { IfOk result (λ finding. IsFound finding (spec.asked
-        (known_by (N.base names.now) (N.stands_for names.now)) line.now.text place condition)) }
+        (known_by (N.base names.now) (N.stands_for names.now)) line.now.text column condition)) }
     ensures notes { IfOk result (λ _. notes.new ≡ with_symbols notes.old (spec.asked
-        (known_by (N.base names.now) (N.stands_for names.now)) line.now.text place condition).symbols) }
+        (known_by (N.base names.now) (N.stands_for names.now)) line.now.text column condition).symbols) }
     ensures most { IfOk result (λ finding. finding.end ≤ length line.now.text) }
 {
     match condition {
-        Condition::Defined => defined(line, place, true, names, notes),
-        Condition::NotDefined => defined(line, place, false, names, notes),
-        Condition::Blank => Ok(blank(line, place, true)),
-        Condition::NotBlank => Ok(blank(line, place, false)),
-        Condition::Identical => Ok(same(line, place, true)),
-        Condition::Different => Ok(same(line, place, false)),
-        _ => numeric(line, place, condition, names, notes),
+        Condition::Defined => defined(line, column, true, names, notes),
+        Condition::NotDefined => defined(line, column, false, names, notes),
+        Condition::Blank => Ok(blank(line, column, true)),
+        Condition::NotBlank => Ok(blank(line, column, false)),
+        Condition::Identical => Ok(same(line, column, true)),
+        Condition::Different => Ok(same(line, column, false)),
+        _ => numeric(line, column, condition, names, notes),
     }
 }
 
@@ -166,28 +166,28 @@ fn refused(end: u8) -> Finding
 #[tactic(auto, using(crate::proofs::Beginning::begins))]
 fn numeric<N: Names>(
     line: &Line,
-    place: usize,
+    column: usize,
     condition: Condition,
     names: &N,
     notes: &mut Notes,
 ) -> Result<Finding, AllocError>
-    requires { place ≤ length line.now.text }
+    requires { column ≤ length line.now.text }
     ensures found { IfOk result (λ finding. IsFound finding (spec.numeric
-        (known_by (N.base names.now) (N.stands_for names.now)) line.now.text place condition)) }
+        (known_by (N.base names.now) (N.stands_for names.now)) line.now.text column condition)) }
     ensures notes { IfOk result (λ _. notes.new ≡ with_symbols notes.old (spec.numeric
-        (known_by (N.base names.now) (N.stands_for names.now)) line.now.text place condition).symbols) }
+        (known_by (N.base names.now) (N.stands_for names.now)) line.now.text column condition).symbols) }
     ensures most { IfOk result (λ finding. finding.end ≤ length line.now.text) }
 {
-    match next_token(line, place) {
+    match next_token(line, column) {
         Some(token) if begins_expression(token.sort) => {
-            let number = number_from(line, place, token, names, notes)?;
+            let number = number_from(line, column, token, names, notes)?;
             Ok(Finding {
                 holds: passes(condition, number.value),
                 end: number.end,
                 flags: number.flags,
             })
         }
-        _ => Ok(refused(place_in(line, place))),
+        _ => Ok(refused(column_in(line, column))),
     }
 }
 
@@ -216,20 +216,20 @@ pub(crate) fn is_negative(number: u16) -> bool
 // DF NDF.
 fn defined<N: Names>(
     line: &Line,
-    place: usize,
+    column: usize,
     wants_defined: bool,
     names: &N,
     notes: &mut Notes,
 ) -> Result<Finding, AllocError>
-    requires { place ≤ length line.now.text }
+    requires { column ≤ length line.now.text }
     ensures found { IfOk result (λ finding. IsFound finding (spec.defined
-        (known_by (N.base names.now) (N.stands_for names.now)) line.now.text place wants_defined)) }
+        (known_by (N.base names.now) (N.stands_for names.now)) line.now.text column wants_defined)) }
     ensures notes { IfOk result (λ _. notes.new ≡ with_symbols notes.old (spec.defined
-        (known_by (N.base names.now) (N.stands_for names.now)) line.now.text place wants_defined).symbols) }
+        (known_by (N.base names.now) (N.stands_for names.now)) line.now.text column wants_defined).symbols) }
     ensures most { IfOk result (λ finding. finding.end ≤ length line.now.text) }
 {
-    let tested = names_at(line, place, wants_defined, names, notes)?;
-    let skipped = skip_flags(line, place, usize::from(tested.end));
+    let tested = names_at(line, column, wants_defined, names, notes)?;
+    let skipped = skip_flags(line, column, usize::from(tested.end));
     match tested.verdict {
         Some(verdict) => Ok(Finding {
             holds: verdict,
@@ -245,12 +245,12 @@ fn defined<N: Names>(
 }
 
 // B NB.
-fn blank(line: &Line, place: usize, wants_blank: bool) -> Finding
-    requires { place ≤ length line.now.text }
-    ensures found { IsFound result (spec.blank line.now.text place wants_blank) }
+fn blank(line: &Line, column: usize, wants_blank: bool) -> Finding
+    requires { column ≤ length line.now.text }
+    ensures found { IsFound result (spec.blank line.now.text column wants_blank) }
     ensures most { result.end ≤ length line.now.text }
 {
-    match next_actual(line, place, false) {
+    match next_actual(line, column, false) {
         Some(actual) => Finding {
             holds: is_as(wants_blank, is_blank_text(actual.inside.text(line))),
             end: actual.end,
@@ -258,7 +258,7 @@ fn blank(line: &Line, place: usize, wants_blank: bool) -> Finding
         },
         None => Finding {
             holds: wants_blank,
-            end: place_in(line, place),
+            end: column_in(line, column),
             flags: ErrorFlags::none(),
         },
     }
@@ -278,14 +278,14 @@ pub fn actual_flags(actual: &Actual) -> ErrorFlags
 }
 
 // IDN DIF.
-fn same(line: &Line, place: usize, wants_same: bool) -> Finding
-    requires { place ≤ length line.now.text }
-    ensures found { IsFound result (spec.same line.now.text place wants_same) }
+fn same(line: &Line, column: usize, wants_same: bool) -> Finding
+    requires { column ≤ length line.now.text }
+    ensures found { IsFound result (spec.same line.now.text column wants_same) }
     ensures most { result.end ≤ length line.now.text }
 {
-    match next_actual(line, place, false) {
+    match next_actual(line, column, false) {
         Some(first) => second_at(line, wants_same, first),
-        None => refused(place_in(line, place)),
+        None => refused(column_in(line, column)),
     }
 }
 

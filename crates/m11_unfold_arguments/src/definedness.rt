@@ -30,7 +30,7 @@ pub struct SoFar {
     pub(crate) joint: Joint,
 }
 
-// What joins two names, and the place after it.
+// What joins two names, and the column after it.
 #[derive(Clone, Copy, PartialEq, Eq, Debug)]
 pub struct JointAt {
     pub(crate) joint: Joint,
@@ -42,30 +42,30 @@ pub struct JointAt {
 pub(crate) struct NamesAsked {
     // Their verdict, unless one of them is bad or missing.
     pub verdict: Option<bool>,
-    // The place after them, or the line's end after a bad one.
+    // The column after them, or the line's end after a bad one.
     pub end: u8,
 }
 
-// The names at a place, joined by `&` and `!` from left to right; each is asked whether it is defined.
+// The names at a column, joined by `&` and `!` from left to right; each is asked whether it is defined.
 pub(crate) fn names_at<N: Names>(
     line: &Line,
-    place: usize,
+    column: usize,
     wants_defined: bool,
     names: &N,
     notes: &mut Notes,
 ) -> Result<NamesAsked, AllocError>
-    requires { place ≤ length line.now.text }
+    requires { column ≤ length line.now.text }
     ensures verdict { IfOk result (λ tested. tested.verdict ≡ (spec.names_at
-        (known_by (N.base names.now) (N.stands_for names.now)) wants_defined line.now.text place).verdict) }
+        (known_by (N.base names.now) (N.stands_for names.now)) wants_defined line.now.text column).verdict) }
     ensures end { IfOk result (λ tested. tested.end ≡ (spec.names_at
-        (known_by (N.base names.now) (N.stands_for names.now)) wants_defined line.now.text place).end) }
-    ensures least { IfOk result (λ tested. place ≤ tested.end) }
+        (known_by (N.base names.now) (N.stands_for names.now)) wants_defined line.now.text column).end) }
+    ensures least { IfOk result (λ tested. column ≤ tested.end) }
     ensures most { IfOk result (λ tested. tested.end ≤ length line.now.text) }
     ensures notes { IfOk result (λ _. notes.new ≡ with_symbols notes.old (spec.names_at
-        (known_by (N.base names.now) (N.stands_for names.now)) wants_defined line.now.text place).symbols) }
+        (known_by (N.base names.now) (N.stands_for names.now)) wants_defined line.now.text column).symbols) }
 {
     let mut before = None;
-    let mut begin = place;
+    let mut begin = column;
     'names: while let Some(name) = next_token(line, begin) {
         let Some(verdict) = name_verdict(line, name, wants_defined, names, notes)? else {
             return Ok(at_bad(line));

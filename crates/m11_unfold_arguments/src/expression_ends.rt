@@ -10,16 +10,16 @@ ghost use Rattle.m11_scan.specs.Views.{lexeme};
 ghost use Rattle.m11_unfold_arguments.specs.Expressions as spec;
 ghost use Rattle.m11_unfold_arguments.specs.Expressions.{IsAlone, IsNext};
 
-use crate::left_overs::place_in;
+use crate::left_overs::column_in;
 use m11_scan::{Line, Role, Sort, Token, expression_end, next_token, role_of};
 
-/// Whether an expression stands in a line from a place on: a token with which one can begin.
+/// Whether an expression stands in a line from a column on: a token with which one can begin.
 #[tactic(auto, using(crate::proofs::Beginning::begins))]
-pub fn has_expression(line: &Line, place: usize) -> bool
-    requires { place ≤ length line.now.text }
-    ensures { result ≡ spec.has_expression line.now.text place }
+pub fn has_expression(line: &Line, column: usize) -> bool
+    requires { column ≤ length line.now.text }
+    ensures { result ≡ spec.has_expression line.now.text column }
 {
-    match next_token(line, place) {
+    match next_token(line, column) {
         Some(token) => begins_expression(token.sort),
         None => false,
     }
@@ -35,10 +35,10 @@ pub(crate) fn begins_expression(sort: Sort) -> bool
     }
 }
 
-/// How far the expression at a place reaches.
+/// How far the expression at a column reaches.
 #[derive(Clone, Copy)]
 pub struct ExpressionEnd {
-    /// The place after it.
+    /// The column after it.
     pub end: u8,
     /// The token that stands next after it, if one does.
     pub next: Option<Token>,
@@ -46,79 +46,79 @@ pub struct ExpressionEnd {
     pub term: Option<Token>,
 }
 
-/// How far the expression at a place of a line reaches. Where none stands there, it ends at that place.
+/// How far the expression at a column of a line reaches. Where none stands there, it ends at that column.
 // speed: a call would hand two tokens on by memory.
 #[inline(always)]
-pub fn expression_end_at(line: &Line, place: usize) -> ExpressionEnd
-    requires { place ≤ length line.now.text }
-    ensures end { result.end ≡ expression_end line.now.text place }
+pub fn expression_end_at(line: &Line, column: usize) -> ExpressionEnd
+    requires { column ≤ length line.now.text }
+    ensures end { result.end ≡ expression_end line.now.text column }
     ensures next { MatchOption result.next (tokens_from line.now.text result.end ≡ [])
         (λ token. tokens_from line.now.text result.end ≡ lexeme line.now.text token ∷ tokens_from line.now.text token.end) }
-    ensures term { IfSome result.term (λ term. IsAlone line.now.text place term) }
-    ensures least { place ≤ result.end }
+    ensures term { IfSome result.term (λ term. IsAlone line.now.text column term) }
+    ensures least { column ≤ result.end }
     ensures within { result.end ≤ length line.now.text }
     ensures next_within { IfSome result.next (λ token. token.end ≤ length line.now.text) }
 {
-    match next_token(line, place) {
-        Some(token) => expression_end_from(line, place, token),
-        None => long_expression_end(line, place),
+    match next_token(line, column) {
+        Some(token) => expression_end_from(line, column, token),
+        None => long_expression_end(line, column),
     }
 }
 
-/// Where the expression at a place ends, whose first token was cut already.
+/// Where the expression at a column ends, whose first token was cut already.
 // speed: a call would hand two tokens on by memory.
 #[inline(always)]
-pub fn expression_end_from(line: &Line, place: usize, token: Token) -> ExpressionEnd
-    requires token { IsNext line.now.text place token }
-    requires least { place ≤ token.end }
+pub fn expression_end_from(line: &Line, column: usize, token: Token) -> ExpressionEnd
+    requires token { IsNext line.now.text column token }
+    requires least { column ≤ token.end }
     requires within { token.end ≤ length line.now.text }
-    ensures end { result.end ≡ expression_end line.now.text place }
+    ensures end { result.end ≡ expression_end line.now.text column }
     ensures next { MatchOption result.next (tokens_from line.now.text result.end ≡ [])
         (λ token. tokens_from line.now.text result.end ≡ lexeme line.now.text token ∷ tokens_from line.now.text token.end) }
-    ensures term { IfSome result.term (λ term. IsAlone line.now.text place term) }
-    ensures least { place ≤ result.end }
+    ensures term { IfSome result.term (λ term. IsAlone line.now.text column term) }
+    ensures least { column ≤ result.end }
     ensures within { result.end ≤ length line.now.text }
     ensures next_within { IfSome result.next (λ token. token.end ≤ length line.now.text) }
 {
-    match single_from(line, place, token) {
+    match single_from(line, column, token) {
         Some(single) => ExpressionEnd {
             end: single.term.end,
             next: single.next,
             term: Some(single.term),
         },
-        None => long_expression_end(line, place),
+        None => long_expression_end(line, column),
     }
 }
 
 // Where an expression ends whose tokens are cut one after the other.
-fn long_expression_end(line: &Line, place: usize) -> ExpressionEnd
-    requires { place ≤ length line.now.text }
-    ensures end { result.end ≡ expression_end line.now.text place }
+fn long_expression_end(line: &Line, column: usize) -> ExpressionEnd
+    requires { column ≤ length line.now.text }
+    ensures end { result.end ≡ expression_end line.now.text column }
     ensures next { MatchOption result.next (tokens_from line.now.text result.end ≡ [])
         (λ token. tokens_from line.now.text result.end ≡ lexeme line.now.text token ∷ tokens_from line.now.text token.end) }
-    ensures term { IfSome result.term (λ term. IsAlone line.now.text place term) }
-    ensures least { place ≤ result.end }
+    ensures term { IfSome result.term (λ term. IsAlone line.now.text column term) }
+    ensures least { column ≤ result.end }
     ensures within { result.end ≤ length line.now.text }
     ensures next_within { IfSome result.next (λ token. token.end ≤ length line.now.text) }
 {
-    let end = expression_end(line, place);
+    let end = expression_end(line, column);
     ExpressionEnd {
-        end: place_in(line, end),
+        end: column_in(line, end),
         next: next_token(line, end),
         term: None,
     }
 }
 
-/// The one token of the expression at a place, where it is one term. Most expressions are, and of those no token need be cut past the next
+/// The one token of the expression at a column, where it is one term. Most expressions are, and of those no token need be cut past the next
 /// one.
 // speed: a call would save and restore more than it asks.
 #[inline(always)]
-pub fn single_term(line: &Line, place: usize) -> Option<Token>
-    requires { place ≤ length line.now.text }
-    ensures alone { IfSome result (λ term. IsAlone line.now.text place term) }
-    ensures found { is_some result ≡ spec.is_single (tokens_from line.now.text place) }
+pub fn single_term(line: &Line, column: usize) -> Option<Token>
+    requires { column ≤ length line.now.text }
+    ensures alone { IfSome result (λ term. IsAlone line.now.text column term) }
+    ensures found { is_some result ≡ spec.is_single (tokens_from line.now.text column) }
 {
-    let single = single_at(line, place)?;
+    let single = single_at(line, column)?;
     Some(single.term)
 }
 
@@ -129,34 +129,34 @@ pub struct SingleTerm {
     pub(crate) next: Option<Token>,
 }
 
-// The term that is the expression at a place, if one is.
+// The term that is the expression at a column, if one is.
 // speed: a call would save and restore more than it asks.
 #[inline(always)]
-pub(crate) fn single_at(line: &Line, place: usize) -> Option<SingleTerm>
-    requires { place ≤ length line.now.text }
-    ensures alone { IfSome result (λ single. IsAlone line.now.text place single.term) }
-    ensures found { is_some result ≡ spec.is_single (tokens_from line.now.text place) }
-    ensures end { IfSome result (λ single. single.term.end ≡ expression_end line.now.text place) }
-    ensures least { IfSome result (λ single. place ≤ single.term.end) }
+pub(crate) fn single_at(line: &Line, column: usize) -> Option<SingleTerm>
+    requires { column ≤ length line.now.text }
+    ensures alone { IfSome result (λ single. IsAlone line.now.text column single.term) }
+    ensures found { is_some result ≡ spec.is_single (tokens_from line.now.text column) }
+    ensures end { IfSome result (λ single. single.term.end ≡ expression_end line.now.text column) }
+    ensures least { IfSome result (λ single. column ≤ single.term.end) }
     ensures within { IfSome result (λ single. single.term.end ≤ length line.now.text) }
 {
-    let token = next_token(line, place)?;
-    single_from(line, place, token)
+    let token = next_token(line, column)?;
+    single_from(line, column, token)
 }
 
-// The term that is the expression at a place, if the token that stands next from there on is one.
+// The term that is the expression at a column, if the token that stands next from there on is one.
 // speed: a call would save and restore more than it asks.
 #[inline(always)]
-pub(crate) fn single_from(line: &Line, place: usize, term: Token) -> Option<SingleTerm>
-    requires token { IsNext line.now.text place term }
-    requires least { place ≤ term.end }
+pub(crate) fn single_from(line: &Line, column: usize, term: Token) -> Option<SingleTerm>
+    requires token { IsNext line.now.text column term }
+    requires least { column ≤ term.end }
     requires within { term.end ≤ length line.now.text }
-    ensures alone { IfSome result (λ single. IsAlone line.now.text place single.term) }
-    ensures found { is_some result ≡ spec.is_single (tokens_from line.now.text place) }
-    ensures end { IfSome result (λ single. single.term.end ≡ expression_end line.now.text place) }
+    ensures alone { IfSome result (λ single. IsAlone line.now.text column single.term) }
+    ensures found { is_some result ≡ spec.is_single (tokens_from line.now.text column) }
+    ensures end { IfSome result (λ single. single.term.end ≡ expression_end line.now.text column) }
     ensures next { IfSome result (λ single. MatchOption single.next (tokens_from line.now.text single.term.end ≡ [])
         (λ token. tokens_from line.now.text single.term.end ≡ lexeme line.now.text token ∷ tokens_from line.now.text token.end)) }
-    ensures least { IfSome result (λ single. place ≤ single.term.end) }
+    ensures least { IfSome result (λ single. column ≤ single.term.end) }
     ensures within { IfSome result (λ single. single.term.end ≤ length line.now.text) }
     ensures next_within { IfSome result (λ single. IfSome single.next (λ token. token.end ≤ length line.now.text)) }
 {

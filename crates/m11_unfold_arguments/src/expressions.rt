@@ -1,4 +1,4 @@
-//! Expressions that stand at a place of a line. (MACRO-11 Language Reference Manual, "Expressions".)
+//! Expressions that stand at a column of a line. (MACRO-11 Language Reference Manual, "Expressions".)
 
 ghost use Rattle.std.specs.Prelude.{◌≡◌, ◌≤◌, length, IfOk, IfSome};
 ghost use Rattle.m11_scan.specs.Ends.{expression_end};
@@ -9,7 +9,7 @@ ghost use Rattle.m11_unfold_arguments.specs.Expressions.{IsAlone, IsNext, known_
 ghost use Rattle.m11_unfold_arguments.specs.Notes.{with_symbols};
 
 use crate::expression_ends::{SingleTerm, single_at, single_from, single_term};
-use crate::left_overs::{place_in, skip_flags};
+use crate::left_overs::{column_in, skip_flags};
 use crate::notes::Notes;
 use m11_scan::{ErrorFlags, Line, Token, expression_at};
 use m11_scan_values::{Names, Value, expression_value, term_value};
@@ -22,85 +22,85 @@ pub(crate) struct Number {
     pub value: u16,
     // Its flags, that of a kind which isn't absolute, and I for a skipped character in it.
     pub flags: ErrorFlags,
-    // The place after it.
+    // The column after it.
     pub end: u8,
 }
 
-// The number of the expression at a place, where only an absolute one may stand. Its symbols are noted.
+// The number of the expression at a column, where only an absolute one may stand. Its symbols are noted.
 pub(crate) fn number_at<N: Names>(
     line: &Line,
-    place: usize,
+    column: usize,
     names: &N,
     notes: &mut Notes,
 ) -> Result<Number, AllocError>
-    requires { place ≤ length line.now.text }
+    requires { column ≤ length line.now.text }
     ensures value { IfOk result (λ number. number.value
-        ≡ spec.number_at (known_by (N.base names.now) (N.stands_for names.now)) line.now.text place) }
+        ≡ spec.number_at (known_by (N.base names.now) (N.stands_for names.now)) line.now.text column) }
     ensures flags { IfOk result (λ number. bits_of number.flags
-        ≡ spec.number_flags (known_by (N.base names.now) (N.stands_for names.now)) line.now.text place) }
-    ensures end { IfOk result (λ number. number.end ≡ expression_end line.now.text place) }
-    ensures least { IfOk result (λ number. place ≤ number.end) }
+        ≡ spec.number_flags (known_by (N.base names.now) (N.stands_for names.now)) line.now.text column) }
+    ensures end { IfOk result (λ number. number.end ≡ expression_end line.now.text column) }
+    ensures least { IfOk result (λ number. column ≤ number.end) }
     ensures most { IfOk result (λ number. number.end ≤ length line.now.text) }
-    ensures notes { IfOk result (λ _. notes.new ≡ with_symbols notes.old (spec.symbols_at line.now.text place)) }
+    ensures notes { IfOk result (λ _. notes.new ≡ with_symbols notes.old (spec.symbols_at line.now.text column)) }
 {
-    number_by(line, place, single_at(line, place), names, notes)
+    number_by(line, column, single_at(line, column), names, notes)
 }
 
-// The number at a place, whose first token was cut already.
+// The number at a column, whose first token was cut already.
 // speed: a call would hand tokens on by memory.
 #[inline(always)]
 pub(crate) fn number_from<N: Names>(
     line: &Line,
-    place: usize,
+    column: usize,
     token: Token,
     names: &N,
     notes: &mut Notes,
 ) -> Result<Number, AllocError>
-    requires token { IsNext line.now.text place token }
-    requires least { place ≤ token.end }
+    requires token { IsNext line.now.text column token }
+    requires least { column ≤ token.end }
     requires within { token.end ≤ length line.now.text }
     ensures value { IfOk result (λ number. number.value
-        ≡ spec.number_at (known_by (N.base names.now) (N.stands_for names.now)) line.now.text place) }
+        ≡ spec.number_at (known_by (N.base names.now) (N.stands_for names.now)) line.now.text column) }
     ensures flags { IfOk result (λ number. bits_of number.flags
-        ≡ spec.number_flags (known_by (N.base names.now) (N.stands_for names.now)) line.now.text place) }
-    ensures end { IfOk result (λ number. number.end ≡ expression_end line.now.text place) }
-    ensures least { IfOk result (λ number. place ≤ number.end) }
+        ≡ spec.number_flags (known_by (N.base names.now) (N.stands_for names.now)) line.now.text column) }
+    ensures end { IfOk result (λ number. number.end ≡ expression_end line.now.text column) }
+    ensures least { IfOk result (λ number. column ≤ number.end) }
     ensures most { IfOk result (λ number. number.end ≤ length line.now.text) }
-    ensures notes { IfOk result (λ _. notes.new ≡ with_symbols notes.old (spec.symbols_at line.now.text place)) }
+    ensures notes { IfOk result (λ _. notes.new ≡ with_symbols notes.old (spec.symbols_at line.now.text column)) }
 {
-    number_by(line, place, single_from(line, place, token), names, notes)
+    number_by(line, column, single_from(line, column, token), names, notes)
 }
 
-// The number at a place, with its one term where it is one.
+// The number at a column, with its one term where it is one.
 // speed: a call would hand tokens on by memory.
 #[inline(always)]
 fn number_by<N: Names>(
     line: &Line,
-    place: usize,
+    column: usize,
     single: Option<SingleTerm>,
     names: &N,
     notes: &mut Notes,
 ) -> Result<Number, AllocError>
-    requires within { place ≤ length line.now.text }
-    requires alone { IfSome single (λ single. IsAlone line.now.text place single.term) }
-    requires end { IfSome single (λ single. single.term.end ≡ expression_end line.now.text place) }
-    requires least { IfSome single (λ single. place ≤ single.term.end) }
+    requires within { column ≤ length line.now.text }
+    requires alone { IfSome single (λ single. IsAlone line.now.text column single.term) }
+    requires end { IfSome single (λ single. single.term.end ≡ expression_end line.now.text column) }
+    requires least { IfSome single (λ single. column ≤ single.term.end) }
     requires most { IfSome single (λ single. single.term.end ≤ length line.now.text) }
     ensures value { IfOk result (λ number. number.value
-        ≡ spec.number_at (known_by (N.base names.now) (N.stands_for names.now)) line.now.text place) }
+        ≡ spec.number_at (known_by (N.base names.now) (N.stands_for names.now)) line.now.text column) }
     ensures flags { IfOk result (λ number. bits_of number.flags
-        ≡ spec.number_flags (known_by (N.base names.now) (N.stands_for names.now)) line.now.text place) }
-    ensures end { IfOk result (λ number. number.end ≡ expression_end line.now.text place) }
-    ensures least { IfOk result (λ number. place ≤ number.end) }
+        ≡ spec.number_flags (known_by (N.base names.now) (N.stands_for names.now)) line.now.text column) }
+    ensures end { IfOk result (λ number. number.end ≡ expression_end line.now.text column) }
+    ensures least { IfOk result (λ number. column ≤ number.end) }
     ensures most { IfOk result (λ number. number.end ≤ length line.now.text) }
-    ensures notes { IfOk result (λ _. notes.new ≡ with_symbols notes.old (spec.symbols_at line.now.text place)) }
+    ensures notes { IfOk result (λ _. notes.new ≡ with_symbols notes.old (spec.symbols_at line.now.text column)) }
 {
-    let read = read_expression(line, place, single, names, notes)?;
+    let read = read_expression(line, column, single, names, notes)?;
     let value = read.value;
     let flags = value
         .flags
         .with(value.kind.absence())
-        .with(skip_flags(line, place, usize::from(read.end)));
+        .with(skip_flags(line, column, usize::from(read.end)));
     Ok(Number {
         value: value.number,
         flags,
@@ -108,34 +108,34 @@ fn number_by<N: Names>(
     })
 }
 
-// The value of an expression, and the place after it.
+// The value of an expression, and the column after it.
 #[derive(Clone, Copy)]
 pub(crate) struct Reading {
     pub(crate) value: Value,
     pub(crate) end: u8,
 }
 
-// Reads the expression at a place, with its one term where it is one. Its symbols are noted.
+// Reads the expression at a column, with its one term where it is one. Its symbols are noted.
 // speed: a call would hand tokens on by memory.
 #[inline(always)]
 fn read_expression<N: Names>(
     line: &Line,
-    place: usize,
+    column: usize,
     single: Option<SingleTerm>,
     names: &N,
     notes: &mut Notes,
 ) -> Result<Reading, AllocError>
-    requires within { place ≤ length line.now.text }
-    requires alone { IfSome single (λ single. IsAlone line.now.text place single.term) }
-    requires end { IfSome single (λ single. single.term.end ≡ expression_end line.now.text place) }
-    requires least { IfSome single (λ single. place ≤ single.term.end) }
+    requires within { column ≤ length line.now.text }
+    requires alone { IfSome single (λ single. IsAlone line.now.text column single.term) }
+    requires end { IfSome single (λ single. single.term.end ≡ expression_end line.now.text column) }
+    requires least { IfSome single (λ single. column ≤ single.term.end) }
     requires most { IfSome single (λ single. single.term.end ≤ length line.now.text) }
     ensures value { IfOk result (λ read. quantity read.value
-        ≡ spec.value_at (known_by (N.base names.now) (N.stands_for names.now)) line.now.text place) }
-    ensures end { IfOk result (λ read. read.end ≡ expression_end line.now.text place) }
-    ensures least { IfOk result (λ read. place ≤ read.end) }
+        ≡ spec.value_at (known_by (N.base names.now) (N.stands_for names.now)) line.now.text column) }
+    ensures end { IfOk result (λ read. read.end ≡ expression_end line.now.text column) }
+    ensures least { IfOk result (λ read. column ≤ read.end) }
     ensures most { IfOk result (λ read. read.end ≤ length line.now.text) }
-    ensures notes { IfOk result (λ _. notes.new ≡ with_symbols notes.old (spec.symbols_at line.now.text place)) }
+    ensures notes { IfOk result (λ _. notes.new ≡ with_symbols notes.old (spec.symbols_at line.now.text column)) }
 {
     match single {
         Some(single) => {
@@ -145,7 +145,7 @@ fn read_expression<N: Names>(
                 end: single.term.end,
             })
         }
-        None => read_tokens(line, place, names, notes),
+        None => read_tokens(line, column, names, notes),
     }
 }
 
@@ -154,81 +154,81 @@ fn read_expression<N: Names>(
 #[inline(never)]
 fn read_tokens<N: Names>(
     line: &Line,
-    place: usize,
+    column: usize,
     names: &N,
     notes: &mut Notes,
 ) -> Result<Reading, AllocError>
-    requires { place ≤ length line.now.text }
+    requires { column ≤ length line.now.text }
     ensures value { IfOk result (λ read. quantity read.value
-        ≡ spec.value_at (known_by (N.base names.now) (N.stands_for names.now)) line.now.text place) }
-    ensures end { IfOk result (λ read. read.end ≡ expression_end line.now.text place) }
-    ensures least { IfOk result (λ read. place ≤ read.end) }
+        ≡ spec.value_at (known_by (N.base names.now) (N.stands_for names.now)) line.now.text column) }
+    ensures end { IfOk result (λ read. read.end ≡ expression_end line.now.text column) }
+    ensures least { IfOk result (λ read. column ≤ read.end) }
     ensures most { IfOk result (λ read. read.end ≤ length line.now.text) }
-    ensures notes { IfOk result (λ _. notes.new ≡ with_symbols notes.old (spec.symbols_at line.now.text place)) }
+    ensures notes { IfOk result (λ _. notes.new ≡ with_symbols notes.old (spec.symbols_at line.now.text column)) }
 {
-    let expression = expression_at(line, place);
+    let expression = expression_at(line, column);
     let tokens = expression.tokens.as_slice();
     notes.add_symbols(tokens, line)?;
     Ok(Reading {
         value: expression_value(tokens, line, names),
-        end: place_in(line, expression.end),
+        end: column_in(line, expression.end),
     })
 }
 
-/// The value of the expression at a place. Where none stands, a term is missing.
+/// The value of the expression at a column. Where none stands, a term is missing.
 // speed: a call would hand the value on by memory.
 #[inline(always)]
-pub fn value_at<N: Names>(line: &Line, place: usize, names: &N) -> Value
-    requires { place ≤ length line.now.text }
+pub fn value_at<N: Names>(line: &Line, column: usize, names: &N) -> Value
+    requires { column ≤ length line.now.text }
     ensures { quantity result
-        ≡ spec.value_at (known_by (N.base names.now) (N.stands_for names.now)) line.now.text place }
+        ≡ spec.value_at (known_by (N.base names.now) (N.stands_for names.now)) line.now.text column }
 {
-    value_by(line, place, single_term(line, place), names)
+    value_by(line, column, single_term(line, column), names)
 }
 
-/// The value of the expression at a place, with its one token where it was found to be one term.
-pub fn value_by<N: Names>(line: &Line, place: usize, term: Option<Token>, names: &N) -> Value
-    requires within { place ≤ length line.now.text }
-    requires term { IfSome term (λ term. IsAlone line.now.text place term) }
+/// The value of the expression at a column, with its one token where it was found to be one term.
+pub fn value_by<N: Names>(line: &Line, column: usize, term: Option<Token>, names: &N) -> Value
+    requires within { column ≤ length line.now.text }
+    requires term { IfSome term (λ term. IsAlone line.now.text column term) }
     ensures { quantity result
-        ≡ spec.value_at (known_by (N.base names.now) (N.stands_for names.now)) line.now.text place }
+        ≡ spec.value_at (known_by (N.base names.now) (N.stands_for names.now)) line.now.text column }
 {
     match term {
         Some(term) => term_value(&term, line, names),
-        None => long_value(line, place, names),
+        None => long_value(line, column, names),
     }
 }
 
 // The value of any expression.
 // speed: a call, since in the caller room for its tokens would be cleared also where it is one term.
 #[inline(never)]
-fn long_value<N: Names>(line: &Line, place: usize, names: &N) -> Value
-    requires { place ≤ length line.now.text }
+fn long_value<N: Names>(line: &Line, column: usize, names: &N) -> Value
+    requires { column ≤ length line.now.text }
     ensures { quantity result
-        ≡ spec.value_at (known_by (N.base names.now) (N.stands_for names.now)) line.now.text place }
+        ≡ spec.value_at (known_by (N.base names.now) (N.stands_for names.now)) line.now.text column }
 {
-    expression_value(expression_at(line, place).tokens.as_slice(), line, names)
+    expression_value(expression_at(line, column).tokens.as_slice(), line, names)
 }
 
-/// Notes the symbols that the expression at a place reads, in order. Error: memory may be refused.
+/// Notes the symbols that the expression at a column reads, in order. Error: memory may be refused.
 // speed: inline as `single_term` is, which is most of it.
 #[inline(always)]
-pub fn note_symbols(line: &Line, place: usize, notes: &mut Notes) -> Result<(), AllocError>
-    requires { place ≤ length line.now.text }
-    ensures { IfOk result (λ _. notes.new ≡ with_symbols notes.old (spec.symbols_at line.now.text place)) }
+pub fn note_symbols(line: &Line, column: usize, notes: &mut Notes) -> Result<(), AllocError>
+    requires { column ≤ length line.now.text }
+    ensures { IfOk result (λ _. notes.new ≡ with_symbols notes.old (spec.symbols_at line.now.text column)) }
 {
-    match single_term(line, place) {
+    match single_term(line, column) {
         Some(term) => notes.add_symbols(&[term], line),
-        None => note_all(line, place, notes),
+        None => note_all(line, column, notes),
     }
 }
 
 // Notes the symbols of any expression.
 // speed: a call, since in the caller room for its tokens would be cleared also where it is one term.
 #[inline(never)]
-fn note_all(line: &Line, place: usize, notes: &mut Notes) -> Result<(), AllocError>
-    requires { place ≤ length line.now.text }
-    ensures { IfOk result (λ _. notes.new ≡ with_symbols notes.old (spec.symbols_at line.now.text place)) }
+fn note_all(line: &Line, column: usize, notes: &mut Notes) -> Result<(), AllocError>
+    requires { column ≤ length line.now.text }
+    ensures { IfOk result (λ _. notes.new ≡ with_symbols notes.old (spec.symbols_at line.now.text column)) }
 {
-    notes.add_symbols(expression_at(line, place).tokens.as_slice(), line)
+    notes.add_symbols(expression_at(line, column).tokens.as_slice(), line)
 }

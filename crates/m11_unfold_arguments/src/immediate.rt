@@ -20,26 +20,26 @@ use std::alloc::AllocError;
 pub struct Immediate {
     /// Whether its condition holds. Where it doesn't, no statement is taken.
     pub holds: bool,
-    /// The place where its statement begins, which is all of the text after the comma. Without the comma it has none.
+    /// The column where its statement begins, which is all of the text after the comma. Without the comma it has none.
     pub statement: Option<u8>,
 }
 
-/// The condition, the comma and the statement that stand in a line from a place on. Without the comma the line has A, and Q and I
+/// The condition, the comma and the statement that stand in a line from a column on. Without the comma the line has A, and Q and I
 /// for what is left over. Error: memory may be refused.
 pub fn iif<N: Names>(
     line: &Line,
-    place: usize,
+    column: usize,
     names: &N,
     notes: &mut Notes,
 ) -> Result<Immediate, AllocError>
-    requires { place ≤ length line.now.text }
+    requires { column ≤ length line.now.text }
     ensures immediate { IfOk result (λ immediate. immediate
-        ≡ spec.immediate (known_by (N.base names.now) (N.stands_for names.now)) line.now.text place) }
+        ≡ spec.immediate (known_by (N.base names.now) (N.stands_for names.now)) line.now.text column) }
     ensures notes { IfOk result (λ _. notes.new ≡ joined notes.old
-        (spec.notes (known_by (N.base names.now) (N.stands_for names.now)) line.now.text place)) }
+        (spec.notes (known_by (N.base names.now) (N.stands_for names.now)) line.now.text column)) }
     ensures within { IfOk result (λ immediate. IfSome immediate.statement (λ begin. begin ≤ length line.now.text)) }
 {
-    let verdict = condition(line, place, names, notes)?;
+    let verdict = condition(line, column, names, notes)?;
     let end = usize::from(verdict.end);
     let statement = after_comma(line, end);
     notes.add_flags(comma_flags(line, end, statement));
@@ -49,14 +49,14 @@ pub fn iif<N: Names>(
     })
 }
 
-/// The place after the comma that stands next in a line from a place on, if one does.
-pub fn after_comma(line: &Line, place: usize) -> Option<u8>
-    requires { place ≤ length line.now.text }
-    ensures statement { result ≡ spec.after_comma (tokens_from line.now.text place) }
-    ensures least { IfSome result (λ begin. place < begin) }
+/// The column after the comma that stands next in a line from a column on, if one does.
+pub fn after_comma(line: &Line, column: usize) -> Option<u8>
+    requires { column ≤ length line.now.text }
+    ensures statement { result ≡ spec.after_comma (tokens_from line.now.text column) }
+    ensures least { IfSome result (λ begin. column < begin) }
     ensures within { IfSome result (λ begin. begin ≤ length line.now.text) }
 {
-    match next_token(line, place) {
+    match next_token(line, column) {
         Some(token) if is_comma(token.sort) => Some(token.end),
         _ => None,
     }
@@ -69,12 +69,12 @@ fn is_comma(sort: Sort) -> bool
 }
 
 // I for a skipped character before the comma; without it A, and what is left over.
-fn comma_flags(line: &Line, place: usize, statement: Option<u8>) -> ErrorFlags
-    requires { place ≤ length line.now.text }
-    ensures { bits_of result ≡ spec.comma_flags line.now.text place statement }
+fn comma_flags(line: &Line, column: usize, statement: Option<u8>) -> ErrorFlags
+    requires { column ≤ length line.now.text }
+    ensures { bits_of result ≡ spec.comma_flags line.now.text column statement }
 {
     match statement {
-        Some(end) => skip_flags(line, place, usize::from(end)),
-        None => ErrorFlags::A.with(left_over(line, place)),
+        Some(end) => skip_flags(line, column, usize::from(end)),
+        None => ErrorFlags::A.with(left_over(line, column)),
     }
 }

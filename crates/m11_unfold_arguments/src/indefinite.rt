@@ -35,26 +35,26 @@ pub struct Begun {
     pub(crate) list: Actual,
 }
 
-/// The formal and the list of an `.IRP` that stand in a line from a place on: in brackets a list of actuals, else one actual. Where
+/// The formal and the list of an `.IRP` that stand in a line from a column on: in brackets a list of actuals, else one actual. Where
 /// either is bad or missing the line has A, and nothing is repeated nor read. What is left over has Q and I. Error: memory may be refused.
 pub fn irp<N: Names>(
     alloc: Global,
     line: &Line,
-    place: usize,
+    column: usize,
     names: &N,
     notes: &mut Notes,
 ) -> Result<Option<Rounds>, AllocError>
-    requires { place ≤ length line.now.text }
+    requires { column ≤ length line.now.text }
     ensures rounds { IfOk result (λ rounds. rounds_seen rounds ≡ (spec.irp
-        (known_by (N.base names.now) (N.stands_for names.now)) line.now.text place).rounds) }
+        (known_by (N.base names.now) (N.stands_for names.now)) line.now.text column).rounds) }
     ensures notes { IfOk result (λ _. notes.new ≡ joined notes.old (spec.irp
-        (known_by (N.base names.now) (N.stands_for names.now)) line.now.text place).notes) }
+        (known_by (N.base names.now) (N.stands_for names.now)) line.now.text column).notes) }
 {
-    let Some(begun) = begun_at(line, place, true) else {
-        notes.add_flags(bad_flags(line, place));
+    let Some(begun) = begun_at(line, column, true) else {
+        notes.add_flags(bad_flags(line, column));
         return Ok(None);
     };
-    notes.add_flags(flags_before(line, place));
+    notes.add_flags(flags_before(line, column));
     let texts = listed(alloc, line, &begun.list, names, notes)?;
     notes.add_flags(left_over(line, usize::from(begun.list.end)));
     Ok(Some(Rounds {
@@ -63,25 +63,25 @@ pub fn irp<N: Names>(
     }))
 }
 
-/// The formal and the text of an `.IRPC` that stand in a line from a place on: each character of the text is the actual of a round.
+/// The formal and the text of an `.IRPC` that stand in a line from a column on: each character of the text is the actual of a round.
 /// Where either is bad or missing the line has A, and nothing is repeated nor read. What is left over has Q and I. Error: memory may be refused.
 pub fn irpc(
     alloc: Global,
     line: &Line,
-    place: usize,
+    column: usize,
     notes: &mut Notes,
 ) -> Result<Option<Rounds>, AllocError>
-    requires { place ≤ length line.now.text }
+    requires { column ≤ length line.now.text }
     ensures rounds { IfOk result (λ rounds. rounds_seen rounds
-        ≡ (spec.irpc line.now.text place).rounds) }
+        ≡ (spec.irpc line.now.text column).rounds) }
     ensures notes { IfOk result (λ _. notes.new
-        ≡ joined notes.old (spec.irpc line.now.text place).notes) }
+        ≡ joined notes.old (spec.irpc line.now.text column).notes) }
 {
-    let Some(begun) = begun_at(line, place, false) else {
-        notes.add_flags(bad_flags(line, place));
+    let Some(begun) = begun_at(line, column, false) else {
+        notes.add_flags(bad_flags(line, column));
         return Ok(None);
     };
-    notes.add_flags(flags_before(line, place));
+    notes.add_flags(flags_before(line, column));
     let texts = spelled(alloc, line, &begun.list, notes)?;
     notes.add_flags(left_over(line, usize::from(begun.list.end)));
     Ok(Some(Rounds {
@@ -90,14 +90,14 @@ pub fn irpc(
     }))
 }
 
-// The formal and the list that stand in a line from a place on, if neither is bad or missing.
-fn begun_at(line: &Line, place: usize, gives_digits: bool) -> Option<Begun>
-    requires { place ≤ length line.now.text }
-    ensures begun { result ≡ spec.begun_at line.now.text place gives_digits }
+// The formal and the list that stand in a line from a column on, if neither is bad or missing.
+fn begun_at(line: &Line, column: usize, gives_digits: bool) -> Option<Begun>
+    requires { column ≤ length line.now.text }
+    ensures begun { result ≡ spec.begun_at line.now.text column gives_digits }
     ensures begins { IfSome result (λ begun. begun.list.inside.start ≤ length line.now.text) }
     ensures within { IfSome result (λ begun. begun.list.end ≤ length line.now.text) }
 {
-    let name = name_at(line, place)?;
+    let name = name_at(line, column)?;
     let begin = separator_at(line, usize::from(name.end)).end;
     let list = next_actual(line, usize::from(begin), gives_digits)?;
     Some(Begun {

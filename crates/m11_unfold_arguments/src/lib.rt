@@ -13,7 +13,7 @@ mod left_overs;
 mod notes;
 
 pub use left_overs::{
-    bad_flags, flags_before, has_token, left_over, place_in, rest_flags, skip_flags,
+    bad_flags, flags_before, has_token, left_over, column_in, rest_flags, skip_flags,
 };
 pub use notes::Notes;
 

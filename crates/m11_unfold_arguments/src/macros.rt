@@ -34,25 +34,25 @@ pub struct Header {
     pub formals: Vec<MacroFormal>,
 }
 
-/// The name and the formals that stand in a line from a place on. Without a name nothing is defined, and the line has A. What is no
+/// The name and the formals that stand in a line from a column on. Without a name nothing is defined, and the line has A. What is no
 /// formal ends the list, and has A. Error: memory may be refused.
 pub fn header_at(
     alloc: Global,
     line: &Line,
-    place: usize,
+    column: usize,
     notes: &mut Notes,
 ) -> Result<Option<Header>, AllocError>
-    requires { place ≤ length line.now.text }
-    ensures header { IfOk result (λ header. header_seen header ≡ (spec.header line.now.text place).named) }
+    requires { column ≤ length line.now.text }
+    ensures header { IfOk result (λ header. header_seen header ≡ (spec.header line.now.text column).named) }
     ensures notes { IfOk result (λ _. notes.new
-        ≡ joined notes.old (noting (spec.header line.now.text place).flags [])) }
+        ≡ joined notes.old (noting (spec.header line.now.text column).flags [])) }
 {
-    let Some(name) = name_at(line, place) else {
-        notes.add_flags(bad_flags(line, place));
+    let Some(name) = name_at(line, column) else {
+        notes.add_flags(bad_flags(line, column));
         return Ok(None);
     };
     let formals = formals_within(alloc, line, usize::from(name.end), LINE_LIMIT)?;
-    notes.add_flags(flags_before(line, place).with(formals.flags));
+    notes.add_flags(flags_before(line, column).with(formals.flags));
     Ok(Some(Header {
         name: name.name,
         formals: formals.list,
@@ -64,17 +64,17 @@ pub fn header_at(
 pub struct NameAt {
     /// The name.
     pub name: Name,
-    /// The place after it.
+    /// The column after it.
     pub end: u8,
 }
 
-/// The name that stands next in a line from a place on, if one that a line can define does.
-pub fn name_at(line: &Line, place: usize) -> Option<NameAt>
-    requires { place ≤ length line.now.text }
-    ensures name { result ≡ spec.name_at (tokens_from line.now.text place) }
+/// The name that stands next in a line from a column on, if one that a line can define does.
+pub fn name_at(line: &Line, column: usize) -> Option<NameAt>
+    requires { column ≤ length line.now.text }
+    ensures name { result ≡ spec.name_at (tokens_from line.now.text column) }
     ensures within { IfSome result (λ name. name.end ≤ length line.now.text) }
 {
-    let token = next_token(line, place)?;
+    let token = next_token(line, column)?;
     let name = name_in(token.sort, token.text(line))?;
     Some(NameAt {
         name,
@@ -105,22 +105,22 @@ struct Formals {
     flags: ErrorFlags,
 }
 
-// At most `bound` formals after a place.
+// At most `bound` formals after a column.
 fn formals_within(
     alloc: Global,
     line: &Line,
-    place: usize,
+    column: usize,
     bound: usize,
 ) -> Result<Formals, AllocError>
-    requires { place ≤ length line.now.text }
+    requires { column ≤ length line.now.text }
     ensures list { IfOk result (λ formals. formals.list.items
-        ≡ (spec.formals_within bound line.now.text place).list) }
+        ≡ (spec.formals_within bound line.now.text column).list) }
     ensures flags { IfOk result (λ formals. bits_of formals.flags
-        ≡ (spec.formals_within bound line.now.text place).flags) }
+        ≡ (spec.formals_within bound line.now.text column).flags) }
 {
     let mut list = Vec::new(alloc);
     let mut flags = ErrorFlags::none();
-    let mut end = place;
+    let mut end = column;
     let mut left = bound;
     'formals: while left > 0 {
         let begin = usize::from(separator_at(line, end).end);
@@ -142,7 +142,7 @@ fn formals_within(
     Ok(Formals { list, flags })
 }
 
-// A formal, its flags, and the place after it.
+// A formal, its flags, and the column after it.
 #[derive(Clone, Copy, PartialEq, Eq, Debug)]
 pub struct FormalAt {
     pub(crate) formal: MacroFormal,
@@ -159,30 +159,30 @@ pub enum Listed {
     More(FormalAt),
 }
 
-// What stands in a list of formals at a place.
-fn listed_at(line: &Line, place: usize) -> Listed
-    requires { place ≤ length line.now.text }
-    ensures listed { listed_seen result ≡ spec.listed_at line.now.text place }
+// What stands in a list of formals at a column.
+fn listed_at(line: &Line, column: usize) -> Listed
+    requires { column ≤ length line.now.text }
+    ensures listed { listed_seen result ≡ spec.listed_at line.now.text column }
     ensures within { spec.IsWithin (length line.now.text) result }
 {
-    match next_formal(line, place) {
-        NextFormal::Ends => Listed::Last(rest_flags(line, place)),
-        NextFormal::Bad => Listed::Last(bad_flags(line, place)),
+    match next_formal(line, column) {
+        NextFormal::Ends => Listed::Last(rest_flags(line, column)),
+        NextFormal::Bad => Listed::Last(bad_flags(line, column)),
         NextFormal::Named(formal) => match read_name(formal.name.text(line)) {
             Some(name) => Listed::More(FormalAt {
                 formal: MacroFormal {
                     name,
                     is_created: formal.is_created,
                 },
-                flags: skip_flags(line, place, formal_start(formal)),
+                flags: skip_flags(line, column, formal_start(formal)),
                 end: formal.name.end,
             }),
-            None => Listed::Last(bad_flags(line, place)),
+            None => Listed::Last(bad_flags(line, column)),
         },
     }
 }
 
-// The place where a formal begins, with the `?` directly before it.
+// The column where a formal begins, with the `?` directly before it.
 fn formal_start(formal: Formal) -> usize
     ensures { result ≡ spec.formal_start formal }
 {

@@ -14,26 +14,26 @@ use m11_scan::{ErrorFlags, Line};
 use m11_scan_values::Names;
 use std::alloc::AllocError;
 
-/// The number of rounds of a `.REPT`, read from a place of its line: 0 to 32767. A negative number gives none; a missing one gives
+/// The number of rounds of a `.REPT`, read from a column of its line: 0 to 32767. A negative number gives none; a missing one gives
 /// none, and has A. What is left over has Q and I. Error: memory may be refused.
 pub fn rept_count<N: Names>(
     line: &Line,
-    place: usize,
+    column: usize,
     names: &N,
     notes: &mut Notes,
 ) -> Result<u16, AllocError>
-    requires { place ≤ length line.now.text }
+    requires { column ≤ length line.now.text }
     ensures count { IfOk result (λ count. count
-        ≡ spec.rept_count (known_by (N.base names.now) (N.stands_for names.now)) line.now.text place) }
+        ≡ spec.rept_count (known_by (N.base names.now) (N.stands_for names.now)) line.now.text column) }
     ensures notes { IfOk result (λ _. notes.new ≡ joined notes.old
-        (spec.notes (known_by (N.base names.now) (N.stands_for names.now)) line.now.text place)) }
+        (spec.notes (known_by (N.base names.now) (N.stands_for names.now)) line.now.text column)) }
     ensures most { IfOk result (λ count. count < 32768) }
 {
-    if !has_expression(line, place) {
-        notes.add_flags(ErrorFlags::A.with(left_over(line, place)));
+    if !has_expression(line, column) {
+        notes.add_flags(ErrorFlags::A.with(left_over(line, column)));
         return Ok(0);
     }
-    let number = number_at(line, place, names, notes)?;
+    let number = number_at(line, column, names, notes)?;
     let rest = left_over(line, usize::from(number.end));
     notes.add_flags(number.flags.with(rest));
     Ok(rounds_of(number.value))

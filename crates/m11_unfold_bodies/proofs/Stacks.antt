@@ -63,11 +63,11 @@ module _ (formals : List (ℕ × ℕ)) where
 
 marks-lines : (frame : Frame) (left : List Left) → marks (lines_of frame ++ left) ≡ marks left
 marks-lines frame left =
-    marks-of_rounds frame.template.formals frame.template.body (drop frame.place frame.template.body) frame.rounds left
+    marks-of_rounds frame.template.formals frame.template.body (drop frame.index frame.template.body) frame.rounds left
 
 past-lines : (frame : Frame) (left : List Left) → after_mark (lines_of frame ++ left) ≡ after_mark left
 past-lines frame left =
-    past-of_rounds frame.template.formals frame.template.body (drop frame.place frame.template.body) frame.rounds left
+    past-of_rounds frame.template.formals frame.template.body (drop frame.index frame.template.body) frame.rounds left
 
 -- ---- the innermost expansion stands in front
 
@@ -229,60 +229,60 @@ how_many (Some actuals) = 1
 not_none : {actuals : List (List ℕ)} → None ≡ Some actuals → ⊥
 not_none some = let no : ◌≡◌ {A = ℕ} 0 1 = ap how_many some in omega (arith, no)
 
-module _ (formals : List (ℕ × ℕ)) (body : List (List ℕ)) (place : ℕ) (actuals : List (List ℕ)) (inside : place < length body) where
-  head_first : drop place body ≡ get_or body place [] ∷ drop (place + 1) body
-  head_first = drop_more body place [] inside
+module _ (formals : List (ℕ × ℕ)) (body : List (List ℕ)) (index : ℕ) (actuals : List (List ℕ)) (inside : index < length body) where
+  head_first : drop index body ≡ get_or body index [] ∷ drop (index + 1) body
+  head_first = drop_more body index [] inside
 
   pub next_inside : (rounds : List (List (List ℕ))) → first_of rounds ≡ Some actuals
-      → of_rounds formals body (drop place body) rounds
-      ≡ Line (line_with formals actuals (get_or body place [])) ∷ of_rounds formals body (drop (place + 1) body) rounds
+      → of_rounds formals body (drop index body) rounds
+      ≡ Line (line_with formals actuals (get_or body index [])) ∷ of_rounds formals body (drop (index + 1) body) rounds
   next_inside [] first = absurd (not_none first)
   next_inside (actuals' ∷ rounds) first =
       ap (λ (t : List (List ℕ)). of_rounds formals body t (actuals' ∷ rounds)) head_first
-      ∙ ap (λ (a : Option (List (List ℕ))). line_by a ∷ of_rounds formals body (drop (place + 1) body) (actuals' ∷ rounds)) first
+      ∙ ap (λ (a : Option (List (List ℕ))). line_by a ∷ of_rounds formals body (drop (index + 1) body) (actuals' ∷ rounds)) first
     where
       line_by : Option (List (List ℕ)) → Left
-      line_by None = Line (line_with formals actuals (get_or body place []))
-      line_by (Some a) = Line (line_with formals a (get_or body place []))
+      line_by None = Line (line_with formals actuals (get_or body index []))
+      line_by (Some a) = Line (line_with formals a (get_or body index []))
 
-  pub next_last : (rounds : List (List (List ℕ))) → first_of rounds ≡ Some actuals → place + 1 ≡ length body
-      → of_rounds formals body (drop place body) rounds
-      ≡ Line (line_with formals actuals (get_or body place [])) ∷ of_rounds formals body body (without_first rounds)
+  pub next_last : (rounds : List (List (List ℕ))) → first_of rounds ≡ Some actuals → index + 1 ≡ length body
+      → of_rounds formals body (drop index body) rounds
+      ≡ Line (line_with formals actuals (get_or body index [])) ∷ of_rounds formals body body (without_first rounds)
   next_last [] first last = absurd (not_none first)
   next_last (actuals' ∷ rounds) first last =
       next_inside (actuals' ∷ rounds) first
-      ∙ ap (λ (t : List (List ℕ)). Line (line_with formals actuals (get_or body place [])) ∷ of_rounds formals body t (actuals' ∷ rounds))
-      (drop_all (place + 1) body (omega arith))
-      ∙ ap (λ (l : List Left). Line (line_with formals actuals (get_or body place [])) ∷ l) (sym (all_rounds formals body rounds))
+      ∙ ap (λ (t : List (List ℕ)). Line (line_with formals actuals (get_or body index [])) ∷ of_rounds formals body t (actuals' ∷ rounds))
+      (drop_all (index + 1) body (omega arith))
+      ∙ ap (λ (l : List Left). Line (line_with formals actuals (get_or body index [])) ∷ l) (sym (all_rounds formals body rounds))
 
 -- ---- a frame after its next line
 
 abbrev pub frame_at : Template → Mark → ℕ → List (List (List ℕ)) → Frame
-frame_at template mark place rounds = record { template = template; place = place; rounds = rounds; mark = mark }
+frame_at template mark index rounds = record { template = template; index = index; rounds = rounds; mark = mark }
 
-module _ (template : Template) (mark : Mark) (place : ℕ) (rounds : List (List (List ℕ))) (formals : List (ℕ × ℕ))
-    (actuals : List (List ℕ)) (text : List ℕ) (line : SourceLine) (old new : Frame) (was : frame_at template mark place rounds ≡ old)
+module _ (template : Template) (mark : Mark) (index : ℕ) (rounds : List (List (List ℕ))) (formals : List (ℕ × ℕ))
+    (actuals : List (List ℕ)) (text : List ℕ) (line : SourceLine) (old new : Frame) (was : frame_at template mark index rounds ≡ old)
     (made : line ≡ line_with formals actuals text) (named : formals ≡ template.formals)
-    (read : text ≡ get_or template.body place []) (first : first_of rounds ≡ Some actuals)
-    (next : HasNext (frame_at template mark place rounds)) where
-  same_line : line_with template.formals actuals (get_or template.body place []) ≡ line
+    (read : text ≡ get_or template.body index []) (first : first_of rounds ≡ Some actuals)
+    (next : HasNext (frame_at template mark index rounds)) where
+  same_line : line_with template.formals actuals (get_or template.body index []) ≡ line
   same_line = sym (made ∙ ap (λ (f : List (ℕ × ℕ)). line_with f actuals text) named
       ∙ ap (λ (t : List ℕ). line_with template.formals actuals t) read)
 
-  pub in_round : new ≡ frame_at template mark (place + 1) rounds → lines_of old ≡ Line line ∷ lines_of new
+  pub in_round : new ≡ frame_at template mark (index + 1) rounds → lines_of old ≡ Line line ∷ lines_of new
   in_round is = elim next [
     | inl inside ↦
-        ap lines_of (sym was) ∙ next_inside template.formals template.body place actuals inside rounds first
-        ∙ ap (λ (l : SourceLine). Line l ∷ lines_of (frame_at template mark (place + 1) rounds)) same_line
+        ap lines_of (sym was) ∙ next_inside template.formals template.body index actuals inside rounds first
+        ∙ ap (λ (l : SourceLine). Line l ∷ lines_of (frame_at template mark (index + 1) rounds)) same_line
         ∙ ap (λ (f : Frame). Line line ∷ lines_of f) (sym is)
     | inr none ↦ absurd (not_none (sym (ap first_of none) ∙ first))
   ]
 
   pub at_end : (others : List (List (List ℕ))) → new ≡ frame_at template mark 0 others → others ≡ without_first rounds
-      → place + 1 ≡ length template.body → lines_of old ≡ Line line ∷ lines_of new
+      → index + 1 ≡ length template.body → lines_of old ≡ Line line ∷ lines_of new
   at_end others is passed last = elim next [
     | inl inside ↦
-        ap lines_of (sym was) ∙ next_last template.formals template.body place actuals inside rounds first last
+        ap lines_of (sym was) ∙ next_last template.formals template.body index actuals inside rounds first last
         ∙ ap (λ (l : SourceLine). Line l ∷ of_rounds template.formals template.body template.body (without_first rounds)) same_line
         ∙ ap (λ (r : List (List (List ℕ))). Line line ∷ of_rounds template.formals template.body template.body r) (sym passed)
         ∙ ap (λ (f : Frame). Line line ∷ lines_of f) (sym is)

@@ -1,4 +1,4 @@
--- One open expansion: a place in a body, the rounds that are left, and its end. (This project's own.)
+-- One open expansion: the index of its next line, the rounds that are left, and its end. (This project's own.)
 use Rattle.std.specs.Prelude.{◌≡◌, ◌<◌, ◌⊎◌, ℕ, ◌+◌, List, [], ◌∷◌, ◌++◌, length, drop, Bool, true, false, not, ◌&&◌, Option, Some, None}
 use Rattle.std.specs.List.{flat_map}
 use Rattle.m11_base.specs.Devices.{Bytes}
@@ -8,11 +8,11 @@ use Rattle.m11_unfold_bodies.specs.Bodies.{Template}
 use Rattle.m11_unfold_bodies.specs.Left.{Left, Line, End, Remains, or_else, round}
 use Rattle.m11_unfold_bodies.specs.declared.mark.Mark.{Mark}
 
--- a body with its formals, the place of its next line, the actuals of the rounds that are left, the one that is begun
+-- a body with its formals, the index of its next line, the actuals of the rounds that are left, the one that is begun
 -- first, and the expansion's end
 pub record Frame : Type 0 where
   pub template : Template
-  pub place : ℕ
+  pub index : ℕ
   pub rounds : List (List Bytes)
   pub mark : Mark
 
@@ -22,7 +22,7 @@ of_rounds formals body rest [] = []
 of_rounds formals body rest (actuals ∷ rounds) = round formals rest actuals ++ flat_map (round formals body) rounds
 
 abbrev pub lines_of : Frame → List Left
-lines_of frame = of_rounds frame.template.formals frame.template.body (drop frame.place frame.template.body) frame.rounds
+lines_of frame = of_rounds frame.template.formals frame.template.body (drop frame.index frame.template.body) frame.rounds
 
 -- expansions, the outermost first, before what is left
 abbrev pub stacked : List Frame → List Left → List Left
@@ -31,7 +31,7 @@ stacked (frame ∷ frames) left = stacked frames (lines_of frame ++ End frame.ma
 
 -- a line is next, or no round is left
 abbrev pub HasNext : Frame → Type 0
-HasNext frame = (frame.place < length frame.template.body) ⊎ (frame.rounds ≡ [])
+HasNext frame = (frame.index < length frame.template.body) ⊎ (frame.rounds ≡ [])
 
 -- a line that stands by itself, if there is one
 abbrev pub line_left : Option SourceLine → List Left

@@ -1,4 +1,4 @@
-//! One open expansion: a place in a body. (MACRO-11 Language Reference Manual, "Macro directives" and "Repeat block".)
+//! One open expansion, with the index of its next line. (MACRO-11 Language Reference Manual, "Macro directives" and "Repeat block".)
 
 ghost use Rattle.std.specs.Prelude.{◌≡◌, ◌∷◌, [], true, false};
 ghost use Rattle.m11_unfold_bodies.specs.Frames as spec;
@@ -16,7 +16,7 @@ use std::rc::Rc;
 #[derive(Drop)]
 pub(crate) struct Frame {
     template: Rc<Template>,
-    place: usize,
+    index: usize,
     rounds: Rounds,
     mark: Mark,
 }
@@ -26,9 +26,9 @@ impl Model for Frame {
 
     ghost Value = { spec.Frame };
 
-    ghost view = { λ f. record { template = f.template.value; place = f.place; rounds = f.rounds; mark = f.mark } };
+    ghost view = { λ f. record { template = f.template.value; index = f.index; rounds = f.rounds; mark = f.mark } };
 
-    ghost invariant = { λ f. spec.HasNext (record { template = f.template.value; place = f.place; rounds = f.rounds; mark = f.mark }) };
+    ghost invariant = { λ f. spec.HasNext (record { template = f.template.value; index = f.index; rounds = f.rounds; mark = f.mark }) };
 }
 
 impl Frame {
@@ -40,7 +40,7 @@ impl Frame {
     {
         let mut frame = Frame {
             template,
-            place: 0,
+            index: 0,
             rounds,
             mark,
         };
@@ -64,11 +64,11 @@ impl Frame {
             line,
             self.template.formals(),
             actuals,
-            self.template.body().text(self.place),
+            self.template.body().text(self.index),
         );
-        self.place += 1;
-        if self.place == lines {
-            self.place = 0;
+        self.index += 1;
+        if self.index == lines {
+            self.index = 0;
             self.rounds.pass();
         }
         true

@@ -1,4 +1,4 @@
--- A live line at a place, and what follows it.
+-- A live line at a level, and what follows it.
 use Rattle.std.proofs.Common.{◌≡◌, ◌∙◌, ℕ, Bool, true, false, List, [], ◌∷◌, ◌++◌, map, append_assoc, Option, Some, None, refl, ap}
 use Rattle.std.specs.Prelude.{not, if◌then◌else◌}
 use Rattle.std.proofs.lemmas.List.{map-append}
@@ -18,7 +18,7 @@ use Rattle.m11_unfold_rules.specs.Stages.{Stage, line_left}
 use Rattle.m11_unfold_rules.specs.Taking.{Gives, Live, live_or_skipped, move, nesting, skipped_by}
 use Rattle.m11_unfold_rules.specs.Unfolding.{Given, given}
 use Rattle.m11_unfold_rules.proofs.Operators.{has_word}
-use Rattle.m11_unfold_laws.specs.Places.{Place, Situation, counting, only_entered, operation_at, stage_of, within_condition}
+use Rattle.m11_unfold_laws.specs.Levels.{Level, Situation, counting, only_entered, operation_at, stage_of, within_condition}
 use Rattle.m11_unfold_laws.specs.Shapes.{Begins}
 use Rattle.m11_unfold_laws.specs.Shapes as shapes
 use Rattle.m11_unfold_laws.proofs.Runs.{Runs, and_then, from_same, gives_line}
@@ -36,30 +36,30 @@ past_lines (line ∷ lines) left = past_lines lines left
 
 -- ---- a live line
 
-abbrev pub shown : Place → Known → SourceLine → Acted → Given
-shown place known line acted = record {
-  live = record { line = line; is_expanded = has_mark place.around };
+abbrev pub shown : Level → Known → SourceLine → Acted → Given
+shown level known line acted = record {
+  live = record { line = line; is_expanded = has_mark level.around };
   known = known;
   is_own = acted.is_own;
   notes = acted.notes;
-  arguments = count_in place.around;
+  arguments = count_in level.around;
 }
 
-module _ (P : Stage → Type 0) (place : Place) (situation : Situation) (known : Known) (line : SourceLine) (left : List Left)
+module _ (P : Stage → Type 0) (level : Level) (situation : Situation) (known : Known) (line : SourceLine) (left : List Left)
     (acted : Acted) (gives : List Given) where
   abbrev before : Stage
-  before = stage_of place situation (Line line ∷ left)
+  before = stage_of level situation (Line line ∷ left)
 
   abbrev here : Stage
-  here = stage_of place (counting 1 situation) left
+  here = stage_of level (counting 1 situation) left
 
   abbrev live : Live
   live = record { line = line; is_expanded = is_expanding left }
 
   -- by the move that gives it, and what its operator does
-  pub line_by : marks left ≡ place.around → move before ≡ Gives live here
-      → acted_by known line.text here (operation_at place situation line) ≡ acted → Runs acted.after gives P
-      → Runs before (shown place known line acted ∷ gives) P
+  pub line_by : marks left ≡ level.around → move before ≡ Gives live here
+      → acted_by known line.text here (operation_at level situation line) ≡ acted → Runs acted.after gives P
+      → Runs before (shown level known line acted ∷ gives) P
   line_by around moves acts next =
       let told : List Mark → Acted → Given = λ m a. record {
         live = record { line = line; is_expanded = has_mark m };
@@ -68,61 +68,61 @@ module _ (P : Stage → Type 0) (place : Place) (situation : Situation) (known :
         notes = a.notes;
         arguments = count_in m;
       } in
-      let same : given known live here ≡ shown place known line acted
+      let same : given known live here ≡ shown level known line acted
       = ap (told (marks left)) acts ∙ ap (λ (m : List Mark). told m acted) around in
       let Q : Stage → Type 0 = λ s. s ≡ acted.after in
-      and_then Q P before (shown place known line acted ∷ []) gives
-      (gives_line Q before here live known (shown place known line acted) acted moves acts same refl)
+      and_then Q P before (shown level known line acted ∷ []) gives
+      (gives_line Q before here live known (shown level known line acted) acted moves acts same refl)
       (λ s is. from_same P s acted.after gives is next)
 
   -- where lines are live
-  pub line_then : marks left ≡ place.around → is_live_inside place.entered ≡ true
-      → acted_by known line.text here (operation_at place situation line) ≡ acted → Runs acted.after gives P
-      → Runs before (shown place known line acted ∷ gives) P
+  pub line_then : marks left ≡ level.around → is_live_inside level.entered ≡ true
+      → acted_by known line.text here (operation_at level situation line) ≡ acted → Runs acted.after gives P
+      → Runs before (shown level known line acted ∷ gives) P
   line_then around taking acts next =
       let moves : move before ≡ Gives live here
       = ap (λ (b : Bool). live_or_skipped
-      (if not b then skipped_by (only_entered place.entered) (directive line.text) else None) line here) taking in
+      (if not b then skipped_by (only_entered level.entered) (directive line.text) else None) line here) taking in
       line_by around moves acts next
 
 -- ---- a word of the condition around it
 
-module _ (place : Place) (holds : Bool) (situation : Situation) (line : SourceLine) (left : List Left) where
+module _ (level : Level) (holds : Bool) (situation : Situation) (line : SourceLine) (left : List Left) where
   abbrev in_part : Bool → Situation → List Left → Stage
-  in_part is_live s l = stage_of (within_condition holds is_live place) s l
+  in_part is_live s l = stage_of (within_condition holds is_live level) s l
 
   abbrev Comes : Bool → Type 0
   Comes is_live = move (in_part is_live situation (Line line ∷ left))
       ≡ Gives (record { line = line; is_expanded = is_expanding left }) (in_part is_live (counting 1 situation) left)
 
   by_word : (d : Option Directive) → directive line.text ≡ d
-      → skipped_by (only_entered (within_condition holds false place).entered) d ≡ None → Comes false
+      → skipped_by (only_entered (within_condition holds false level).entered) d ≡ None → Comes false
   by_word d is none =
-      let c : OpenConditions = only_entered (within_condition holds false place).entered in
+      let c : OpenConditions = only_entered (within_condition holds false level).entered in
       let there : Stage = in_part false (counting 1 situation) left in
       ap (λ (w : Option Directive). live_or_skipped (skipped_by c w) line there) is
       ∙ ap (λ (o : Option OpenConditions). live_or_skipped o line there) none
 
   pub begin_comes : (is_live : Bool) (operator : Operation) (part : Part) (at : ℕ) → Begins operator part at
-      → operation_at (within_condition holds is_live place) situation line ≡ operator → Comes is_live
+      → operation_at (within_condition holds is_live level) situation line ≡ operator → Comes is_live
   begin_comes true operator part at begins is = refl
   begin_comes false _ _ _ (shapes.Begins.IfFalse at) is =
       by_word (Some word.Iff)
-      (has_word situation.macros (only_entered (within_condition holds false place).entered) line.text at word.Iff is) refl
+      (has_word situation.macros (only_entered (within_condition holds false level).entered) line.text at word.Iff is) refl
   begin_comes false _ _ _ (shapes.Begins.IfTrue at) is =
       by_word (Some word.Ift)
-      (has_word situation.macros (only_entered (within_condition holds false place).entered) line.text at word.Ift is) refl
+      (has_word situation.macros (only_entered (within_condition holds false level).entered) line.text at word.Ift is) refl
   begin_comes false _ _ _ (shapes.Begins.IfTrueFalse at) is =
       by_word (Some word.Iftf)
-      (has_word situation.macros (only_entered (within_condition holds false place).entered) line.text at word.Iftf is)
+      (has_word situation.macros (only_entered (within_condition holds false level).entered) line.text at word.Iftf is)
       refl
 
   pub close_comes : (is_live : Bool) (at : ℕ)
-      → operation_at (within_condition holds is_live place) situation line ≡ OwnDirective word.Endc at → Comes is_live
+      → operation_at (within_condition holds is_live level) situation line ≡ OwnDirective word.Endc at → Comes is_live
   close_comes true at is = refl
   close_comes false at is =
       by_word (Some word.Endc)
-      (has_word situation.macros (only_entered (within_condition holds false place).entered) line.text at word.Endc is)
+      (has_word situation.macros (only_entered (within_condition holds false level).entered) line.text at word.Endc is)
       refl
 
 -- ---- bodies before what is left

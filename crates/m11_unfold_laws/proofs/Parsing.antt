@@ -11,7 +11,7 @@ use Rattle.m11_unfold_rules.specs.Acting.{OwnDirective, Operation}
 use Rattle.m11_unfold_rules.specs.Stages.{Stage}
 use Rattle.m11_unfold_rules.specs.Unfolding.{Given}
 use Rattle.m11_unfold_laws.specs.Laws.{Arrived, before_lines}
-use Rattle.m11_unfold_laws.specs.Places.{Place, Situation, counting, operation_at, own_line, within_condition}
+use Rattle.m11_unfold_laws.specs.Levels.{Level, Situation, counting, operation_at, own_line, within_condition}
 use Rattle.m11_unfold_laws.specs.Shapes.{Begins, Ending, GoesOn, Parts, Shape, statement}
 use Rattle.m11_unfold_laws.specs.Shapes as shapes
 use Rattle.m11_unfold_laws.proofs.Resting.{Rested, lifted}
@@ -22,42 +22,42 @@ pub data IsOwn : Operation → Type 0 where
   Close : (at : ℕ) → IsOwn (OwnDirective word.Endc at)
 
 -- what is left of lines begins with such a word, or with an `.IIF` whose statement does
-pub data Breaks (place : Place) : ℕ → Situation → SourceLine → List SourceLine → List Left → List Given → Type 0 where
+pub data Breaks (level : Level) : ℕ → Situation → SourceLine → List SourceLine → List Left → List Given → Type 0 where
   ByWord : (n : ℕ) (situation : Situation) (line : SourceLine) (others : List SourceLine) (left : List Left) (later : List Given)
-      → IsOwn (operation_at place situation line) → Rested n (before_lines place situation (line ∷ others) left) later
-      → Breaks place n situation line others left later
+      → IsOwn (operation_at level situation line) → Rested n (before_lines level situation (line ∷ others) left) later
+      → Breaks level n situation line others left later
   ByStatement : (n : ℕ) (situation : Situation) (line : SourceLine) (others : List SourceLine) (left : List Left)
       (later : List Given)
-      (known : Known) (at : ℕ) (next : SourceLine) → operation_at place situation line ≡ OwnDirective word.Iif at
-      → statement known line.text at ≡ next ∷ [] → Breaks place n (counting 1 situation) next others left later
-      → Breaks place n situation line others left (own_line place known line (immediate.notes known line.text at) ∷ later)
+      (known : Known) (at : ℕ) (next : SourceLine) → operation_at level situation line ≡ OwnDirective word.Iif at
+      → statement known line.text at ≡ next ∷ [] → Breaks level n (counting 1 situation) next others left later
+      → Breaks level n situation line others left (own_line level known line (immediate.notes known line.text at) ∷ later)
 
-pub data Stop (place : Place) : ℕ → Situation → Ending → List SourceLine → List Left → List Given → Type 0 where
+pub data Stop (level : Level) : ℕ → Situation → Ending → List SourceLine → List Left → List Given → Type 0 where
   Whole : (n : ℕ) (situation : Situation) (ending : Ending) (left : List Left) (later : List Given) (stage : Stage)
-      → Arrived ending place situation left stage → Rested n stage later → Stop place n situation ending [] left later
+      → Arrived ending level situation left stage → Rested n stage later → Stop level n situation ending [] left later
   Broken : (n : ℕ) (situation : Situation) (line : SourceLine) (others : List SourceLine) (left : List Left) (later : List Given)
-      → (place.entered ≡ [] → ⊥) → Breaks place n situation line others left later
-      → Stop place n situation GoesOn (line ∷ others) left later
+      → (level.entered ≡ [] → ⊥) → Breaks level n situation line others left later
+      → Stop level n situation GoesOn (line ∷ others) left later
 
-pub lifted_breaks : (place : Place) (n : ℕ) (situation : Situation) (line : SourceLine) (others : List SourceLine)
+pub lifted_breaks : (level : Level) (n : ℕ) (situation : Situation) (line : SourceLine) (others : List SourceLine)
     (left : List Left)
-    (later : List Given) → Breaks place n situation line others left later → Breaks place (suc n) situation line others left later
-lifted_breaks place _ _ _ _ _ _ (Breaks.ByWord n situation line others left later is rested) =
+    (later : List Given) → Breaks level n situation line others left later → Breaks level (suc n) situation line others left later
+lifted_breaks level _ _ _ _ _ _ (Breaks.ByWord n situation line others left later is rested) =
     Breaks.ByWord (suc n) situation line others left later is
-    (lifted n (before_lines place situation (line ∷ others) left) later rested)
-lifted_breaks place _ _ _ _ _ _ (Breaks.ByStatement n situation line others left later known at next is says breaks) =
+    (lifted n (before_lines level situation (line ∷ others) left) later rested)
+lifted_breaks level _ _ _ _ _ _ (Breaks.ByStatement n situation line others left later known at next is says breaks) =
     Breaks.ByStatement (suc n) situation line others left later known at next is says
-    (lifted_breaks place n (counting 1 situation) next others left later breaks)
+    (lifted_breaks level n (counting 1 situation) next others left later breaks)
 
-pub lifted_stop : (place : Place) (n : ℕ) (situation : Situation) (ending : Ending) (others : List SourceLine) (left : List Left)
-    (later : List Given) → Stop place n situation ending others left later → Stop place (suc n) situation ending others left later
-lifted_stop place _ _ _ _ _ _ (Stop.Whole n situation ending left later stage there rested) =
+pub lifted_stop : (level : Level) (n : ℕ) (situation : Situation) (ending : Ending) (others : List SourceLine) (left : List Left)
+    (later : List Given) → Stop level n situation ending others left later → Stop level (suc n) situation ending others left later
+lifted_stop level _ _ _ _ _ _ (Stop.Whole n situation ending left later stage there rested) =
     Stop.Whole (suc n) situation ending left later stage there (lifted n stage later rested)
-lifted_stop place _ _ _ _ _ _ (Stop.Broken n situation line others left later open' breaks) =
-    Stop.Broken (suc n) situation line others left later open' (lifted_breaks place n situation line others left later breaks)
+lifted_stop level _ _ _ _ _ _ (Stop.Broken n situation line others left later open' breaks) =
+    Stop.Broken (suc n) situation line others left later open' (lifted_breaks level n situation line others left later breaks)
 
 -- the first of some lines have a shape, with the first of the live lines
-pub record Parsed (n : ℕ) (place : Place) (before : Situation) (lines : List SourceLine) (left : List Left)
+pub record Parsed (n : ℕ) (level : Level) (before : Situation) (lines : List SourceLine) (left : List Left)
     (gives : List Given) : Type 0 where
   pub taken : List SourceLine
   pub others : List SourceLine
@@ -67,11 +67,11 @@ pub record Parsed (n : ℕ) (place : Place) (before : Situation) (lines : List S
   pub gives_are : gives ≡ first ++ later
   pub after : Situation
   pub ending : Ending
-  pub shape : Shape place before taken first after ending
-  pub stop : Stop place n after ending others left later
+  pub shape : Shape level before taken first after ending
+  pub stop : Stop level n after ending others left later
 
 -- the same of what is left of a condition
-pub record PartsParsed (n : ℕ) (place : Place) (holds is_live : Bool) (before : Situation) (lines : List SourceLine)
+pub record PartsParsed (n : ℕ) (level : Level) (holds is_live : Bool) (before : Situation) (lines : List SourceLine)
     (left : List Left)
     (gives : List Given) : Type 0 where
   pub taken : List SourceLine
@@ -82,31 +82,31 @@ pub record PartsParsed (n : ℕ) (place : Place) (holds is_live : Bool) (before 
   pub gives_are : gives ≡ first ++ later
   pub after : Situation
   pub ending : Ending
-  pub parts : Parts place holds is_live before taken first after ending
-  pub stop : Stop place n after ending others left later
+  pub parts : Parts level holds is_live before taken first after ending
+  pub stop : Stop level n after ending others left later
 
 -- whatever lines are read in so many moves
 abbrev pub Reads : ℕ → Type 0
-Reads n = (place : Place) (before : Situation) (lines : List SourceLine) (left : List Left) (gives : List Given)
-    → marks left ≡ place.around → is_live_inside place.entered ≡ true → after_mark left ≡ left
-    → Rested n (before_lines place before lines left) gives → Parsed n place before lines left gives
+Reads n = (level : Level) (before : Situation) (lines : List SourceLine) (left : List Left) (gives : List Given)
+    → marks left ≡ level.around → is_live_inside level.entered ≡ true → after_mark left ≡ left
+    → Rested n (before_lines level before lines left) gives → Parsed n level before lines left gives
 
 abbrev pub ReadsParts : ℕ → Type 0
-ReadsParts n = (place : Place) (holds is_live : Bool) (before : Situation) (lines : List SourceLine) (left : List Left)
+ReadsParts n = (level : Level) (holds is_live : Bool) (before : Situation) (lines : List SourceLine) (left : List Left)
     (gives : List Given)
-    → marks left ≡ place.around → is_live_inside place.entered ≡ true → after_mark left ≡ left
-    → Rested n (before_lines (within_condition holds is_live place) before lines left) gives
-    → PartsParsed n place holds is_live before lines left gives
+    → marks left ≡ level.around → is_live_inside level.entered ≡ true → after_mark left ≡ left
+    → Rested n (before_lines (within_condition holds is_live level) before lines left) gives
+    → PartsParsed n level holds is_live before lines left gives
 
 -- ---- one construct more in front
 
-module _ (n : ℕ) (place : Place) (start before : Situation) (front lines : List SourceLine) (ones more : List Given)
+module _ (n : ℕ) (level : Level) (start before : Situation) (front lines : List SourceLine) (ones more : List Given)
     (left : List Left) where
-  pub grown : Parsed n place before lines left more
+  pub grown : Parsed n level before lines left more
       → ((taken : List SourceLine) (first : List Given) (after : Situation) (ending : Ending)
-      → Shape place before taken first after ending
-      → Shape place start (front ++ taken) (ones ++ first) after ending)
-      → Parsed (suc n) place start (front ++ lines) left (ones ++ more)
+      → Shape level before taken first after ending
+      → Shape level start (front ++ taken) (ones ++ first) after ending)
+      → Parsed (suc n) level start (front ++ lines) left (ones ++ more)
   grown p make = record {
     taken = front ++ p.taken;
     others = p.others;
@@ -117,15 +117,15 @@ module _ (n : ℕ) (place : Place) (start before : Situation) (front lines : Lis
     after = p.after;
     ending = p.ending;
     shape = make p.taken p.first p.after p.ending p.shape;
-    stop = lifted_stop place n p.after p.ending p.others left p.later p.stop;
+    stop = lifted_stop level n p.after p.ending p.others left p.later p.stop;
   }
 
 -- all lines are taken
-pub all_taken : (n : ℕ) (place : Place) (before : Situation) (lines : List SourceLine) (left : List Left)
+pub all_taken : (n : ℕ) (level : Level) (before : Situation) (lines : List SourceLine) (left : List Left)
     (first later : List Given)
-    (after : Situation) (ending : Ending) (stage : Stage) → Shape place before lines first after ending
-    → Arrived ending place after left stage → Rested n stage later → Parsed n place before lines left (first ++ later)
-all_taken n place before lines left first later after ending stage shaped there rested = record {
+    (after : Situation) (ending : Ending) (stage : Stage) → Shape level before lines first after ending
+    → Arrived ending level after left stage → Rested n stage later → Parsed n level before lines left (first ++ later)
+all_taken n level before lines left first later after ending stage shaped there rested = record {
   taken = lines;
   others = [];
   lines_are = sym (append-nil lines);
@@ -139,23 +139,23 @@ all_taken n place before lines left first later after ending stage shaped there 
 }
 
 -- by equal live lines, and equal lines
-pub of_gives : (n : ℕ) (place : Place) (before : Situation) (lines : List SourceLine) (left : List Left)
+pub of_gives : (n : ℕ) (level : Level) (before : Situation) (lines : List SourceLine) (left : List Left)
     (gives others : List Given)
-    → gives ≡ others → Parsed n place before lines left others → Parsed n place before lines left gives
-of_gives n place before lines left gives others same p
-    = subst (λ (g : List Given). Parsed n place before lines left g) (sym same) p
+    → gives ≡ others → Parsed n level before lines left others → Parsed n level before lines left gives
+of_gives n level before lines left gives others same p
+    = subst (λ (g : List Given). Parsed n level before lines left g) (sym same) p
 
-pub of_lines : (n : ℕ) (place : Place) (before : Situation) (lines others : List SourceLine) (left : List Left)
+pub of_lines : (n : ℕ) (level : Level) (before : Situation) (lines others : List SourceLine) (left : List Left)
     (gives : List Given)
-    → lines ≡ others → Parsed n place before others left gives → Parsed n place before lines left gives
-of_lines n place before lines others left gives same p
-    = subst (λ (l : List SourceLine). Parsed n place before l left gives) (sym same) p
+    → lines ≡ others → Parsed n level before others left gives → Parsed n level before lines left gives
+of_lines n level before lines others left gives same p
+    = subst (λ (l : List SourceLine). Parsed n level before l left gives) (sym same) p
 
 -- nothing is read before a word
-pub broken : (n : ℕ) (place : Place) (before : Situation) (line : SourceLine) (lines : List SourceLine) (left : List Left)
+pub broken : (n : ℕ) (level : Level) (before : Situation) (line : SourceLine) (lines : List SourceLine) (left : List Left)
     (gives : List Given)
-    → (place.entered ≡ [] → ⊥) → Breaks place n before line lines left gives → Parsed n place before (line ∷ lines) left gives
-broken n place before line lines left gives inside breaks = record {
+    → (level.entered ≡ [] → ⊥) → Breaks level n before line lines left gives → Parsed n level before (line ∷ lines) left gives
+broken n level before line lines left gives inside breaks = record {
   taken = [];
   others = line ∷ lines;
   lines_are = refl;
@@ -164,6 +164,6 @@ broken n place before line lines left gives inside breaks = record {
   gives_are = refl;
   after = before;
   ending = GoesOn;
-  shape = shapes.Shape.Nothing place before;
+  shape = shapes.Shape.Nothing level before;
   stop = Stop.Broken n before line lines left gives inside breaks;
 }

@@ -14,7 +14,7 @@ use Rattle.m11_unfold_rules.specs.Taking.{Gives, Live, NothingLeft, move}
 use Rattle.m11_unfold_rules.specs.Unfolding.{Given, Unfolds}
 use Rattle.m11_unfold_rules.proofs.OtherLines.{same_marks}
 use Rattle.m11_unfold_laws.specs.Laws.{Arrived, HasShape, before_lines}
-use Rattle.m11_unfold_laws.specs.Places.{Place, Situation, beginning, counting, only_entered, operation_at, own_line, source_place, stage_of, within_condition}
+use Rattle.m11_unfold_laws.specs.Levels.{Level, Situation, beginning, counting, only_entered, operation_at, own_line, source_level, stage_of, within_condition}
 use Rattle.m11_unfold_laws.specs.Shapes.{Begins, Ending, GoesOn, Stops, IsText, OnePart, Parts, Shape, statement, unclosed}
 use Rattle.m11_unfold_laws.specs.Shapes as shapes
 use Rattle.m11_unfold_laws.proofs.Lines.{begin_comes, close_comes, parted}
@@ -31,7 +31,7 @@ use Rattle.m11_unfold_laws.proofs.Words.{begins_acts, close_acts}
 -- ---- after a part
 
 -- a part, and what is read from the word after it on
-pub record AfterPart (n : ℕ) (place : Place) (holds is_live : Bool) (before : Situation) (lines : List SourceLine)
+pub record AfterPart (n : ℕ) (level : Level) (holds is_live : Bool) (before : Situation) (lines : List SourceLine)
     (first : List Given)
     (line : SourceLine) (others : List SourceLine) (left : List Left) (gives : List Given) : Type 0 where
   pub taken : List SourceLine
@@ -42,23 +42,23 @@ pub record AfterPart (n : ℕ) (place : Place) (holds is_live : Bool) (before : 
   pub gives_are : gives ≡ more ++ later
   pub after : Situation
   pub ending : Ending
-  pub parts : Parts place holds is_live before (lines ++ line ∷ taken) (first ++ more) after ending
-  pub stop : Stop place n after ending rest left later
+  pub parts : Parts level holds is_live before (lines ++ line ∷ taken) (first ++ more) after ending
+  pub stop : Stop level n after ending rest left later
 
 -- what is read from a word on, in so many moves
 abbrev pub ReadsWord : ℕ → Type 0
-ReadsWord n = (place : Place) (holds is_live : Bool) (before middle : Situation) (lines : List SourceLine) (first : List Given)
+ReadsWord n = (level : Level) (holds is_live : Bool) (before middle : Situation) (lines : List SourceLine) (first : List Given)
     (line : SourceLine) (others : List SourceLine) (left : List Left) (gives : List Given)
-    → OnePart place holds is_live before lines first middle GoesOn
-    → IsOwn (operation_at (within_condition holds is_live place) middle line)
-    → marks left ≡ place.around → is_live_inside place.entered ≡ true → after_mark left ≡ left
-    → Rested n (before_lines (within_condition holds is_live place) middle (line ∷ others) left) gives
-    → AfterPart n place holds is_live before lines first line others left gives
+    → OnePart level holds is_live before lines first middle GoesOn
+    → IsOwn (operation_at (within_condition holds is_live level) middle line)
+    → marks left ≡ level.around → is_live_inside level.entered ≡ true → after_mark left ≡ left
+    → Rested n (before_lines (within_condition holds is_live level) middle (line ∷ others) left) gives
+    → AfterPart n level holds is_live before lines first line others left gives
 
-module _ (place : Place) (holds is_live : Bool) (middle : Situation) (line : SourceLine) (others : List SourceLine)
+module _ (level : Level) (holds is_live : Bool) (middle : Situation) (line : SourceLine) (others : List SourceLine)
     (left : List Left) where
-  abbrev inside : Place
-  inside = within_condition holds is_live place
+  abbrev inside : Level
+  inside = within_condition holds is_live level
 
   abbrev left_of : List Left
   left_of = map line_left others ++ left
@@ -72,45 +72,45 @@ module _ (place : Place) (holds is_live : Bool) (middle : Situation) (line : Sou
   own_comes : (operator : Operation) → operation_at inside middle line ≡ operator → IsOwn operator
       → move (stage_of inside middle (Line line ∷ left_of)) ≡ Gives live here
   own_comes _ is (IsOwn.Begin operator part at begins)
-      = begin_comes place holds middle line left_of is_live operator part at begins is
-  own_comes _ is (IsOwn.Close at) = close_comes place holds middle line left_of is_live at is
+      = begin_comes level holds middle line left_of is_live operator part at begins is
+  own_comes _ is (IsOwn.Close at) = close_comes level holds middle line left_of is_live at is
 
 pub word_none : ReadsWord 0
-word_none place holds is_live before middle lines first line others left gives one is around taking ends rested =
-    absurd (no_moves (stage_of (inside place holds is_live middle line others left) middle
-    (Line line ∷ left_of place holds is_live middle line others left))
-    (here place holds is_live middle line others left) (live place holds is_live middle line others left) gives rested
-    (own_comes place holds is_live middle line others left
-    (operation_at (inside place holds is_live middle line others left) middle line) refl is))
+word_none level holds is_live before middle lines first line others left gives one is around taking ends rested =
+    absurd (no_moves (stage_of (inside level holds is_live middle line others left) middle
+    (Line line ∷ left_of level holds is_live middle line others left))
+    (here level holds is_live middle line others left) (live level holds is_live middle line others left) gives rested
+    (own_comes level holds is_live middle line others left
+    (operation_at (inside level holds is_live middle line others left) middle line) refl is))
 
-module _ (n : ℕ) (reads : Reads n) (reads_parts : ReadsParts n) (place : Place) (holds is_live : Bool) (before middle : Situation)
+module _ (n : ℕ) (reads : Reads n) (reads_parts : ReadsParts n) (level : Level) (holds is_live : Bool) (before middle : Situation)
     (lines : List SourceLine) (first : List Given) (line : SourceLine) (others : List SourceLine) (left : List Left)
     (gives : List Given)
-    (one : OnePart place holds is_live before lines first middle GoesOn) (around : marks left ≡ place.around)
-    (taking : is_live_inside place.entered ≡ true) (ends : after_mark left ≡ left)
-    (rested : Rested (suc n) (before_lines (within_condition holds is_live place) middle (line ∷ others) left) gives) where
-  abbrev part_place : Place
-  part_place = within_condition holds is_live place
+    (one : OnePart level holds is_live before lines first middle GoesOn) (around : marks left ≡ level.around)
+    (taking : is_live_inside level.entered ≡ true) (ends : after_mark left ≡ left)
+    (rested : Rested (suc n) (before_lines (within_condition holds is_live level) middle (line ∷ others) left) gives) where
+  abbrev part_level : Level
+  part_level = within_condition holds is_live level
 
   abbrev after_left : List Left
   after_left = map line_left others ++ left
 
   abbrev part_here : Stage
-  part_here = stage_of part_place (counting 1 middle) after_left
+  part_here = stage_of part_level (counting 1 middle) after_left
 
-  begin_more : (part : Part) (at : ℕ) → Begins (operation_at part_place middle line) part at
-      → AfterPart (suc n) place holds is_live before lines first line others left gives
+  begin_more : (part : Part) (at : ℕ) → Begins (operation_at part_level middle line) part at
+      → AfterPart (suc n) level holds is_live before lines first line others left gives
   begin_more part at begins =
       let next_live : Bool = is_live_in part holds in
-      let g = line_given n part_place middle line after_left gives
-      (λ known. own (flagged 0 line.text at) (stage_of (within_condition holds next_live place) (counting 1 middle) after_left))
+      let g = line_given n part_level middle line after_left gives
+      (λ known. own (flagged 0 line.text at) (stage_of (within_condition holds next_live level) (counting 1 middle) after_left))
       (same_marks others left ∙ around)
-      (begin_comes place holds middle line after_left is_live (operation_at part_place middle line) part at begins refl)
-      (λ known. begins_acts known line.text place holds is_live (counting 1 middle) after_left
-      (operation_at part_place middle line) part at begins)
+      (begin_comes level holds middle line after_left is_live (operation_at part_level middle line) part at begins refl)
+      (λ known. begins_acts known line.text level holds is_live (counting 1 middle) after_left
+      (operation_at part_level middle line) part at begins)
       rested in
-      let p = reads_parts place holds next_live (counting 1 middle) others left g.more around taking ends g.next in
-      let told : Given = own_line place g.known line (flagged 0 line.text at) in
+      let p = reads_parts level holds next_live (counting 1 middle) others left g.more around taking ends g.next in
+      let told : Given = own_line level g.known line (flagged 0 line.text at) in
       record {
         taken = p.taken;
         rest = p.others;
@@ -120,23 +120,23 @@ module _ (n : ℕ) (reads : Reads n) (reads_parts : ReadsParts n) (place : Place
         gives_are = g.whole ∙ ap (λ (gs : List Given). told ∷ gs) p.gives_are;
         after = p.after;
         ending = p.ending;
-        parts = shapes.Parts.Next place holds is_live before middle p.after p.ending g.known line lines p.taken first p.first
+        parts = shapes.Parts.Next level holds is_live before middle p.after p.ending g.known line lines p.taken first p.first
             part at one begins
             p.parts;
-        stop = lifted_stop place n p.after p.ending p.others left p.later p.stop;
+        stop = lifted_stop level n p.after p.ending p.others left p.later p.stop;
       }
 
-  close_more : (at : ℕ) → operation_at part_place middle line ≡ OwnDirective word.Endc at
-      → AfterPart (suc n) place holds is_live before lines first line others left gives
+  close_more : (at : ℕ) → operation_at part_level middle line ≡ OwnDirective word.Endc at
+      → AfterPart (suc n) level holds is_live before lines first line others left gives
   close_more at is =
-      let g = line_given n part_place middle line after_left gives
-      (λ known. own (flagged 0 line.text at) (stage_of place (counting 1 middle) after_left)) (same_marks others left ∙ around)
-      (close_comes place holds middle line after_left is_live at is)
+      let g = line_given n part_level middle line after_left gives
+      (λ known. own (flagged 0 line.text at) (stage_of level (counting 1 middle) after_left)) (same_marks others left ∙ around)
+      (close_comes level holds middle line after_left is_live at is)
       (λ known. ap (acted_by known line.text part_here) is
-      ∙ close_acts known line.text place holds is_live (counting 1 middle) after_left at)
+      ∙ close_acts known line.text level holds is_live (counting 1 middle) after_left at)
       rested in
-      let p = reads place (counting 1 middle) others left g.more around taking ends g.next in
-      let told : Given = own_line place g.known line (flagged 0 line.text at) in
+      let p = reads level (counting 1 middle) others left g.more around taking ends g.next in
+      let told : Given = own_line level g.known line (flagged 0 line.text at) in
       record {
         taken = p.taken;
         rest = p.others;
@@ -146,45 +146,45 @@ module _ (n : ℕ) (reads : Reads n) (reads_parts : ReadsParts n) (place : Place
         gives_are = g.whole ∙ ap (λ (gs : List Given). told ∷ gs) p.gives_are;
         after = p.after;
         ending = p.ending;
-        parts = shapes.Parts.Close place holds is_live before middle p.after p.ending g.known line lines p.taken first p.first
+        parts = shapes.Parts.Close level holds is_live before middle p.after p.ending g.known line lines p.taken first p.first
             at one is p.shape;
-        stop = lifted_stop place n p.after p.ending p.others left p.later p.stop;
+        stop = lifted_stop level n p.after p.ending p.others left p.later p.stop;
       }
 
-  own_more : (operator : Operation) → operation_at part_place middle line ≡ operator → IsOwn operator
-      → AfterPart (suc n) place holds is_live before lines first line others left gives
+  own_more : (operator : Operation) → operation_at part_level middle line ≡ operator → IsOwn operator
+      → AfterPart (suc n) level holds is_live before lines first line others left gives
   own_more _ is (IsOwn.Begin operator part at begins) =
       begin_more part at (subst (λ (o : Operation). Begins o part at) (sym is) begins)
   own_more _ is (IsOwn.Close at) = close_more at is
 
 pub word_more : (n : ℕ) → Reads n → ReadsParts n → ReadsWord (suc n)
-word_more n reads reads_parts place holds is_live before middle lines first line others left gives one is around taking ends
+word_more n reads reads_parts level holds is_live before middle lines first line others left gives one is around taking ends
     rested =
-    own_more n reads reads_parts place holds is_live before middle lines first line others left gives one around taking ends
+    own_more n reads reads_parts level holds is_live before middle lines first line others left gives one around taking ends
     rested
-    (operation_at (within_condition holds is_live place) middle line) refl is
+    (operation_at (within_condition holds is_live level) middle line) refl is
 
 -- ---- parts
 
-module _ (n : ℕ) (reads : Reads n) (reads_word : ReadsWord n) (place : Place) (holds : Bool) (left : List Left)
-    (around : marks left ≡ place.around) (taking : is_live_inside place.entered ≡ true) (ends : after_mark left ≡ left) where
+module _ (n : ℕ) (reads : Reads n) (reads_word : ReadsWord n) (level : Level) (holds : Bool) (left : List Left)
+    (around : marks left ≡ level.around) (taking : is_live_inside level.entered ≡ true) (ends : after_mark left ≡ left) where
   -- a live part up to a word, or to an `.IIF` that has one
   breaks_more : (k : ℕ) (middle : Situation) (line : SourceLine) (others : List SourceLine) (left' : List Left)
       (later : List Given)
-      → Breaks (within_condition holds true place) k middle line others left' later → k ≡ n → left' ≡ left → (before : Situation)
-      (lines : List SourceLine) (first : List Given) → OnePart place holds true before lines first middle GoesOn
-      → AfterPart n place holds true before lines first line others left later
+      → Breaks (within_condition holds true level) k middle line others left' later → k ≡ n → left' ≡ left → (before : Situation)
+      (lines : List SourceLine) (first : List Given) → OnePart level holds true before lines first middle GoesOn
+      → AfterPart n level holds true before lines first line others left later
   breaks_more _ _ _ _ _ _ (Breaks.ByWord k middle line others left' later is rested) count same before lines first one =
-      reads_word place holds true before middle lines first line others left later one is around taking ends
-      (subst (λ (i : ℕ). Rested i (before_lines (within_condition holds true place) middle (line ∷ others) left) later) count
-      (subst (λ (l : List Left). Rested k (before_lines (within_condition holds true place) middle (line ∷ others) l) later)
+      reads_word level holds true before middle lines first line others left later one is around taking ends
+      (subst (λ (i : ℕ). Rested i (before_lines (within_condition holds true level) middle (line ∷ others) left) later) count
+      (subst (λ (l : List Left). Rested k (before_lines (within_condition holds true level) middle (line ∷ others) l) later)
       same rested))
   breaks_more _ _ _ _ _ _ (Breaks.ByStatement k middle line others left' later known at next is says breaks) count same before
       lines first one =
       let p = breaks_more k (counting 1 middle) next others left' later breaks count same (counting 1 middle) [] []
-      (shapes.OnePart.Live place holds (counting 1 middle) (counting 1 middle) GoesOn [] []
-      (shapes.Shape.Nothing (within_condition holds true place) (counting 1 middle))) in
-      let told : Given = own_line place known line (immediate.notes known line.text at) in
+      (shapes.OnePart.Live level holds (counting 1 middle) (counting 1 middle) GoesOn [] []
+      (shapes.Shape.Nothing (within_condition holds true level) (counting 1 middle))) in
+      let told : Given = own_line level known line (immediate.notes known line.text at) in
       record {
         taken = p.taken;
         rest = p.rest;
@@ -194,18 +194,18 @@ module _ (n : ℕ) (reads : Reads n) (reads_word : ReadsWord n) (place : Place) 
         gives_are = ap (λ (gs : List Given). told ∷ gs) p.gives_are;
         after = p.after;
         ending = p.ending;
-        parts = shapes.Parts.ImmediateInPart place holds before middle p.after p.ending known line lines p.taken first p.more at
+        parts = shapes.Parts.ImmediateInPart level holds before middle p.after p.ending known line lines p.taken first p.more at
             one is
             (subst (λ (st : List SourceLine).
-            Parts place holds true (counting 1 middle) (st ++ p.taken) p.more p.after p.ending) (sym says) p.parts);
+            Parts level holds true (counting 1 middle) (st ++ p.taken) p.more p.after p.ending) (sym says) p.parts);
         stop = p.stop;
       }
 
   -- the part, and what follows it
   joined : (is_live : Bool) (before : Situation) (lines : List SourceLine) (first : List Given) (line : SourceLine)
       (others : List SourceLine)
-      (later : List Given) → AfterPart n place holds is_live before lines first line others left later
-      → PartsParsed n place holds is_live before (lines ++ line ∷ others) left (first ++ later)
+      (later : List Given) → AfterPart n level holds is_live before lines first line others left later
+      → PartsParsed n level holds is_live before (lines ++ line ∷ others) left (first ++ later)
   joined is_live before lines first line others later p = record {
     taken = lines ++ line ∷ p.taken;
     others = p.rest;
@@ -222,9 +222,9 @@ module _ (n : ℕ) (reads : Reads n) (reads_word : ReadsWord n) (place : Place) 
   -- a live part
   after_live : (before : Situation) (lines : List SourceLine) (first later : List Given) (after : Situation) (ending : Ending)
       (others : List SourceLine) (left' : List Left) (k : ℕ)
-      → Stop (within_condition holds true place) k after ending others left' later → k ≡ n → left' ≡ left
-      → Shape (within_condition holds true place) before lines first after ending
-      → PartsParsed n place holds true before (lines ++ others) left (first ++ later)
+      → Stop (within_condition holds true level) k after ending others left' later → k ≡ n → left' ≡ left
+      → Shape (within_condition holds true level) before lines first after ending
+      → PartsParsed n level holds true before (lines ++ others) left (first ++ later)
   after_live before lines first _ _ _ _ _ _ (Stop.Whole k after ending left' later stage there rested) count same shaped
       = record {
         taken = lines;
@@ -235,52 +235,52 @@ module _ (n : ℕ) (reads : Reads n) (reads_word : ReadsWord n) (place : Place) 
         gives_are = refl;
         after = after;
         ending = unclosed ending;
-        parts = shapes.Parts.Last place holds true before after ending lines first
-            (shapes.OnePart.Live place holds before after ending lines first shaped);
+        parts = shapes.Parts.Last level holds true before after ending lines first
+            (shapes.OnePart.Live level holds before after ending lines first shaped);
         stop = Stop.Whole n after (unclosed ending) left later stage
-            (unclosed_arrived ending place holds true after left stage
-            (subst (λ (l : List Left). Arrived ending (within_condition holds true place) after l stage) same there))
+            (unclosed_arrived ending level holds true after left stage
+            (subst (λ (l : List Left). Arrived ending (within_condition holds true level) after l stage) same there))
             (subst (λ (i : ℕ). Rested i stage later) count rested);
       }
   after_live before lines first _ _ _ _ _ _ (Stop.Broken k after line others left' later open' breaks) count same shaped =
       joined true before lines first line others later
       (breaks_more k after line others left' later breaks count same before lines first
-      (shapes.OnePart.Live place holds before after GoesOn lines first shaped))
+      (shapes.OnePart.Live level holds before after GoesOn lines first shaped))
 
   live_part : (before : Situation) (lines : List SourceLine) (gives : List Given)
-      → Rested n (before_lines (within_condition holds true place) before lines left) gives
-      → PartsParsed n place holds true before lines left gives
+      → Rested n (before_lines (within_condition holds true level) before lines left) gives
+      → PartsParsed n level holds true before lines left gives
   live_part before lines gives rested =
-      let p = reads (within_condition holds true place) before lines left gives around refl ends rested in
-      subst (λ (ls : List SourceLine). PartsParsed n place holds true before ls left gives) (sym p.lines_are)
-      (subst (λ (gs : List Given). PartsParsed n place holds true before (p.taken ++ p.others) left gs) (sym p.gives_are)
+      let p = reads (within_condition holds true level) before lines left gives around refl ends rested in
+      subst (λ (ls : List SourceLine). PartsParsed n level holds true before ls left gives) (sym p.lines_are)
+      (subst (λ (gs : List Given). PartsParsed n level holds true before (p.taken ++ p.others) left gs) (sym p.gives_are)
       (after_live before p.taken p.first p.later p.after p.ending p.others left n p.stop refl refl p.shape))
 
   -- text
   own_of : (middle : Situation) (line : SourceLine) (it : Option Directive) → IsOwnWord false it → directive line.text ≡ it
-      → IsOwn (operation_at (within_condition holds false place) middle line)
+      → IsOwn (operation_at (within_condition holds false level) middle line)
   own_of middle line _ IsOwnWord.EndCondition is =
-      let d = directed_so (only_entered (within_condition holds false place).entered) middle.macros line.text word.Endc
+      let d = directed_so (only_entered (within_condition holds false level).entered) middle.macros line.text word.Endc
       refl is in
       subst IsOwn (sym d.is) (IsOwn.Close d.at)
   own_of middle line _ (IsOwnWord.IfFalse live_text) is =
-      let d = directed_so (only_entered (within_condition holds false place).entered) middle.macros line.text word.Iff refl
+      let d = directed_so (only_entered (within_condition holds false level).entered) middle.macros line.text word.Iff refl
       is in
       subst IsOwn (sym d.is) (IsOwn.Begin (OwnDirective word.Iff d.at) _ d.at (shapes.Begins.IfFalse d.at))
   own_of middle line _ (IsOwnWord.IfTrue live_text) is =
-      let d = directed_so (only_entered (within_condition holds false place).entered) middle.macros line.text word.Ift refl
+      let d = directed_so (only_entered (within_condition holds false level).entered) middle.macros line.text word.Ift refl
       is in
       subst IsOwn (sym d.is) (IsOwn.Begin (OwnDirective word.Ift d.at) _ d.at (shapes.Begins.IfTrue d.at))
   own_of middle line _ (IsOwnWord.IfTrueFalse live_text) is =
-      let d = directed_so (only_entered (within_condition holds false place).entered) middle.macros line.text word.Iftf
+      let d = directed_so (only_entered (within_condition holds false level).entered) middle.macros line.text word.Iftf
       refl is in
       subst IsOwn (sym d.is) (IsOwn.Begin (OwnDirective word.Iftf d.at) _ d.at (shapes.Begins.IfTrueFalse d.at))
 
   text_part : (before : Situation) (gives : List Given) (lines : List SourceLine) → TextSplit false 0 lines
-      → Rested n (before_lines (within_condition holds false place) before lines left) gives
-      → PartsParsed n place holds false before lines left gives
+      → Rested n (before_lines (within_condition holds false level) before lines left) gives
+      → PartsParsed n level holds false before lines left gives
   text_part before gives _ (TextSplit.All _ last lines text) rested =
-      let inner : Place = within_condition holds false place in
+      let inner : Level = within_condition holds false level in
       let after : Situation = counting (length lines) before in
       let stage : Stage = text_stage false inner last after left in
       let next = past_run (before_lines inner before lines left) stage gives n
@@ -294,8 +294,8 @@ module _ (n : ℕ) (reads : Reads n) (reads_word : ReadsWord n) (place : Place) 
         gives_are = refl;
         after = after;
         ending = Stops;
-        parts = shapes.Parts.Last place holds false before after Stops lines []
-            (shapes.OnePart.OpenText place holds before lines last text);
+        parts = shapes.Parts.Last level holds false before after Stops lines []
+            (shapes.OnePart.OpenText level holds before lines last text);
         stop = Stop.Whole n after Stops left gives stage
             (record {
               conditions = record { entered = inner.entered; nested = last; is_past = false };
@@ -305,7 +305,7 @@ module _ (n : ℕ) (reads : Reads n) (reads_word : ReadsWord n) (place : Place) 
             next;
       }
   text_part before gives _ (TextSplit.UpTo _ text line others skipped own') rested =
-      let inner : Place = within_condition holds false place in
+      let inner : Level = within_condition holds false level in
       let middle : Situation = counting (length text) before in
       let there : Stage = before_lines inner middle (line ∷ others) left in
       let next = past_run (before_lines inner before (text ++ line ∷ others) left) there gives n
@@ -314,15 +314,15 @@ module _ (n : ℕ) (reads : Reads n) (reads_word : ReadsWord n) (place : Place) 
       (ap (stage_of inner before) (parted text (line ∷ others) left))
       (skips_text false inner 0 text 0 skipped before (map line_left (line ∷ others) ++ left) refl)) rested in
       joined false before text [] line others gives
-      (reads_word place holds false before middle text [] line others left gives
-      (shapes.OnePart.Text place holds before text skipped)
+      (reads_word level holds false before middle text [] line others left gives
+      (shapes.OnePart.Text level holds before text skipped)
       (own_of middle line (directive line.text) own' refl) around taking ends next)
 
 pub parts_by : (n : ℕ) → Reads n → ReadsWord n → ReadsParts n
-parts_by n reads reads_word place holds true before lines left gives around taking ends rested =
-    live_part n reads reads_word place holds left around taking ends before lines gives rested
-parts_by n reads reads_word place holds false before lines left gives around taking ends rested =
-    text_part n reads reads_word place holds left around taking ends before gives lines (text_split false lines 0) rested
+parts_by n reads reads_word level holds true before lines left gives around taking ends rested =
+    live_part n reads reads_word level holds left around taking ends before lines gives rested
+parts_by n reads reads_word level holds false before lines left gives around taking ends rested =
+    text_part n reads reads_word level holds left around taking ends before gives lines (text_split false lines 0) rested
 
 -- ---- all
 
@@ -344,12 +344,12 @@ pub has_shape : (source : List SourceLine) (gives : List Given) (stage : Stage) 
     → HasShape source gives
 has_shape source gives stage unfolds rests =
     let moves = all_moves (start source) stage gives unfolds rests in
-    let rested : Rested moves.moves (before_lines source_place beginning source []) gives
+    let rested : Rested moves.moves (before_lines source_level beginning source []) gives
     = subst (λ (s : Stage). Rested moves.moves s gives)
-    (ap (stage_of source_place beginning) (sym (append-nil (map line_left source)))) moves.rested in
+    (ap (stage_of source_level beginning) (sym (append-nil (map line_left source)))) moves.rested in
     let all = reads_all moves.moves in
-    let p = all.lines source_place beginning source [] gives refl refl refl rested in
-    let stopped = whole_stop source_place moves.moves p.after p.ending p.others [] p.later refl p.stop in
+    let p = all.lines source_level beginning source [] gives refl refl refl rested in
+    let stopped = whole_stop source_level moves.moves p.after p.ending p.others [] p.later refl p.stop in
     let on = stopped.1 in
     let none : p.later ≡ [] = rests_nowhere moves.moves on.stage p.later on.next
     (nothing_left p.ending p.after on.stage on.holds) in
@@ -359,6 +359,6 @@ has_shape source gives stage unfolds rests =
     record {
       after = p.after;
       ending = p.ending;
-      shape = subst (λ (g : List Given). Shape source_place beginning source g p.after p.ending) gives_are
-          (subst (λ (ls : List SourceLine). Shape source_place beginning ls p.first p.after p.ending) lines_are p.shape);
+      shape = subst (λ (g : List Given). Shape source_level beginning source g p.after p.ending) gives_are
+          (subst (λ (ls : List SourceLine). Shape source_level beginning ls p.first p.after p.ending) lines_are p.shape);
     }

@@ -14,7 +14,7 @@ use Rattle.m11_unfold_rules.specs.Taking.{Gives, Live, Passes, NothingLeft, live
 use Rattle.m11_unfold_rules.specs.Unfolding.{Given, Leads, given}
 use Rattle.m11_unfold_rules.specs.Unfolding as steps
 use Rattle.m11_unfold_laws.specs.Limits.{PassesLimit}
-use Rattle.m11_unfold_laws.specs.Places.{Place, Situation, counting, only_entered, operation_at, stage_of}
+use Rattle.m11_unfold_laws.specs.Levels.{Level, Situation, counting, only_entered, operation_at, stage_of}
 use Rattle.m11_unfold_laws.proofs.Lines.{shown}
 use Rattle.m11_unfold_laws.proofs.Runs.{Runs}
 use Rattle.m11_unfold_laws.proofs.Wholes.{no_limit_at_rest, no_line, no_pass}
@@ -138,21 +138,21 @@ given_first _ m _ _ (Rested.Giving n stage other live' known gives fault moves' 
           (subst (λ (k : ℕ). Rested k (act known other live'.line.text).after gives) fewer next);
     }
 
-module _ (n : ℕ) (place : Place) (situation : Situation) (line : SourceLine) (left : List Left) (gives : List Given) where
+module _ (n : ℕ) (level : Level) (situation : Situation) (line : SourceLine) (left : List Left) (gives : List Given) where
   abbrev here : Stage
-  here = stage_of place (counting 1 situation) left
+  here = stage_of level (counting 1 situation) left
 
   abbrev live : Live
   live = record { line = line; is_expanded = is_expanding left }
 
   -- by the move that gives it, and what its operator does
-  pub line_given : (acted : Known → Acted) → marks left ≡ place.around
-      → move (stage_of place situation (Line line ∷ left)) ≡ Gives live here
-      → ((known : Known) → acted_by known line.text here (operation_at place situation line) ≡ acted known)
-      → Rested (suc n) (stage_of place situation (Line line ∷ left)) gives
-      → LineGiven n (λ known. shown place known line (acted known)) (λ known. (acted known).after) gives
+  pub line_given : (acted : Known → Acted) → marks left ≡ level.around
+      → move (stage_of level situation (Line line ∷ left)) ≡ Gives live here
+      → ((known : Known) → acted_by known line.text here (operation_at level situation line) ≡ acted known)
+      → Rested (suc n) (stage_of level situation (Line line ∷ left)) gives
+      → LineGiven n (λ known. shown level known line (acted known)) (λ known. (acted known).after) gives
   line_given acted around moves acts rested =
-      let first = given_first (suc n) n (stage_of place situation (Line line ∷ left)) gives rested refl here live moves in
+      let first = given_first (suc n) n (stage_of level situation (Line line ∷ left)) gives rested refl here live moves in
       let told : List Mark → Acted → Given = λ m a. record {
         live = record { line = line; is_expanded = has_mark m };
         known = first.known;
@@ -160,7 +160,7 @@ module _ (n : ℕ) (place : Place) (situation : Situation) (line : SourceLine) (
         notes = a.notes;
         arguments = count_in m;
       } in
-      let same : given first.known live here ≡ shown place first.known line (acted first.known)
+      let same : given first.known live here ≡ shown level first.known line (acted first.known)
       = ap (told (marks left)) (acts first.known) ∙ ap (λ (m : List Mark). told m (acted first.known)) around in
       record {
         known = first.known;
@@ -169,9 +169,9 @@ module _ (n : ℕ) (place : Place) (situation : Situation) (line : SourceLine) (
         next = subst (λ (a : Acted). Rested n a.after first.more) (acts first.known) first.next;
       }
 
-  pub live_moves : is_live_inside place.entered ≡ true → move (stage_of place situation (Line line ∷ left)) ≡ Gives live here
+  pub live_moves : is_live_inside level.entered ≡ true → move (stage_of level situation (Line line ∷ left)) ≡ Gives live here
   live_moves taking =
-      ap (λ (b : Bool). live_or_skipped (if not b then skipped_by (only_entered place.entered) (directive line.text) else None)
+      ap (λ (b : Bool). live_or_skipped (if not b then skipped_by (only_entered level.entered) (directive line.text) else None)
       line here) taking
 
 -- the same in any number of moves

@@ -28,7 +28,7 @@ use Rattle.m11_unfold_rules.proofs.Expanding.{as_lines}
 use Rattle.m11_unfold_rules.proofs.Operators.{has_word}
 use Rattle.m11_unfold_rules.proofs.OtherLines.{same_marks}
 use Rattle.m11_unfold_laws.specs.Laws.{Arrived, IsStopped, before_lines}
-use Rattle.m11_unfold_laws.specs.Places.{Place, Situation, counting, defining, has_condition_left, mark_at, only_entered, operation_at, own_line, stage_of, within_condition, within_expansion}
+use Rattle.m11_unfold_laws.specs.Levels.{Level, Situation, counting, defining, has_condition_left, mark_at, only_entered, operation_at, own_line, stage_of, within_condition, within_expansion}
 use Rattle.m11_unfold_laws.specs.Putting.{HasBody, HasNoClose, Opens, Put, Puts}
 use Rattle.m11_unfold_laws.specs.Putting as putting
 use Rattle.m11_unfold_laws.specs.Shapes.{Begins, Ending, GoesOn, Stops, Ends, IsAstray, IsOther, IsText, OnePart, Parts, Returns, Shape, statement, statement_of, unclosed}
@@ -52,23 +52,23 @@ at_mark Ends mark left = tt
 
 -- ---- bodies
 
-module _ (place : Place) (before : Situation) (purpose : Purpose) (lines others : List SourceLine) (body : List Bytes)
+module _ (level : Level) (before : Situation) (purpose : Purpose) (lines others : List SourceLine) (body : List Bytes)
     (left : List Left) where
   abbrev open_body : Stage
-  open_body = opens purpose (stage_of place (counting 1 before) (map line_left lines ++ left))
+  open_body = opens purpose (stage_of level (counting 1 before) (map line_left lines ++ left))
 
   pub body_used : HasBody lines body others
       → Runs open_body [] (λ s. s
-      ≡ used purpose body (stage_of place (counting (length body + 2) before) (map line_left others ++ left)))
+      ≡ used purpose body (stage_of level (counting (length body + 2) before) (map line_left others ++ left)))
   body_used has =
       let all : List Left = map line_left lines ++ left in
-      let stage : Stage = stage_of place (counting 1 before) all in
+      let stage : Stage = stage_of level (counting 1 before) all in
       let shut : (cut_at nesting 0 (map line_left lines)).is_closed ≡ true = ap (λ (c : Cut). c.is_closed) has in
       let cut : Cut = record { body = body; is_closed = true; after = map line_left others ++ left } in
       let same : cut_at nesting 0 all ≡ cut = cut_further lines left 0 shut
       ∙ ap (λ (c : Cut). record c { after = c.after ++ left }) has in
       let shut' : (cut_at nesting 0 all).is_closed ≡ true = ap (λ (c : Cut). c.is_closed) same in
-      let by : ℕ → Cut → Stage = λ n c. used purpose c.body (stage_of place (record before { taken = n }) c.after) in
+      let by : ℕ → Cut → Stage = λ n c. used purpose c.body (stage_of level (record before { taken = n }) c.after) in
       let sum : before.taken + 1 + (length body + 1) ≡ before.taken + (length body + 2) = omega arith in
       let P : Stage → Type 0 = λ s. s ≡ by (before.taken + (length body + 2)) cut in
       let there : by (before.taken + 1 + (length (cut_at nesting 0 all).body + 1)) (cut_at nesting 0 all)
@@ -77,26 +77,26 @@ module _ (place : Place) (before : Situation) (purpose : Purpose) (lines others 
       weakened (λ s. s ≡ by (before.taken + 1 + (length (cut_at nesting 0 all).body + 1)) (cut_at nesting 0 all)) P open_body []
       (λ s is. is ∙ there) (closes purpose stage all nothing_taken (before.taken + 1) shut')
 
-module _ (place : Place) (before : Situation) (purpose : Purpose) (lines : List SourceLine) (left : List Left) where
+module _ (level : Level) (before : Situation) (purpose : Purpose) (lines : List SourceLine) (left : List Left) where
   pub body_open : HasNoClose lines → after_mark left ≡ left
-      → Runs (opens purpose (stage_of place (counting 1 before) (map line_left lines ++ left))) []
+      → Runs (opens purpose (stage_of level (counting 1 before) (map line_left lines ++ left))) []
       (IsStopped (counting (length lines + 1) before) left)
   body_open shut ends =
       let all : List Left = map line_left lines ++ left in
-      let stage : Stage = stage_of place (counting 1 before) all in
+      let stage : Stage = stage_of level (counting 1 before) all in
       let cut : Cut = record { body = texts_of lines; is_closed = false; after = left } in
       let same : cut_at nesting 0 all ≡ cut = cut_open lines left 0 ends shut in
       let shut' : (cut_at nesting 0 all).is_closed ≡ false = ap (λ (c : Cut). c.is_closed) same in
       let long : length (texts_of lines) ≡ length lines = length-map lines (λ l. l.text) in
       let sum : before.taken + 1 + length (texts_of lines) ≡ before.taken + (length lines + 1) = omega (arith, long) in
-      let by : ℕ → ℕ → Cut → Stage = λ inner n c. record (stage_of place (record before { taken = n }) c.after) {
+      let by : ℕ → ℕ → Cut → Stage = λ inner n c. record (stage_of level (record before { taken = n }) c.after) {
         opening = Some (record { purpose = purpose; taken = record { body = c.body; depth = inner } });
       } in
       weakened (IsOpenAt purpose stage nothing_taken (before.taken + 1) (cut_at nesting 0 all))
       (IsStopped (counting (length lines + 1) before) left)
       (opens purpose stage) []
       (λ s stood. record {
-        conditions = only_entered place.entered;
+        conditions = only_entered level.entered;
         opening = Some (record { purpose = purpose; taken = record { body = texts_of lines; depth = stood.inner } });
         is = stood.is ∙ ap (λ (c : Cut). by stood.inner (before.taken + 1 + length c.body) c) same
             ∙ ap (λ (n : ℕ). by stood.inner n cut) sum;
@@ -105,26 +105,26 @@ module _ (place : Place) (before : Situation) (purpose : Purpose) (lines : List 
 
 -- ---- expansions
 
-module _ (place : Place) (before : Situation) (known : Known) (line : SourceLine) (lines : List SourceLine) (left : List Left)
+module _ (level : Level) (before : Situation) (known : Known) (line : SourceLine) (lines : List SourceLine) (left : List Left)
   where
     abbrev rest : List Left
     rest = map line_left lines ++ left
 
     abbrev here : Stage
-    here = stage_of place (counting 1 before) rest
+    here = stage_of level (counting 1 before) rest
 
     -- what is put there, and the expansion's end
     abbrev pub put_there : Put → Stage
-    put_there put = stage_of (within_expansion put.arguments put.bytes place) put.situation
-        (map line_left put.lines ++ End (mark_at place put.arguments put.bytes) ∷ (map line_left put.others ++ left))
+    put_there put = stage_of (within_expansion put.arguments put.bytes level) put.situation
+        (map line_left put.lines ++ End (mark_at level put.arguments put.bytes) ∷ (map line_left put.others ++ left))
 
     -- an expansion stands in front of what is left
     abbrev Stands : Put → Type 0
-    Stands put = Runs (stage_of place before (Line line ∷ rest)) (own_line place known line put.notes ∷ []) (λ s. s
+    Stands put = Runs (stage_of level before (Line line ∷ rest)) (own_line level known line put.notes ∷ []) (λ s. s
         ≡ put_there put)
 
-    pub call_acts : (macro : Macro) (at : ℕ) → operation_at place before line ≡ Calls macro at
-        → acted_by known line.text here (operation_at place before line)
+    pub call_acts : (macro : Macro) (at : ℕ) → operation_at level before line ≡ Calls macro at
+        → acted_by known line.text here (operation_at level before line)
         ≡ own (actuals_from known line.text (length macro.formals) at).notes
         (put_there (putting.put_by_call macro (actuals_from known line.text (length macro.formals) at) before lines))
     call_acts macro at is =
@@ -132,48 +132,48 @@ module _ (place : Place) (before : Situation) (known : Known) (line : SourceLine
         let put : Put = putting.put_by_call macro given before lines in
         let formals : List Name = map formal_name macro.formals in
         let texts : List Bytes = (filled macro.formals given.texts before.created).texts in
-        let mark : Mark = mark_at place put.arguments put.bytes in
-        let inside : List Left → Stage = λ l. stage_of (within_expansion put.arguments put.bytes place) put.situation l in
+        let mark : Mark = mark_at level put.arguments put.bytes in
+        let inside : List Left → Stage = λ l. stage_of (within_expansion put.arguments put.bytes level) put.situation l in
         let lefts : expanded formals (texts ∷ []) macro.body mark rest ≡ map line_left put.lines ++ End mark ∷ rest
         = as_lines formals (texts ∷ []) macro.body mark rest
         ∙ ap (λ (ls : List SourceLine). map line_left ls ++ End mark ∷ rest)
         (append-nil (round_lines formals macro.body texts)) in
         ap (acted_by known line.text here) is ∙ ap (λ (l : List Left). own given.notes (inside l)) lefts
 
-    call_stands : (macro : Macro) (at : ℕ) → operation_at place before line ≡ Calls macro at
-        → marks left ≡ place.around → is_live_inside place.entered ≡ true
+    call_stands : (macro : Macro) (at : ℕ) → operation_at level before line ≡ Calls macro at
+        → marks left ≡ level.around → is_live_inside level.entered ≡ true
         → Stands (putting.put_by_call macro (actuals_from known line.text (length macro.formals) at) before lines)
     call_stands macro at is around taking =
         let given : actuals.Given = actuals_from known line.text (length macro.formals) at in
         let put : Put = putting.put_by_call macro given before lines in
         let P : Stage → Type 0 = λ s. s ≡ put_there put in
-        line_then P place before known line rest (own given.notes (put_there put)) [] (same_marks lines left ∙ around) taking
+        line_then P level before known line rest (own given.notes (put_there put)) [] (same_marks lines left ∙ around) taking
         (call_acts macro at is) (stays P (put_there put) refl)
 
     repeat_stands : (notes : Notes) (formals : List Name) (rounds : List (List Bytes)) (body : List Bytes)
         (others : List SourceLine)
-        → Opens known line.text (operation_at place before line) notes (Repeats formals rounds) → HasBody lines body others
-        → marks left ≡ place.around → is_live_inside place.entered ≡ true
+        → Opens known line.text (operation_at level before line) notes (Repeats formals rounds) → HasBody lines body others
+        → marks left ≡ level.around → is_live_inside level.entered ≡ true
         → Stands (putting.put_by_repeat notes formals rounds body before others)
     repeat_stands notes formals rounds body others is has around taking =
         let put : Put = putting.put_by_repeat notes formals rounds body before others in
-        let mark : Mark = mark_at place put.arguments put.bytes in
+        let mark : Mark = mark_at level put.arguments put.bytes in
         let after : List Left = map line_left others ++ left in
-        let inside : List Left → Stage = λ l. stage_of (within_expansion put.arguments put.bytes place) put.situation l in
+        let inside : List Left → Stage = λ l. stage_of (within_expansion put.arguments put.bytes level) put.situation l in
         let P : Stage → Type 0 = λ s. s ≡ put_there put in
         let Q : Stage → Type 0 = λ s. s
-        ≡ used (Repeats formals rounds) body (stage_of place (counting (length body + 2) before) after) in
+        ≡ used (Repeats formals rounds) body (stage_of level (counting (length body + 2) before) after) in
         let same : inside (expanded formals rounds body mark after) ≡ put_there put
         = ap inside (as_lines formals rounds body mark after) in
         let stood : Runs (opens (Repeats formals rounds) here) [] P
         = weakened Q P (opens (Repeats formals rounds) here) [] (λ s stands. stands ∙ same)
-        (body_used place before (Repeats formals rounds) lines others body left has) in
-        line_then P place before known line rest (own notes (opens (Repeats formals rounds) here)) [] (same_marks lines left
+        (body_used level before (Repeats formals rounds) lines others body left has) in
+        line_then P level before known line rest (own notes (opens (Repeats formals rounds) here)) [] (same_marks lines left
         ∙ around) taking
-        (opens_acts known line.text here (operation_at place before line) notes (Repeats formals rounds) is) stood
+        (opens_acts known line.text here (operation_at level before line) notes (Repeats formals rounds) is) stood
 
-    stands : (operator : Operation) (put : Put) → operation_at place before line ≡ operator
-        → Puts known before line.text lines operator put → marks left ≡ place.around → is_live_inside place.entered ≡ true
+    stands : (operator : Operation) (put : Put) → operation_at level before line ≡ operator
+        → Puts known before line.text lines operator put → marks left ≡ level.around → is_live_inside level.entered ≡ true
         → Stands put
     stands _ _ is (putting.Puts.Call macro at) around taking = call_stands macro at is around taking
     stands _ _ is (putting.Puts.Repeat operator notes formals rounds body others opened has) around taking =
@@ -181,23 +181,23 @@ module _ (place : Place) (before : Situation) (known : Known) (line : SourceLine
         (subst (λ (o : Operation). Opens known line.text o notes (Repeats formals rounds)) (sym is) opened) has around taking
 
 -- what stands after an expansion
-pub returned : (place : Place) (middle : Situation) (arguments : Option ℕ) (bytes : ℕ) (left : List Left) (inner : Ending)
+pub returned : (level : Level) (middle : Situation) (arguments : Option ℕ) (bytes : ℕ) (left : List Left) (inner : Ending)
     (stage : Stage)
-    → Returns inner → Arrived inner (within_expansion arguments bytes place) middle (End (mark_at place arguments bytes) ∷ left)
+    → Returns inner → Arrived inner (within_expansion arguments bytes level) middle (End (mark_at level arguments bytes) ∷ left)
     stage
-    → Runs stage [] (λ s. s ≡ stage_of place middle left)
-returned place middle arguments bytes left GoesOn stage returns there =
-    let P : Stage → Type 0 = λ s. s ≡ stage_of place middle left in
-    let last : Stage = stage_of (within_expansion arguments bytes place) middle (End (mark_at place arguments bytes) ∷ left) in
-    from_same P stage last [] there (passes P last (stage_of place middle left) refl refl)
-returned place middle arguments bytes left Stops stage returns there =
-    let P : Stage → Type 0 = λ s. s ≡ stage_of place middle left in
-    let last : Stage = record (stage_of place middle (End (mark_at place arguments bytes) ∷ left)) {
+    → Runs stage [] (λ s. s ≡ stage_of level middle left)
+returned level middle arguments bytes left GoesOn stage returns there =
+    let P : Stage → Type 0 = λ s. s ≡ stage_of level middle left in
+    let last : Stage = stage_of (within_expansion arguments bytes level) middle (End (mark_at level arguments bytes) ∷ left) in
+    from_same P stage last [] there (passes P last (stage_of level middle left) refl refl)
+returned level middle arguments bytes left Stops stage returns there =
+    let P : Stage → Type 0 = λ s. s ≡ stage_of level middle left in
+    let last : Stage = record (stage_of level middle (End (mark_at level arguments bytes) ∷ left)) {
       conditions = there.conditions;
       opening = there.opening;
     } in
-    from_same P stage last [] there.is (passes P last (stage_of place middle left) refl refl)
-returned place middle arguments bytes left Ends stage returns there = absurd returns
+    from_same P stage last [] there.is (passes P last (stage_of level middle left) refl refl)
+returned level middle arguments bytes left Ends stage returns there = absurd returns
 
 -- ---- conditions
 
@@ -206,68 +206,68 @@ unclosed_end GoesOn left at = tt
 unclosed_end Stops left at = at
 unclosed_end Ends left at = tt
 
-pub unclosed_arrived : (ending : Ending) (place : Place) (holds is_live : Bool) (after : Situation) (left : List Left)
+pub unclosed_arrived : (ending : Ending) (level : Level) (holds is_live : Bool) (after : Situation) (left : List Left)
     (stage : Stage)
-    → Arrived ending (within_condition holds is_live place) after left stage → Arrived (unclosed ending) place after left stage
-unclosed_arrived GoesOn place holds is_live after left stage there = record {
-  conditions = only_entered (within_condition holds is_live place).entered;
+    → Arrived ending (within_condition holds is_live level) after left stage → Arrived (unclosed ending) level after left stage
+unclosed_arrived GoesOn level holds is_live after left stage there = record {
+  conditions = only_entered (within_condition holds is_live level).entered;
   opening = None;
   is = there;
 }
-unclosed_arrived Stops place holds is_live after left stage there = there
-unclosed_arrived Ends place holds is_live after left stage there = there
+unclosed_arrived Stops level holds is_live after left stage there = there
+unclosed_arrived Ends level holds is_live after left stage there = there
 
-module _ (place : Place) (before : Situation) (known : Known) (line : SourceLine) (left : List Left) (at : ℕ) where
+module _ (level : Level) (before : Situation) (known : Known) (line : SourceLine) (left : List Left) (at : ℕ) where
   abbrev if_here : Stage
-  if_here = stage_of place (counting 1 before) left
+  if_here = stage_of level (counting 1 before) left
 
-  pub if_acts : (room : Bool) → operation_at place before line ≡ OwnDirective word.If at → marks left ≡ place.around
-      → has_condition_left place ≡ room
-      → acted_by known line.text if_here (operation_at place before line)
+  pub if_acts : (room : Bool) → operation_at level before line ≡ OwnDirective word.If at → marks left ≡ level.around
+      → has_condition_left level ≡ room
+      → acted_by known line.text if_here (operation_at level before line)
       ≡ (if room then condition_opened line.text (condition known line.text at) if_here
-      else own (noting flag_O []) (record if_here { conditions = past (only_entered place.entered) }))
+      else own (noting flag_O []) (record if_here { conditions = past (only_entered level.entered) }))
   if_acts room is around has =
       let by : Bool → Acted = λ b. if b then condition_opened line.text (condition known line.text at) if_here
-      else own (noting flag_O []) (record if_here { conditions = past (only_entered place.entered) }) in
+      else own (noting flag_O []) (record if_here { conditions = past (only_entered level.entered) }) in
       ap (acted_by known line.text if_here) is
-      ∙ ap (λ (m : List Mark). by (nat_lt (length place.entered + conditions_in m) most_conditions)) around
+      ∙ ap (λ (m : List Mark). by (nat_lt (length level.entered + conditions_in m) most_conditions)) around
       ∙ ap by has
 
 -- ---- `.IIF`
 
-pub with_next : (place : Place) (situation : Situation) (text : Bytes) (holds : Bool) (at : Option ℕ) (lines : List SourceLine)
+pub with_next : (level : Level) (situation : Situation) (text : Bytes) (holds : Bool) (at : Option ℕ) (lines : List SourceLine)
     (left : List Left)
-    → with_statement text holds at (stage_of place situation (map line_left lines ++ left))
-    ≡ stage_of place situation (map line_left (statement_of text holds at ++ lines) ++ left)
-with_next place situation text true (Some at) lines left = refl
-with_next place situation text true None lines left = refl
-with_next place situation text false at lines left = refl
+    → with_statement text holds at (stage_of level situation (map line_left lines ++ left))
+    ≡ stage_of level situation (map line_left (statement_of text holds at ++ lines) ++ left)
+with_next level situation text true (Some at) lines left = refl
+with_next level situation text true None lines left = refl
+with_next level situation text false at lines left = refl
 
 -- ---- the cases of conditions
 
 -- a 33rd condition, and the text up to its `.ENDC`
-module _ (P : Stage → Type 0) (place : Place) (before : Situation) (known last : Known) (line close : SourceLine)
+module _ (P : Stage → Type 0) (level : Level) (before : Situation) (known last : Known) (line close : SourceLine)
     (text lines : List SourceLine)
     (gives : List Given) (at end : ℕ) (left : List Left) where
   abbrev refused_end : Given
-  refused_end = own_line place last close (flagged 0 close.text end)
+  refused_end = own_line level last close (flagged 0 close.text end)
 
   abbrev after_text : List Left
   after_text = map line_left lines ++ left
 
-  close_refused : operation (past (only_entered place.entered)) before.macros close.text ≡ OwnDirective word.Endc end
-      → directive close.text ≡ Some word.Endc → marks left ≡ place.around
-      → Runs (stage_of place (counting (length text + 2) before) after_text) gives P
-      → Runs (text_stage true place 0 (counting (length text) (counting 1 before)) (Line close ∷ after_text))
+  close_refused : operation (past (only_entered level.entered)) before.macros close.text ≡ OwnDirective word.Endc end
+      → directive close.text ≡ Some word.Endc → marks left ≡ level.around
+      → Runs (stage_of level (counting (length text + 2) before) after_text) gives P
+      → Runs (text_stage true level 0 (counting (length text) (counting 1 before)) (Line close ∷ after_text))
       (refused_end ∷ gives) P
   close_refused is word around next =
       let count : before.taken + 1 + length text + 1 ≡ before.taken + (length text + 2) = omega arith in
-      let here : Stage = text_stage true place 0 (counting 1 (counting (length text) (counting 1 before))) after_text in
-      let stands : Stage = text_stage true place 0 (counting (length text) (counting 1 before)) (Line close ∷ after_text) in
-      let there : Stage = stage_of place (counting 1 (counting (length text) (counting 1 before))) after_text in
+      let here : Stage = text_stage true level 0 (counting 1 (counting (length text) (counting 1 before))) after_text in
+      let stands : Stage = text_stage true level 0 (counting (length text) (counting 1 before)) (Line close ∷ after_text) in
+      let there : Stage = stage_of level (counting 1 (counting (length text) (counting 1 before))) after_text in
       let live : Live = record { line = close; is_expanded = is_expanding after_text } in
       let moves : move stands ≡ Gives live here
-      = ap (λ (w : Option Directive). live_or_skipped (skipped_by (past (only_entered place.entered)) w) close here) word in
+      = ap (λ (w : Option Directive). live_or_skipped (skipped_by (past (only_entered level.entered)) w) close here) word in
       let acted : Acted = own (flagged 0 close.text end) there in
       let acts : act last here close.text ≡ acted = ap (acted_by last close.text here) is in
       let told : List Mark → Acted → Given = λ m a. record {
@@ -279,43 +279,43 @@ module _ (P : Stage → Type 0) (place : Place) (before : Situation) (known last
       } in
       let same : given last live here ≡ refused_end
       = ap (told (marks after_text)) acts ∙ ap (λ (m : List Mark). told m acted) (same_marks lines left ∙ around) in
-      let Q : Stage → Type 0 = λ s. s ≡ stage_of place (counting (length text + 2) before) after_text in
-      let counted : there ≡ stage_of place (counting (length text + 2) before) after_text
-      = ap (λ (n : ℕ). stage_of place (record before { taken = n }) after_text) count in
+      let Q : Stage → Type 0 = λ s. s ≡ stage_of level (counting (length text + 2) before) after_text in
+      let counted : there ≡ stage_of level (counting (length text + 2) before) after_text
+      = ap (λ (n : ℕ). stage_of level (record before { taken = n }) after_text) count in
       and_then Q P stands (refused_end ∷ []) gives (gives_line Q stands here live last refused_end acted moves acts same counted)
-      (λ s stood. from_same P s (stage_of place (counting (length text + 2) before) after_text) gives stood next)
+      (λ s stood. from_same P s (stage_of level (counting (length text + 2) before) after_text) gives stood next)
 
-  refused_runs : operation_at place before line ≡ OwnDirective word.If at → has_condition_left place ≡ false → IsText true 0 text 0
-      → operation (past (only_entered place.entered)) before.macros close.text ≡ OwnDirective word.Endc end
-      → marks left ≡ place.around → is_live_inside place.entered ≡ true
-      → Runs (stage_of place (counting (length text + 2) before) after_text) gives P
-      → Runs (stage_of place before (map line_left (line ∷ text ++ close ∷ lines) ++ left))
-      (own_line place known line (noting flag_O []) ∷ refused_end ∷ gives) P
+  refused_runs : operation_at level before line ≡ OwnDirective word.If at → has_condition_left level ≡ false → IsText true 0 text 0
+      → operation (past (only_entered level.entered)) before.macros close.text ≡ OwnDirective word.Endc end
+      → marks left ≡ level.around → is_live_inside level.entered ≡ true
+      → Runs (stage_of level (counting (length text + 2) before) after_text) gives P
+      → Runs (stage_of level before (map line_left (line ∷ text ++ close ∷ lines) ++ left))
+      (own_line level known line (noting flag_O []) ∷ refused_end ∷ gives) P
   refused_runs is none skipped closing around taking next =
       let rest : List Left = map line_left (text ++ close ∷ lines) ++ left in
-      let here : Stage = text_stage true place 0 (counting 1 before) rest in
+      let here : Stage = text_stage true level 0 (counting 1 before) rest in
       let word : directive close.text ≡ Some word.Endc
-      = has_word before.macros (past (only_entered place.entered)) close.text end word.Endc closing in
-      let closed : Stage = text_stage true place 0 (counting (length text) (counting 1 before)) (Line close ∷ after_text) in
+      = has_word before.macros (past (only_entered level.entered)) close.text end word.Endc closing in
+      let closed : Stage = text_stage true level 0 (counting (length text) (counting 1 before)) (Line close ∷ after_text) in
       let Q : Stage → Type 0 = λ s. s ≡ closed in
       let split : rest ≡ map line_left text ++ (Line close ∷ after_text) = parted text (close ∷ lines) left in
       let read : Runs here [] Q
-      = from_same Q here (text_stage true place 0 (counting 1 before) (map line_left text ++ (Line close ∷ after_text))) []
-      (ap (text_stage true place 0 (counting 1 before)) split)
-      (skips_text true place 0 text 0 skipped (counting 1 before) (Line close ∷ after_text) refl) in
+      = from_same Q here (text_stage true level 0 (counting 1 before) (map line_left text ++ (Line close ∷ after_text))) []
+      (ap (text_stage true level 0 (counting 1 before)) split)
+      (skips_text true level 0 text 0 skipped (counting 1 before) (Line close ∷ after_text) refl) in
       let further : Runs here (refused_end ∷ gives) P
       = and_then Q P here [] (refused_end ∷ gives) read
       (λ s stood. from_same P s closed (refused_end ∷ gives) stood (close_refused closing word around next)) in
-      line_then P place before known line rest (own (noting flag_O []) here) (refused_end ∷ gives)
+      line_then P level before known line rest (own (noting flag_O []) here) (refused_end ∷ gives)
       (same_marks (text ++ close ∷ lines) left ∙ around) taking
-      (if_acts place before known line rest at false is (same_marks (text ++ close ∷ lines) left ∙ around) none) further
+      (if_acts level before known line rest at false is (same_marks (text ++ close ∷ lines) left ∙ around) none) further
 
 -- a part, and then a word of the condition
-module _ (P : Stage → Type 0) (place : Place) (holds is_live : Bool) (before middle : Situation) (known : Known)
+module _ (P : Stage → Type 0) (level : Level) (holds is_live : Bool) (before middle : Situation) (known : Known)
     (line : SourceLine)
     (lines others : List SourceLine) (gives later : List Given) (notes : Notes) (left : List Left) where
   abbrev part_stage : Bool → Situation → List Left → Stage
-  part_stage live situation l = stage_of (within_condition holds live place) situation l
+  part_stage live situation l = stage_of (within_condition holds live level) situation l
 
   abbrev others_left : List Left
   others_left = map line_left others ++ left
@@ -323,20 +323,20 @@ module _ (P : Stage → Type 0) (place : Place) (holds is_live : Bool) (before m
   after_part : (there : Stage)
       → Runs (part_stage is_live before (map line_left lines ++ (Line line ∷ others_left))) gives
       (λ s. s ≡ part_stage is_live middle (Line line ∷ others_left))
-      → marks left ≡ place.around
+      → marks left ≡ level.around
       → move (part_stage is_live middle (Line line ∷ others_left))
       ≡ Gives (record { line = line; is_expanded = is_expanding others_left })
       (part_stage is_live (counting 1 middle) others_left)
       → acted_by known line.text (part_stage is_live (counting 1 middle) others_left)
-      (operation_at (within_condition holds is_live place) middle line) ≡ own notes there
+      (operation_at (within_condition holds is_live level) middle line) ≡ own notes there
       → Runs there later P
       → Runs (part_stage is_live before (map line_left (lines ++ line ∷ others) ++ left))
-      (gives ++ own_line place known line notes ∷ later) P
+      (gives ++ own_line level known line notes ∷ later) P
   after_part there part around moves acts next =
       let Q : Stage → Type 0 = λ s. s ≡ part_stage is_live middle (Line line ∷ others_left) in
-      let told : List Given = own_line place known line notes ∷ later in
+      let told : List Given = own_line level known line notes ∷ later in
       let word : Runs (part_stage is_live middle (Line line ∷ others_left)) told P
-      = line_by P (within_condition holds is_live place) middle known line others_left (own notes there) later
+      = line_by P (within_condition holds is_live level) middle known line others_left (own notes there) later
       (same_marks others left ∙ around) moves acts next in
       from_same P (part_stage is_live before (map line_left (lines ++ line ∷ others) ++ left))
       (part_stage is_live before (map line_left lines ++ (Line line ∷ others_left))) (gives ++ told)
@@ -347,232 +347,232 @@ module _ (P : Stage → Type 0) (place : Place) (holds is_live : Bool) (before m
 -- ---- all cases
 
 mutual
-  pub shape : (place : Place) (before : Situation) (lines : List SourceLine) (gives : List Given) (after : Situation)
+  pub shape : (level : Level) (before : Situation) (lines : List SourceLine) (gives : List Given) (after : Situation)
       (ending : Ending)
-      → Shape place before lines gives after ending → (left : List Left) → marks left ≡ place.around
-      → is_live_inside place.entered ≡ true → AtEnd ending left
-      → Runs (before_lines place before lines left) gives (Arrived ending place after left)
-  shape _ _ _ _ _ _ (shapes.Shape.Nothing place before) left around taking end =
-      stays (Arrived GoesOn place before left) (stage_of place before left) refl
-  shape _ _ _ _ _ _ (shapes.Shape.Other place before after ending known line lines gives is next) left around taking end =
+      → Shape level before lines gives after ending → (left : List Left) → marks left ≡ level.around
+      → is_live_inside level.entered ≡ true → AtEnd ending left
+      → Runs (before_lines level before lines left) gives (Arrived ending level after left)
+  shape _ _ _ _ _ _ (shapes.Shape.Nothing level before) left around taking end =
+      stays (Arrived GoesOn level before left) (stage_of level before left) refl
+  shape _ _ _ _ _ _ (shapes.Shape.Other level before after ending known line lines gives is next) left around taking end =
       let rest : List Left = map line_left lines ++ left in
-      let here : Stage = stage_of place (counting 1 before) rest in
-      line_then (Arrived ending place after left) place before known line rest (foreign here) gives (same_marks lines left
+      let here : Stage = stage_of level (counting 1 before) rest in
+      line_then (Arrived ending level after left) level before known line rest (foreign here) gives (same_marks lines left
       ∙ around) taking
-      (other_acts known line.text here (operation_at place before line) is)
-      (shape place (counting 1 before) lines gives after ending next left around taking end)
-  shape _ _ _ _ _ _ (shapes.Shape.Astray place before after ending known line lines gives notes is next) left around taking end =
+      (other_acts known line.text here (operation_at level before line) is)
+      (shape level (counting 1 before) lines gives after ending next left around taking end)
+  shape _ _ _ _ _ _ (shapes.Shape.Astray level before after ending known line lines gives notes is next) left around taking end =
       let rest : List Left = map line_left lines ++ left in
-      let here : Stage = stage_of place (counting 1 before) rest in
-      line_then (Arrived ending place after left) place before known line rest (own notes here) gives (same_marks lines left
+      let here : Stage = stage_of level (counting 1 before) rest in
+      line_then (Arrived ending level after left) level before known line rest (own notes here) gives (same_marks lines left
       ∙ around) taking
-      (astray_acts known line.text place (counting 1 before) rest (operation_at place before line) notes (same_marks lines left
+      (astray_acts known line.text level (counting 1 before) rest (operation_at level before line) notes (same_marks lines left
       ∙ around) is)
-      (shape place (counting 1 before) lines gives after ending next left around taking end)
-  shape _ _ _ _ _ _ (shapes.Shape.Expansion place before middle after inner ending known line lines gives later put puts body
+      (shape level (counting 1 before) lines gives after ending next left around taking end)
+  shape _ _ _ _ _ _ (shapes.Shape.Expansion level before middle after inner ending known line lines gives later put puts body
       returns next)
       left around taking end =
-      let mark : Mark = mark_at place put.arguments put.bytes in
+      let mark : Mark = mark_at level put.arguments put.bytes in
       let others : List Left = map line_left put.others ++ left in
-      let P : Stage → Type 0 = Arrived ending place after left in
-      let Q : Stage → Type 0 = λ s. s ≡ put_there place before known line lines left put in
-      let R : Stage → Type 0 = Arrived inner (within_expansion put.arguments put.bytes place) middle (End mark ∷ others) in
-      let S : Stage → Type 0 = λ s. s ≡ stage_of place middle others in
-      let begun : Runs (before_lines place before (line ∷ lines) left) (own_line place known line put.notes ∷ []) Q
-      = stands place before known line lines left (operation_at place before line) put refl puts around taking in
-      let inside : Runs (put_there place before known line lines left put) gives R
-      = shape (within_expansion put.arguments put.bytes place) put.situation put.lines gives middle inner body (End mark ∷ others)
+      let P : Stage → Type 0 = Arrived ending level after left in
+      let Q : Stage → Type 0 = λ s. s ≡ put_there level before known line lines left put in
+      let R : Stage → Type 0 = Arrived inner (within_expansion put.arguments put.bytes level) middle (End mark ∷ others) in
+      let S : Stage → Type 0 = λ s. s ≡ stage_of level middle others in
+      let begun : Runs (before_lines level before (line ∷ lines) left) (own_line level known line put.notes ∷ []) Q
+      = stands level before known line lines left (operation_at level before line) put refl puts around taking in
+      let inside : Runs (put_there level before known line lines left put) gives R
+      = shape (within_expansion put.arguments put.bytes level) put.situation put.lines gives middle inner body (End mark ∷ others)
       (ap (λ (m : List Mark). mark ∷ m) (same_marks put.others left ∙ around)) refl (at_mark inner mark others) in
-      let beyond : Runs (stage_of place middle others) later P
-      = shape place middle put.others later after ending next left around taking end in
-      and_then Q P (before_lines place before (line ∷ lines) left) (own_line place known line put.notes ∷ []) (gives ++ later)
+      let beyond : Runs (stage_of level middle others) later P
+      = shape level middle put.others later after ending next left around taking end in
+      and_then Q P (before_lines level before (line ∷ lines) left) (own_line level known line put.notes ∷ []) (gives ++ later)
       begun
-      (λ s is. from_same P s (put_there place before known line lines left put) (gives ++ later) is
-      (and_then R P (put_there place before known line lines left put) gives later inside
-      (λ t there. and_then S P t [] later (returned place middle put.arguments put.bytes others inner t returns there)
-      (λ u is'. from_same P u (stage_of place middle others) later is' beyond))))
-  shape _ _ _ _ _ _ (shapes.Shape.LastExpansion place before after known line lines gives put puts body) left around taking end =
-      let mark : Mark = mark_at place put.arguments put.bytes in
+      (λ s is. from_same P s (put_there level before known line lines left put) (gives ++ later) is
+      (and_then R P (put_there level before known line lines left put) gives later inside
+      (λ t there. and_then S P t [] later (returned level middle put.arguments put.bytes others inner t returns there)
+      (λ u is'. from_same P u (stage_of level middle others) later is' beyond))))
+  shape _ _ _ _ _ _ (shapes.Shape.LastExpansion level before after known line lines gives put puts body) left around taking end =
+      let mark : Mark = mark_at level put.arguments put.bytes in
       let others : List Left = map line_left put.others ++ left in
-      let P : Stage → Type 0 = Arrived Ends place after left in
-      let Q : Stage → Type 0 = λ s. s ≡ put_there place before known line lines left put in
-      let begun : Runs (before_lines place before (line ∷ lines) left) (own_line place known line put.notes ∷ []) Q
-      = stands place before known line lines left (operation_at place before line) put refl puts around taking in
-      let inside : Runs (put_there place before known line lines left put) gives P
-      = shape (within_expansion put.arguments put.bytes place) put.situation put.lines gives after Ends body (End mark ∷ others)
+      let P : Stage → Type 0 = Arrived Ends level after left in
+      let Q : Stage → Type 0 = λ s. s ≡ put_there level before known line lines left put in
+      let begun : Runs (before_lines level before (line ∷ lines) left) (own_line level known line put.notes ∷ []) Q
+      = stands level before known line lines left (operation_at level before line) put refl puts around taking in
+      let inside : Runs (put_there level before known line lines left put) gives P
+      = shape (within_expansion put.arguments put.bytes level) put.situation put.lines gives after Ends body (End mark ∷ others)
       (ap (λ (m : List Mark). mark ∷ m) (same_marks put.others left ∙ around)) refl tt in
-      and_then Q P (before_lines place before (line ∷ lines) left) (own_line place known line put.notes ∷ []) gives begun
-      (λ s is. from_same P s (put_there place before known line lines left put) gives is inside)
-  shape _ _ _ _ _ _ (shapes.Shape.Definition place before after ending known line lines others gives notes name formals body is
+      and_then Q P (before_lines level before (line ∷ lines) left) (own_line level known line put.notes ∷ []) gives begun
+      (λ s is. from_same P s (put_there level before known line lines left put) gives is inside)
+  shape _ _ _ _ _ _ (shapes.Shape.Definition level before after ending known line lines others gives notes name formals body is
       has next)
       left around taking end =
       let rest : List Left = map line_left lines ++ left in
-      let here : Stage = stage_of place (counting 1 before) rest in
+      let here : Stage = stage_of level (counting 1 before) rest in
       let purpose : Purpose = Defines name formals in
-      let P : Stage → Type 0 = Arrived ending place after left in
+      let P : Stage → Type 0 = Arrived ending level after left in
       let defined : Situation = defining name formals body (counting (length body + 2) before) in
-      let Q : Stage → Type 0 = λ s. s ≡ stage_of place defined (map line_left others ++ left) in
-      line_then P place before known line rest (own notes (opens purpose here)) gives (same_marks lines left ∙ around) taking
-      (opens_acts known line.text here (operation_at place before line) notes purpose is)
-      (and_then Q P (opens purpose here) [] gives (body_used place before purpose lines others body left has)
-      (λ s stood. from_same P s (stage_of place defined (map line_left others ++ left)) gives stood
-      (shape place defined others gives after ending next left around taking end)))
-  shape _ _ _ _ _ _ (shapes.Shape.Dropped place before after ending known line lines others gives notes body is has next)
+      let Q : Stage → Type 0 = λ s. s ≡ stage_of level defined (map line_left others ++ left) in
+      line_then P level before known line rest (own notes (opens purpose here)) gives (same_marks lines left ∙ around) taking
+      (opens_acts known line.text here (operation_at level before line) notes purpose is)
+      (and_then Q P (opens purpose here) [] gives (body_used level before purpose lines others body left has)
+      (λ s stood. from_same P s (stage_of level defined (map line_left others ++ left)) gives stood
+      (shape level defined others gives after ending next left around taking end)))
+  shape _ _ _ _ _ _ (shapes.Shape.Dropped level before after ending known line lines others gives notes body is has next)
       left around taking end =
       let rest : List Left = map line_left lines ++ left in
-      let here : Stage = stage_of place (counting 1 before) rest in
-      let P : Stage → Type 0 = Arrived ending place after left in
+      let here : Stage = stage_of level (counting 1 before) rest in
+      let P : Stage → Type 0 = Arrived ending level after left in
       let past_it : Situation = counting (length body + 2) before in
-      let Q : Stage → Type 0 = λ s. s ≡ stage_of place past_it (map line_left others ++ left) in
-      line_then P place before known line rest (own notes (opens Drops here)) gives (same_marks lines left ∙ around) taking
-      (opens_acts known line.text here (operation_at place before line) notes Drops is)
-      (and_then Q P (opens Drops here) [] gives (body_used place before Drops lines others body left has)
-      (λ s stood. from_same P s (stage_of place past_it (map line_left others ++ left)) gives stood
-      (shape place past_it others gives after ending next left around taking end)))
-  shape _ _ _ _ _ _ (shapes.Shape.OpenBody place before known line lines notes purpose is none) left around taking end =
+      let Q : Stage → Type 0 = λ s. s ≡ stage_of level past_it (map line_left others ++ left) in
+      line_then P level before known line rest (own notes (opens Drops here)) gives (same_marks lines left ∙ around) taking
+      (opens_acts known line.text here (operation_at level before line) notes Drops is)
+      (and_then Q P (opens Drops here) [] gives (body_used level before Drops lines others body left has)
+      (λ s stood. from_same P s (stage_of level past_it (map line_left others ++ left)) gives stood
+      (shape level past_it others gives after ending next left around taking end)))
+  shape _ _ _ _ _ _ (shapes.Shape.OpenBody level before known line lines notes purpose is none) left around taking end =
       let rest : List Left = map line_left lines ++ left in
-      let here : Stage = stage_of place (counting 1 before) rest in
-      line_then (IsStopped (counting (length lines + 1) before) left) place before known line rest
+      let here : Stage = stage_of level (counting 1 before) rest in
+      line_then (IsStopped (counting (length lines + 1) before) left) level before known line rest
       (own notes (opens purpose here)) []
       (same_marks lines left ∙ around) taking
-      (opens_acts known line.text here (operation_at place before line) notes purpose is)
-      (body_open place before purpose lines left none end)
-  shape _ _ _ _ _ _ (shapes.Shape.Condition place before after ending known line lines gives at is room next) left around taking
+      (opens_acts known line.text here (operation_at level before line) notes purpose is)
+      (body_open level before purpose lines left none end)
+  shape _ _ _ _ _ _ (shapes.Shape.Condition level before after ending known line lines gives at is room next) left around taking
       end =
       let rest : List Left = map line_left lines ++ left in
-      let here : Stage = stage_of place (counting 1 before) rest in
+      let here : Stage = stage_of level (counting 1 before) rest in
       let holds : Bool = (condition known line.text at).holds in
-      line_then (Arrived ending place after left) place before known line rest
-      (own (condition_notes known line.text at) (stage_of (within_condition holds holds place) (counting 1 before) rest)) gives
+      line_then (Arrived ending level after left) level before known line rest
+      (own (condition_notes known line.text at) (stage_of (within_condition holds holds level) (counting 1 before) rest)) gives
       (same_marks lines left ∙ around) taking
-      (if_acts place before known line rest at true is (same_marks lines left ∙ around) room)
-      (parts place holds holds (counting 1 before) lines gives after ending next left around taking end)
-  shape _ _ _ _ _ _ (shapes.Shape.Refused place before after ending known last line close text lines gives at end' is none
+      (if_acts level before known line rest at true is (same_marks lines left ∙ around) room)
+      (parts level holds holds (counting 1 before) lines gives after ending next left around taking end)
+  shape _ _ _ _ _ _ (shapes.Shape.Refused level before after ending known last line close text lines gives at end' is none
       skipped closing next)
       left around taking end =
-      refused_runs (Arrived ending place after left) place before known last line close text lines gives at end' left is none
+      refused_runs (Arrived ending level after left) level before known last line close text lines gives at end' left is none
       skipped closing
-      around taking (shape place (counting (length text + 2) before) lines gives after ending next left around taking end)
-  shape _ _ _ _ _ _ (shapes.Shape.OpenRefused place before known line lines at inner is none skipped) left around taking end =
+      around taking (shape level (counting (length text + 2) before) lines gives after ending next left around taking end)
+  shape _ _ _ _ _ _ (shapes.Shape.OpenRefused level before known line lines at inner is none skipped) left around taking end =
       let rest : List Left = map line_left lines ++ left in
-      let here : Stage = text_stage true place 0 (counting 1 before) rest in
+      let here : Stage = text_stage true level 0 (counting 1 before) rest in
       let sum : before.taken + 1 + length lines ≡ before.taken + (length lines + 1) = omega arith in
-      line_then (IsStopped (counting (length lines + 1) before) left) place before known line rest
+      line_then (IsStopped (counting (length lines + 1) before) left) level before known line rest
       (own (noting flag_O []) here) []
       (same_marks lines left ∙ around) taking
-      (if_acts place before known line rest at false is (same_marks lines left ∙ around) none)
-      (weakened (λ s. s ≡ text_stage true place inner (counting (length lines) (counting 1 before)) left)
+      (if_acts level before known line rest at false is (same_marks lines left ∙ around) none)
+      (weakened (λ s. s ≡ text_stage true level inner (counting (length lines) (counting 1 before)) left)
       (IsStopped (counting (length lines + 1) before) left) here []
       (λ s stood. record {
-        conditions = record { entered = place.entered; nested = inner; is_past = true };
+        conditions = record { entered = level.entered; nested = inner; is_past = true };
         opening = None;
-        is = stood ∙ ap (λ (n : ℕ). text_stage true place inner (record before { taken = n }) left) sum;
+        is = stood ∙ ap (λ (n : ℕ). text_stage true level inner (record before { taken = n }) left) sum;
       })
-      (skips_text true place 0 lines inner skipped (counting 1 before) left refl))
-  shape _ _ _ _ _ _ (shapes.Shape.Immediate place before after ending known line lines gives at is next) left around taking end =
+      (skips_text true level 0 lines inner skipped (counting 1 before) left refl))
+  shape _ _ _ _ _ _ (shapes.Shape.Immediate level before after ending known line lines gives at is next) left around taking end =
       let rest : List Left = map line_left lines ++ left in
-      let here : Stage = stage_of place (counting 1 before) rest in
-      let there : Stage = stage_of place (counting 1 before) (map line_left (statement known line.text at ++ lines) ++ left) in
+      let here : Stage = stage_of level (counting 1 before) rest in
+      let there : Stage = stage_of level (counting 1 before) (map line_left (statement known line.text at ++ lines) ++ left) in
       let notes : Notes = immediate.notes known line.text at in
-      line_then (Arrived ending place after left) place before known line rest (own notes there) gives (same_marks lines left
+      line_then (Arrived ending level after left) level before known line rest (own notes there) gives (same_marks lines left
       ∙ around) taking
-      (ap (acted_by known line.text here) is ∙ ap (own notes) (with_next place (counting 1 before) line.text
+      (ap (acted_by known line.text here) is ∙ ap (own notes) (with_next level (counting 1 before) line.text
       (immediate.immediate known line.text at).holds (immediate.immediate known line.text at).statement lines left))
-      (shape place (counting 1 before) (statement known line.text at ++ lines) gives after ending next left around taking end)
-  shape _ _ _ _ _ _ (shapes.Shape.Exit place before known line lines at is expanding) left around taking end =
+      (shape level (counting 1 before) (statement known line.text at ++ lines) gives after ending next left around taking end)
+  shape _ _ _ _ _ _ (shapes.Shape.Exit level before known line lines at is expanding) left around taking end =
       let rest : List Left = map line_left lines ++ left in
-      let here : Stage = stage_of place (counting 1 before) rest in
-      let there : Stage = stage_of place (counting 1 before) left in
+      let here : Stage = stage_of level (counting 1 before) rest in
+      let there : Stage = stage_of level (counting 1 before) left in
       let notes : Notes = flagged 0 line.text at in
       let by : Bool → Acted = λ b.
       if b then own notes (record here { left = after_mark rest }) else own (flagged flag_O line.text at) here in
-      line_then (IsStopped (counting 1 before) left) place before known line rest (own notes there) [] (same_marks lines left
+      line_then (IsStopped (counting 1 before) left) level before known line rest (own notes there) [] (same_marks lines left
       ∙ around) taking
       (ap (acted_by known line.text here) is ∙ ap (λ (m : List Mark). by (has_mark m)) (same_marks lines left ∙ around)
       ∙ ap by expanding
       ∙ ap (λ (l : List Left). own notes (record here { left = l })) (past_lines lines left ∙ end))
       (stays (IsStopped (counting 1 before) left) there (record {
-        conditions = only_entered place.entered;
+        conditions = only_entered level.entered;
         opening = None;
         is
             = refl;
       }))
-  shape _ _ _ _ _ _ (shapes.Shape.End place before known line lines at is) left around taking end =
+  shape _ _ _ _ _ _ (shapes.Shape.End level before known line lines at is) left around taking end =
       let rest : List Left = map line_left lines ++ left in
-      let here : Stage = stage_of place (counting 1 before) rest in
-      line_then (Arrived Ends place (counting 1 before) left) place before known line rest
+      let here : Stage = stage_of level (counting 1 before) rest in
+      line_then (Arrived Ends level (counting 1 before) left) level before known line rest
       (foreign (record here { has_ended = true })) []
       (same_marks lines left ∙ around) taking (ap (acted_by known line.text here) is)
-      (stays (Arrived Ends place (counting 1 before) left) (record here { has_ended = true }) refl)
+      (stays (Arrived Ends level (counting 1 before) left) (record here { has_ended = true }) refl)
 
-  parts : (place : Place) (holds is_live : Bool) (before : Situation) (lines : List SourceLine) (gives : List Given)
+  parts : (level : Level) (holds is_live : Bool) (before : Situation) (lines : List SourceLine) (gives : List Given)
       (after : Situation)
-      (ending : Ending) → Parts place holds is_live before lines gives after ending → (left : List Left)
-      → marks left ≡ place.around
-      → is_live_inside place.entered ≡ true → AtEnd ending left
-      → Runs (before_lines (within_condition holds is_live place) before lines left) gives (Arrived ending place after left)
-  parts _ _ _ _ _ _ _ _ (shapes.Parts.Next place holds is_live before middle after ending known line lines others gives later
+      (ending : Ending) → Parts level holds is_live before lines gives after ending → (left : List Left)
+      → marks left ≡ level.around
+      → is_live_inside level.entered ≡ true → AtEnd ending left
+      → Runs (before_lines (within_condition holds is_live level) before lines left) gives (Arrived ending level after left)
+  parts _ _ _ _ _ _ _ _ (shapes.Parts.Next level holds is_live before middle after ending known line lines others gives later
       part at one
       begins next) left around taking end =
       let rest : List Left = map line_left others ++ left in
-      let inside : Place = within_condition holds is_live place in
-      after_part (Arrived ending place after left) place holds is_live before middle known line lines others gives later
+      let inside : Level = within_condition holds is_live level in
+      after_part (Arrived ending level after left) level holds is_live before middle known line lines others gives later
       (flagged 0 line.text at) left
-      (stage_of (within_condition holds (is_live_in part holds) place) (counting 1 middle) rest)
-      (one_part place holds is_live before lines gives middle GoesOn one (Line line ∷ rest) (same_marks others left ∙ around) tt)
-      around (begin_comes place holds middle line rest is_live (operation_at inside middle line) part at begins refl)
-      (begins_acts known line.text place holds is_live (counting 1 middle) rest (operation_at inside middle line) part at begins)
-      (parts place holds (is_live_in part holds) (counting 1 middle) others later after ending next left around taking end)
-  parts _ _ _ _ _ _ _ _ (shapes.Parts.Close place holds is_live before middle after ending known line lines others gives later
+      (stage_of (within_condition holds (is_live_in part holds) level) (counting 1 middle) rest)
+      (one_part level holds is_live before lines gives middle GoesOn one (Line line ∷ rest) (same_marks others left ∙ around) tt)
+      around (begin_comes level holds middle line rest is_live (operation_at inside middle line) part at begins refl)
+      (begins_acts known line.text level holds is_live (counting 1 middle) rest (operation_at inside middle line) part at begins)
+      (parts level holds (is_live_in part holds) (counting 1 middle) others later after ending next left around taking end)
+  parts _ _ _ _ _ _ _ _ (shapes.Parts.Close level holds is_live before middle after ending known line lines others gives later
       at one
       closing next) left around taking end =
       let rest : List Left = map line_left others ++ left in
-      let here : Stage = stage_of (within_condition holds is_live place) (counting 1 middle) rest in
-      after_part (Arrived ending place after left) place holds is_live before middle known line lines others gives later
+      let here : Stage = stage_of (within_condition holds is_live level) (counting 1 middle) rest in
+      after_part (Arrived ending level after left) level holds is_live before middle known line lines others gives later
       (flagged 0 line.text at) left
-      (stage_of place (counting 1 middle) rest)
-      (one_part place holds is_live before lines gives middle GoesOn one (Line line ∷ rest) (same_marks others left ∙ around) tt)
-      around (close_comes place holds middle line rest is_live at closing)
-      (ap (acted_by known line.text here) closing ∙ close_acts known line.text place holds is_live (counting 1 middle) rest at)
-      (shape place (counting 1 middle) others later after ending next left around taking end)
-  parts _ _ _ _ _ _ _ _ (shapes.Parts.ImmediateInPart place holds before middle after ending known line lines others gives later
+      (stage_of level (counting 1 middle) rest)
+      (one_part level holds is_live before lines gives middle GoesOn one (Line line ∷ rest) (same_marks others left ∙ around) tt)
+      around (close_comes level holds middle line rest is_live at closing)
+      (ap (acted_by known line.text here) closing ∙ close_acts known line.text level holds is_live (counting 1 middle) rest at)
+      (shape level (counting 1 middle) others later after ending next left around taking end)
+  parts _ _ _ _ _ _ _ _ (shapes.Parts.ImmediateInPart level holds before middle after ending known line lines others gives later
       at one
       is next) left around taking end =
       let rest : List Left = map line_left others ++ left in
-      let inside : Place = within_condition holds true place in
+      let inside : Level = within_condition holds true level in
       let here : Stage = stage_of inside (counting 1 middle) rest in
       let all : List SourceLine = statement known line.text at ++ others in
       let notes : Notes = immediate.notes known line.text at in
-      after_part (Arrived ending place after left) place holds true before middle known line lines others gives later notes left
+      after_part (Arrived ending level after left) level holds true before middle known line lines others gives later notes left
       (stage_of inside (counting 1 middle) (map line_left all ++ left))
-      (one_part place holds true before lines gives middle GoesOn one (Line line ∷ rest) (same_marks others left ∙ around) tt)
+      (one_part level holds true before lines gives middle GoesOn one (Line line ∷ rest) (same_marks others left ∙ around) tt)
       around refl
       (ap (acted_by known line.text here) is ∙ ap (own notes) (with_next inside (counting 1 middle) line.text
       (immediate.immediate known line.text at).holds (immediate.immediate known line.text at).statement others left))
-      (parts place holds true (counting 1 middle) all later after ending next left around taking end)
-  parts _ _ _ _ _ _ _ _ (shapes.Parts.Last place holds is_live before after ending lines gives one) left around taking end =
-      weakened (Arrived ending (within_condition holds is_live place) after left) (Arrived (unclosed ending) place after left)
-      (before_lines (within_condition holds is_live place) before lines left) gives
-      (λ s there. unclosed_arrived ending place holds is_live after left s there)
-      (one_part place holds is_live before lines gives after ending one left around (unclosed_end ending left end))
+      (parts level holds true (counting 1 middle) all later after ending next left around taking end)
+  parts _ _ _ _ _ _ _ _ (shapes.Parts.Last level holds is_live before after ending lines gives one) left around taking end =
+      weakened (Arrived ending (within_condition holds is_live level) after left) (Arrived (unclosed ending) level after left)
+      (before_lines (within_condition holds is_live level) before lines left) gives
+      (λ s there. unclosed_arrived ending level holds is_live after left s there)
+      (one_part level holds is_live before lines gives after ending one left around (unclosed_end ending left end))
 
-  one_part : (place : Place) (holds is_live : Bool) (before : Situation) (lines : List SourceLine) (gives : List Given)
+  one_part : (level : Level) (holds is_live : Bool) (before : Situation) (lines : List SourceLine) (gives : List Given)
       (after : Situation)
-      (ending : Ending) → OnePart place holds is_live before lines gives after ending → (left : List Left)
-      → marks left ≡ place.around
+      (ending : Ending) → OnePart level holds is_live before lines gives after ending → (left : List Left)
+      → marks left ≡ level.around
       → AtEnd ending left
-      → Runs (before_lines (within_condition holds is_live place) before lines left) gives
-      (Arrived ending (within_condition holds is_live place) after left)
-  one_part _ _ _ _ _ _ _ _ (shapes.OnePart.Live place holds before after ending lines gives inside) left around end =
-      shape (within_condition holds true place) before lines gives after ending inside left around refl end
-  one_part _ _ _ _ _ _ _ _ (shapes.OnePart.Text place holds before lines skipped) left around end =
-      skips_text false (within_condition holds false place) 0 lines 0 skipped before left refl
-  one_part _ _ _ _ _ _ _ _ (shapes.OnePart.OpenText place holds before lines inner skipped) left around end =
-      weakened (λ s. s ≡ text_stage false (within_condition holds false place) inner (counting (length lines) before) left)
-      (IsStopped (counting (length lines) before) left) (before_lines (within_condition holds false place) before lines left) []
+      → Runs (before_lines (within_condition holds is_live level) before lines left) gives
+      (Arrived ending (within_condition holds is_live level) after left)
+  one_part _ _ _ _ _ _ _ _ (shapes.OnePart.Live level holds before after ending lines gives inside) left around end =
+      shape (within_condition holds true level) before lines gives after ending inside left around refl end
+  one_part _ _ _ _ _ _ _ _ (shapes.OnePart.Text level holds before lines skipped) left around end =
+      skips_text false (within_condition holds false level) 0 lines 0 skipped before left refl
+  one_part _ _ _ _ _ _ _ _ (shapes.OnePart.OpenText level holds before lines inner skipped) left around end =
+      weakened (λ s. s ≡ text_stage false (within_condition holds false level) inner (counting (length lines) before) left)
+      (IsStopped (counting (length lines) before) left) (before_lines (within_condition holds false level) before lines left) []
       (λ s stood. record {
-        conditions = record { entered = (within_condition holds false place).entered; nested = inner; is_past = false };
+        conditions = record { entered = (within_condition holds false level).entered; nested = inner; is_past = false };
         opening = None;
         is = stood;
       })
-      (skips_text false (within_condition holds false place) 0 lines inner skipped before left refl)
+      (skips_text false (within_condition holds false level) 0 lines inner skipped before left refl)

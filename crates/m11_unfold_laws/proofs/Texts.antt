@@ -10,18 +10,18 @@ use Rattle.m11_unfold_bodies.specs.Conditions.{OpenConditions, is_live_inside}
 use Rattle.m11_unfold_bodies.specs.Left.{Left, Line}
 use Rattle.m11_unfold_rules.specs.Stages.{Stage, line_left}
 use Rattle.m11_unfold_rules.specs.Taking.{Passes, live_or_skipped, move, skipped_by}
-use Rattle.m11_unfold_laws.specs.Places.{Place, Situation, counting, stage_of}
+use Rattle.m11_unfold_laws.specs.Levels.{Level, Situation, counting, stage_of}
 use Rattle.m11_unfold_laws.specs.Shapes.{IsText, is_plain}
 use Rattle.m11_unfold_laws.specs.Shapes as shapes
 use Rattle.m11_unfold_laws.proofs.Runs.{Runs, passes_on, stays, weakened}
 
-module _ (is_past : Bool) (place : Place) where
+module _ (is_past : Bool) (level : Level) where
   abbrev skipping : ℕ → OpenConditions
-  skipping inner = record { entered = place.entered; nested = inner; is_past = is_past }
+  skipping inner = record { entered = level.entered; nested = inner; is_past = is_past }
 
   -- some inner conditions are open in the text
   abbrev pub text_stage : ℕ → Situation → List Left → Stage
-  text_stage inner situation left = record (stage_of place situation left) { conditions = skipping inner }
+  text_stage inner situation left = record (stage_of level situation left) { conditions = skipping inner }
 
   -- ---- words
 
@@ -68,7 +68,7 @@ module _ (is_past : Bool) (place : Place) where
   -- ---- lines
 
   skips_line : (inner next : ℕ) (situation : Situation) (line : SourceLine) (left : List Left)
-      → is_past || not (is_live_inside place.entered) ≡ true
+      → is_past || not (is_live_inside level.entered) ≡ true
       → skipped_by (skipping inner) (directive line.text) ≡ Some (skipping next)
       → move (text_stage inner situation (Line line ∷ left)) ≡ Passes (text_stage next (counting 1 situation) left)
   skips_line inner next situation line left skips is =
@@ -81,7 +81,7 @@ module _ (is_past : Bool) (place : Place) where
       (λ s. s ≡ text_stage last (counting (length lines) situation) left)
 
   one_skipped : (inner next last : ℕ) (line : SourceLine) (lines : List SourceLine) (situation : Situation) (left : List Left)
-      → is_past || not (is_live_inside place.entered) ≡ true
+      → is_past || not (is_live_inside level.entered) ≡ true
       → skipped_by (skipping inner) (directive line.text) ≡ Some (skipping next)
       → Skips next last lines (counting 1 situation) left → Skips inner last (line ∷ lines) situation left
   one_skipped inner next last line lines situation left skips is more =
@@ -97,7 +97,7 @@ module _ (is_past : Bool) (place : Place) where
       (text_stage next (counting 1 situation) all) [] (λ s stands. stands ∙ same) more)
 
   pub skips_text : (inner : ℕ) (lines : List SourceLine) (last : ℕ) → IsText is_past inner lines last → (situation : Situation)
-      (left : List Left) → is_past || not (is_live_inside place.entered) ≡ true → Skips inner last lines situation left
+      (left : List Left) → is_past || not (is_live_inside level.entered) ≡ true → Skips inner last lines situation left
   skips_text _ _ _ (shapes.IsText.Nothing inner) situation left skips =
       let none : situation.taken ≡ situation.taken + 0 = omega arith in
       stays (λ s. s ≡ text_stage inner (counting 0 situation) left) (text_stage inner situation left)

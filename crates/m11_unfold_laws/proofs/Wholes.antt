@@ -16,7 +16,7 @@ use Rattle.m11_unfold_rules.proofs.OneUnfolding as unfoldings
 use Rattle.m11_unfold_laws.specs.Laws.{Arrived, BeginWith, HasLiveLines, IsEndedAfter, StandsIn, before_lines}
 use Rattle.m11_unfold_laws.specs.Limits.{IsCutShort, PassesLimit}
 use Rattle.m11_unfold_laws.specs.Limits as limits
-use Rattle.m11_unfold_laws.specs.Places.{Place, Situation, beginning, mark_at, source_place, stage_of, within_expansion}
+use Rattle.m11_unfold_laws.specs.Levels.{Level, Situation, beginning, mark_at, source_level, stage_of, within_expansion}
 use Rattle.m11_unfold_laws.specs.Shapes.{Ending, Returns, Shape}
 use Rattle.m11_unfold_laws.specs.Shapes as shapes
 use Rattle.m11_unfold_laws.proofs.Runs.{Runs, and_then, arrived, from_same}
@@ -24,42 +24,42 @@ use Rattle.m11_unfold_laws.proofs.Shaped.{AtEnd, at_mark, returned, shape}
 
 -- ---- lines before what is left
 
-pub goes_on : (place : Place) (before after : Situation) (lines : List SourceLine) (gives : List Given) (left : List Left)
-    → Shape place before lines gives after shapes.Ending.GoesOn → StandsIn place left
-    → Leads (before_lines place before lines left) gives (stage_of place after left)
-    ⊎ IsCutShort (before_lines place before lines left) gives
-goes_on place before after lines gives left shaped stands =
-    arrived (before_lines place before lines left) (stage_of place after left) gives
-    (shape place before lines gives after shapes.Ending.GoesOn shaped left stands.around stands.is_live tt)
+pub goes_on : (level : Level) (before after : Situation) (lines : List SourceLine) (gives : List Given) (left : List Left)
+    → Shape level before lines gives after shapes.Ending.GoesOn → StandsIn level left
+    → Leads (before_lines level before lines left) gives (stage_of level after left)
+    ⊎ IsCutShort (before_lines level before lines left) gives
+goes_on level before after lines gives left shaped stands =
+    arrived (before_lines level before lines left) (stage_of level after left) gives
+    (shape level before lines gives after shapes.Ending.GoesOn shaped left stands.around stands.is_live tt)
 
-pub expands : (place : Place) (before after : Situation) (arguments : Option ℕ) (bytes : ℕ) (lines : List SourceLine)
+pub expands : (level : Level) (before after : Situation) (arguments : Option ℕ) (bytes : ℕ) (lines : List SourceLine)
     (gives : List Given)
-    (ending : Ending) (left : List Left) → Shape (within_expansion arguments bytes place) before lines gives after ending
+    (ending : Ending) (left : List Left) → Shape (within_expansion arguments bytes level) before lines gives after ending
     → Returns ending
-    → StandsIn place left
-    → Leads (before_lines (within_expansion arguments bytes place) before lines (End (mark_at place arguments bytes) ∷ left))
-    gives (stage_of place after left)
-    ⊎ IsCutShort (before_lines (within_expansion arguments bytes place) before lines
-    (End (mark_at place arguments bytes) ∷ left)) gives
-expands place before after arguments bytes lines gives ending left shaped returns stands =
-    let mark : Mark = mark_at place arguments bytes in
-    let inside : Place = within_expansion arguments bytes place in
+    → StandsIn level left
+    → Leads (before_lines (within_expansion arguments bytes level) before lines (End (mark_at level arguments bytes) ∷ left))
+    gives (stage_of level after left)
+    ⊎ IsCutShort (before_lines (within_expansion arguments bytes level) before lines
+    (End (mark_at level arguments bytes) ∷ left)) gives
+expands level before after arguments bytes lines gives ending left shaped returns stands =
+    let mark : Mark = mark_at level arguments bytes in
+    let inside : Level = within_expansion arguments bytes level in
     let first : Stage = before_lines inside before lines (End mark ∷ left) in
     let P : Stage → Type 0 = Arrived ending inside after (End mark ∷ left) in
-    let Q : Stage → Type 0 = λ s. s ≡ stage_of place after left in
+    let Q : Stage → Type 0 = λ s. s ≡ stage_of level after left in
     let runs : Runs first gives P = shape inside before lines gives after ending shaped (End mark ∷ left)
     (ap (λ (m : List Mark). mark ∷ m) stands.around) refl (at_mark ending mark left) in
     let whole : Runs first (gives ++ []) Q
-    = and_then P Q first gives [] runs (λ s there. returned place after arguments bytes left ending s returns there) in
-    arrived first (stage_of place after left) gives (subst (λ (g : List Given). Runs first g Q) (append-nil gives) whole)
+    = and_then P Q first gives [] runs (λ s there. returned level after arguments bytes left ending s returns there) in
+    arrived first (stage_of level after left) gives (subst (λ (g : List Given). Runs first g Q) (append-nil gives) whole)
 
-pub ends : (place : Place) (before after : Situation) (lines : List SourceLine) (gives : List Given) (left : List Left)
-    → Shape place before lines gives after shapes.Ending.Ends → StandsIn place left
-    → IsEndedAfter (before_lines place before lines left) gives ⊎ IsCutShort (before_lines place before lines left) gives
-ends place before after lines gives left shaped stands =
-    ended (shape place before lines gives after shapes.Ending.Ends shaped left stands.around stands.is_live tt) where
-      ended : Runs (before_lines place before lines left) gives (λ s. s.has_ended ≡ true)
-          → IsEndedAfter (before_lines place before lines left) gives ⊎ IsCutShort (before_lines place before lines left) gives
+pub ends : (level : Level) (before after : Situation) (lines : List SourceLine) (gives : List Given) (left : List Left)
+    → Shape level before lines gives after shapes.Ending.Ends → StandsIn level left
+    → IsEndedAfter (before_lines level before lines left) gives ⊎ IsCutShort (before_lines level before lines left) gives
+ends level before after lines gives left shaped stands =
+    ended (shape level before lines gives after shapes.Ending.Ends shaped left stands.around stands.is_live tt) where
+      ended : Runs (before_lines level before lines left) gives (λ s. s.has_ended ≡ true)
+          → IsEndedAfter (before_lines level before lines left) gives ⊎ IsCutShort (before_lines level before lines left) gives
       ended (inl there) = inl (record { stage = there.stage; leads = there.leads; ended = there.holds })
       ended (inr short) = inr short
 
@@ -70,19 +70,19 @@ source_ends shapes.Ending.GoesOn = tt
 source_ends shapes.Ending.Stops = refl
 source_ends shapes.Ending.Ends = tt
 
-pub nothing_left : (ending : Ending) (after : Situation) (stage : Stage) → Arrived ending source_place after [] stage
+pub nothing_left : (ending : Ending) (after : Situation) (stage : Stage) → Arrived ending source_level after [] stage
     → move stage ≡ NothingLeft
 nothing_left shapes.Ending.GoesOn after stage there = ap move there
 nothing_left shapes.Ending.Stops after stage there = ap move there.is
 nothing_left shapes.Ending.Ends after stage there = ap (λ (b : Bool). if b then NothingLeft else move_from stage.left stage) there
 
 pub whole : (source : List SourceLine) (gives : List Given) (after : Situation) (ending : Ending)
-    → Shape source_place beginning source gives after ending → HasLiveLines source gives ⊎ IsCutShort (start source) gives
+    → Shape source_level beginning source gives after ending → HasLiveLines source gives ⊎ IsCutShort (start source) gives
 whole source gives after ending shaped =
-    all (from_same (Arrived ending source_place after []) (start source) (before_lines source_place beginning source []) gives
-    (ap (stage_of source_place beginning) (sym (append-nil (map line_left source))))
-    (shape source_place beginning source gives after ending shaped [] refl refl (source_ends ending))) where
-      all : Runs (start source) gives (Arrived ending source_place after [])
+    all (from_same (Arrived ending source_level after []) (start source) (before_lines source_level beginning source []) gives
+    (ap (stage_of source_level beginning) (sym (append-nil (map line_left source))))
+    (shape source_level beginning source gives after ending shaped [] refl refl (source_ends ending))) where
+      all : Runs (start source) gives (Arrived ending source_level after [])
           → HasLiveLines source gives ⊎ IsCutShort (start source) gives
       all (inl there) = inl (record {
         stage = there.stage;
@@ -148,7 +148,7 @@ no_limit_at_rest stage rests (limits.PassesLimit.Taking fault is) = by_end stage
 
 module _ (tells : List Given → Live
     → Known) (source : List SourceLine) (gives done : List Given) (after : Situation) (ending : Ending)
-    (stage : Stage) (shaped : Shape source_place beginning source gives after ending) (told : IsKnownBy tells gives)
+    (stage : Stage) (shaped : Shape source_level beginning source gives after ending) (told : IsKnownBy tells gives)
     (told' : IsKnownBy tells done) (unfolds : Unfolds source done stage) where
   pub no_others : BeginWith gives done
   no_others = by_shape (whole source gives after ending shaped) where

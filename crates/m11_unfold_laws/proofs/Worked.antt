@@ -14,7 +14,7 @@ use Rattle.m11_unfold_arguments.specs.declared.directives.Directive.TheVariants 
 use Rattle.m11_unfold_rules.specs.Acting.{OwnDirective}
 use Rattle.m11_unfold_rules.specs.Stages.{Macro, Defines, start}
 use Rattle.m11_unfold_rules.specs.Unfolding.{Given}
-use Rattle.m11_unfold_laws.specs.Places.{Place, Situation, beginning, operation_at, source_place, stage_of, within_expansion}
+use Rattle.m11_unfold_laws.specs.Levels.{Level, Situation, beginning, operation_at, source_level, stage_of, within_expansion}
 use Rattle.m11_unfold_laws.specs.Laws.{HasLiveLines}
 use Rattle.m11_unfold_laws.specs.Putting.{HasBody, Opens, Put, Puts}
 use Rattle.m11_unfold_laws.specs.Putting as putting
@@ -31,11 +31,11 @@ module _ (stands_for : Symbol → Quantity) where
   abbrev first : SourceLine
   first = line_of (codes " .MACRO TWICE ?L")
 
-  is_macro : operation_at source_place beginning first ≡ OwnDirective word.Macro 7
+  is_macro : operation_at source_level beginning first ≡ OwnDirective word.Macro 7
   unfolding alphabet code_of first_piece value_of
   is_macro = refl
 
-  opens_macro : Opens known first.text (operation_at source_place beginning first) no_notes (Defines twice_name twice_formals)
+  opens_macro : Opens known first.text (operation_at source_level beginning first) no_notes (Defines twice_name twice_formals)
   unfolding alphabet code_of first_piece value_of
   opens_macro = putting.Opens.Macro 7
 
@@ -63,10 +63,10 @@ module _ (stands_for : Symbol → Quantity) where
   abbrev nop : SourceLine
   nop = line_of (codes " NOP")
 
-  abbrev in_call : Place
-  in_call = within_expansion (Some 0) 0 source_place
+  abbrev in_call : Level
+  in_call = within_expansion (Some 0) 0 source_level
 
-  abbrev in_rounds : Place
+  abbrev in_rounds : Level
   in_rounds = within_expansion None 5 in_call
 
   -- ---- the call that creates 30000$
@@ -131,20 +131,20 @@ module _ (stands_for : Symbol → Quantity) where
   }
 
   call_puts_1 : (others : List SourceLine)
-      → Puts known (made 30000 6) call.text others (operation_at source_place (made 30000 6) call) (call_put_1 others)
+      → Puts known (made 30000 6) call.text others (operation_at source_level (made 30000 6) call) (call_put_1 others)
   unfolding alphabet code_of first_piece value_of call_put_1
   call_puts_1 others = putting.Puts.Call twice 6
 
   then_1 : (others : List SourceLine) (later : List Given)
-      → Shape source_place (made 30001 13) others later worked_end shapes.Ending.GoesOn
-      → Shape source_place (made 30000 6) (call ∷ others)
+      → Shape source_level (made 30001 13) others later worked_end shapes.Ending.GoesOn
+      → Shape source_level (made 30000 6) (call ∷ others)
       (source_line stands_for (codes " TWICE") ∷ worked.repeat_line stands_for (codes "30000$: .REPT 2")
       ∷ inner_line stands_for (codes " NOP") ∷ inner_line stands_for (codes " NOP") ∷ inner_line stands_for (codes " BR 30000$")
       ∷ later)
       worked_end shapes.Ending.GoesOn
   unfolding call_put_1
   then_1 others later next =
-      shapes.Shape.Expansion source_place (made 30000 6) (made 30001 13) worked_end shapes.Ending.GoesOn
+      shapes.Shape.Expansion source_level (made 30000 6) (made 30001 13) worked_end shapes.Ending.GoesOn
       shapes.Ending.GoesOn known call others
       (worked.repeat_line stands_for (codes "30000$: .REPT 2") ∷ inner_line stands_for (codes " NOP")
       ∷ inner_line stands_for (codes " NOP")
@@ -212,20 +212,20 @@ module _ (stands_for : Symbol → Quantity) where
   }
 
   call_puts_2 : (others : List SourceLine)
-      → Puts known (made 30001 13) call.text others (operation_at source_place (made 30001 13) call) (call_put_2 others)
+      → Puts known (made 30001 13) call.text others (operation_at source_level (made 30001 13) call) (call_put_2 others)
   unfolding alphabet code_of first_piece value_of call_put_2
   call_puts_2 others = putting.Puts.Call twice 6
 
   then_2 : (others : List SourceLine) (later : List Given)
-      → Shape source_place (made 30002 20) others later worked_end shapes.Ending.GoesOn
-      → Shape source_place (made 30001 13) (call ∷ others)
+      → Shape source_level (made 30002 20) others later worked_end shapes.Ending.GoesOn
+      → Shape source_level (made 30001 13) (call ∷ others)
       (source_line stands_for (codes " TWICE") ∷ worked.repeat_line stands_for (codes "30001$: .REPT 2")
       ∷ inner_line stands_for (codes " NOP") ∷ inner_line stands_for (codes " NOP") ∷ inner_line stands_for (codes " BR 30001$")
       ∷ later)
       worked_end shapes.Ending.GoesOn
   unfolding call_put_2
   then_2 others later next =
-      shapes.Shape.Expansion source_place (made 30001 13) (made 30002 20) worked_end shapes.Ending.GoesOn
+      shapes.Shape.Expansion source_level (made 30001 13) (made 30002 20) worked_end shapes.Ending.GoesOn
       shapes.Ending.GoesOn known call others
       (worked.repeat_line stands_for (codes "30001$: .REPT 2") ∷ inner_line stands_for (codes " NOP")
       ∷ inner_line stands_for (codes " NOP")
@@ -245,12 +245,12 @@ module _ (stands_for : Symbol → Quantity) where
       ∷ inner_line stands_for (codes " NOP") ∷ inner_line stands_for (codes " NOP") ∷ inner_line stands_for (codes " BR 30000$")
       ∷ second_call
 
-  pub as_worked : Shape source_place beginning worked_source (worked_lines stands_for) worked_end shapes.Ending.GoesOn
+  pub as_worked : Shape source_level beginning worked_source (worked_lines stands_for) worked_end shapes.Ending.GoesOn
   as_worked =
-      shapes.Shape.Definition source_place beginning worked_end shapes.Ending.GoesOn known first body_lines calls both_calls
+      shapes.Shape.Definition source_level beginning worked_end shapes.Ending.GoesOn known first body_lines calls both_calls
       no_notes twice_name
       twice_formals twice_body opens_macro has_body
-      (then_1 (call ∷ []) second_call (then_2 [] [] (shapes.Shape.Nothing source_place worked_end)))
+      (then_1 (call ∷ []) second_call (then_2 [] [] (shapes.Shape.Nothing source_level worked_end)))
 
   pub unfolds_so : HasLiveLines worked_source (worked_lines stands_for)
   unfolding alphabet code_of first_piece value_of
@@ -258,6 +258,6 @@ module _ (stands_for : Symbol → Quantity) where
       let all = walked 60 known (start worked_source) (record {
         gives = worked_lines stands_for;
         after
-            = stage_of source_place worked_end [];
+            = stage_of source_level worked_end [];
       }) refl in
-      record { stage = stage_of source_place worked_end []; unfolds = all.0; rests = all.1 }
+      record { stage = stage_of source_level worked_end []; unfolds = all.0; rests = all.1 }

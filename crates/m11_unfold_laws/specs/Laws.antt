@@ -7,17 +7,17 @@ use Rattle.m11_unfold_bodies.specs.Left.{Left, marks}
 use Rattle.m11_unfold_rules.specs.Stages.{Opening, Stage, line_left}
 use Rattle.m11_unfold_rules.specs.Taking.{NothingLeft, move}
 use Rattle.m11_unfold_rules.specs.Unfolding.{Given, Leads, Unfolds}
-use Rattle.m11_unfold_laws.specs.Places.{Place, Situation, beginning, source_place, stage_of}
+use Rattle.m11_unfold_laws.specs.Levels.{Level, Situation, beginning, source_level, stage_of}
 use Rattle.m11_unfold_laws.specs.Shapes.{Ending, GoesOn, Stops, Ends, Shape}
 
--- what is left after lines is so at their place: these expansions are open, and the lines are live in all conditions
-pub record StandsIn (place : Place) (left : List Left) : Type 0 where
-  pub around : marks left ≡ place.around
-  pub is_live : is_live_inside place.entered ≡ true
+-- what is left after lines is so at their level: these expansions are open, and the lines are live in all conditions
+pub record StandsIn (level : Level) (left : List Left) : Type 0 where
+  pub around : marks left ≡ level.around
+  pub is_live : is_live_inside level.entered ≡ true
 
 -- lines before what is left
-abbrev pub before_lines : Place → Situation → List SourceLine → List Left → Stage
-before_lines place situation lines left = stage_of place situation (map line_left lines ++ left)
+abbrev pub before_lines : Level → Situation → List SourceLine → List Left → Stage
+before_lines level situation lines left = stage_of level situation (map line_left lines ++ left)
 
 -- some conditions and some body may be open
 pub record IsStopped (situation : Situation) (left : List Left) (stage : Stage) : Type 0 where
@@ -35,10 +35,10 @@ pub record IsStopped (situation : Situation) (left : List Left) (stage : Stage) 
   }
 
 -- the stage after lines, by how they end
-abbrev pub Arrived : Ending → Place → Situation → List Left → Stage → Type 0
-Arrived GoesOn place after left stage = stage ≡ stage_of place after left
-Arrived Stops place after left stage = IsStopped after left stage
-Arrived Ends place after left stage = stage.has_ended ≡ true
+abbrev pub Arrived : Ending → Level → Situation → List Left → Stage → Type 0
+Arrived GoesOn level after left stage = stage ≡ stage_of level after left
+Arrived Stops level after left stage = IsStopped after left stage
+Arrived Ends level after left stage = stage.has_ended ≡ true
 
 -- `.END` became live after these lines
 pub record IsEndedAfter (before : Stage) (gives : List Given) : Type 0 where
@@ -61,4 +61,4 @@ pub record BeginWith (gives done : List Given) : Type 0 where
 pub record HasShape (source : List SourceLine) (gives : List Given) : Type 0 where
   pub after : Situation
   pub ending : Ending
-  pub shape : Shape source_place beginning source gives after ending
+  pub shape : Shape source_level beginning source gives after ending

@@ -1,7 +1,7 @@
 pub mod Bodies
 pub mod Laws
 pub mod Limits
-pub mod Places
+pub mod Levels
 pub mod Putting
 pub mod Shapes
 pub mod Worked

@@ -19,7 +19,7 @@ use Rattle.m11_unfold_rules.specs.Constructs.{lines_of_rounds, round_lines}
 use Rattle.m11_unfold_rules.specs.Stages as stages
 use Rattle.m11_unfold_rules.specs.Stages.{Purpose, Repeats, line_left}
 use Rattle.m11_unfold_rules.specs.Taking.{nesting}
-use Rattle.m11_unfold_laws.specs.Places.{Situation, counting}
+use Rattle.m11_unfold_laws.specs.Levels.{Situation, counting}
 
 -- ---- bodies
 
@@ -35,21 +35,21 @@ HasNoClose lines = (body_of nesting (map line_left lines)).is_closed ≡ false
 -- a line opens a body: its flags and symbols, and what the body is for
 pub data Opens (known : Known) (text : Bytes) : Operation → Notes → Purpose → Type 0 where
   -- a macro; where the name is missing or bad, the body is for nothing
-  Macro : (place : ℕ)
-      → Opens known text (OwnDirective word.Macro place) (noting (header text place).flags [])
-      (acting.defining (header text place).named)
+  Macro : (column : ℕ)
+      → Opens known text (OwnDirective word.Macro column) (noting (header text column).flags [])
+      (acting.defining (header text column).named)
   -- as many rounds as the expression says, without formals
-  Repeat : (place : ℕ)
-      → Opens known text (OwnDirective word.Rept place) (repeats.notes known text place)
-      (Repeats [] (replicate (repeats.rept_count known text place) []))
+  Repeat : (column : ℕ)
+      → Opens known text (OwnDirective word.Rept column) (repeats.notes known text column)
+      (Repeats [] (replicate (repeats.rept_count known text column) []))
   -- a round for each argument, which is put in place of the formal
-  IndefiniteRepeat : (place : ℕ)
-      → Opens known text (OwnDirective word.Irp place) (irp known text place).notes
-      (repeating (irp known text place).rounds)
+  IndefiniteRepeat : (column : ℕ)
+      → Opens known text (OwnDirective word.Irp column) (irp known text column).notes
+      (repeating (irp known text column).rounds)
   -- a round for each character
-  CharacterRepeat : (place : ℕ)
-      → Opens known text (OwnDirective word.Irpc place) (irpc text place).notes
-      (repeating (irpc text place).rounds)
+  CharacterRepeat : (column : ℕ)
+      → Opens known text (OwnDirective word.Irpc column) (irpc text column).notes
+      (repeating (irpc text column).rounds)
 
 -- ---- what is put in place
 
@@ -91,9 +91,9 @@ put_by_repeat notes formals rounds body situation others = record {
 
 pub data Puts (known : Known) (situation : Situation) (text : Bytes) (following : List SourceLine) : Operation → Put
     → Type 0 where
-  Call : (macro : stages.Macro) (place : ℕ)
-      → Puts known situation text following (Calls macro place)
-      (put_by_call macro (actuals_from known text (length macro.formals) place) situation following)
+  Call : (macro : stages.Macro) (column : ℕ)
+      → Puts known situation text following (Calls macro column)
+      (put_by_call macro (actuals_from known text (length macro.formals) column) situation following)
   Repeat : (operation : Operation) (notes : Notes) (formals : List Name) (rounds : List (List Bytes)) (body : List Bytes)
       (others : List SourceLine) → Opens known text operation notes (Repeats formals rounds) → HasBody following body others
       → Puts known situation text following operation (put_by_repeat notes formals rounds body situation others)

@@ -20,7 +20,7 @@ use Rattle.m11_unfold_rules.specs.Acting.{Operation, OwnDirective, Foreign, flag
 use Rattle.m11_unfold_rules.specs.Constructs.{condition_notes}
 use Rattle.m11_unfold_rules.specs.Stages.{Purpose, Defines, Drops}
 use Rattle.m11_unfold_rules.specs.Unfolding.{Given}
-use Rattle.m11_unfold_laws.specs.Places.{Place, Situation, counting, defining, has_condition_left, only_entered, operation_at, other_line, own_line, within_condition, within_expansion}
+use Rattle.m11_unfold_laws.specs.Levels.{Level, Situation, counting, defining, has_condition_left, only_entered, operation_at, other_line, own_line, within_condition, within_expansion}
 use Rattle.m11_unfold_laws.specs.Putting.{HasBody, HasNoClose, Opens, Put, Puts}
 
 -- how lines end
@@ -49,24 +49,24 @@ unclosed Ends = Ends
 -- an operator that is none of unfolding's own; `.NARG` and `.NCHR` say no more here than where they stand
 pub data IsOther : Operation → Type 0 where
   Other : IsOther Foreign
-  ArgumentCount : (place : ℕ) → IsOther (OwnDirective word.Narg place)
-  CharacterCount : (place : ℕ) → IsOther (OwnDirective word.Nchr place)
+  ArgumentCount : (column : ℕ) → IsOther (OwnDirective word.Narg column)
+  CharacterCount : (column : ℕ) → IsOther (OwnDirective word.Nchr column)
 
 -- a part of a condition begins
 pub data Begins : Operation → Part → ℕ → Type 0 where
-  IfFalse : (place : ℕ) → Begins (OwnDirective word.Iff place) part.False place
-  IfTrue : (place : ℕ) → Begins (OwnDirective word.Ift place) part.True place
-  IfTrueFalse : (place : ℕ) → Begins (OwnDirective word.Iftf place) part.Both place
+  IfFalse : (column : ℕ) → Begins (OwnDirective word.Iff column) part.False column
+  IfTrue : (column : ℕ) → Begins (OwnDirective word.Ift column) part.True column
+  IfTrueFalse : (column : ℕ) → Begins (OwnDirective word.Iftf column) part.Both column
 
 -- a word where it has no meaning: the close of a body where none is open, a part or the end of a condition where none is open in
 -- the expansion, and an exit outside all expansions. Its line has the flag O.
-pub data IsAstray (place : Place) (text : Bytes) : Operation → Notes → Type 0 where
-  EndMacro : (at : ℕ) → IsAstray place text (OwnDirective word.Endm at) (noting flag_O [])
-  EndRepeat : (at : ℕ) → IsAstray place text (OwnDirective word.Endr at) (noting flag_O [])
-  MacroExit : (at : ℕ) → place.around ≡ [] → IsAstray place text (OwnDirective word.Mexit at) (flagged flag_O text at)
-  Begin : (operator : Operation) (part : Part) (at : ℕ) → Begins operator part at → place.entered ≡ []
-      → IsAstray place text operator (flagged flag_O text at)
-  EndCondition : (at : ℕ) → place.entered ≡ [] → IsAstray place text (OwnDirective word.Endc at) (flagged flag_O text at)
+pub data IsAstray (level : Level) (text : Bytes) : Operation → Notes → Type 0 where
+  EndMacro : (at : ℕ) → IsAstray level text (OwnDirective word.Endm at) (noting flag_O [])
+  EndRepeat : (at : ℕ) → IsAstray level text (OwnDirective word.Endr at) (noting flag_O [])
+  MacroExit : (at : ℕ) → level.around ≡ [] → IsAstray level text (OwnDirective word.Mexit at) (flagged flag_O text at)
+  Begin : (operator : Operation) (part : Part) (at : ℕ) → Begins operator part at → level.entered ≡ []
+      → IsAstray level text operator (flagged flag_O text at)
+  EndCondition : (at : ℕ) → level.entered ≡ [] → IsAstray level text (OwnDirective word.Endc at) (flagged flag_O text at)
 
 -- ---- text that is skipped
 
@@ -95,137 +95,137 @@ pub data IsText (is_past : Bool) : ℕ → List SourceLine → ℕ → Type 0 wh
 
 -- the statement of an `.IIF` is the next line, where the condition holds
 abbrev pub statement_of : Bytes → Bool → Option ℕ → List SourceLine
-statement_of text true (Some place) = line_of (drop place text) ∷ []
+statement_of text true (Some column) = line_of (drop column text) ∷ []
 statement_of text true None = []
-statement_of text false place = []
+statement_of text false column = []
 
 abbrev pub statement : Known → Bytes → ℕ → List SourceLine
-statement known text place =
-    statement_of text (immediate.immediate known text place).holds (immediate.immediate known text place).statement
+statement known text column =
+    statement_of text (immediate.immediate known text column).holds (immediate.immediate known text column).statement
 
 -- ---- shapes
 
--- Lines at a place and in a situation; the lines that become live; the situation after them, and how they end. Lines that end
+-- Lines at a level and in a situation; the lines that become live; the situation after them, and how they end. Lines that end
 -- with their expansion are all that are left of it.
 mutual
-  pub data Shape : Place → Situation → List SourceLine → List Given → Situation → Ending → Type 0 where
+  pub data Shape : Level → Situation → List SourceLine → List Given → Situation → Ending → Type 0 where
     -- no line
-    Nothing : (place : Place) (before : Situation) → Shape place before [] [] before GoesOn
+    Nothing : (level : Level) (before : Situation) → Shape level before [] [] before GoesOn
     -- a line whose operator isn't unfolding's becomes live as it is
-    Other : (place : Place) (before after : Situation) (ending : Ending) (known : Known) (line : SourceLine)
-        (lines : List SourceLine) (gives : List Given) → IsOther (operation_at place before line)
-        → Shape place (counting 1 before) lines gives after ending
-        → Shape place before (line ∷ lines) (other_line place known line ∷ gives) after ending
+    Other : (level : Level) (before after : Situation) (ending : Ending) (known : Known) (line : SourceLine)
+        (lines : List SourceLine) (gives : List Given) → IsOther (operation_at level before line)
+        → Shape level (counting 1 before) lines gives after ending
+        → Shape level before (line ∷ lines) (other_line level known line ∷ gives) after ending
     -- a word where it has no meaning does nothing
-    Astray : (place : Place) (before after : Situation) (ending : Ending) (known : Known) (line : SourceLine)
+    Astray : (level : Level) (before after : Situation) (ending : Ending) (known : Known) (line : SourceLine)
         (lines : List SourceLine) (gives : List Given) (notes : Notes)
-        → IsAstray place line.text (operation_at place before line) notes
-        → Shape place (counting 1 before) lines gives after ending
-        → Shape place before (line ∷ lines) (own_line place known line notes ∷ gives) after ending
+        → IsAstray level line.text (operation_at level before line) notes
+        → Shape level (counting 1 before) lines gives after ending
+        → Shape level before (line ∷ lines) (own_line level known line notes ∷ gives) after ending
     -- a call or a repeat gives its own line, and then what the lines give that it puts in its place
-    Expansion : (place : Place) (before middle after : Situation) (inner ending : Ending) (known : Known) (line : SourceLine)
+    Expansion : (level : Level) (before middle after : Situation) (inner ending : Ending) (known : Known) (line : SourceLine)
         (lines : List SourceLine) (gives later : List Given) (put : Put)
-        → Puts known before line.text lines (operation_at place before line) put
-        → Shape (within_expansion put.arguments put.bytes place) put.situation put.lines gives middle inner → Returns inner
-        → Shape place middle put.others later after ending
-        → Shape place before (line ∷ lines) (own_line place known line put.notes ∷ gives ++ later) after ending
+        → Puts known before line.text lines (operation_at level before line) put
+        → Shape (within_expansion put.arguments put.bytes level) put.situation put.lines gives middle inner → Returns inner
+        → Shape level middle put.others later after ending
+        → Shape level before (line ∷ lines) (own_line level known line put.notes ∷ gives ++ later) after ending
     -- an `.END` in it is the last line of all
-    LastExpansion : (place : Place) (before after : Situation) (known : Known) (line : SourceLine) (lines : List SourceLine)
-        (gives : List Given) (put : Put) → Puts known before line.text lines (operation_at place before line) put
-        → Shape (within_expansion put.arguments put.bytes place) put.situation put.lines gives after Ends
-        → Shape place before (line ∷ lines) (own_line place known line put.notes ∷ gives) after Ends
+    LastExpansion : (level : Level) (before after : Situation) (known : Known) (line : SourceLine) (lines : List SourceLine)
+        (gives : List Given) (put : Put) → Puts known before line.text lines (operation_at level before line) put
+        → Shape (within_expansion put.arguments put.bytes level) put.situation put.lines gives after Ends
+        → Shape level before (line ∷ lines) (own_line level known line put.notes ∷ gives) after Ends
     -- `.MACRO`: its own line; the lines of the body are the macro's
-    Definition : (place : Place) (before after : Situation) (ending : Ending) (known : Known) (line : SourceLine)
+    Definition : (level : Level) (before after : Situation) (ending : Ending) (known : Known) (line : SourceLine)
         (lines others : List SourceLine) (gives : List Given) (notes : Notes) (name : Name) (formals : List MacroFormal)
-        (body : List Bytes) → Opens known line.text (operation_at place before line) notes (Defines name formals)
+        (body : List Bytes) → Opens known line.text (operation_at level before line) notes (Defines name formals)
         → HasBody lines body others
-        → Shape place (defining name formals body (counting (length body + 2) before)) others gives after ending
-        → Shape place before (line ∷ lines) (own_line place known line notes ∷ gives) after ending
+        → Shape level (defining name formals body (counting (length body + 2) before)) others gives after ending
+        → Shape level before (line ∷ lines) (own_line level known line notes ∷ gives) after ending
     -- `.MACRO` without a name: the lines of the body are for nothing
-    Dropped : (place : Place) (before after : Situation) (ending : Ending) (known : Known) (line : SourceLine)
+    Dropped : (level : Level) (before after : Situation) (ending : Ending) (known : Known) (line : SourceLine)
         (lines others : List SourceLine) (gives : List Given) (notes : Notes) (body : List Bytes)
-        → Opens known line.text (operation_at place before line) notes Drops → HasBody lines body others
-        → Shape place (counting (length body + 2) before) others gives after ending
-        → Shape place before (line ∷ lines) (own_line place known line notes ∷ gives) after ending
+        → Opens known line.text (operation_at level before line) notes Drops → HasBody lines body others
+        → Shape level (counting (length body + 2) before) others gives after ending
+        → Shape level before (line ∷ lines) (own_line level known line notes ∷ gives) after ending
     -- a body without a close is for nothing, and takes all lines
-    OpenBody : (place : Place) (before : Situation) (known : Known) (line : SourceLine) (lines : List SourceLine) (notes : Notes)
-        (purpose : Purpose) → Opens known line.text (operation_at place before line) notes purpose → HasNoClose lines
-        → Shape place before (line ∷ lines) (own_line place known line notes ∷ []) (counting (length lines + 1) before) Stops
+    OpenBody : (level : Level) (before : Situation) (known : Known) (line : SourceLine) (lines : List SourceLine) (notes : Notes)
+        (purpose : Purpose) → Opens known line.text (operation_at level before line) notes purpose → HasNoClose lines
+        → Shape level before (line ∷ lines) (own_line level known line notes ∷ []) (counting (length lines + 1) before) Stops
     -- `.IF`: its own line, and then its parts, the first of which is live where it holds
-    Condition : (place : Place) (before after : Situation) (ending : Ending) (known : Known) (line : SourceLine)
-        (lines : List SourceLine) (gives : List Given) (at : ℕ) → operation_at place before line ≡ OwnDirective word.If at
-        → has_condition_left place ≡ true
-        → Parts place (condition known line.text at).holds (condition known line.text at).holds (counting 1 before) lines gives
+    Condition : (level : Level) (before after : Situation) (ending : Ending) (known : Known) (line : SourceLine)
+        (lines : List SourceLine) (gives : List Given) (at : ℕ) → operation_at level before line ≡ OwnDirective word.If at
+        → has_condition_left level ≡ true
+        → Parts level (condition known line.text at).holds (condition known line.text at).holds (counting 1 before) lines gives
         after ending
-        → Shape place before (line ∷ lines) (own_line place known line (condition_notes known line.text at) ∷ gives) after ending
+        → Shape level before (line ∷ lines) (own_line level known line (condition_notes known line.text at) ∷ gives) after ending
     -- a 33rd condition has the flag O, and all up to its `.ENDC` is text
-    Refused : (place : Place) (before after : Situation) (ending : Ending) (known last : Known) (line close : SourceLine)
-        (text lines : List SourceLine) (gives : List Given) (at end : ℕ) → operation_at place before line ≡ OwnDirective word.If at
-        → has_condition_left place ≡ false → IsText true 0 text 0
-        → operation (past (only_entered place.entered)) before.macros close.text ≡ OwnDirective word.Endc end
-        → Shape place (counting (length text + 2) before) lines gives after ending
-        → Shape place before (line ∷ text ++ close ∷ lines)
-        (own_line place known line (noting flag_O []) ∷ own_line place last close (flagged 0 close.text end) ∷ gives) after
+    Refused : (level : Level) (before after : Situation) (ending : Ending) (known last : Known) (line close : SourceLine)
+        (text lines : List SourceLine) (gives : List Given) (at end : ℕ) → operation_at level before line ≡ OwnDirective word.If at
+        → has_condition_left level ≡ false → IsText true 0 text 0
+        → operation (past (only_entered level.entered)) before.macros close.text ≡ OwnDirective word.Endc end
+        → Shape level (counting (length text + 2) before) lines gives after ending
+        → Shape level before (line ∷ text ++ close ∷ lines)
+        (own_line level known line (noting flag_O []) ∷ own_line level last close (flagged 0 close.text end) ∷ gives) after
         ending
     -- all lines after a 33rd condition are text, where its `.ENDC` doesn't come
-    OpenRefused : (place : Place) (before : Situation) (known : Known) (line : SourceLine) (lines : List SourceLine)
+    OpenRefused : (level : Level) (before : Situation) (known : Known) (line : SourceLine) (lines : List SourceLine)
         (at inner : ℕ)
-        → operation_at place before line ≡ OwnDirective word.If at → has_condition_left place ≡ false → IsText true 0 lines inner
-        → Shape place before (line ∷ lines) (own_line place known line (noting flag_O []) ∷ [])
+        → operation_at level before line ≡ OwnDirective word.If at → has_condition_left level ≡ false → IsText true 0 lines inner
+        → Shape level before (line ∷ lines) (own_line level known line (noting flag_O []) ∷ [])
         (counting (length lines + 1) before) Stops
     -- `.IIF`: its own line, and where it holds its statement as the next line
-    Immediate : (place : Place) (before after : Situation) (ending : Ending) (known : Known) (line : SourceLine)
-        (lines : List SourceLine) (gives : List Given) (at : ℕ) → operation_at place before line ≡ OwnDirective word.Iif at
-        → Shape place (counting 1 before) (statement known line.text at ++ lines) gives after ending
-        → Shape place before (line ∷ lines) (own_line place known line (immediate.notes known line.text at) ∷ gives) after ending
+    Immediate : (level : Level) (before after : Situation) (ending : Ending) (known : Known) (line : SourceLine)
+        (lines : List SourceLine) (gives : List Given) (at : ℕ) → operation_at level before line ≡ OwnDirective word.Iif at
+        → Shape level (counting 1 before) (statement known line.text at ++ lines) gives after ending
+        → Shape level before (line ∷ lines) (own_line level known line (immediate.notes known line.text at) ∷ gives) after ending
     -- `.MEXIT`: no line after it in the expansion is taken, in none of its rounds
-    Exit : (place : Place) (before : Situation) (known : Known) (line : SourceLine) (lines : List SourceLine) (at : ℕ)
-        → operation_at place before line ≡ OwnDirective word.Mexit at → has_mark place.around ≡ true
-        → Shape place before (line ∷ lines) (own_line place known line (flagged 0 line.text at) ∷ []) (counting 1 before) Stops
+    Exit : (level : Level) (before : Situation) (known : Known) (line : SourceLine) (lines : List SourceLine) (at : ℕ)
+        → operation_at level before line ≡ OwnDirective word.Mexit at → has_mark level.around ≡ true
+        → Shape level before (line ∷ lines) (own_line level known line (flagged 0 line.text at) ∷ []) (counting 1 before) Stops
     -- `.END`: no line after it is taken at all
-    End : (place : Place) (before : Situation) (known : Known) (line : SourceLine) (lines : List SourceLine) (at : ℕ)
-        → operation_at place before line ≡ OwnDirective word.End at
-        → Shape place before (line ∷ lines) (other_line place known line ∷ []) (counting 1 before) Ends
+    End : (level : Level) (before : Situation) (known : Known) (line : SourceLine) (lines : List SourceLine) (at : ℕ)
+        → operation_at level before line ≡ OwnDirective word.End at
+        → Shape level before (line ∷ lines) (other_line level known line ∷ []) (counting 1 before) Ends
 
   -- What is left of a condition that holds or doesn't, from a part on that is live or not, with the lines after it.
-  pub data Parts : Place → Bool → Bool → Situation → List SourceLine → List Given → Situation → Ending → Type 0 where
+  pub data Parts : Level → Bool → Bool → Situation → List SourceLine → List Given → Situation → Ending → Type 0 where
     -- the part, and then `.IFF`, `.IFT` or `.IFTF` with the next one
-    Next : (place : Place) (holds is_live : Bool) (before middle after : Situation) (ending : Ending) (known : Known)
+    Next : (level : Level) (holds is_live : Bool) (before middle after : Situation) (ending : Ending) (known : Known)
         (line : SourceLine) (lines others : List SourceLine) (gives later : List Given) (part : Part) (at : ℕ)
-        → OnePart place holds is_live before lines gives middle GoesOn
-        → Begins (operation_at (within_condition holds is_live place) middle line) part at
-        → Parts place holds (is_live_in part holds) (counting 1 middle) others later after ending
-        → Parts place holds is_live before (lines ++ line ∷ others)
-        (gives ++ own_line place known line (flagged 0 line.text at) ∷ later) after ending
+        → OnePart level holds is_live before lines gives middle GoesOn
+        → Begins (operation_at (within_condition holds is_live level) middle line) part at
+        → Parts level holds (is_live_in part holds) (counting 1 middle) others later after ending
+        → Parts level holds is_live before (lines ++ line ∷ others)
+        (gives ++ own_line level known line (flagged 0 line.text at) ∷ later) after ending
     -- the part, and then `.ENDC` with what stands after it
-    Close : (place : Place) (holds is_live : Bool) (before middle after : Situation) (ending : Ending) (known : Known)
+    Close : (level : Level) (holds is_live : Bool) (before middle after : Situation) (ending : Ending) (known : Known)
         (line : SourceLine) (lines others : List SourceLine) (gives later : List Given) (at : ℕ)
-        → OnePart place holds is_live before lines gives middle GoesOn
-        → operation_at (within_condition holds is_live place) middle line ≡ OwnDirective word.Endc at
-        → Shape place (counting 1 middle) others later after ending
-        → Parts place holds is_live before (lines ++ line ∷ others)
-        (gives ++ own_line place known line (flagged 0 line.text at) ∷ later) after ending
+        → OnePart level holds is_live before lines gives middle GoesOn
+        → operation_at (within_condition holds is_live level) middle line ≡ OwnDirective word.Endc at
+        → Shape level (counting 1 middle) others later after ending
+        → Parts level holds is_live before (lines ++ line ∷ others)
+        (gives ++ own_line level known line (flagged 0 line.text at) ∷ later) after ending
     -- a live part up to an `.IIF` whose statement is a word of the condition, or stands before one
-    ImmediateInPart : (place : Place) (holds : Bool) (before middle after : Situation) (ending : Ending) (known : Known)
+    ImmediateInPart : (level : Level) (holds : Bool) (before middle after : Situation) (ending : Ending) (known : Known)
         (line : SourceLine) (lines others : List SourceLine) (gives later : List Given) (at : ℕ)
-        → OnePart place holds true before lines gives middle GoesOn
-        → operation_at (within_condition holds true place) middle line ≡ OwnDirective word.Iif at
-        → Parts place holds true (counting 1 middle) (statement known line.text at ++ others) later after ending
-        → Parts place holds true before (lines ++ line ∷ others)
-        (gives ++ own_line place known line (immediate.notes known line.text at) ∷ later) after ending
+        → OnePart level holds true before lines gives middle GoesOn
+        → operation_at (within_condition holds true level) middle line ≡ OwnDirective word.Iif at
+        → Parts level holds true (counting 1 middle) (statement known line.text at ++ others) later after ending
+        → Parts level holds true before (lines ++ line ∷ others)
+        (gives ++ own_line level known line (immediate.notes known line.text at) ∷ later) after ending
     -- the part alone, where the expansion, the source or all ends with it
-    Last : (place : Place) (holds is_live : Bool) (before after : Situation) (ending : Ending) (lines : List SourceLine)
-        (gives : List Given) → OnePart place holds is_live before lines gives after ending
-        → Parts place holds is_live before lines gives after (unclosed ending)
+    Last : (level : Level) (holds is_live : Bool) (before after : Situation) (ending : Ending) (lines : List SourceLine)
+        (gives : List Given) → OnePart level holds is_live before lines gives after ending
+        → Parts level holds is_live before lines gives after (unclosed ending)
 
   -- One part: its lines have a shape where it is live, or else are text.
-  pub data OnePart : Place → Bool → Bool → Situation → List SourceLine → List Given → Situation → Ending → Type 0 where
-    Live : (place : Place) (holds : Bool) (before after : Situation) (ending : Ending) (lines : List SourceLine)
+  pub data OnePart : Level → Bool → Bool → Situation → List SourceLine → List Given → Situation → Ending → Type 0 where
+    Live : (level : Level) (holds : Bool) (before after : Situation) (ending : Ending) (lines : List SourceLine)
         (gives : List Given)
-        → Shape (within_condition holds true place) before lines gives after ending
-        → OnePart place holds true before lines gives after ending
-    Text : (place : Place) (holds : Bool) (before : Situation) (lines : List SourceLine) → IsText false 0 lines 0
-        → OnePart place holds false before lines [] (counting (length lines) before) GoesOn
-    OpenText : (place : Place) (holds : Bool) (before : Situation) (lines : List SourceLine) (inner : ℕ)
+        → Shape (within_condition holds true level) before lines gives after ending
+        → OnePart level holds true before lines gives after ending
+    Text : (level : Level) (holds : Bool) (before : Situation) (lines : List SourceLine) → IsText false 0 lines 0
+        → OnePart level holds false before lines [] (counting (length lines) before) GoesOn
+    OpenText : (level : Level) (holds : Bool) (before : Situation) (lines : List SourceLine) (inner : ℕ)
         → IsText false 0 lines inner
-        → OnePart place holds false before lines [] (counting (length lines) before) Stops
+        → OnePart level holds false before lines [] (counting (length lines) before) Stops

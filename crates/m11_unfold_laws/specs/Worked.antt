@@ -12,7 +12,7 @@ use Rattle.m11_unfold_arguments.specs.Expressions.{known_by}
 use Rattle.m11_unfold_arguments.specs.Notes.{no_notes}
 use Rattle.m11_unfold_arguments.specs.declared.macros.MacroFormal.{MacroFormal}
 use Rattle.m11_unfold_rules.specs.Unfolding.{Given}
-use Rattle.m11_unfold_laws.specs.Places.{Situation}
+use Rattle.m11_unfold_laws.specs.Levels.{Situation}
 
 abbrev pub worked_source : List SourceLine
 worked_source = map line_of

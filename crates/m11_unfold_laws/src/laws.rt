@@ -13,42 +13,42 @@ ghost use Rattle.m11_unfold_rules.specs.Unfolding.{Given, Leads, Unfolds};
 ghost use Rattle.m11_unfold_laws.specs.Bodies.{StaysOpen, past_body, past_open_body, rest_of_body, with_body};
 ghost use Rattle.m11_unfold_laws.specs.Laws.{BeginWith, HasLiveLines, HasShape, IsEndedAfter, StandsIn, before_lines};
 ghost use Rattle.m11_unfold_laws.specs.Limits.{IsCutShort};
-ghost use Rattle.m11_unfold_laws.specs.Places.{Place, Situation, beginning, mark_at, source_place, stage_of, within_expansion};
+ghost use Rattle.m11_unfold_laws.specs.Levels.{Level, Situation, beginning, mark_at, source_level, stage_of, within_expansion};
 ghost use Rattle.m11_unfold_laws.specs.Shapes.{Ending, GoesOn, Ends, Returns, Shape};
 
 /// Lines that have a shape give its live lines, one after the other, and lead to its situation after them, unless a limit is
 /// passed on the way. Those of an expansion lead to what stands after it, whether they were all taken or `.MEXIT` left some of
 /// them; after `.END` nothing is taken.
 pub fn lines_give_the_live_lines_of_their_shape()
-    ensures onwards { (place : Place) (before after : Situation) (lines : List SourceLine) (gives : List Given) (left : List Left)
-        → Shape place before lines gives after GoesOn → StandsIn place left
-        → Leads (before_lines place before lines left) gives (stage_of place after left)
-        ⊎ IsCutShort (before_lines place before lines left) gives }
-    ensures expanded { (place : Place) (before after : Situation) (arguments : Option ℕ) (bytes : ℕ) (lines : List SourceLine)
+    ensures onwards { (level : Level) (before after : Situation) (lines : List SourceLine) (gives : List Given) (left : List Left)
+        → Shape level before lines gives after GoesOn → StandsIn level left
+        → Leads (before_lines level before lines left) gives (stage_of level after left)
+        ⊎ IsCutShort (before_lines level before lines left) gives }
+    ensures expanded { (level : Level) (before after : Situation) (arguments : Option ℕ) (bytes : ℕ) (lines : List SourceLine)
         (gives : List Given) (ending : Ending) (left : List Left)
-        → Shape (within_expansion arguments bytes place) before lines gives after ending → Returns ending → StandsIn place left
-        → Leads (before_lines (within_expansion arguments bytes place) before lines
-        (End (mark_at place arguments bytes) ∷ left)) gives
-        (stage_of place after left)
+        → Shape (within_expansion arguments bytes level) before lines gives after ending → Returns ending → StandsIn level left
+        → Leads (before_lines (within_expansion arguments bytes level) before lines
+        (End (mark_at level arguments bytes) ∷ left)) gives
+        (stage_of level after left)
         ⊎ IsCutShort
-        (before_lines (within_expansion arguments bytes place) before lines (End (mark_at place arguments bytes) ∷ left)) gives }
-    ensures ended { (place : Place) (before after : Situation) (lines : List SourceLine) (gives : List Given) (left : List Left)
-        → Shape place before lines gives after Ends → StandsIn place left
-        → IsEndedAfter (before_lines place before lines left) gives ⊎ IsCutShort (before_lines place before lines left) gives }
+        (before_lines (within_expansion arguments bytes level) before lines (End (mark_at level arguments bytes) ∷ left)) gives }
+    ensures ended { (level : Level) (before after : Situation) (lines : List SourceLine) (gives : List Given) (left : List Left)
+        → Shape level before lines gives after Ends → StandsIn level left
+        → IsEndedAfter (before_lines level before lines left) gives ⊎ IsCutShort (before_lines level before lines left) gives }
 {}
 
 /// A source that has a shape has all its live lines, unless a limit is passed on the way, and no others: whatever unfolding there
 /// is of it, under what the lines say, has the first of them; and where nothing more is taken in it, it has just these.
 pub fn a_source_has_just_the_live_lines_of_its_shape()
     ensures all { (source : List SourceLine) (gives : List Given) (after : Situation) (ending : Ending)
-        → Shape source_place beginning source gives after ending → HasLiveLines source gives ⊎ IsCutShort (start source) gives }
+        → Shape source_level beginning source gives after ending → HasLiveLines source gives ⊎ IsCutShort (start source) gives }
     ensures no_others { (known_by : List Given → Live
         → Known) (source : List SourceLine) (gives done : List Given) (after : Situation)
-        (ending : Ending) (stage : Stage) → Shape source_place beginning source gives after ending → IsKnownBy known_by gives
+        (ending : Ending) (stage : Stage) → Shape source_level beginning source gives after ending → IsKnownBy known_by gives
         → IsKnownBy known_by done → Unfolds source done stage → BeginWith gives done }
     ensures just_these { (known_by : List Given → Live
         → Known) (source : List SourceLine) (gives done : List Given) (after : Situation)
-        (ending : Ending) (stage : Stage) → Shape source_place beginning source gives after ending → IsKnownBy known_by gives
+        (ending : Ending) (stage : Stage) → Shape source_level beginning source gives after ending → IsKnownBy known_by gives
         → IsKnownBy known_by done → Unfolds source done stage → move stage ≡ NothingLeft → done ≡ gives }
 {}
 

@@ -30,13 +30,13 @@ one_expansion : (body : List Bytes) (mark : Mark) (left : List Left)
 one_expansion body mark left = as_lines [] ([] ∷ []) body mark left
     ∙ ap (λ (ls : List SourceLine). map line_left ls ++ End mark ∷ left) (append-nil (round_lines [] body []) ∙ plain_lines body)
 
-pub called : (known : Known) (stage : Stage) (line : SourceLine) (body : List Bytes) (place : ℕ) (left : List Left) → IsLive stage
-    → IsCall stage line body place → AreForeign stage (map line_of body) → depth left < most_expansions
+pub called : (known : Known) (stage : Stage) (line : SourceLine) (body : List Bytes) (column : ℕ) (left : List Left) → IsLive stage
+    → IsCall stage line body column → AreForeign stage (map line_of body) → depth left < most_expansions
     → stage.taken + 1 + length body ≤ most_lines
-    → Leads (before_call stage line left) (own_given known left line (actuals_from known line.text 0 place).notes
+    → Leads (before_call stage line left) (own_given known left line (actuals_from known line.text 0 column).notes
     ∷ map (expanded_given known (Some 0)) (map line_of body)) (after_call stage body left)
-called known stage line body place left live is foreign shallow most =
-    let notes : Notes = (actuals_from known line.text 0 place).notes in
+called known stage line body column left live is foreign shallow most =
+    let notes : Notes = (actuals_from known line.text 0 column).notes in
     let lines : List SourceLine = map line_of body in
     let mark : Mark = record { arguments = Some 0; bytes = 0; conditions = stage.conditions } in
     let before : Stage = stage_at stage.conditions stage.macros stage.defined_bytes stage.created stage.taken (Line line ∷ left) in

@@ -51,22 +51,22 @@ past_lines : (rest : List SourceLine) (mark : Mark) (left : List Left)
 past_lines [] mark left = refl
 past_lines (line ∷ rest) mark left = past_lines rest mark left
 
-pub exits : (known : Known) (stage : Stage) (line : SourceLine) (place : ℕ) (rest : List SourceLine) (mark : Mark) (left : List Left)
-    → IsLive stage → IsDirective stage line word.Mexit place → stage.taken + 1 ≤ most_lines
-    → Leads (before_exit stage line rest mark left) (exit_given known mark left line (flagged 0 line.text place) ∷ [])
+pub exits : (known : Known) (stage : Stage) (line : SourceLine) (column : ℕ) (rest : List SourceLine) (mark : Mark) (left : List Left)
+    → IsLive stage → IsDirective stage line word.Mexit column → stage.taken + 1 ≤ most_lines
+    → Leads (before_exit stage line rest mark left) (exit_given known mark left line (flagged 0 line.text column) ∷ [])
     (after_exit stage mark left)
-exits known stage line place rest mark left live is most =
+exits known stage line column rest mark left live is most =
     let all : List Left = map line_left rest ++ End mark ∷ left in
     let at : ℕ → List Left → Stage = λ taken l. stage_at stage.conditions stage.macros stage.defined_bytes stage.created taken l in
     let here : Stage = at (stage.taken + 1) all in
     let before : Stage = at stage.taken (Line line ∷ all) in
     let after : Stage = at (stage.taken + 1) (End mark ∷ left) in
-    let done : Acted = own (flagged 0 line.text place) after in
+    let done : Acted = own (flagged 0 line.text column) after in
     let marked : marks all ≡ mark ∷ marks left = same_marks rest (End mark ∷ left) in
-    let by_marks : List Mark → Acted = λ m. if has_mark m then own (flagged 0 line.text place) (at (stage.taken + 1) (after_mark all))
-    else own (flagged 256 line.text place) here in
+    let by_marks : List Mark → Acted = λ m. if has_mark m then own (flagged 0 line.text column) (at (stage.taken + 1) (after_mark all))
+    else own (flagged 256 line.text column) here in
     let acts : act known here line.text ≡ done = ap (acted_by known line.text here) is ∙ ap by_marks marked
-    ∙ ap (λ (l : List Left). own (flagged 0 line.text place) (at (stage.taken + 1) l)) (past_lines rest mark left) in
+    ∙ ap (λ (l : List Left). own (flagged 0 line.text column) (at (stage.taken + 1) l)) (past_lines rest mark left) in
     let faults : act_fault here line.text ≡ None = ap (fault_by here) is in
     let gives = one_line known stage.conditions stage.macros stage.defined_bytes stage.created stage.taken line all done live.taking
     most acts faults in
@@ -74,11 +74,11 @@ exits known stage line place rest mark left live is most =
       live = record { line = line; is_expanded = has_mark m };
       known = known;
       is_own = true;
-      notes = flagged 0 line.text place;
+      notes = flagged 0 line.text column;
       arguments = count_in m;
     } in
     let P : List Mark → Type 0 = λ m. Leads before (told m ∷ []) after in
-    let first : Leads before (exit_given known mark left line (flagged 0 line.text place) ∷ []) after = subst P marked gives in
-    let last = steps.Leads.Passing (exit_given known mark left line (flagged 0 line.text place) ∷ []) after (ended mark left after) first
+    let first : Leads before (exit_given known mark left line (flagged 0 line.text column) ∷ []) after = subst P marked gives in
+    let last = steps.Leads.Passing (exit_given known mark left line (flagged 0 line.text column) ∷ []) after (ended mark left after) first
     refl refl in
     rw (live.no_body, live.going_on) last

@@ -34,17 +34,17 @@ stays_after before _ _ ended (steps.Leads.Giving done stage after live known ste
     let bad : NothingLeft ≡ Gives live after = sym rests ∙ here in
     absurd (cc bad)
 
-ends : (known : Known) (stage : Stage) (line : SourceLine) (place : ℕ) → IsDirective stage line word.End place
+ends : (known : Known) (stage : Stage) (line : SourceLine) (column : ℕ) → IsDirective stage line word.End column
     → (act known stage line.text).after.has_ended ≡ true
-ends known stage line place is =
+ends known stage line column is =
     ap (λ (o : Operation). (acted_by known line.text stage o).after.has_ended) is
 
-pub rests : (known : Known) (stage : Stage) (line : SourceLine) (place : ℕ) → IsDirective stage line word.End place
+pub rests : (known : Known) (stage : Stage) (line : SourceLine) (column : ℕ) → IsDirective stage line word.End column
     → move (act known stage line.text).after ≡ NothingLeft
-rests known stage line place is = rests_after (act known stage line.text).after (ends known stage line place is)
+rests known stage line column is = rests_after (act known stage line.text).after (ends known stage line column is)
 
-pub stays : (known : Known) (stage after : Stage) (line : SourceLine) (place : ℕ) (done : List Given)
-    → IsDirective stage line word.End place → Leads (act known stage line.text).after done after
+pub stays : (known : Known) (stage after : Stage) (line : SourceLine) (column : ℕ) (done : List Given)
+    → IsDirective stage line word.End column → Leads (act known stage line.text).after done after
     → (done ≡ []) × (after ≡ (act known stage line.text).after)
-stays known stage after line place done is =
-    stays_after (act known stage line.text).after after done (ends known stage line place is)
+stays known stage after line column done is =
+    stays_after (act known stage line.text).after after done (ends known stage line column is)

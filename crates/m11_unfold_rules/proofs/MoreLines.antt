@@ -149,50 +149,50 @@ module _ (more : List SourceLine) where
   either_on true one other = refl
   either_on false one other = refl
 
-  if_on : (known : Known) (text : Bytes) (place : ℕ) (stage : Stage)
-      → acted_if known text place (on stage) ≡ on_acted (acted_if known text place stage)
-  if_on known text place stage =
+  if_on : (known : Known) (text : Bytes) (column : ℕ) (stage : Stage)
+      → acted_if known text column (on stage) ≡ on_acted (acted_if known text column stage)
+  if_on known text column stage =
       ap (λ (ms : List Mark). if nat_lt (length stage.conditions.entered + conditions_in ms) most_conditions
-      then condition_opened text (condition known text place) (on stage)
+      then condition_opened text (condition known text column) (on stage)
       else own (noting flag_O []) (record (on stage) { conditions = past stage.conditions })) (same_open stage.left)
-      ∙ either_on (has_room stage) (condition_opened text (condition known text place) stage)
+      ∙ either_on (has_room stage) (condition_opened text (condition known text column) stage)
       (own (noting flag_O []) (record stage { conditions = past stage.conditions }))
 
-  statement_on : (text : Bytes) (holds : Bool) (place : Option ℕ) (stage : Stage)
-      → with_statement text holds place (on stage) ≡ on (with_statement text holds place stage)
-  statement_on text true (Some place) stage = refl
+  statement_on : (text : Bytes) (holds : Bool) (column : Option ℕ) (stage : Stage)
+      → with_statement text holds column (on stage) ≡ on (with_statement text holds column stage)
+  statement_on text true (Some column) stage = refl
   statement_on text true None stage = refl
-  statement_on text false place stage = refl
+  statement_on text false column stage = refl
 
-  immediate_on : (known : Known) (text : Bytes) (place : ℕ) (stage : Stage)
-      → acted_immediate known text place (on stage) ≡ on_acted (acted_immediate known text place stage)
-  immediate_on known text place stage =
-      ap (own (immediate.notes known text place)) (statement_on text (immediate.immediate known text place).holds
-      (immediate.immediate known text place).statement stage)
+  immediate_on : (known : Known) (text : Bytes) (column : ℕ) (stage : Stage)
+      → acted_immediate known text column (on stage) ≡ on_acted (acted_immediate known text column stage)
+  immediate_on known text column stage =
+      ap (own (immediate.notes known text column)) (statement_on text (immediate.immediate known text column).holds
+      (immediate.immediate known text column).statement stage)
 
-  within_on : (change : OpenConditions → OpenConditions) (text : Bytes) (place : ℕ) (stage : Stage)
-      → acted_within change text place (on stage) ≡ on_acted (acted_within change text place stage)
-  within_on change text place stage =
-      either_on (has_none stage.conditions) (own (flagged flag_O text place) stage)
-      (own (flagged 0 text place) (record stage { conditions = change stage.conditions }))
+  within_on : (change : OpenConditions → OpenConditions) (text : Bytes) (column : ℕ) (stage : Stage)
+      → acted_within change text column (on stage) ≡ on_acted (acted_within change text column stage)
+  within_on change text column stage =
+      either_on (has_none stage.conditions) (own (flagged flag_O text column) stage)
+      (own (flagged 0 text column) (record stage { conditions = change stage.conditions }))
 
   after_mark_on : (left : List Left) → is_expanding left ≡ true → after_mark (left ++ lines) ≡ after_mark left ++ lines
   after_mark_on [] is = absurd (let bad = is in cc)
   after_mark_on (Line line ∷ left) is = after_mark_on left is
   after_mark_on (End mark ∷ left) is = refl
 
-  exit_on : (text : Bytes) (place : ℕ) (stage : Stage) → acted_exit text place (on stage) ≡ on_acted (acted_exit text place stage)
-  exit_on text place stage =
-      ap (λ (ms : List Mark). if has_mark ms then own (flagged 0 text place) (record stage { left = after_mark (stage.left ++ lines) })
-      else own (flagged flag_O text place) (on stage)) (same_open stage.left)
+  exit_on : (text : Bytes) (column : ℕ) (stage : Stage) → acted_exit text column (on stage) ≡ on_acted (acted_exit text column stage)
+  exit_on text column stage =
+      ap (λ (ms : List Mark). if has_mark ms then own (flagged 0 text column) (record stage { left = after_mark (stage.left ++ lines) })
+      else own (flagged flag_O text column) (on stage)) (same_open stage.left)
       ∙ go (is_expanding stage.left) refl
     where
       go : (b : Bool) → is_expanding stage.left ≡ b
-          → (if b then own (flagged 0 text place) (record stage { left = after_mark (stage.left ++ lines) })
-          else own (flagged flag_O text place) (on stage))
-          ≡ on_acted (if b then own (flagged 0 text place) (record stage { left = after_mark stage.left })
-          else own (flagged flag_O text place) stage)
-      go true is = ap (λ (l : List Left). own (flagged 0 text place) (record stage { left = l })) (after_mark_on stage.left is)
+          → (if b then own (flagged 0 text column) (record stage { left = after_mark (stage.left ++ lines) })
+          else own (flagged flag_O text column) (on stage))
+          ≡ on_acted (if b then own (flagged 0 text column) (record stage { left = after_mark stage.left })
+          else own (flagged flag_O text column) stage)
+      go true is = ap (λ (l : List Left). own (flagged 0 text column) (record stage { left = l })) (after_mark_on stage.left is)
       go false is = refl
 
   call_on : (macro : Macro) (count : ℕ) (filled : Filled) (stage : Stage)
@@ -200,40 +200,40 @@ module _ (more : List SourceLine) where
   call_on macro count filled stage = opened_on (Some count) 0 (map formal_name macro.formals) (filled.texts ∷ []) macro.body
       (record stage { created = filled.created })
 
-  directive_on : (known : Known) (text : Bytes) (stage : Stage) (directive : Directive) (place : ℕ)
-      → acted_by known text (on stage) (OwnDirective directive place) ≡ on_acted (acted_by known text stage (OwnDirective directive place))
-  directive_on known text stage word.If place = if_on known text place stage
-  directive_on known text stage word.Iff place = within_on (switched part.False) text place stage
-  directive_on known text stage word.Ift place = within_on (switched part.True) text place stage
-  directive_on known text stage word.Iftf place = within_on (switched part.Both) text place stage
-  directive_on known text stage word.Endc place = within_on closed text place stage
-  directive_on known text stage word.Iif place = immediate_on known text place stage
-  directive_on known text stage word.Macro place = refl
-  directive_on known text stage word.Endm place = refl
-  directive_on known text stage word.Rept place = refl
-  directive_on known text stage word.Endr place = refl
-  directive_on known text stage word.Irp place = refl
-  directive_on known text stage word.Irpc place = refl
-  directive_on known text stage word.Mexit place = exit_on text place stage
-  directive_on known text stage word.Narg place = refl
-  directive_on known text stage word.Nchr place = refl
-  directive_on known text stage word.End place = refl
+  directive_on : (known : Known) (text : Bytes) (stage : Stage) (directive : Directive) (column : ℕ)
+      → acted_by known text (on stage) (OwnDirective directive column) ≡ on_acted (acted_by known text stage (OwnDirective directive column))
+  directive_on known text stage word.If column = if_on known text column stage
+  directive_on known text stage word.Iff column = within_on (switched part.False) text column stage
+  directive_on known text stage word.Ift column = within_on (switched part.True) text column stage
+  directive_on known text stage word.Iftf column = within_on (switched part.Both) text column stage
+  directive_on known text stage word.Endc column = within_on closed text column stage
+  directive_on known text stage word.Iif column = immediate_on known text column stage
+  directive_on known text stage word.Macro column = refl
+  directive_on known text stage word.Endm column = refl
+  directive_on known text stage word.Rept column = refl
+  directive_on known text stage word.Endr column = refl
+  directive_on known text stage word.Irp column = refl
+  directive_on known text stage word.Irpc column = refl
+  directive_on known text stage word.Mexit column = exit_on text column stage
+  directive_on known text stage word.Narg column = refl
+  directive_on known text stage word.Nchr column = refl
+  directive_on known text stage word.End column = refl
 
   acted_on : (known : Known) (text : Bytes) (stage : Stage) (operation : Operation)
       → acted_by known text (on stage) operation ≡ on_acted (acted_by known text stage operation)
   acted_on known text stage Foreign = refl
-  acted_on known text stage (Calls macro place) =
-      let actuals : Given = actuals_from known text (length macro.formals) place in
+  acted_on known text stage (Calls macro column) =
+      let actuals : Given = actuals_from known text (length macro.formals) column in
       ap (own actuals.notes) (call_on macro (length actuals.texts) (filled macro.formals actuals.texts stage.created) stage)
-  acted_on known text stage (OwnDirective directive place) = directive_on known text stage directive place
+  acted_on known text stage (OwnDirective directive column) = directive_on known text stage directive column
 
   act_on : (known : Known) (stage : Stage) (text : Bytes) → act known (on stage) text ≡ on_acted (act known stage text)
   act_on known stage text = acted_on known text stage (operation stage.conditions stage.macros text)
 
   fault_by_on : (stage : Stage) (operation : Operation) → fault_by (on stage) operation ≡ fault_by stage operation
   fault_by_on stage Foreign = refl
-  fault_by_on stage (Calls macro place) = same_depth stage.left
-  fault_by_on stage (OwnDirective directive place) = refl
+  fault_by_on stage (Calls macro column) = same_depth stage.left
+  fault_by_on stage (OwnDirective directive column) = refl
 
   act_fault_on : (stage : Stage) (text : Bytes) → act_fault (on stage) text ≡ act_fault stage text
   act_fault_on stage text = fault_by_on stage (operation stage.conditions stage.macros text)

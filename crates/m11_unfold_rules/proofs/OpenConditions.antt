@@ -62,15 +62,15 @@ module _ (known : Known) (conditions : OpenConditions) (macros : List (Name × M
   abbrev at : OpenConditions → ℕ → List Left → Stage
   at c taken left = stage_at c macros bytes created taken left
 
-  opens_condition : (taken place : ℕ) (line : SourceLine) (left : List Left) (holds : Bool) → is_skipping conditions ≡ false
-      → operation conditions macros line.text ≡ OwnDirective word.If place → (condition known line.text place).holds ≡ holds
+  opens_condition : (taken column : ℕ) (line : SourceLine) (left : List Left) (holds : Bool) → is_skipping conditions ≡ false
+      → operation conditions macros line.text ≡ OwnDirective word.If column → (condition known line.text column).holds ≡ holds
       → length conditions.entered + conditions_open left < most_conditions → taken + 1 ≤ most_lines
-      → Leads (at conditions taken (Line line ∷ left)) (own_given known left line (condition_notes known line.text place) ∷ [])
+      → Leads (at conditions taken (Line line ∷ left)) (own_given known left line (condition_notes known line.text column) ∷ [])
       (at (entering holds conditions) (taken + 1) left)
-  opens_condition taken place line left holds live is answers room most =
+  opens_condition taken column line left holds live is answers room most =
       let here : Stage = at conditions (taken + 1) left in
-      let notes : Notes = condition_notes known line.text place in
-      let asked : Asked = condition known line.text place in
+      let notes : Notes = condition_notes known line.text column in
+      let asked : Asked = condition known line.text column in
       let has : nat_lt (length conditions.entered + conditions_open left) most_conditions ≡ true = grind (arith, nat_tests) in
       let done : Acted = own notes (at (entering holds conditions) (taken + 1) left) in
       let acts : act known here line.text ≡ done = ap (acted_by known line.text here) is
@@ -80,24 +80,24 @@ module _ (known : Known) (conditions : OpenConditions) (macros : List (Name × M
       let faults : act_fault here line.text ≡ None = ap (fault_by here) is in
       one_line known conditions macros bytes created taken line left done live most acts faults
 
-  closes_condition : (taken place : ℕ) (line : SourceLine) (left : List Left) (holds : Bool) → conditions.is_past ≡ false
-      → operation (entering holds conditions) macros line.text ≡ OwnDirective word.Endc place
+  closes_condition : (taken column : ℕ) (line : SourceLine) (left : List Left) (holds : Bool) → conditions.is_past ≡ false
+      → operation (entering holds conditions) macros line.text ≡ OwnDirective word.Endc column
       → move (at (entering holds conditions) taken (Line line ∷ left))
       ≡ Gives (record { line = line; is_expanded = is_expanding left }) (at (entering holds conditions) (taken + 1) left)
       → taken + 1 ≤ most_lines
-      → Leads (at (entering holds conditions) taken (Line line ∷ left)) (own_given known left line (flagged 0 line.text place) ∷ [])
+      → Leads (at (entering holds conditions) taken (Line line ∷ left)) (own_given known left line (flagged 0 line.text column) ∷ [])
       (at conditions (taken + 1) left)
-  closes_condition taken place line left holds none is gives most =
+  closes_condition taken column line left holds none is gives most =
       let c : OpenConditions = entering holds conditions in
       let before : Stage = at c taken (Line line ∷ left) in
       let here : Stage = at c (taken + 1) left in
-      let notes : Notes = flagged 0 line.text place in
+      let notes : Notes = flagged 0 line.text column in
       let done : Acted = own notes (at conditions (taken + 1) left) in
       let some : (length c.entered == 0) ≡ false = grind (arith, nat_tests) in
       let acts : act known here line.text ≡ done = ap (acted_by known line.text here) is
-      ∙ ap (λ (b : Bool). if not b && length c.entered == 0 then own (flagged flag_O line.text place) here
+      ∙ ap (λ (b : Bool). if not b && length c.entered == 0 then own (flagged flag_O line.text column) here
       else own notes (at (closed c) (taken + 1) left)) none
-      ∙ ap (λ (b : Bool). if b then own (flagged flag_O line.text place) here else own notes (at (closed c) (taken + 1) left)) some
+      ∙ ap (λ (b : Bool). if b then own (flagged flag_O line.text column) here else own notes (at (closed c) (taken + 1) left)) some
       ∙ ap (λ (o : OpenConditions). own notes (at o (taken + 1) left)) (closes_again conditions holds none) in
       let faults : act_fault here line.text ≡ None = ap (fault_by here) is in
       let shown : Live = record { line = line; is_expanded = is_expanding left } in
@@ -129,20 +129,20 @@ module _ (known : Known) (conditions : OpenConditions) (macros : List (Name × M
       let sum : taken + 1 + length lines ≡ taken + suc (length lines) = omega arith in
       subst Q sum later
 
-  pub close_is_live : (taken place : ℕ) (line : SourceLine) (left : List Left) → conditions.is_past ≡ false → conditions.nested ≡ 0
-      → operation conditions macros line.text ≡ OwnDirective word.Endc place
+  pub close_is_live : (taken column : ℕ) (line : SourceLine) (left : List Left) → conditions.is_past ≡ false → conditions.nested ≡ 0
+      → operation conditions macros line.text ≡ OwnDirective word.Endc column
       → move (at (entering false conditions) taken (Line line ∷ left))
       ≡ Gives (record { line = line; is_expanded = is_expanding left }) (at (entering false conditions) (taken + 1) left)
-  close_is_live taken place line left none outermost is =
+  close_is_live taken column line left none outermost is =
       let c : OpenConditions = entering false conditions in
       let here : Stage = at c (taken + 1) left in
       ap (λ (b : Bool). live_or_skipped (if b then skipped_by c (directive line.text) else None) line here) (skipping_in_false conditions none)
-      ∙ ap (λ (d : Option Directive). live_or_skipped (skipped_by c d) line here) (has_word macros conditions line.text place word.Endc is)
+      ∙ ap (λ (d : Option Directive). live_or_skipped (skipped_by c d) line here) (has_word macros conditions line.text column word.Endc is)
       ∙ ap (λ (n : ℕ). live_or_skipped (if n == 0 then None else Some (unnested c)) line here) outermost
 
 -- ---- the whole block
 
-module _ (known : Known) (stage : Stage) (block : Block) (place end : ℕ) where
+module _ (known : Known) (stage : Stage) (block : Block) (column end : ℕ) where
   abbrev at_stage : OpenConditions → ℕ → List Left → Stage
   at_stage c taken left = stage_at c stage.macros stage.defined_bytes stage.created taken left
 
@@ -153,13 +153,13 @@ module _ (known : Known) (stage : Stage) (block : Block) (place end : ℕ) where
   all = map line_left block.lines ++ rest
 
   abbrev head_given : Given
-  head_given = own_given known block.left block.first (condition_notes known block.first.text place)
+  head_given = own_given known block.left block.first (condition_notes known block.first.text column)
 
   abbrev close_given : Given
   close_given = own_given known block.left block.close (flagged 0 block.close.text end)
 
-  begins : (holds : Bool) → IsLive stage → IsDirective stage block.first word.If place
-      → (condition known block.first.text place).holds ≡ holds → HasConditionLeft stage block → stage.taken + 1 ≤ most_lines
+  begins : (holds : Bool) → IsLive stage → IsDirective stage block.first word.If column
+      → (condition known block.first.text column).holds ≡ holds → HasConditionLeft stage block → stage.taken + 1 ≤ most_lines
       → Leads (at_stage stage.conditions stage.taken (Line block.first ∷ all)) (head_given ∷ [])
       (at_stage (entering holds stage.conditions) (stage.taken + 1) all)
   begins holds live is answers room most =
@@ -172,14 +172,14 @@ module _ (known : Known) (stage : Stage) (block : Block) (place end : ℕ) where
         live = record { line = block.first; is_expanded = has_mark m };
         known = known;
         is_own = true;
-        notes = condition_notes known block.first.text place;
+        notes = condition_notes known block.first.text column;
         arguments = count_in m;
       } in
       let Q : List Mark → Type 0 = λ m. Leads before (told m ∷ []) after in
-      subst Q marked (opens_condition known stage.conditions stage.macros stage.defined_bytes stage.created stage.taken place block.first all
+      subst Q marked (opens_condition known stage.conditions stage.macros stage.defined_bytes stage.created stage.taken column block.first all
       holds live.taking is answers room' most)
 
-  pub condition_holds : IsLive stage → IsDirective stage block.first word.If place → (condition known block.first.text place).holds ≡ true
+  pub condition_holds : IsLive stage → IsDirective stage block.first word.If column → (condition known block.first.text column).holds ≡ true
       → HasConditionLeft stage block → AreForeign stage block.lines → IsDirective stage block.close word.Endc end
       → stage.taken + (length block.lines + 2) ≤ most_lines
       → Leads (before_block stage block) (head_given ∷ map (foreign_given known block.left) block.lines ++ close_given ∷ [])
@@ -211,7 +211,7 @@ module _ (known : Known) (stage : Stage) (block : Block) (place end : ℕ) where
       (last (stage.taken + (n + 2) + 0)) = subst Q sum whole in
       rw (live.no_body, live.going_on) stood
 
-  pub condition_fails : IsLive stage → IsDirective stage block.first word.If place → (condition known block.first.text place).holds ≡ false
+  pub condition_fails : IsLive stage → IsDirective stage block.first word.If column → (condition known block.first.text column).holds ≡ false
       → HasConditionLeft stage block → stage.conditions.nested ≡ 0 → AreForeign stage block.lines
       → IsDirective stage block.close word.Endc end → stage.taken + (length block.lines + 2) ≤ most_lines
       → Leads (before_block stage block) (head_given ∷ close_given ∷ []) (after_block stage block 0)

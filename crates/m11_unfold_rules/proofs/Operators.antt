@@ -40,11 +40,11 @@ module _ (macros : List (Name × Macro)) where
 
   -- ---- what a word alone is
 
-  word_of_called : (macro : Option Macro) (word : Option Directive) (end place : ℕ) (directive : Directive)
-      → called macro word end ≡ OwnDirective directive place → (word ≡ Some directive) × (directed word end ≡ OwnDirective directive place)
-  word_of_called (Some macro) word end place directive is = absurd (let bad = is in cc)
-  word_of_called None None end place directive is = absurd (let bad = is in cc)
-  word_of_called None (Some word) end place directive is =
+  word_of_called : (macro : Option Macro) (word : Option Directive) (end column : ℕ) (directive : Directive)
+      → called macro word end ≡ OwnDirective directive column → (word ≡ Some directive) × (directed word end ≡ OwnDirective directive column)
+  word_of_called (Some macro) word end column directive is = absurd (let bad = is in cc)
+  word_of_called None None end column directive is = absurd (let bad = is in cc)
+  word_of_called None (Some word) end column directive is =
       let same : word ≡ directive = cc in
       (ap (λ (d : Directive). Some d) same, is)
 
@@ -53,17 +53,17 @@ module _ (macros : List (Name × Macro)) where
   no_word_of_called None None end is = refl
   no_word_of_called None (Some word) end is = absurd (let bad = is in cc)
 
-  word_in : (conditions : OpenConditions) (text : Bytes) (name : Option Span) (place : ℕ) (directive : Directive)
-      → operation_in conditions macros text name ≡ OwnDirective directive place → directive_at text name ≡ Some directive
-  word_in conditions text None place directive is = absurd (let bad = is in cc)
-  word_in conditions text (Some name) place directive is =
+  word_in : (conditions : OpenConditions) (text : Bytes) (name : Option Span) (column : ℕ) (directive : Directive)
+      → operation_in conditions macros text name ≡ OwnDirective directive column → directive_at text name ≡ Some directive
+  word_in conditions text None column directive is = absurd (let bad = is in cc)
+  word_in conditions text (Some name) column directive is =
       let word : Bytes = six_of (text_between text name.start name.end) in
-      (word_of_called (macro_of conditions macros (name_of word)) (directive_named word) name.end place directive is).0
+      (word_of_called (macro_of conditions macros (name_of word)) (directive_named word) name.end column directive is).0
 
   -- a line with a directive has its word
-  pub has_word : (conditions : OpenConditions) (text : Bytes) (place : ℕ) (word : Directive)
-      → operation conditions macros text ≡ OwnDirective word place → directive text ≡ Some word
-  has_word conditions text place word is = word_in conditions text (operator text) place word is
+  pub has_word : (conditions : OpenConditions) (text : Bytes) (column : ℕ) (word : Directive)
+      → operation conditions macros text ≡ OwnDirective word column → directive text ≡ Some word
+  has_word conditions text column word is = word_in conditions text (operator text) column word is
 
   no_word_in : (conditions : OpenConditions) (text : Bytes) (name : Option Span)
       → operation_in conditions macros text name ≡ Foreign → directive_at text name ≡ None
@@ -80,16 +80,16 @@ module _ (macros : List (Name × Macro)) where
   no_macro conditions None skips = refl
   no_macro conditions (Some name) skips = ap (λ (b : Bool). if b then None else macro_named macros name) skips
 
-  skipping_in : (one other : OpenConditions) (text : Bytes) (name : Option Span) (place : ℕ) (directive : Directive)
-      → is_skipping other ≡ true → operation_in one macros text name ≡ OwnDirective directive place
-      → operation_in other macros text name ≡ OwnDirective directive place
-  skipping_in one other text None place directive skips is = is
-  skipping_in one other text (Some name) place directive skips is =
+  skipping_in : (one other : OpenConditions) (text : Bytes) (name : Option Span) (column : ℕ) (directive : Directive)
+      → is_skipping other ≡ true → operation_in one macros text name ≡ OwnDirective directive column
+      → operation_in other macros text name ≡ OwnDirective directive column
+  skipping_in one other text None column directive skips is = is
+  skipping_in one other text (Some name) column directive skips is =
       let word : Bytes = six_of (text_between text name.start name.end) in
-      let directs = word_of_called (macro_of one macros (name_of word)) (directive_named word) name.end place directive is in
+      let directs = word_of_called (macro_of one macros (name_of word)) (directive_named word) name.end column directive is in
       ap (λ (m : Option Macro). called m (directive_named word) name.end) (no_macro other (name_of word) skips) ∙ directs.1
 
   -- a directive is one in skipped lines too
-  pub directive_skipping : (one other : OpenConditions) (text : Bytes) (place : ℕ) (word : Directive)
-      → is_skipping other ≡ true → operation one macros text ≡ OwnDirective word place → operation other macros text ≡ OwnDirective word place
-  directive_skipping one other text place word skips is = skipping_in one other text (operator text) place word skips is
+  pub directive_skipping : (one other : OpenConditions) (text : Bytes) (column : ℕ) (word : Directive)
+      → is_skipping other ≡ true → operation one macros text ≡ OwnDirective word column → operation other macros text ≡ OwnDirective word column
+  directive_skipping one other text column word skips is = skipping_in one other text (operator text) column word skips is

@@ -186,18 +186,18 @@ module _ (known : Known) (stage : Stage) (block : Block) (formals : List Name) (
 
 -- ---- each repeat
 
-pub repeated : (known : Known) (stage : Stage) (block : Block) (place : ℕ) → IsLive stage → IsDirective stage block.first word.Rept place
+pub repeated : (known : Known) (stage : Stage) (block : Block) (column : ℕ) → IsLive stage → IsDirective stage block.first word.Rept column
     → IsPlainBody (texts_of block.lines) → nesting block.close.text ≡ Closes
-    → AreForeign stage (times (repeats.rept_count known block.first.text place) (map line_of (texts_of block.lines)))
+    → AreForeign stage (times (repeats.rept_count known block.first.text column) (map line_of (texts_of block.lines)))
     → HasRoom stage block (texts_of block.lines)
-    (times (repeats.rept_count known block.first.text place) (map line_of (texts_of block.lines)))
-    → Leads (before_block stage block) (own_given known block.left block.first (repeats.notes known block.first.text place)
+    (times (repeats.rept_count known block.first.text column) (map line_of (texts_of block.lines)))
+    → Leads (before_block stage block) (own_given known block.left block.first (repeats.notes known block.first.text column)
     ∷ map (expanded_given known (argument_count block.left))
-    (times (repeats.rept_count known block.first.text place) (map line_of (texts_of block.lines))))
-    (after_block stage block (length (times (repeats.rept_count known block.first.text place) (map line_of (texts_of block.lines)))))
-repeated known stage block place live is plain closing foreign room =
-    let n : ℕ = repeats.rept_count known block.first.text place in
-    let notes : Notes = repeats.notes known block.first.text place in
+    (times (repeats.rept_count known block.first.text column) (map line_of (texts_of block.lines))))
+    (after_block stage block (length (times (repeats.rept_count known block.first.text column) (map line_of (texts_of block.lines)))))
+repeated known stage block column live is plain closing foreign room =
+    let n : ℕ = repeats.rept_count known block.first.text column in
+    let notes : Notes = repeats.notes known block.first.text column in
     let rounds : List (List Bytes) = replicate n [] in
     let body : List Bytes = texts_of block.lines in
     let same : lines_of_rounds [] rounds body ≡ times n (map line_of body) = plain_rounds n body in
@@ -210,7 +210,7 @@ repeated known stage block place live is plain closing foreign room =
     let faults : act_fault here block.first.text ≡ None = ap (fault_by here) is in
     subst P same (λ foreign' room'. repeats_run known stage block [] rounds notes live plain closing foreign' room' acts faults) foreign room
 
-module _ (known : Known) (stage : Stage) (block : Block) (place : ℕ) (rounds : Repetition) where
+module _ (known : Known) (stage : Stage) (block : Block) (column : ℕ) (rounds : Repetition) where
   abbrev here : Stage
   here = first_taken known stage block (rounds.formal ∷ []) (map alone rounds.texts)
 
@@ -228,26 +228,26 @@ module _ (known : Known) (stage : Stage) (block : Block) (place : ℕ) (rounds :
       = acts ∙ ap (λ (r : Option Repetition). own arguments.notes (opens (repeating r) here)) some in
       repeats_run known stage block (rounds.formal ∷ []) (map alone rounds.texts) arguments.notes live plain closing foreign room acts' faults
 
-  pub with_list : IsDirective stage block.first word.Irp place
-      → (irp known block.first.text place).rounds ≡ Some rounds → IsLive stage
+  pub with_list : IsDirective stage block.first word.Irp column
+      → (irp known block.first.text column).rounds ≡ Some rounds → IsLive stage
       → IsPlainBody (texts_of block.lines) → nesting block.close.text ≡ Closes
       → AreForeign stage (repeated_lines rounds (texts_of block.lines))
       → HasRoom stage block (texts_of block.lines) (repeated_lines rounds (texts_of block.lines))
-      → Leads (before_block stage block) (own_given known block.left block.first (irp known block.first.text place).notes
+      → Leads (before_block stage block) (own_given known block.left block.first (irp known block.first.text column).notes
       ∷ map (expanded_given known (argument_count block.left)) (repeated_lines rounds (texts_of block.lines)))
       (after_block stage block (length (repeated_lines rounds (texts_of block.lines))))
   with_list is some live plain closing foreign room =
-      indefinitely (irp known block.first.text place) some live plain closing foreign room
+      indefinitely (irp known block.first.text column) some live plain closing foreign room
       (ap (acted_by known block.first.text here) is) (ap (fault_by here) is)
 
-  pub with_characters : IsDirective stage block.first word.Irpc place
-      → (irpc block.first.text place).rounds ≡ Some rounds → IsLive stage
+  pub with_characters : IsDirective stage block.first word.Irpc column
+      → (irpc block.first.text column).rounds ≡ Some rounds → IsLive stage
       → IsPlainBody (texts_of block.lines) → nesting block.close.text ≡ Closes
       → AreForeign stage (repeated_lines rounds (texts_of block.lines))
       → HasRoom stage block (texts_of block.lines) (repeated_lines rounds (texts_of block.lines))
-      → Leads (before_block stage block) (own_given known block.left block.first (irpc block.first.text place).notes
+      → Leads (before_block stage block) (own_given known block.left block.first (irpc block.first.text column).notes
       ∷ map (expanded_given known (argument_count block.left)) (repeated_lines rounds (texts_of block.lines)))
       (after_block stage block (length (repeated_lines rounds (texts_of block.lines))))
   with_characters is some live plain closing foreign room =
-      indefinitely (irpc block.first.text place) some live plain closing foreign room
+      indefinitely (irpc block.first.text column) some live plain closing foreign room
       (ap (acted_by known block.first.text here) is) (ap (fault_by here) is)

@@ -48,20 +48,20 @@ flag_O = 0o400
 
 -- what a line's operator is
 pub data Operation : Type 0 where
-  -- a call of a macro, and the place after its name
+  -- a call of a macro, and the column after its name
   Calls : Macro → ℕ → Operation
-  -- a directive, and the place after its name
+  -- a directive, and the column after its name
   OwnDirective : Directive → ℕ → Operation
   -- anything else
   Foreign : Operation
 
 abbrev pub directed : Option Directive → ℕ → Operation
-directed (Some directive) place = OwnDirective directive place
-directed None place = Foreign
+directed (Some directive) column = OwnDirective directive column
+directed None column = Foreign
 
 abbrev pub called : Option Macro → Option Directive → ℕ → Operation
-called (Some macro) directive place = Calls macro place
-called None directive place = directed directive place
+called (Some macro) directive column = Calls macro column
+called None directive column = directed directive column
 
 -- the macro of a word, if it is the name of one. A line that ends a skipped part is live by its directive.
 abbrev pub macro_of : OpenConditions → List (Name × Macro) → Option Name → Option Macro
@@ -69,8 +69,8 @@ macro_of conditions macros None = None
 macro_of conditions macros (Some name) = if is_skipping conditions then None else macro_named macros name
 
 abbrev pub operation_by : OpenConditions → List (Name × Macro) → Bytes → ℕ → Operation
-operation_by conditions macros name place =
-    called (macro_of conditions macros (name_of (six_of name))) (directive_named (six_of name)) place
+operation_by conditions macros name column =
+    called (macro_of conditions macros (name_of (six_of name))) (directive_named (six_of name)) column
 
 abbrev pub operation_in : OpenConditions → List (Name × Macro) → Bytes → Option Span → Operation
 operation_in conditions macros text None = Foreign
@@ -91,7 +91,7 @@ foreign stage = record { is_own = false; notes = no_notes; after = stage }
 
 -- flags, with those of what is left over on the line
 abbrev pub flagged : ℕ → Bytes → ℕ → Notes
-flagged flags text place = noting (bit_or flags (left_over text place)) []
+flagged flags text column = noting (bit_or flags (left_over text column)) []
 
 -- `.IF` opens a condition. A 33rd one is no entry: it and what is inside it are skipped, and its arguments aren't read.
 abbrev pub condition_opened : Bytes → Asked → Stage → Acted
@@ -100,26 +100,26 @@ condition_opened text asked stage =
     (record stage { conditions = entering asked.holds stage.conditions })
 
 abbrev pub acted_if : Known → Bytes → ℕ → Stage → Acted
-acted_if known text place stage =
-    if has_room stage then condition_opened text (condition known text place) stage
+acted_if known text column stage =
+    if has_room stage then condition_opened text (condition known text column) stage
     else own (noting flag_O []) (record stage { conditions = past stage.conditions })
 
 -- `.IIF`: where its condition holds, its statement is the next line
 abbrev pub with_statement : Bytes → Bool → Option ℕ → Stage → Stage
-with_statement text true (Some place) stage = record stage { left = Line (line_of (drop place text)) ∷ stage.left }
+with_statement text true (Some column) stage = record stage { left = Line (line_of (drop column text)) ∷ stage.left }
 with_statement text true None stage = stage
-with_statement text false place stage = stage
+with_statement text false column stage = stage
 
 abbrev pub acted_immediate : Known → Bytes → ℕ → Stage → Acted
-acted_immediate known text place stage =
-    own (immediate.notes known text place)
-    (with_statement text (immediate.immediate known text place).holds (immediate.immediate known text place).statement stage)
+acted_immediate known text column stage =
+    own (immediate.notes known text column)
+    (with_statement text (immediate.immediate known text column).holds (immediate.immediate known text column).statement stage)
 
 -- a switch, or `.ENDC`: it needs a condition of its own expansion
 abbrev pub acted_within : (OpenConditions → OpenConditions) → Bytes → ℕ → Stage → Acted
-acted_within change text place stage =
-    if has_none stage.conditions then own (flagged flag_O text place) stage
-    else own (flagged 0 text place) (record stage { conditions = change stage.conditions })
+acted_within change text column stage =
+    if has_none stage.conditions then own (flagged flag_O text column) stage
+    else own (flagged 0 text column) (record stage { conditions = change stage.conditions })
 
 -- what follows is to be taken as a body
 abbrev pub opens : Purpose → Stage → Stage
@@ -127,14 +127,14 @@ opens purpose stage = record stage { opening = Some (record { purpose = purpose;
 
 -- `.REPT`: no formals in each round
 abbrev pub acted_repeat : Known → Bytes → ℕ → Stage → Acted
-acted_repeat known text place stage =
-    own (repeats.notes known text place) (opens (Repeats [] (replicate (repeats.rept_count known text place) [])) stage)
+acted_repeat known text column stage =
+    own (repeats.notes known text column) (opens (Repeats [] (replicate (repeats.rept_count known text column) [])) stage)
 
 -- `.MEXIT`: what is left up to the first mark isn't taken
 abbrev pub acted_exit : Bytes → ℕ → Stage → Acted
-acted_exit text place stage =
-    if is_expanding stage.left then own (flagged 0 text place) (record stage { left = after_mark stage.left })
-    else own (flagged flag_O text place) stage
+acted_exit text column stage =
+    if is_expanding stage.left then own (flagged 0 text column) (record stage { left = after_mark stage.left })
+    else own (flagged flag_O text column) stage
 
 -- `.MACRO`: without a name its body is taken for nothing
 abbrev pub defining : Option MacroNamed → Purpose
@@ -170,24 +170,24 @@ acted_call macro given stage =
 
 abbrev pub acted_by : Known → Bytes → Stage → Operation → Acted
 acted_by known text stage Foreign = foreign stage
-acted_by known text stage (Calls macro place) =
-    acted_call macro (actuals_from known text (length macro.formals) place) stage
-acted_by known text stage (OwnDirective word.If place) = acted_if known text place stage
-acted_by known text stage (OwnDirective word.Iff place) = acted_within (switched part.False) text place stage
-acted_by known text stage (OwnDirective word.Ift place) = acted_within (switched part.True) text place stage
-acted_by known text stage (OwnDirective word.Iftf place) = acted_within (switched part.Both) text place stage
-acted_by known text stage (OwnDirective word.Endc place) = acted_within closed text place stage
-acted_by known text stage (OwnDirective word.Iif place) = acted_immediate known text place stage
-acted_by known text stage (OwnDirective word.Macro place) = acted_header (header text place) stage
-acted_by known text stage (OwnDirective word.Endm place) = own (noting flag_O []) stage
-acted_by known text stage (OwnDirective word.Rept place) = acted_repeat known text place stage
-acted_by known text stage (OwnDirective word.Endr place) = own (noting flag_O []) stage
-acted_by known text stage (OwnDirective word.Irp place) = acted_repeated (irp known text place) stage
-acted_by known text stage (OwnDirective word.Irpc place) = acted_repeated (irpc text place) stage
-acted_by known text stage (OwnDirective word.Mexit place) = acted_exit text place stage
-acted_by known text stage (OwnDirective word.Narg place) = foreign stage
-acted_by known text stage (OwnDirective word.Nchr place) = foreign stage
-acted_by known text stage (OwnDirective word.End place) = foreign (record stage { has_ended = true })
+acted_by known text stage (Calls macro column) =
+    acted_call macro (actuals_from known text (length macro.formals) column) stage
+acted_by known text stage (OwnDirective word.If column) = acted_if known text column stage
+acted_by known text stage (OwnDirective word.Iff column) = acted_within (switched part.False) text column stage
+acted_by known text stage (OwnDirective word.Ift column) = acted_within (switched part.True) text column stage
+acted_by known text stage (OwnDirective word.Iftf column) = acted_within (switched part.Both) text column stage
+acted_by known text stage (OwnDirective word.Endc column) = acted_within closed text column stage
+acted_by known text stage (OwnDirective word.Iif column) = acted_immediate known text column stage
+acted_by known text stage (OwnDirective word.Macro column) = acted_header (header text column) stage
+acted_by known text stage (OwnDirective word.Endm column) = own (noting flag_O []) stage
+acted_by known text stage (OwnDirective word.Rept column) = acted_repeat known text column stage
+acted_by known text stage (OwnDirective word.Endr column) = own (noting flag_O []) stage
+acted_by known text stage (OwnDirective word.Irp column) = acted_repeated (irp known text column) stage
+acted_by known text stage (OwnDirective word.Irpc column) = acted_repeated (irpc text column) stage
+acted_by known text stage (OwnDirective word.Mexit column) = acted_exit text column stage
+acted_by known text stage (OwnDirective word.Narg column) = foreign stage
+acted_by known text stage (OwnDirective word.Nchr column) = foreign stage
+acted_by known text stage (OwnDirective word.End column) = foreign (record stage { has_ended = true })
 
 -- what the operator of a line does at a stage, under what names say
 abbrev pub act : Known → Stage → Bytes → Acted
@@ -197,8 +197,8 @@ act known stage text = acted_by known text stage (operation stage.conditions sta
 
 abbrev pub fault_by : Stage → Operation → Option UnfoldFault
 fault_by stage Foreign = None
-fault_by stage (Calls macro place) = depth_fault stage.left
-fault_by stage (OwnDirective directive place) = None
+fault_by stage (Calls macro column) = depth_fault stage.left
+fault_by stage (OwnDirective directive column) = None
 
 -- only a call passes a limit: one expansion too many, before an argument is read
 abbrev pub act_fault : Stage → Bytes → Option UnfoldFault

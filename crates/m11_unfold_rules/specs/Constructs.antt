@@ -80,8 +80,8 @@ expanded_given known arguments line = record {
 
 -- a line calls a macro without formals, of some body
 abbrev pub IsCall : Stage → SourceLine → List Bytes → ℕ → Type 0
-IsCall stage line body place =
-    operation stage.conditions stage.macros line.text ≡ Calls (record { formals = []; body = body }) place
+IsCall stage line body column =
+    operation stage.conditions stage.macros line.text ≡ Calls (record { formals = []; body = body }) column
 
 -- the call's line before what is left, and the stage after its expansion
 abbrev pub before_call : Stage → SourceLine → List Left → Stage
@@ -94,8 +94,8 @@ after_call stage body left = record stage { left = left; taken = stage.taken + 1
 
 -- the flags and symbols of an `.IF`
 abbrev pub condition_notes : Known → Bytes → ℕ → Notes
-condition_notes known text place =
-    with_flags (notes_of (condition known text place)) (left_over text (condition known text place).end)
+condition_notes known text column =
+    with_flags (notes_of (condition known text column)) (left_over text (condition known text column).end)
 
 -- one more condition may be open
 abbrev pub HasConditionLeft : Stage → Block → Type 0

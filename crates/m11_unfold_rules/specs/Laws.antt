@@ -40,9 +40,9 @@ before_lines stage lines left = record stage { left = map line_left lines ++ lef
 abbrev pub after_lines : Stage → List SourceLine → List Left → Stage
 after_lines stage lines left = record stage { left = left; taken = stage.taken + length lines }
 
--- a line's operator is a directive, whose arguments begin at a place
+-- a line's operator is a directive, whose arguments begin at a column
 abbrev pub IsDirective : Stage → SourceLine → Directive → ℕ → Type 0
-IsDirective stage line directive place = operation stage.conditions stage.macros line.text ≡ OwnDirective directive place
+IsDirective stage line directive column = operation stage.conditions stage.macros line.text ≡ OwnDirective directive column
 
 -- a line of unfolding's own, before what is left
 abbrev pub own_given : Known → List Left → SourceLine → Notes → Given

@@ -32,67 +32,67 @@ pub fn other_lines_become_live()
 /// `.REPT` gives its own line, and then the lines of its body as often as it says. `.IRP` and `.IRPC` give their own line, and then
 /// the lines of their body once for each text, with that put in place of the formal.
 pub fn repeats_give_their_rounds()
-    ensures counted { (known : Known) (stage : Stage) (block : Block) (place : ℕ) → IsLive stage
-        → IsDirective stage block.first directive.Rept place → IsPlainBody (texts_of block.lines) → nesting block.close.text ≡ Closes
-        → AreForeign stage (times (repeats.rept_count known block.first.text place) (map line_of (texts_of block.lines)))
+    ensures counted { (known : Known) (stage : Stage) (block : Block) (column : ℕ) → IsLive stage
+        → IsDirective stage block.first directive.Rept column → IsPlainBody (texts_of block.lines) → nesting block.close.text ≡ Closes
+        → AreForeign stage (times (repeats.rept_count known block.first.text column) (map line_of (texts_of block.lines)))
         → HasRoom stage block (texts_of block.lines)
-        (times (repeats.rept_count known block.first.text place) (map line_of (texts_of block.lines)))
+        (times (repeats.rept_count known block.first.text column) (map line_of (texts_of block.lines)))
         → Leads (before_block stage block)
-        (own_given known block.left block.first (repeats.notes known block.first.text place)
+        (own_given known block.left block.first (repeats.notes known block.first.text column)
         ∷ map (expanded_given known (argument_count block.left))
-        (times (repeats.rept_count known block.first.text place) (map line_of (texts_of block.lines))))
+        (times (repeats.rept_count known block.first.text column) (map line_of (texts_of block.lines))))
         (after_block stage block
-        (length (times (repeats.rept_count known block.first.text place) (map line_of (texts_of block.lines))))) }
-    ensures listed { (known : Known) (stage : Stage) (block : Block) (place : ℕ) (rounds : Repetition)
-        → IsDirective stage block.first directive.Irp place
-        → (irp known block.first.text place).rounds ≡ Some rounds → IsLive stage
+        (length (times (repeats.rept_count known block.first.text column) (map line_of (texts_of block.lines))))) }
+    ensures listed { (known : Known) (stage : Stage) (block : Block) (column : ℕ) (rounds : Repetition)
+        → IsDirective stage block.first directive.Irp column
+        → (irp known block.first.text column).rounds ≡ Some rounds → IsLive stage
         → IsPlainBody (texts_of block.lines) → nesting block.close.text ≡ Closes
         → AreForeign stage (repeated_lines rounds (texts_of block.lines))
         → HasRoom stage block (texts_of block.lines) (repeated_lines rounds (texts_of block.lines))
         → Leads (before_block stage block)
-        (own_given known block.left block.first (irp known block.first.text place).notes
+        (own_given known block.left block.first (irp known block.first.text column).notes
         ∷ map (expanded_given known (argument_count block.left)) (repeated_lines rounds (texts_of block.lines)))
         (after_block stage block (length (repeated_lines rounds (texts_of block.lines)))) }
-    ensures spelled { (known : Known) (stage : Stage) (block : Block) (place : ℕ) (rounds : Repetition)
-        → IsDirective stage block.first directive.Irpc place
-        → (irpc block.first.text place).rounds ≡ Some rounds → IsLive stage
+    ensures spelled { (known : Known) (stage : Stage) (block : Block) (column : ℕ) (rounds : Repetition)
+        → IsDirective stage block.first directive.Irpc column
+        → (irpc block.first.text column).rounds ≡ Some rounds → IsLive stage
         → IsPlainBody (texts_of block.lines) → nesting block.close.text ≡ Closes
         → AreForeign stage (repeated_lines rounds (texts_of block.lines))
         → HasRoom stage block (texts_of block.lines) (repeated_lines rounds (texts_of block.lines))
         → Leads (before_block stage block)
-        (own_given known block.left block.first (irpc block.first.text place).notes
+        (own_given known block.left block.first (irpc block.first.text column).notes
         ∷ map (expanded_given known (argument_count block.left)) (repeated_lines rounds (texts_of block.lines)))
         (after_block stage block (length (repeated_lines rounds (texts_of block.lines)))) }
 {}
 
 /// A call of a macro without formals gives its own line, and then the lines of the macro's body.
 pub fn calls_give_their_bodies()
-    ensures { (known : Known) (stage : Stage) (line : SourceLine) (body : List Bytes) (place : ℕ) (left : List Left)
-        → IsLive stage → IsCall stage line body place → AreForeign stage (map line_of body) → depth left < most_expansions
+    ensures { (known : Known) (stage : Stage) (line : SourceLine) (body : List Bytes) (column : ℕ) (left : List Left)
+        → IsLive stage → IsCall stage line body column → AreForeign stage (map line_of body) → depth left < most_expansions
         → stage.taken + 1 + length body ≤ most_lines
         → Leads (before_call stage line left)
-        (own_given known left line (actuals_from known line.text 0 place).notes
+        (own_given known left line (actuals_from known line.text 0 column).notes
         ∷ map (expanded_given known (Some 0)) (map line_of body))
         (after_call stage body left) }
 {}
 
 /// Where an `.IF` holds, its own line, the lines inside and the `.ENDC` become live; where it doesn't, the first and the last alone.
 pub fn conditions_give_all_or_nothing()
-    ensures holds { (known : Known) (stage : Stage) (block : Block) (place end : ℕ) → IsLive stage
-        → IsDirective stage block.first directive.If place → (condition known block.first.text place).holds ≡ true
+    ensures holds { (known : Known) (stage : Stage) (block : Block) (column end : ℕ) → IsLive stage
+        → IsDirective stage block.first directive.If column → (condition known block.first.text column).holds ≡ true
         → HasConditionLeft stage block → AreForeign stage block.lines → IsDirective stage block.close directive.Endc end
         → stage.taken + (length block.lines + 2) ≤ most_lines
         → Leads (before_block stage block)
-        (own_given known block.left block.first (condition_notes known block.first.text place)
+        (own_given known block.left block.first (condition_notes known block.first.text column)
         ∷ map (foreign_given known block.left) block.lines
         ++ own_given known block.left block.close (flagged 0 block.close.text end) ∷ [])
         (after_block stage block 0) }
-    ensures fails { (known : Known) (stage : Stage) (block : Block) (place end : ℕ) → IsLive stage
-        → IsDirective stage block.first directive.If place → (condition known block.first.text place).holds ≡ false
+    ensures fails { (known : Known) (stage : Stage) (block : Block) (column end : ℕ) → IsLive stage
+        → IsDirective stage block.first directive.If column → (condition known block.first.text column).holds ≡ false
         → HasConditionLeft stage block → stage.conditions.nested ≡ 0 → AreForeign stage block.lines
         → IsDirective stage block.close directive.Endc end → stage.taken + (length block.lines + 2) ≤ most_lines
         → Leads (before_block stage block)
-        (own_given known block.left block.first (condition_notes known block.first.text place)
+        (own_given known block.left block.first (condition_notes known block.first.text column)
         ∷ own_given known block.left block.close (flagged 0 block.close.text end) ∷ [])
         (after_block stage block 0) }
 {}
@@ -122,17 +122,17 @@ pub fn further_lines_change_nothing_before_them()
 
 /// After a live `.END` nothing more is taken: no line becomes live, and the stage stays.
 pub fn end_is_the_last_line()
-    ensures rests { (known : Known) (stage : Stage) (line : SourceLine) (place : ℕ) → IsDirective stage line directive.End place
+    ensures rests { (known : Known) (stage : Stage) (line : SourceLine) (column : ℕ) → IsDirective stage line directive.End column
         → move (act known stage line.text).after ≡ NothingLeft }
-    ensures stays { (known : Known) (stage after : Stage) (line : SourceLine) (place : ℕ) (done : List Given)
-        → IsDirective stage line directive.End place → Leads (act known stage line.text).after done after
+    ensures stays { (known : Known) (stage after : Stage) (line : SourceLine) (column : ℕ) (done : List Given)
+        → IsDirective stage line directive.End column → Leads (act known stage line.text).after done after
         → (done ≡ []) × (after ≡ (act known stage line.text).after) }
 {}
 
 /// A live `.MEXIT` in an expansion leaves what stood after the expansion, with the conditions that were open around it.
 pub fn exits_leave_what_stood_after_the_call()
-    ensures { (known : Known) (stage : Stage) (line : SourceLine) (place : ℕ) (rest : List SourceLine) (mark : Mark)
-        (left : List Left) → IsLive stage → IsDirective stage line directive.Mexit place → stage.taken + 1 ≤ most_lines
-        → Leads (before_exit stage line rest mark left) (exit_given known mark left line (flagged 0 line.text place) ∷ [])
+    ensures { (known : Known) (stage : Stage) (line : SourceLine) (column : ℕ) (rest : List SourceLine) (mark : Mark)
+        (left : List Left) → IsLive stage → IsDirective stage line directive.Mexit column → stage.taken + 1 ≤ most_lines
+        → Leads (before_exit stage line rest mark left) (exit_given known mark left line (flagged 0 line.text column) ∷ [])
         (after_exit stage mark left) }
 {}

@@ -1,6 +1,6 @@
 //! Lines of listings. (MACRO-11 Language Reference Manual, "Listing control directives".)
 
-use m11_asm_listing::{Item, Mark, further_line, listed_line, place_after};
+use m11_asm_listing::{Item, Mark, further_line, listed_line, location_after};
 
 fn word(number: u16) -> Item {
     Item::InWord(number, Mark::Unmarked)
@@ -12,7 +12,7 @@ fn byte(number: u8) -> Item {
 
 #[test]
 fn a_source_line_stands_in_its_columns(rt: HostRuntime) {
-    // flags, number, place, items and text, and how they are listed
+    // flags, number, location, items and text, and how they are listed
     #[rattlefmt::skip]
     let rows: [(&[u8], u16, u16, &[Item], &[u8], &[u8]); 12] = [
         (b"", 1, 0, &[word(1)], b".WORD 1", b"         1 000000 000001                  .WORD 1\n"),
@@ -31,9 +31,9 @@ fn a_source_line_stands_in_its_columns(rt: HostRuntime) {
         (b"N", 2, 0o2, &[word(0o22)], b".WORD 18 \t ", b"N        2 000002 000022                  .WORD 18 \t\n"),
         (b"E", 0, 0, &[], b"", b"E        0 000000\n"),
     ];
-    for (flags, number, place, items, text, wanted) in rows {
+    for (flags, number, location, items, text, wanted) in rows {
         assert!(rt; text.len() <= 132, "the text of line {number}");
-        let line = listed_line(flags, number, place, items, text);
+        let line = listed_line(flags, number, location, items, text);
         assert!(rt; line.as_slice() == wanted, "line {number}");
     }
 }
@@ -55,17 +55,17 @@ fn items_past_the_third_stand_on_further_lines(rt: HostRuntime) {
         byte(0),
         Item::InByte(3, Mark::OfSection),
     ];
-    let second = place_after(0, &seven[..3]);
-    let third = place_after(second, &seven[3..6]);
+    let second = location_after(0, &seven[..3]);
+    let third = location_after(second, &seven[3..6]);
     #[rattlefmt::skip]
     let rows: [(&str, u16, &[Item], &[u8]); 5] = [
         ("the second line of seven words", second, &seven[3..], b"           000006 000004  000005  000006\n"),
         ("the third", third, &seven[6..], b"           000014 000007\n"),
-        ("a byte", place_after(0, &four[..3]), &four[3..], b"           000003    003'\n"),
-        ("past the last place", place_after(0o177776, &seven[..2]), &seven[2..], b"           000002 000003  000004  000005\n"),
+        ("a byte", location_after(0, &four[..3]), &four[3..], b"           000003    003'\n"),
+        ("past the last place", location_after(0o177776, &seven[..2]), &seven[2..], b"           000002 000003  000004  000005\n"),
         ("no item", 0o20, &[], b"           000020\n"),
     ];
-    for (row, place, items, wanted) in rows {
-        assert!(rt; further_line(place, items).as_slice() == wanted, "{row}");
+    for (row, location, items, wanted) in rows {
+        assert!(rt; further_line(location, items).as_slice() == wanted, "{row}");
     }
 }

@@ -7,8 +7,8 @@ use m11_base::Name;
 use m11_obj::SectionFlags;
 use std::test::Fail;
 
-fn place(place: u16, section: u8) -> SymbolValue {
-    SymbolValue::Relocatable { place, section }
+fn location(location: u16, section: u8) -> SymbolValue {
+    SymbolValue::Relocatable { location, section }
 }
 
 #[test]
@@ -18,10 +18,10 @@ fn a_name_has_its_value_and_marks(rt: HostRuntime) -> Result<(), Fail> {
     let register = SymbolValue::Register(2);
     #[rattlefmt::skip]
     let rows: [(&[u8; 6], bool, SymbolValue, bool, &[u8]); 11] = [
-        (b"START ", false, place(0, 1), false, b"START    000000 R    1\n"),
-        (b"A     ", false, place(0, 1), true, b"A        000000 RG   1\n"),
-        (b"DATA  ", false, place(0o177777, 63), false, b"DATA     177777 R   63\n"),
-        (b"Y     ", true, place(2, 10), false, b"Y      = 000002 R   10\n"),
+        (b"START ", false, location(0, 1), false, b"START    000000 R    1\n"),
+        (b"A     ", false, location(0, 1), true, b"A        000000 RG   1\n"),
+        (b"DATA  ", false, location(0o177777, 63), false, b"DATA     177777 R   63\n"),
+        (b"Y     ", true, location(2, 10), false, b"Y      = 000002 R   10\n"),
         (b"X     ", true, absolute, false, b"X      = 000005\n"),
         (b"Z     ", true, absolute, true, b"Z      = 000005  G\n"),
         (b"TAB   ", false, absolute, false, b"TAB      000005\n"),

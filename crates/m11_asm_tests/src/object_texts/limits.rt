@@ -21,8 +21,8 @@ fn texts_end_at_their_limits(rt: HostRuntime) -> Result<(), Fail> {
     for (row, first, size, count, lengths) in rows {
         let mut pieces = Vec::new(rt.alloc());
         for index in 0..count {
-            let place = first.place.wrapping_add(size.wrapping_mul(index));
-            pieces.push(Piece { place, ..first })?;
+            let location = first.location.wrapping_add(size.wrapping_mul(index));
+            pieces.push(Piece { location, ..first })?;
         }
         let records = records(rt.alloc(), &pieces)?;
         assert_eq!(&rt; records.len(), lengths.len(), "{row}: how many");

@@ -32,7 +32,7 @@ static DESTINATIONS: [Row; 14] = [
     (&["MOV R2,@(SP)"], " 010276 000000;"),
     (&["MOV R2,#4"], " 010227 000004;"),
     (&["MOV R2,@#4"], " 010237 000004;"),
-    // the word of the source stands first, and the place is counted from the word after both
+    // the word of the source stands first, and the location is counted from the word after both
     (&["A: MOV #1,A"], " 012767 000001 177772;"),
     (&["A: MOV A,@A"], " 016777 177774 177772;"),
 ];
@@ -57,13 +57,13 @@ static SINGLES: [Row; 14] = [
 #[rattlefmt::skip]
 static BRANCHES: [Row; 9] = [
     (&["A: BR A"], " 000777;"),
-    // the farthest place after a branch, and the place after it
+    // the farthest location after a branch, and the location after it
     (&["BR X", ".BLKB 376", "X:"], " 000577;;;"),
     (&["BR X", ".BLKB 400", "X:"], "A 000400;;;"),
-    // the farthest place before a branch, and the place before it
+    // the farthest location before a branch, and the location before it
     (&["X: .BLKB 376", "BR X"], "; 000600;"),
     (&["X: .BLKB 400", "BR X"], ";A 000400;"),
-    // in a section that a linker moves, an absolute place is none of a branch
+    // in a section that a linker moves, an absolute location is none of a branch
     (&[".PSECT P,ABS", "L: NOP", ".ASECT", "BR L", ".CSECT", "BR 0"], "; 000240;; 000777;;A 000400;"),
     // round the end of the addresses
     (&[".ASECT", ".=177774", "A: NOP", "BR 0"], ";; 000240; 000400;"),

@@ -11,10 +11,10 @@ type Row = (
 
 #[rattlefmt::skip]
 static ROWS: [Row; 9] = [
-    // at another place
+    // at another location
     (&[".WORD 1", "A: .WORD 2", ".END"], &["A: .WORD 2", ".END"], "P 000002;;"),
     (&["NOP", "1$: BR 1$"], &["1$: BR 1$"], "P 000777;"),
-    // at the same place of another section
+    // at the same location of another section
     (&[".PSECT X", "A: NOP"], &["A: NOP"], "P 000240;"),
     (&[".ASECT", "A: NOP"], &["A: NOP"], "P 000240;"),
     // no label in the first pass, or nothing

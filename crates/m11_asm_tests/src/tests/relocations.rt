@@ -30,7 +30,7 @@ static WORDS: [Row; 5] = [
     (&[".PSECT P", ".WORD X", ".PSECT", "X: .WORD 1"], "; 000000+();; 000001;"),
     (&[".BYTE F,."], " 000+F 001+BASE;"),
     (&[".ASCII /ab/<Q><.>"], " 141 142 000+Q 003+BASE;"),
-    // two places of one section
+    // two locations of one section
     (&["A: NOP", "B: .WORD B-A"], " 000240; 000002;"),
 ];
 

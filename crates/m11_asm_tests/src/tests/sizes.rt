@@ -10,7 +10,7 @@ static SIZES: [Row; 13] = [
     (&["A=B", ".BLKB A", "B=4"], "000000 000000 "),
     (&[".ASCII /AAAAAAAAAAAAAAAAAAAAAAAAAAAAAAAA/"], "000000 000040 "),
     (&[".ASCII /AAAAAAAAAAAAAAAAAAAAAAAAAAAAAAAAB/"], "000000 000041 "),
-    // the greatest place holds
+    // the greatest location holds
     (&[".=.+10", ".=.-4", ".WORD 1"], "000000 000010 "),
     (&[".ASECT", ".=177774", "NOP", "BR 0"], "177776 000000 "),
     (&[".PSECT PROG", "MOV F,R0", ".BYTE 1"], "000000 000000 000005 "),
@@ -22,6 +22,6 @@ static SIZES: [Row; 13] = [
 ];
 
 #[test]
-fn sections_are_as_long_as_their_greatest_place(rt: HostRuntime) {
+fn sections_are_as_long_as_their_greatest_location(rt: HostRuntime) {
     check_sizes(&rt, rt.alloc(), &SIZES);
 }

@@ -75,7 +75,7 @@ fn add_two(file: &mut Vec<u8>, first: Entry, second: Entry) -> Result<(), AllocE
 }
 
 // Adds a module of 8,191 globals, a text of two bytes, a relocation that names one more, and a displaced relocation at a
-// place, of a global by its number.
+// location, of a global by its number.
 fn add_relocations(file: &mut Vec<u8>, displacement: u8, number: u16) -> Result<(), AllocError> {
     let [low, high] = number.to_le_bytes();
     add_entries(file, 8_191, WEAK_REFERENCE)?;
@@ -105,7 +105,7 @@ enum Made {
     EntriesAndTwo(u16, [u8; 2], Entry, Entry),
     // Empty modules, and one that begins with the same section twice.
     ModulesAndSections(u32),
-    // A relocation of the 8,192nd global, and a displaced one at a place, of a global by its number.
+    // A relocation of the 8,192nd global, and a displaced one at a location, of a global by its number.
     Relocations(u8, u16),
 }
 

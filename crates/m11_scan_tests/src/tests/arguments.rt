@@ -9,7 +9,7 @@ use m11_scan_statements::{
 };
 use std::process::Abort;
 
-// A text, its parts with the places of what stands in them and whether they are closed, the place after them, and the flags of
+// A text, its parts with the columns of what stands in them and whether they are closed, the column after them, and the flags of
 // the last part.
 struct PartsRow {
     text: &'static [u8],
@@ -51,12 +51,12 @@ fn parts_end_at_their_delimiters(rt: HostRuntime) {
 // The parts that stand one after the other, and after the last one, if it has its end, nothing.
 fn check_parts(rt: &impl Abort, row: &PartsRow) {
     let line = Line::from_bytes(row.text);
-    let mut place: u8 = 0;
+    let mut column: u8 = 0;
     let mut is_first = true;
     let mut is_closed = true;
     let mut flags = ErrorFlags::none();
     for wanted in row.parts {
-        let Some(part) = part_after(&line, place, is_first) else {
+        let Some(part) = part_after(&line, column, is_first) else {
             break;
         };
         let got = (
@@ -68,12 +68,12 @@ fn check_parts(rt: &impl Abort, row: &PartsRow) {
         same(rt, &row.end, &got, wanted);
         flags = part.flags();
         is_closed = part.is_closed;
-        place = part.end;
+        column = part.end;
         is_first = false;
     }
-    let goes_on = is_closed && part_after(&line, place, is_first).is_some();
+    let goes_on = is_closed && part_after(&line, column, is_first).is_some();
     same(rt, &row.flags, &goes_on, &false);
-    same(rt, &row.flags, &place, &row.end);
+    same(rt, &row.flags, &column, &row.end);
     same(
         rt,
         &row.end,
@@ -82,7 +82,7 @@ fn check_parts(rt: &impl Abort, row: &PartsRow) {
     );
 }
 
-// A list, its names with their places, where nothing stands for what is no name, and the place after it.
+// A list, its names with their columns, where nothing stands for what is no name, and the column after it.
 struct NamesRow {
     text: &'static str,
     names: &'static [Option<(u8, u8)>],
@@ -103,11 +103,11 @@ static NAMES: [NamesRow; 10] = [
     NamesRow { text: "?A ?,B", names: &[Some((1, 2)), Some((5, 6))], end: 6 },
 ];
 
-// The element of a list at a place, if the place is in the line.
-fn name_at(line: &Line, place: u8) -> Option<ListedName> {
-    let place = usize::from(place);
-    if place <= line.text().len() {
-        Some(listed_name(line, place))
+// The element of a list at a column, if the column is in the line.
+fn name_at(line: &Line, column: u8) -> Option<ListedName> {
+    let column = usize::from(column);
+    if column <= line.text().len() {
+        Some(listed_name(line, column))
     } else {
         None
     }
@@ -115,10 +115,10 @@ fn name_at(line: &Line, place: u8) -> Option<ListedName> {
 
 fn check_names(rt: &impl Abort, row: &NamesRow) {
     let line = Line::from_bytes(row.text.as_bytes());
-    let mut place = 0;
+    let mut column = 0;
     let mut left = row.names.len();
     for wanted in row.names {
-        let found = name_at(&line, place);
+        let found = name_at(&line, column);
         let name = found
             .and_then(|element| element.name)
             .map(|span| (span.start, span.end));
@@ -130,9 +130,9 @@ fn check_names(rt: &impl Abort, row: &NamesRow) {
             &found.map(|element| element.goes_on),
             &Some(left > 0),
         );
-        place = found.map_or(place, |element| element.end);
+        column = found.map_or(column, |element| element.end);
     }
-    same(rt, &row.text, &place, &row.end);
+    same(rt, &row.text, &column, &row.end);
 }
 
 #[test]
@@ -142,7 +142,7 @@ fn a_list_goes_on_after_a_comma(rt: HostRuntime) {
     }
 }
 
-// A text, whether `\` gives digits, and its actuals with the places of what stands in them and whether they are closed.
+// A text, whether `\` gives digits, and its actuals with the columns of what stands in them and whether they are closed.
 struct ActualsRow {
     text: &'static str,
     gives_digits: bool,
@@ -171,30 +171,30 @@ static ACTUALS: [ActualsRow; 16] = [
     ActualsRow { text: " ? ?", gives_digits: true, actuals: &[(ActualKind::Bare, 1, 2, true), (ActualKind::Bare, 3, 4, true)] },
 ];
 
-// The actual that stands next from a place on, if the place is in the line.
-fn actual_at(line: &Line, place: usize, gives_digits: bool) -> Option<Actual> {
-    if place <= line.text().len() {
-        next_actual(line, place, gives_digits)
+// The actual that stands next from a column on, if the column is in the line.
+fn actual_at(line: &Line, column: usize, gives_digits: bool) -> Option<Actual> {
+    if column <= line.text().len() {
+        next_actual(line, column, gives_digits)
     } else {
         None
     }
 }
 
-// The place after what separates two arguments.
-fn after_separator(line: &Line, place: u8) -> usize {
-    let place = usize::from(place);
-    if place <= line.text().len() {
-        usize::from(separator_at(line, place).end)
+// The column after what separates two arguments.
+fn after_separator(line: &Line, column: u8) -> usize {
+    let column = usize::from(column);
+    if column <= line.text().len() {
+        usize::from(separator_at(line, column).end)
     } else {
-        place
+        column
     }
 }
 
 fn check_actuals(rt: &impl Abort, row: &ActualsRow) {
     let line = Line::from_bytes(row.text.as_bytes());
-    let mut place = 0;
+    let mut column = 0;
     for wanted in row.actuals {
-        let found = actual_at(&line, place, row.gives_digits);
+        let found = actual_at(&line, column, row.gives_digits);
         let got = found.map(|actual| (
             actual.kind,
             actual.inside.start,
@@ -203,13 +203,13 @@ fn check_actuals(rt: &impl Abort, row: &ActualsRow) {
         ));
         same(rt, &row.text, &got, &Some(*wanted));
         if let Some(actual) = found {
-            place = after_separator(&line, actual.end);
+            column = after_separator(&line, actual.end);
         }
     }
     same(
         rt,
         &row.text,
-        &actual_at(&line, place, row.gives_digits),
+        &actual_at(&line, column, row.gives_digits),
         &None,
     );
 }
@@ -237,7 +237,7 @@ fn a_separator_has_its_comma(rt: HostRuntime) {
     }
 }
 
-// A list of formals: the places of their names, and whether a local symbol is created for them; and whether it ends well.
+// A list of formals: the columns of their names, and whether a local symbol is created for them; and whether it ends well.
 struct FormalsRow {
     text: &'static str,
     formals: &'static [(u8, u8, bool)],
@@ -259,10 +259,10 @@ static FORMALS: [FormalsRow; 11] = [
     FormalsRow { text: " ?A?B;C", formals: &[(2, 3, true), (4, 5, true)], last: NextFormal::Ends },
 ];
 
-// What stands next in a list of formals, if the place is in the line.
-fn formal_at(line: &Line, place: usize) -> NextFormal {
-    if place <= line.text().len() {
-        next_formal(line, place)
+// What stands next in a list of formals, if the column is in the line.
+fn formal_at(line: &Line, column: usize) -> NextFormal {
+    if column <= line.text().len() {
+        next_formal(line, column)
     } else {
         NextFormal::Bad
     }
@@ -270,17 +270,17 @@ fn formal_at(line: &Line, place: usize) -> NextFormal {
 
 fn check_formals(rt: &impl Abort, row: &FormalsRow) {
     let line = Line::from_bytes(row.text.as_bytes());
-    let mut place = 0;
+    let mut column = 0;
     let mut count = 0;
     for wanted in row.formals {
-        if let NextFormal::Named(formal) = formal_at(&line, place) {
+        if let NextFormal::Named(formal) = formal_at(&line, column) {
             same(
                 rt,
                 &row.text,
                 &(formal.name.start, formal.name.end, formal.is_created),
                 wanted,
             );
-            place = after_separator(&line, formal.name.end);
+            column = after_separator(&line, formal.name.end);
             count = wanted.1;
         }
     }
@@ -290,7 +290,7 @@ fn check_formals(rt: &impl Abort, row: &FormalsRow) {
         &row.formals.last().map_or(0, |formal| formal.1),
         &count,
     );
-    same(rt, &row.text, &formal_at(&line, place), &row.last);
+    same(rt, &row.text, &formal_at(&line, column), &row.last);
 }
 
 #[test]

@@ -4,17 +4,17 @@ use super::{same, token_after};
 use m11_scan::{Line, Sort};
 use std::process::Abort;
 
-// A line from a place on, and its tokens: what each is, where it begins, and the place after it.
+// A line from a column on, and its tokens: what each is, where it begins, and the column after it.
 struct Row {
     line: &'static str,
-    place: usize,
+    column: usize,
     tokens: &'static [(Sort, u8, u8)],
 }
 
 static NAMES: [Row; 6] = [
     Row {
         line: "A: MOV R1,(SP)+ ;x",
-        place: 0,
+        column: 0,
         tokens: &[
             (Sort::Name, 0, 1),
             (Sort::Colon, 1, 2),
@@ -29,7 +29,7 @@ static NAMES: [Row; 6] = [
     },
     Row {
         line: "X==.+$A.1",
-        place: 0,
+        column: 0,
         tokens: &[
             (Sort::Name, 0, 1),
             (Sort::TwoEquals, 1, 3),
@@ -40,7 +40,7 @@ static NAMES: [Row; 6] = [
     },
     Row {
         line: "A:: B: :",
-        place: 0,
+        column: 0,
         tokens: &[
             (Sort::Name, 0, 1),
             (Sort::TwoColons, 1, 3),
@@ -51,7 +51,7 @@ static NAMES: [Row; 6] = [
     },
     Row {
         line: "=== =",
-        place: 0,
+        column: 0,
         tokens: &[
             (Sort::TwoEquals, 0, 2),
             (Sort::Equals, 2, 3),
@@ -60,12 +60,12 @@ static NAMES: [Row; 6] = [
     },
     Row {
         line: ".ASCII /;/",
-        place: 6,
+        column: 6,
         tokens: &[(Sort::Over, 7, 8)],
     },
     Row {
         line: "",
-        place: 0,
+        column: 0,
         tokens: &[],
     },
 ];
@@ -73,7 +73,7 @@ static NAMES: [Row; 6] = [
 static NUMBERS: [Row; 5] = [
     Row {
         line: "18 18. 18$ 5A",
-        place: 0,
+        column: 0,
         tokens: &[
             (Sort::Number, 0, 2),
             (Sort::DecimalNumber, 3, 6),
@@ -84,22 +84,22 @@ static NUMBERS: [Row; 5] = [
     },
     Row {
         line: "1..",
-        place: 0,
+        column: 0,
         tokens: &[(Sort::DecimalNumber, 0, 2), (Sort::Name, 2, 3)],
     },
     Row {
         line: "3$4",
-        place: 0,
+        column: 0,
         tokens: &[(Sort::LocalSymbol, 0, 2), (Sort::Number, 2, 3)],
     },
     Row {
         line: "1.$",
-        place: 0,
+        column: 0,
         tokens: &[(Sort::DecimalNumber, 0, 2), (Sort::Name, 2, 3)],
     },
     Row {
         line: "^d10^O7^b1^C1",
-        place: 0,
+        column: 0,
         tokens: &[
             (Sort::DecimalRadix, 0, 2),
             (Sort::Number, 2, 4),
@@ -116,27 +116,27 @@ static NUMBERS: [Row; 5] = [
 static CHARACTERS: [Row; 6] = [
     Row {
         line: "'A'",
-        place: 0,
+        column: 0,
         tokens: &[(Sort::Character, 0, 2), (Sort::Character, 2, 3)],
     },
     Row {
         line: "\"AB\"C",
-        place: 0,
+        column: 0,
         tokens: &[(Sort::TwoCharacters, 0, 3), (Sort::TwoCharacters, 3, 5)],
     },
     Row {
         line: "';;'",
-        place: 0,
+        column: 0,
         tokens: &[(Sort::Character, 0, 2)],
     },
     Row {
         line: "\" ;+",
-        place: 0,
+        column: 0,
         tokens: &[(Sort::TwoCharacters, 0, 3), (Sort::Plus, 3, 4)],
     },
     Row {
         line: "^RABCD ^rA B ^R",
-        place: 0,
+        column: 0,
         tokens: &[
             (Sort::Packed, 0, 6),
             (Sort::Packed, 7, 10),
@@ -146,7 +146,7 @@ static CHARACTERS: [Row; 6] = [
     },
     Row {
         line: "+-*/&!<>%#@(),",
-        place: 4,
+        column: 4,
         tokens: &[
             (Sort::And, 4, 5),
             (Sort::Or, 5, 6),
@@ -164,27 +164,27 @@ static CHARACTERS: [Row; 6] = [
 
 #[rattlefmt::skip]
 static SKIPPED: [Row; 4] = [
-    Row { line: "\\5?6", place: 0, tokens: &[(Sort::Number, 1, 2), (Sort::Number, 3, 4)] },
-    Row { line: "^F1", place: 0, tokens: &[(Sort::Name, 1, 3)] },
-    Row { line: "[_]`{|}~^", place: 0, tokens: &[] },
-    Row { line: "\t \u{1}A\u{7f}", place: 0, tokens: &[(Sort::Name, 3, 4)] },
+    Row { line: "\\5?6", column: 0, tokens: &[(Sort::Number, 1, 2), (Sort::Number, 3, 4)] },
+    Row { line: "^F1", column: 0, tokens: &[(Sort::Name, 1, 3)] },
+    Row { line: "[_]`{|}~^", column: 0, tokens: &[] },
+    Row { line: "\t \u{1}A\u{7f}", column: 0, tokens: &[(Sort::Name, 3, 4)] },
 ];
 
 fn check(rt: &impl Abort, rows: &[Row]) {
     for row in rows {
         let line = Line::from_bytes(row.line.as_bytes());
-        if row.place <= line.text().len() {
-            let mut place = row.place;
+        if row.column <= line.text().len() {
+            let mut column = row.column;
             for wanted in row.tokens {
-                match token_after(&line, place) {
+                match token_after(&line, column) {
                     Some(token) => {
                         same(rt, &row.line, &(token.sort, token.start, token.end), wanted);
-                        place = usize::from(token.end);
+                        column = usize::from(token.end);
                     }
                     None => assert!(rt; false, "{}: too few tokens", row.line),
                 }
             }
-            same(rt, &row.line, &token_after(&line, place), &None);
+            same(rt, &row.line, &token_after(&line, column), &None);
         }
     }
 }
@@ -213,12 +213,12 @@ fn what_begins_no_token_is_skipped(rt: HostRuntime) {
 fn a_token_has_its_characters(rt: HostRuntime) {
     let line = Line::from_bytes(b"AB: .WORD ^Rab");
     let texts: [&[u8]; 4] = [b"AB", b":", b".WORD", b"^Rab"];
-    let mut place = 0;
+    let mut column = 0;
     for text in texts {
-        match token_after(&line, place) {
+        match token_after(&line, column) {
             Some(token) => {
                 same(&rt, &"a token", &token.text(&line), &text);
-                place = usize::from(token.end);
+                column = usize::from(token.end);
             }
             None => assert!(&rt; false, "too few tokens"),
         }

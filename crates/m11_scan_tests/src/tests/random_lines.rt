@@ -25,7 +25,7 @@ fn random_line(seed: u64, length: u8) -> Line {
     line
 }
 
-// What stands between two places is blanks, the comment, and characters that are skipped.
+// What stands between two columns is blanks, the comment, and characters that are skipped.
 fn is_no_token(line: &Line, start: usize, end: usize) -> bool {
     let text = line.text();
     if start > end || end > text.len() {
@@ -43,24 +43,24 @@ fn is_no_token(line: &Line, start: usize, end: usize) -> bool {
 }
 
 fn check_tokens(rt: &impl Abort, line: &Line) {
-    let mut place = 0;
+    let mut column = 0;
     for _ in 0..=line.text().len() {
-        let Some(Token { start, end, .. }) = token_after(line, place) else {
+        let Some(Token { start, end, .. }) = token_after(line, column) else {
             break;
         };
         same(
             rt,
             &"a gap",
-            &is_no_token(line, place, usize::from(start)),
+            &is_no_token(line, column, usize::from(start)),
             &true,
         );
         same(rt, &"a token", &(start < end), &true);
-        place = usize::from(end);
+        column = usize::from(end);
     }
     same(
         rt,
         &"the rest",
-        &is_no_token(line, place, line.text().len()),
+        &is_no_token(line, column, line.text().len()),
         &true,
     );
 }
@@ -77,12 +77,12 @@ fn ends_of(body: Body, size: u8) -> (u8, u8) {
 }
 
 fn check_statement(rt: &impl Abort, line: &Line, found: &Statement) {
-    let mut place = 0;
+    let mut column = 0;
     for label in labels_of(line).iter() {
         same(
             rt,
             &"a label",
-            &(place <= label.name.start && label.name.start < label.name.end),
+            &(column <= label.name.start && label.name.start < label.name.end),
             &true,
         );
         same(
@@ -91,34 +91,34 @@ fn check_statement(rt: &impl Abort, line: &Line, found: &Statement) {
             &(label.name.end < label.end && label.end <= found.labels_end),
             &true,
         );
-        place = label.end;
+        column = label.end;
     }
-    same(rt, &"the labels' end", &found.labels_end, &place);
+    same(rt, &"the labels' end", &found.labels_end, &column);
     let size = line.text().len() as u8;
     let (start, end) = ends_of(found.body, size);
     same(
         rt,
         &"the body",
-        &(place <= start && start <= end && end <= size),
+        &(column <= start && start <= end && end <= size),
         &true,
     );
 }
 
 // Actuals go on up to the end of the line or its comment, and each takes a character or more with what separates it.
 fn check_actuals(rt: &impl Abort, line: &Line) {
-    let mut place = 0;
+    let mut column = 0;
     for _ in 0..line.text().len() + 1 {
-        if place > line.text().len() {
+        if column > line.text().len() {
             return;
         }
-        match next_actual(line, place, true) {
+        match next_actual(line, column, true) {
             Some(actual) => {
                 let after = usize::from(separator_at(line, usize::from(actual.end)).end);
-                same(rt, &"an actual", &(place < after), &true);
-                place = after;
+                same(rt, &"an actual", &(column < after), &true);
+                column = after;
             }
             None => {
-                let rest = &line.text()[place..];
+                let rest = &line.text()[column..];
                 let after = rest.get(blanks_length(rest)).copied();
                 same(rt, &"after the actuals", &after.unwrap_or(b';'), &b';');
                 return;
@@ -136,26 +136,26 @@ fn check_line(rt: &impl Abort, line: &Line) {
 
 // A part ends after it begins, and the next one begins no earlier.
 fn check_parts(rt: &impl Abort, line: &Line) {
-    let mut place = 0;
+    let mut column = 0;
     let mut is_first = true;
     for _ in 0..line.text().len() + 1 {
-        let Some(part) = part_after(line, place, is_first) else {
+        let Some(part) = part_after(line, column, is_first) else {
             return;
         };
         same(
             rt,
             &"a part",
-            &(place < part.inside.start && part.inside.start <= part.inside.end),
+            &(column < part.inside.start && part.inside.start <= part.inside.end),
             &true,
         );
         same(rt, &"its end", &(part.inside.end <= part.end), &true);
         if !part.is_closed {
             return;
         }
-        place = part.end;
+        column = part.end;
         is_first = false;
     }
-    same(rt, &"the parts", &place, &0);
+    same(rt, &"the parts", &column, &0);
 }
 
 #[test]

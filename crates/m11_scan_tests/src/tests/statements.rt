@@ -18,7 +18,7 @@ enum Shape {
 
 use Shape::{Assigns, AssignsGlobally, Nothing, Operates, SetsCounter, Words};
 
-// A line, its labels with the places of their names, what stands after them with its places, and the flags of its labels.
+// A line, its labels with the columns of their names, what stands after them with its columns, and the flags of its labels.
 struct Row {
     line: &'static str,
     labels: &'static [(LabelKind, u8, u8)],
@@ -163,7 +163,7 @@ fn a_line_over_132_characters_has_l(rt: HostRuntime) {
     }
 }
 
-// A line, a place up to which its directive took what it takes, and whether a character after it begins no token.
+// A line, a column up to which its directive took what it takes, and whether a character after it begins no token.
 static LEFT_OVER: [(&str, usize, bool); 9] = [
     (".RADIX 16 ?", 9, true),
     (".REPT ?", 5, true),
@@ -178,10 +178,10 @@ static LEFT_OVER: [(&str, usize, bool); 9] = [
 
 #[test]
 fn what_is_left_over_may_have_skipped_characters(rt: HostRuntime) {
-    for (text, place, is_skipped) in &LEFT_OVER {
+    for (text, column, is_skipped) in &LEFT_OVER {
         let line = Line::from_bytes(text.as_bytes());
         let end = line.text().len();
-        let found = *place <= end && skipped_between(&line, *place, end);
+        let found = *column <= end && skipped_between(&line, *column, end);
         same(&rt, text, &found, is_skipped);
     }
 }

@@ -213,8 +213,8 @@ fn each_limit_comes_at_its_line(rt: HostRuntime) {
 // The line that begins a macro of a number, which is below 1,000.
 fn header(number: u16) -> Line {
     let mut line = Line::from_bytes(b".MACRO M");
-    for place in [100, 10, 1] {
-        line.push_all(&[b'0' + (number / place % 10) as u8]);
+    for column in [100, 10, 1] {
+        line.push_all(&[b'0' + (number / column % 10) as u8]);
     }
     line
 }

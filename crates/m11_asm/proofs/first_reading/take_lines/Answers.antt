@@ -1,6 +1,6 @@
 use Rattle.std.proofs.Common.{◌∙◌, [], Some, Ok, ap, sym, subst}
 use Rattle.m11_scan_lines.specs.Line.{SourceLine}
-use Rattle.m11_scan_lines.specs.Reader.{LineReading, ReadsNext, place}
+use Rattle.m11_scan_lines.specs.Reader.{LineReading, ReadsNext, position}
 use Rattle.m11_asm.proofs.FirstLines.{first_ended, first_goes_on, first_read, first_refuses, first_stops}
 use Rattle.m11_asm.proofs.LinesRead.{reader_begins}
 use Rattle.m11_asm.proofs.first_reading.take_lines.Goals as goal
@@ -25,8 +25,8 @@ lines-preserved g c = record {
   sound = c.in-Ok-true.ensures.keeps;
   so_far = λ stands.
       let so = c.lines.invariant.so_far stands in
-      let P : SourceLine → Type 0 = λ l. ReadsNext (place g.F.Feed.text g.F.Feed.faults c.lines.feeds c.lines.reader)
-      (place g.F.Feed.text g.F.Feed.faults c.next.new.feeds c.next.new.self) (Ok (Some l)) in
+      let P : SourceLine → Type 0 = λ l. ReadsNext (position g.F.Feed.text g.F.Feed.faults c.lines.feeds c.lines.reader)
+      (position g.F.Feed.text g.F.Feed.faults c.next.new.feeds c.next.new.self) (Ok (Some l)) in
       first_goes_on g.F.Feed.text g.F.Feed.faults c.args.feeds.now c.lines.feeds c.lines.reader c.lines.first so
       (sym c.has_ended.ensures ∙ c.if-has_ended.false) c.next.new.feeds c.next.new.self c.line.result.now
       (subst P (sym c.line.ensures) (rw c.in-Ok-true.field-0-test at (c.in-Ok-true.ensures.reads c.lines.invariant.sound))) c.in-Ok-true.ensures.keeps
@@ -36,8 +36,8 @@ lines-preserved g c = record {
 pub returns-in_err-line-in-Ok-true : goal.returns-in_err-line-in-Ok-true
 returns-in_err-line-in-Ok-true g c = λ stands.
     let so = c.lines.invariant.so_far stands in
-    let P : SourceLine → Type 0 = λ l. ReadsNext (place g.F.Feed.text g.F.Feed.faults c.lines.feeds c.lines.reader)
-    (place g.F.Feed.text g.F.Feed.faults c.next.new.feeds c.next.new.self) (Ok (Some l)) in
+    let P : SourceLine → Type 0 = λ l. ReadsNext (position g.F.Feed.text g.F.Feed.faults c.lines.feeds c.lines.reader)
+    (position g.F.Feed.text g.F.Feed.faults c.next.new.feeds c.next.new.self) (Ok (Some l)) in
     first_refuses g.F.Feed.text g.F.Feed.faults c.args.feeds.now c.lines.feeds c.lines.reader c.lines.first so
     (sym c.has_ended.ensures ∙ c.if-has_ended.false) c.next.new.feeds c.next.new.self c.line.result.now
     (subst P (sym c.line.ensures) (rw c.in-Ok-true.field-0-test at (c.in-Ok-true.ensures.reads c.lines.invariant.sound))) c.in-Ok-true.ensures.keeps

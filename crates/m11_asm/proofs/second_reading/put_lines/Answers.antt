@@ -1,6 +1,6 @@
 use Rattle.std.proofs.Common.{◌∙◌, [], Some, Ok, ap, sym, subst}
 use Rattle.m11_scan_lines.specs.Line.{SourceLine}
-use Rattle.m11_scan_lines.specs.Reader.{LineReading, ReadsNext, place}
+use Rattle.m11_scan_lines.specs.Reader.{LineReading, ReadsNext, position}
 use Rattle.m11_asm_outputs.specs.Outputs.{outputs_of}
 use Rattle.m11_asm.proofs.LinesRead.{reader_begins}
 use Rattle.m11_asm.proofs.SecondLines.{second_ended, second_goes_on, second_read, second_refuses, second_stops}
@@ -27,8 +27,8 @@ lines-preserved g c = record {
   sound = c.in-Ok-true.ensures.keeps;
   so_far = λ program old stands.
       let so = c.lines.invariant.so_far program old stands in
-      let P : SourceLine → Type 0 = λ l. ReadsNext (place g.F.Feed.text g.F.Feed.faults c.lines.feeds c.lines.reader)
-      (place g.F.Feed.text g.F.Feed.faults c.next.new.feeds c.next.new.self) (Ok (Some l)) in
+      let P : SourceLine → Type 0 = λ l. ReadsNext (position g.F.Feed.text g.F.Feed.faults c.lines.feeds c.lines.reader)
+      (position g.F.Feed.text g.F.Feed.faults c.next.new.feeds c.next.new.self) (Ok (Some l)) in
       second_goes_on g.F.Feed.text g.F.Feed.faults program old c.args.feeds.now c.lines.feeds c.lines.reader
       (outputs_of g.S.Sink g.T.Sink g.U.Sink c.lines.object c.lines.listing c.lines.messages) c.lines.second so
       (sym c.has_ended.ensures ∙ c.if-has_ended.false) c.next.new.feeds c.next.new.self c.line.result.now
@@ -40,8 +40,8 @@ lines-preserved g c = record {
 pub returns-in-Err-line : goal.returns-in-Err-line
 returns-in-Err-line g c = λ program old stands.
     let so = c.lines.invariant.so_far program old stands in
-    let P : SourceLine → Type 0 = λ l. ReadsNext (place g.F.Feed.text g.F.Feed.faults c.lines.feeds c.lines.reader)
-    (place g.F.Feed.text g.F.Feed.faults c.next.new.feeds c.next.new.self) (Ok (Some l)) in
+    let P : SourceLine → Type 0 = λ l. ReadsNext (position g.F.Feed.text g.F.Feed.faults c.lines.feeds c.lines.reader)
+    (position g.F.Feed.text g.F.Feed.faults c.next.new.feeds c.next.new.self) (Ok (Some l)) in
     second_refuses g.F.Feed.text g.F.Feed.faults program old c.args.feeds.now c.lines.feeds c.lines.reader
     (outputs_of g.S.Sink g.T.Sink g.U.Sink c.lines.object c.lines.listing c.lines.messages) c.lines.second so
     (sym c.has_ended.ensures ∙ c.if-has_ended.false) c.next.new.feeds c.next.new.self c.line.result.now

@@ -17,7 +17,7 @@ returns c =
     (c.text_flags.ensures
     ∙ ap (λ (l : List ℕ). text_flags l c.args.start (parts_seen c.parts_at-parts.result)) c.line-2.ensures
     ∙ ap (λ (p : Parts). text_flags here.line c.args.start p) found)
-    (ap (λ (n : ℕ). parts_bytes here.map here.table n here.line c.as_slice.result.now) c.place.ensures
-    ∙ ap (λ (l : List Part). parts_bytes here.map here.table here.place here.line l)
+    (ap (λ (n : ℕ). parts_bytes here.map here.table n here.line c.as_slice.result.now) c.location.ensures
+    ∙ ap (λ (l : List Part). parts_bytes here.map here.table here.location here.line l)
     (c.as_slice.ensures.value ∙ ap (λ (p : Parts). p.list) found)))
     c.put_parts.ensures

@@ -11,5 +11,5 @@ returns c =
     let P : Put → Type 0 = λ p. IfOk c.add_fixed_byte.result (λ x. c.add_fixed_byte.new.self ≡ p) in
     subst P
     (ap (λ (p : Put). followed_by p zero_byte) c.in_ok-put_ascii.ensures
-    ∙ followed_joins c.args.put.now (ascii here.map here.table here.place here.line c.args.start) zero_byte)
+    ∙ followed_joins c.args.put.now (ascii here.map here.table here.location here.line c.args.start) zero_byte)
     c.add_fixed_byte.ensures

@@ -7,7 +7,7 @@ use Rattle.m11_asm_data.proofs.ascii.put_part.Goals as goal
 pub returns : goal.returns
 returns c =
     let here = c.args.line_context.now in
-    part_on here.map here.table here.line c.args.put.now c.put_part_bytes.new.put c.args.place c.further.result c.args.part
+    part_on here.map here.table here.line c.args.put.now c.put_part_bytes.new.put c.args.location c.further.result c.args.part
     c.in_ok-put_part_bytes.ensures
-    (c.further.ensures ∙ ap (λ (n : ℕ). further c.args.place n)
+    (c.further.ensures ∙ ap (λ (n : ℕ). further c.args.location n)
     (c.part_size.ensures.size ∙ ap (λ (l : List ℕ). part_size l c.args.part c.args.part.kind) c.line.ensures))

@@ -13,9 +13,9 @@ returns-in-Expression c =
     let done = c.args.put.now in
     let P : Put → Type 0 = λ p. IfOk c.put_byte.result (λ x. c.put_byte.new.put ≡ p) in
     subst P
-    (ap (λ (q : Quantity). followed_by done (byte here.table c.args.place q))
+    (ap (λ (q : Quantity). followed_by done (byte here.table c.args.location q))
     (c.reference-value.ensures
     ∙ ap (λ (s : Standpoint). value_at (line_context_of s).refers s.line c.args.part.inside.start) c.at.ensures)
-    ∙ ap (λ (k : PartKind). followed_by done (part_bytes here.map here.table c.args.place here.line c.args.part k))
+    ∙ ap (λ (k : PartKind). followed_by done (part_bytes here.map here.table c.args.location here.line c.args.part k))
     (sym c.in-Expression.is))
     c.put_byte.ensures

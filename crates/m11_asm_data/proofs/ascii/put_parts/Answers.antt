@@ -10,6 +10,6 @@ pub returns : goal.returns
 returns c =
     let here = c.args.line_context.now in
     sym (followed_nothing c.parts.put)
-    ∙ ap (λ (r : List Part). followed_by c.parts.put (parts_bytes here.map here.table c.parts.place here.line r))
+    ∙ ap (λ (r : List Part). followed_by c.parts.put (parts_bytes here.map here.table c.parts.location here.line r))
     (sym (drop_all c.parts.part-index c.args.parts.now c.parts-test.false))
     ∙ c.parts.invariant

@@ -14,6 +14,6 @@ parts-init c =
 pub returns : goal.returns
 returns c =
     sym (or_zero_r (bits_of c.parts.flags))
-    ∙ ap (λ (r : List Part). bit_or (bits_of c.parts.flags) (parts_flags c.args.line.now.text c.parts.place r))
+    ∙ ap (λ (r : List Part). bit_or (bits_of c.parts.flags) (parts_flags c.args.line.now.text c.parts.column r))
     (sym (drop_all c.parts.part-index c.args.parts.now c.parts-test.false))
     ∙ c.parts.invariant ∙ or_zero_l (parts_flags c.args.line.now.text c.args.start c.args.parts.now)

@@ -6,5 +6,5 @@ use Rattle.m11_asm_data.proofs.flags.parts_flags.Given as goal
 
 abbrev pub invariant-parts : goal.invariant-parts
 invariant-parts l =
-    bit_or (bits_of l.flags) (parts_flags l.line.text l.place (drop l.part-index l.parts))
+    bit_or (bits_of l.flags) (parts_flags l.line.text l.column (drop l.part-index l.parts))
     ≡ bit_or 0 (parts_flags l.line.text l.start l.parts)

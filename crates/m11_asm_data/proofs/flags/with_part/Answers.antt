@@ -14,4 +14,4 @@ returns c = λ parts.
     ap (λ (n : ℕ). bit_or n others)
     (c.with.ensures
     ∙ ap (λ (n : ℕ). bit_or (bits_of c.args.flags) n) (c.flags_of.ensures ∙ ap own c.from.ensures))
-    ∙ or_joins (bits_of c.args.flags) (own c.args.place) others
+    ∙ or_joins (bits_of c.args.flags) (own c.args.column) others

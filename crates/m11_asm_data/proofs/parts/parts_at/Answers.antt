@@ -13,9 +13,9 @@ parts-preserved c =
     let most = c.in-Some.ensures.most in
     record {
       parts =
-          part_joins line c.parts.is_first c.parts.left (c.parts.left - 1) c.parts.place is c.parts.list.items
+          part_joins line c.parts.is_first c.parts.left (c.parts.left - 1) c.parts.column is c.parts.list.items
           (parts_at line c.args.start) c.parts.invariant.parts c.in-Some.part c.push.new.self.items c.in-Some.ensures.part
-          c.push.ensures.items (is_closed _ c.if-not-part.false) c.from-place.result c.from-place.ensures;
+          c.push.ensures.items (is_closed _ c.if-not-part.false) c.from-column.result c.from-column.ensures;
       room = omega arith;
       within = omega arith;
     }
@@ -25,6 +25,6 @@ returns-in_default-clause-parts c =
     let some = c.parts-test.true in
     let is : c.parts.left ≡ suc (c.parts.left - 1) = omega arith in
     let line = c.args.line.now.text in
-    ap (λ (n : ℕ). parts_of c.parts.list.items n) c.place_in.ensures
-    ∙ parts_end line c.parts.is_first c.parts.left (c.parts.left - 1) c.parts.place is c.parts.list.items
+    ap (λ (n : ℕ). parts_of c.parts.list.items n) c.column_in.ensures
+    ∙ parts_end line c.parts.is_first c.parts.left (c.parts.left - 1) c.parts.column is c.parts.list.items
     (parts_at line c.args.start) c.parts.invariant.parts c.in_default.ensures.part

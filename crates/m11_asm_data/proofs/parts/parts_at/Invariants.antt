@@ -7,9 +7,9 @@ use Rattle.m11_asm_data.proofs.parts.parts_at.Given as goal
 abbrev pub invariant-parts : goal.invariant-parts
 invariant-parts l = record {
   parts :
-      parts_then l.list.items (parts_within l.left l.line.text l.is_first l.place) ≡ parts_at l.line.text l.start;
-  room : array_vec_len l.list * 2 ≤ l.place;
-  within : l.place ≤ length l.line.text;
+      parts_then l.list.items (parts_within l.left l.line.text l.is_first l.column) ≡ parts_at l.line.text l.start;
+  room : array_vec_len l.list * 2 ≤ l.column;
+  within : l.column ≤ length l.line.text;
 }
 
 abbrev pub decreases-parts : goal.decreases-parts

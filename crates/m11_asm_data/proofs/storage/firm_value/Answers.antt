@@ -9,5 +9,5 @@ use Rattle.m11_asm_data.proofs.storage.firm_value.Goals as goal
 pub returns : goal.returns
 returns c =
     c.value_at.ensures
-    ∙ ap (λ (a : FirmAsked). value_at (known_at empty_map LocalOnly (firm_table a.table) a.place) c.args.line.now.text c.args.start)
+    ∙ ap (λ (a : FirmAsked). value_at (known_at empty_map LocalOnly (firm_table a.table) a.location) c.args.line.now.text c.args.start)
     c.new-names.ensures

@@ -15,7 +15,7 @@ returns c =
     (c.end_flags.ensures ∙ ap (λ (l : List ℕ). end_flags l c.args.start c.from.result) c.line-2.ensures
     ∙ ap (λ (n : ℕ). end_flags here.line c.args.start n)
     (c.from.ensures ∙ found.end ∙ ap (λ (l : List ℕ). (elements_at l c.args.start).end) c.line.ensures))
-    (ap (λ (n : ℕ). words_from here.map here.table here.line n c.as_slice.result.now) c.place.ensures
-    ∙ ap (λ (l : List ℕ). words_from here.map here.table here.line here.place l)
-    (c.as_slice.ensures.value ∙ found.places ∙ ap (λ (l : List ℕ). (elements_at l c.args.start).places) c.line.ensures)))
+    (ap (λ (n : ℕ). words_from here.map here.table here.line n c.as_slice.result.now) c.location.ensures
+    ∙ ap (λ (l : List ℕ). words_from here.map here.table here.line here.location l)
+    (c.as_slice.ensures.value ∙ found.columns ∙ ap (λ (l : List ℕ). (elements_at l c.args.start).columns) c.line.ensures)))
     c.put_words_from.ensures

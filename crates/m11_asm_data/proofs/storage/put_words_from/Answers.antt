@@ -9,6 +9,6 @@ pub returns : goal.returns
 returns c =
     let here = c.args.line_context.now in
     sym (followed_nothing c.elements.put)
-    ∙ ap (λ (r : List ℕ). followed_by c.elements.put (words_from here.map here.table here.line c.elements.place r))
+    ∙ ap (λ (r : List ℕ). followed_by c.elements.put (words_from here.map here.table here.line c.elements.location r))
     (sym (drop_all c.elements.start-index c.args.starts.now c.elements-test.false))
     ∙ c.elements.invariant

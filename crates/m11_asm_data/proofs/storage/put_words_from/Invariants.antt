@@ -5,5 +5,5 @@ use Rattle.m11_asm_data.proofs.storage.put_words_from.Given as goal
 
 abbrev pub invariant-elements : goal.invariant-elements
 invariant-elements l =
-    followed_by l.put (words_from l.line_context.map l.line_context.table l.line_context.line l.place (drop l.start-index l.starts))
-    ≡ followed_by l.initial.put (words_from l.line_context.map l.line_context.table l.line_context.line l.initial.place l.starts)
+    followed_by l.put (words_from l.line_context.map l.line_context.table l.line_context.line l.location (drop l.start-index l.starts))
+    ≡ followed_by l.initial.put (words_from l.line_context.map l.line_context.table l.line_context.line l.initial.location l.starts)

@@ -12,8 +12,8 @@ returns c =
     let P : Put → Type 0 = λ p. IfOk c.put_words_after.result (λ x. c.put_words_after.new.put ≡ p) in
     subst P
     (ap (λ (n : ℕ). followed_by c.put_code.new.put (words_from here n (forms_of c.args.fields.now)))
-    (c.further.ensures ∙ ap (λ (n : ℕ). further n 2) c.place.ensures)
+    (c.further.ensures ∙ ap (λ (n : ℕ). further n 2) c.location.ensures)
     ∙ flagged_parts c.args.put.now c.add_flags.new.self c.put_code.new.put (code here c.args.operation c.args.fields.now)
-    (words_from here (further here.place 2) (forms_of c.args.fields.now)) _ _ c.add_flags.ensures
+    (words_from here (further here.location 2) (forms_of c.args.fields.now)) _ _ c.add_flags.ensures
     (c.line_flags.ensures c.args.fields.now) c.in_ok-put_code.ensures)
     c.put_words_after.ensures

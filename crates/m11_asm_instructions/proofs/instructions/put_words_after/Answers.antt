@@ -19,9 +19,9 @@ fields-preserved c =
     let P : List Field → Type 0 = λ l. AreTerms line (others l) c.others-terms.result in
     record {
       words =
-          c.in_ok-place.ensures (forms_of more)
+          c.in_ok-location.ensures (forms_of more)
           ∙ sym (at_drop_more
-          (λ (l : List Field). followed_by c.fields.put (words_from (line_context_of c.args.line_context.now) c.fields.place (forms_of l)))
+          (λ (l : List Field). followed_by c.fields.put (words_from (line_context_of c.args.line_context.now) c.fields.location (forms_of l)))
           c.args.fields.now c.fields.field-index (Formed Absent) c.fields-test.true)
           ∙ c.fields.invariant.words;
       terms =
@@ -32,6 +32,6 @@ fields-preserved c =
 pub returns : goal.returns
 returns c =
     sym (followed_nothing c.fields.put)
-    ∙ ap (λ (r : List Field). followed_by c.fields.put (words_from (line_context_of c.args.line_context.now) c.fields.place (forms_of r)))
+    ∙ ap (λ (r : List Field). followed_by c.fields.put (words_from (line_context_of c.args.line_context.now) c.fields.location (forms_of r)))
     (sym (drop_all c.fields.field-index c.args.fields.now c.fields-test.false))
     ∙ c.fields.invariant.words

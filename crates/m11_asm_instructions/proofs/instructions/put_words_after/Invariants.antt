@@ -8,7 +8,7 @@ use Rattle.m11_asm_instructions.proofs.instructions.put_words_after.Given as goa
 
 abbrev pub invariant-fields : goal.invariant-fields
 invariant-fields l = record {
-  words : followed_by l.put (words_from (line_context_of l.line_context) l.place (forms_of (drop l.field-index l.fields)))
-      ≡ followed_by l.initial.put (words_from (line_context_of l.line_context) l.initial.place (forms_of l.fields));
+  words : followed_by l.put (words_from (line_context_of l.line_context) l.location (forms_of (drop l.field-index l.fields)))
+      ≡ followed_by l.initial.put (words_from (line_context_of l.line_context) l.initial.location (forms_of l.fields));
   terms : AreTerms l.line_context.line (drop l.field-index l.fields) l.terms;
 }

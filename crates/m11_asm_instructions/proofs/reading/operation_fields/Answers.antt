@@ -9,5 +9,5 @@ use Rattle.m11_asm_instructions.proofs.reading.operation_fields.Goals as goal
 pub returns-clause-fields : goal.returns-clause-fields
 returns-clause-fields c =
     c.fields_at.ensures.fields
-    ∙ ap (λ (a : FirmAsked). fields_at (known_at empty_map LocalOnly (firm_table a.table) a.place) c.args.line.now.text c.args.start
+    ∙ ap (λ (a : FirmAsked). fields_at (known_at empty_map LocalOnly (firm_table a.table) a.location) c.args.line.now.text c.args.start
     c.args.operation) c.new.ensures

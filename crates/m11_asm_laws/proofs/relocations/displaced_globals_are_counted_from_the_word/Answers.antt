@@ -3,4 +3,4 @@ use Rattle.m11_asm_laws.proofs.Rows.{displaced_global_row}
 use Rattle.m11_asm_laws.proofs.relocations.displaced_globals_are_counted_from_the_word.Goals as goal
 
 pub returns : goal.returns
-returns c = λ found index own location number name words. displaced_global_row found index own location false name number words
+returns c = λ found index own linked_location number name words. displaced_global_row found index own linked_location false name number words

@@ -1,6 +1,6 @@
 use Rattle.std.proofs.Common.{ℕ, ◌≤◌, List, length, take, drop, sym, ap, ◌∙◌, arith}
 use Rattle.std.proofs.lemmas.Bool.{eqb-false, eqb-true}
-use Rattle.m11_asm_listing.specs.Items.{place_after}
+use Rattle.m11_asm_listing.specs.Items.{location_after}
 use Rattle.m11_asm_listing.specs.Listing.{further_lines}
 use Rattle.m11_asm_listing.specs.declared.items.Item.{Item}
 use Rattle.m11_asm_outputs.specs.Outputs.{assembly}
@@ -17,7 +17,7 @@ pub returns-in_err-put_listing : goal.returns-in_err-put_listing
 returns-in_err-put_listing g c = λ object messages.
     stopped_alone assembly _ _ _ _ _
     (stopped_there _ _ _ _ _ _ _ c.in_err-put_listing.field-0.0
-    (further_split c.lines.place c.lines.left.now (omega (arith, eqb-false _ 0 (sym c.is_empty.ensures ∙ c.lines-test.true))))
+    (further_split c.lines.location c.lines.left.now (omega (arith, eqb-false _ 0 (sym c.is_empty.ensures ∙ c.lines-test.true))))
     (c.lines.invariant object messages) (stops_line _ _ _ _ _ (c.as_slice.ensures.value ∙ c.further_line.ensures) (c.in_err-put_listing.ensures.writes object messages)))
     c.from_residual.ensures.1
 
@@ -29,14 +29,14 @@ lines-smaller g c =
 pub lines-preserved : goal.lines-preserved
 lines-preserved g c = λ object messages.
     wrote_one _ _ _ _ _ _ _
-    (further_rest c.lines.place c.place_after-place.result c.lines.left.now c.three.result.0.now c.three.result.1.now
+    (further_rest c.lines.location c.location_after-location.result c.lines.left.now c.three.result.0.now c.three.result.1.now
     (omega (arith, eqb-false _ 0 (sym c.is_empty.ensures ∙ c.lines-test.true))) c.three.ensures.first c.three.ensures.more
-    c.place_after-place.ensures)
+    c.location_after-location.ensures)
     (c.lines.invariant object messages)
     (gains_line _ _ _ _ (c.as_slice.ensures.value ∙ c.further_line.ensures) (c.in_ok-put_listing.ensures.writes object messages))
 
 pub returns : goal.returns
 returns g c = λ object messages.
     wrote_all _ _ _ _ tt
-    (further_none c.lines.place c.lines.left.now (omega (arith, eqb-true _ 0 (sym c.is_empty.ensures ∙ c.lines-test.false))))
+    (further_none c.lines.location c.lines.left.now (omega (arith, eqb-true _ 0 (sym c.is_empty.ensures ∙ c.lines-test.false))))
     (c.lines.invariant object messages)

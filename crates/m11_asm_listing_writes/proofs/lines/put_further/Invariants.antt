@@ -9,8 +9,8 @@ use Rattle.m11_asm_listing_writes.proofs.lines.put_further.Given as goal
 abbrev pub invariant-lines : goal.invariant-lines
 invariant-lines g l = (object messages : Output)
     → Leads (Unit {0}) (outputs object (optional_output g.T.Sink l.initial.listing) messages)
-    (outputs object (optional_output g.T.Sink l.listing) messages) (all_to_listing (further_lines l.place l.left))
-    (all_to_listing (further_lines l.initial.place l.items))
+    (outputs object (optional_output g.T.Sink l.listing) messages) (all_to_listing (further_lines l.location l.left))
+    (all_to_listing (further_lines l.initial.location l.items))
 
 abbrev pub decreases-lines : goal.decreases-lines
 decreases-lines g l = length l.left

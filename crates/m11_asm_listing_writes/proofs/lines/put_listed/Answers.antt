@@ -1,6 +1,6 @@
 use Rattle.std.proofs.Common.{◌≡◌, ℕ, List, [], ◌∷◌, take, drop, ap, sym, ◌∙◌}
 use Rattle.m11_base.specs.Devices.{Bytes}
-use Rattle.m11_asm_listing.specs.Items.{place_after}
+use Rattle.m11_asm_listing.specs.Items.{location_after}
 use Rattle.m11_asm_listing.specs.Listing.{further_lines, listed_line}
 use Rattle.m11_asm_listing.specs.declared.items.Item.{Item}
 use Rattle.m11_scan.specs.ErrorFlags.{flags_text}
@@ -16,10 +16,10 @@ pub returns-in_err-put_listing : goal.returns-in_err-put_listing
 returns-in_err-put_listing g c = λ object messages.
     let flags = flags_text (bits_of c.args.flags) in
     stopped_first assembly _ _
-    (to_listing (listed_line flags c.args.number c.args.place c.args.items.now c.args.text.now) ∷ [])
-    (all_to_listing (further_lines (place_after c.args.first_item_place (take 3 c.args.items.now)) (drop 3 c.args.items.now))) _ _
+    (to_listing (listed_line flags c.args.number c.args.location c.args.items.now c.args.text.now) ∷ [])
+    (all_to_listing (further_lines (location_after c.args.first_item_location (take 3 c.args.items.now)) (drop 3 c.args.items.now))) _ _
     (stops_line _ _ _ _ _ (c.as_slice-2.ensures.value ∙ c.listed_line-line.ensures
-    ∙ ap (λ (l : Bytes). listed_line l c.args.number c.args.place c.args.items.now c.args.text.now)
+    ∙ ap (λ (l : Bytes). listed_line l c.args.number c.args.location c.args.items.now c.args.text.now)
     (c.as_slice.ensures.value ∙ c.text.ensures))
     (c.in_err-put_listing.ensures.writes object messages)) c.from_residual.ensures.1
 
@@ -27,15 +27,15 @@ pub returns : goal.returns
 returns g c = λ object messages.
     let flags = flags_text (bits_of c.args.flags) in
     writes_then assembly _ _ _
-    (to_listing (listed_line flags c.args.number c.args.place c.args.items.now c.args.text.now) ∷ [])
-    (all_to_listing (further_lines (place_after c.args.first_item_place (take 3 c.args.items.now)) (drop 3 c.args.items.now))) _
+    (to_listing (listed_line flags c.args.number c.args.location c.args.items.now c.args.text.now) ∷ [])
+    (all_to_listing (further_lines (location_after c.args.first_item_location (take 3 c.args.items.now)) (drop 3 c.args.items.now))) _
     (gains_line _ _ _ _ (c.as_slice-2.ensures.value ∙ c.listed_line-line.ensures
-    ∙ ap (λ (l : Bytes). listed_line l c.args.number c.args.place c.args.items.now c.args.text.now)
+    ∙ ap (λ (l : Bytes). listed_line l c.args.number c.args.location c.args.items.now c.args.text.now)
     (c.as_slice.ensures.value ∙ c.text.ensures))
     (c.in_ok-put_listing.ensures.writes object messages))
     (writes_as _ _ _ _ _
-    (ap (λ (n : ℕ). all_to_listing (further_lines n c.three.result.1.now)) c.place_after.ensures
-    ∙ ap (λ (l : List Item). all_to_listing (further_lines (place_after c.args.first_item_place l) c.three.result.1.now)) c.three.ensures.first
-    ∙ ap (λ (l : List Item). all_to_listing (further_lines (place_after c.args.first_item_place (take 3 c.args.items.now)) l))
+    (ap (λ (n : ℕ). all_to_listing (further_lines n c.three.result.1.now)) c.location_after.ensures
+    ∙ ap (λ (l : List Item). all_to_listing (further_lines (location_after c.args.first_item_location l) c.three.result.1.now)) c.three.ensures.first
+    ∙ ap (λ (l : List Item). all_to_listing (further_lines (location_after c.args.first_item_location (take 3 c.args.items.now)) l))
     c.three.ensures.more)
     (c.put_further.ensures object messages))

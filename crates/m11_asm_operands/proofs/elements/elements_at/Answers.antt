@@ -15,11 +15,11 @@ elements-preserved c =
     ∙ ap (λ (n : ℕ). Some n) (sym c.from-begin.ensures)) in
     let P : ℕ → Type 0 = λ n. n ≤ length line in
     record {
-      places =
-          ap (λ (l : List ℕ). l ++ more.places) c.push.ensures.items
-          ∙ append_assoc c.elements.places.items (c.place_in.result ∷ []) more.places
-          ∙ ap (λ (n : ℕ). c.elements.places.items ++ (n ∷ more.places)) c.place_in.ensures
-          ∙ ap (λ (e : Elements). c.elements.places.items ++ e.places) (sym step) ∙ c.elements.invariant.places;
+      columns =
+          ap (λ (l : List ℕ). l ++ more.columns) c.push.ensures.items
+          ∙ append_assoc c.elements.columns.items (c.column_in.result ∷ []) more.columns
+          ∙ ap (λ (n : ℕ). c.elements.columns.items ++ (n ∷ more.columns)) c.column_in.ensures
+          ∙ ap (λ (e : Elements). c.elements.columns.items ++ e.columns) (sym step) ∙ c.elements.invariant.columns;
       end = ap (λ (e : Elements). e.end) (sym step) ∙ c.elements.invariant.end;
       room = omega arith;
       within = subst P (sym c.from-begin.ensures) c.in-Some.ensures.within;

@@ -5,10 +5,10 @@ use Rattle.m11_asm_operands.proofs.elements.elements_at.Given as goal
 
 abbrev pub invariant-elements : goal.invariant-elements
 invariant-elements l = record {
-  places :
-      l.places.items ++ (elements_within l.left l.line.text l.begin).places ≡ (elements_at l.line.text l.place).places;
-  end : (elements_within l.left l.line.text l.begin).end ≡ (elements_at l.line.text l.place).end;
-  room : array_vec_len l.places + l.left ≤ 133;
+  columns :
+      l.columns.items ++ (elements_within l.left l.line.text l.begin).columns ≡ (elements_at l.line.text l.column).columns;
+  end : (elements_within l.left l.line.text l.begin).end ≡ (elements_at l.line.text l.column).end;
+  room : array_vec_len l.columns + l.left ≤ 133;
   within : l.begin ≤ length l.line.text;
 }
 

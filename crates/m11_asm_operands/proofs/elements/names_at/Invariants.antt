@@ -5,8 +5,8 @@ use Rattle.m11_asm_operands.proofs.elements.names_at.Given as goal
 
 abbrev pub invariant-names : goal.invariant-names
 invariant-names l = record {
-  list : l.list.items ++ (names_within l.left l.line.text l.begin).list ≡ (names_at l.line.text l.place).list;
-  end : (names_within l.left l.line.text l.begin).end ≡ (names_at l.line.text l.place).end;
+  list : l.list.items ++ (names_within l.left l.line.text l.begin).list ≡ (names_at l.line.text l.column).list;
+  end : (names_within l.left l.line.text l.begin).end ≡ (names_at l.line.text l.column).end;
   room : array_vec_len l.list + l.left ≤ 133;
   within : l.begin ≤ length l.line.text;
 }

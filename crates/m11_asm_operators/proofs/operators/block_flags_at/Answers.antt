@@ -7,6 +7,6 @@ pub returns : goal.returns
 returns c =
     let here = c.args.line_context.now in
     c.block_flags.ensures
-    ∙ ap (λ (t : Table). block_flags t c.place.result c.line.result.now.text c.args.start) c.table.ensures
-    ∙ ap (λ (n : ℕ). block_flags here.table n c.line.result.now.text c.args.start) c.place.ensures
-    ∙ ap (λ (l : List ℕ). block_flags here.table here.place l c.args.start) c.line.ensures
+    ∙ ap (λ (t : Table). block_flags t c.location.result c.line.result.now.text c.args.start) c.table.ensures
+    ∙ ap (λ (n : ℕ). block_flags here.table n c.line.result.now.text c.args.start) c.location.ensures
+    ∙ ap (λ (l : List ℕ). block_flags here.table here.location l c.args.start) c.line.ensures

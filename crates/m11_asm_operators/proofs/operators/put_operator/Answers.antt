@@ -1,7 +1,7 @@
 use Rattle.std.proofs.Common.{◌≡◌, ℕ, Bool, IfOk, subst, sym, ap, ◌∙◌}
 use Rattle.m11_asm_values.proofs.Joining.{flagged_by}
 use Rattle.m11_asm_values.specs.LineContext.{Standpoint}
-use Rattle.m11_asm_rules.specs.Alignment.{gap_flags, place_for}
+use Rattle.m11_asm_rules.specs.Alignment.{gap_flags, location_for}
 use Rattle.m11_asm_rules.specs.Contents.{Put}
 use Rattle.m11_asm_rules.specs.Effects.{operator_put}
 use Rattle.m11_asm_rules.specs.Operators.{is_even}
@@ -14,10 +14,10 @@ put_at-requires-clause-fields c =
     let even = is_even c.args.operator in
     c.requires.fields
     ∙ sym
-    (ap (λ (s : Standpoint). fields_at s.table s.place s.line c.args.start c.args.operator) c.new-line_context.ensures
+    (ap (λ (s : Standpoint). fields_at s.table s.location s.line c.args.start c.args.operator) c.new-line_context.ensures
     ∙ ap (λ (n : ℕ). fields_at c.args.table.now n line c.args.start c.args.operator)
-    (c.place_for.ensures ∙ ap (λ (b : Bool). place_for b c.place-2.result) c.is_even-is_even.ensures
-    ∙ ap (λ (n : ℕ). place_for even n) c.place-2.ensures))
+    (c.location_for.ensures ∙ ap (λ (b : Bool). location_for b c.location-2.result) c.is_even-is_even.ensures
+    ∙ ap (λ (n : ℕ). location_for even n) c.location-2.ensures))
 
 pub returns : goal.returns
 returns c =
@@ -26,11 +26,11 @@ returns c =
     let P : Put → Type 0 = λ p. IfOk c.put_at.result (λ x. c.put_at.new.put ≡ p) in
     subst P
     (flagged_by c.args.put.now c.add_flags.new.self _ _ _ _ c.add_flags.ensures
-    (c.gap_flags.ensures ∙ ap (λ (b : Bool). gap_flags b c.place.result) c.is_even-is_even.ensures
-    ∙ ap (λ (n : ℕ). gap_flags even n) c.place.ensures)
-    (ap (λ (s : Standpoint). operator_put s.map s.table s.place s.line c.args.start c.args.arguments c.args.operator)
+    (c.gap_flags.ensures ∙ ap (λ (b : Bool). gap_flags b c.location.result) c.is_even-is_even.ensures
+    ∙ ap (λ (n : ℕ). gap_flags even n) c.location.ensures)
+    (ap (λ (s : Standpoint). operator_put s.map s.table s.location s.line c.args.start c.args.arguments c.args.operator)
     c.new-line_context.ensures
     ∙ ap (λ (n : ℕ). operator_put c.args.map.now c.args.table.now n line c.args.start c.args.arguments c.args.operator)
-    (c.place_for.ensures ∙ ap (λ (b : Bool). place_for b c.place-2.result) c.is_even-is_even.ensures
-    ∙ ap (λ (n : ℕ). place_for even n) c.place-2.ensures)))
+    (c.location_for.ensures ∙ ap (λ (b : Bool). location_for b c.location-2.result) c.is_even-is_even.ensures
+    ∙ ap (λ (n : ℕ). location_for even n) c.location-2.ensures)))
     c.put_at.ensures

@@ -10,12 +10,12 @@ use Rattle.m11_asm_outputs.proofs.object.put_pieces.Goals as goal
 pub contents-init : goal.contents-init
 contents-init g c =
     none_taken closed_records closed-grows IsOpenAfter _ c.args.text.now
-    (pieces_from c.args.section c.args.place c.args.contents.now)
+    (pieces_from c.args.section c.args.location c.args.contents.now)
 
 pub returns-in-Err-clause-writes : goal.returns-in-Err-clause-writes
 returns-in-Err-clause-writes g c = λ before h listing messages.
     stopped_at closed_records closed-grows IsOpenAfter _ c.args.text.now
-    (pieces_from c.args.section c.args.place c.args.contents.now) _ c.contents.text
+    (pieces_from c.args.section c.args.location c.args.contents.now) _ c.contents.text
     (piece c.args.section c.contents.next c.content-item.result) _ _
     (ap (pieces_from c.args.section c.contents.next)
     (item_left c.args.contents.now c.contents.content-index c.content-item.result c.contents-test.true c.content-item.is))
@@ -27,16 +27,16 @@ contents-preserved g c =
     let rest = drop (c.contents.content-index + 1) c.args.contents.now in
     let this = piece c.args.section c.contents.next c.content-item.result in
     one_taken closed_records closed-grows IsOpenAfter _ c.args.text.now
-    (pieces_from c.args.section c.args.place c.args.contents.now) _ c.contents.text this _ _
+    (pieces_from c.args.section c.args.location c.args.contents.now) _ c.contents.text this _ _
     (ap (pieces_from c.args.section c.contents.next)
     (item_left c.args.contents.now c.contents.content-index c.content-item.result c.contents-test.true c.content-item.is)
-    ∙ ap (λ (next : ℕ). this ∷ pieces_from c.args.section next rest) (sym c.place_after-next.ensures))
+    ∙ ap (λ (next : ℕ). this ∷ pieces_from c.args.section next rest) (sym c.location_after-next.ensures))
     c.contents.invariant _ _ c.in-Ok.ensures.writes c.in-Ok.ensures.opens c.in-Ok.ensures.fit
 
 pub returns-clause-writes : goal.returns-clause-writes
 returns-clause-writes g c = λ before h listing messages.
     all_written closed_records closed-grows IsOpenAfter _ c.args.text.now
-    (pieces_from c.args.section c.args.place c.args.contents.now) _ c.contents.text _
+    (pieces_from c.args.section c.args.location c.args.contents.now) _ c.contents.text _
     (ap (pieces_from c.args.section c.contents.next)
     (drop_all c.contents.content-index c.args.contents.now (omega arith)))
     c.contents.invariant before h listing messages
@@ -44,7 +44,7 @@ returns-clause-writes g c = λ before h listing messages.
 pub returns-clause-opens : goal.returns-clause-opens
 returns-clause-opens g c = λ before h.
     all_held closed_records closed-grows IsOpenAfter _ c.args.text.now
-    (pieces_from c.args.section c.args.place c.args.contents.now) _ c.contents.text _
+    (pieces_from c.args.section c.args.location c.args.contents.now) _ c.contents.text _
     (ap (pieces_from c.args.section c.contents.next)
     (drop_all c.contents.content-index c.args.contents.now (omega arith)))
     c.contents.invariant before h
@@ -52,7 +52,7 @@ returns-clause-opens g c = λ before h.
 pub returns-clause-fit : goal.returns-clause-fit
 returns-clause-fit g c = λ before h.
     all_fit closed_records closed-grows IsOpenAfter _ c.args.text.now
-    (pieces_from c.args.section c.args.place c.args.contents.now) _ c.contents.text _
+    (pieces_from c.args.section c.args.location c.args.contents.now) _ c.contents.text _
     (ap (pieces_from c.args.section c.contents.next)
     (drop_all c.contents.content-index c.args.contents.now (omega arith)))
     c.contents.invariant before h

@@ -10,4 +10,4 @@ abbrev pub invariant-contents : goal.invariant-contents
 invariant-contents g l = Taken closed_records IsOpenAfter
     (λ listing messages. outputs (output_of g.S.Sink l.initial.object) listing messages)
     (λ listing messages. outputs (output_of g.S.Sink l.object) listing messages) l.initial.text l.text
-    (pieces_from l.section l.place l.contents) (pieces_from l.section l.next (drop l.content-index l.contents))
+    (pieces_from l.section l.location l.contents) (pieces_from l.section l.next (drop l.content-index l.contents))

@@ -15,7 +15,7 @@ returns-clause-placed c = λ whole table stage matches.
       live = record { line = line; is_expanded = c.args.placed.now.live.is_expanded; action = code.NoAction };
       flags = c.with-placed.result;
       section = c.section_name-placed.result;
-      place = c.counter-placed.result;
+      location = c.counter-placed.result;
       counter = c.counter-placed.result;
       assigned = None;
       is_shown = c.is_shown-placed.result;

@@ -3,6 +3,6 @@ use Rattle.m11_cli_image_laws.proofs.values.branches_lead_to_their_targets.Goals
 
 pub returns : goal.returns
 returns c = record {
-  branch = λ program source place table value absolute low reach. branch_leads program source table absolute place value low reach;
-  sob = λ program source place table value absolute low reach. loop_leads program source table absolute place value low reach;
+  branch = λ program source location table value absolute low reach. branch_leads program source table absolute location value low reach;
+  sob = λ program source location table value absolute low reach. loop_leads program source table absolute location value low reach;
 }

@@ -11,7 +11,7 @@ use std::test::Fail;
 type Row = (&'static str, &'static str, Wanted<'static>);
 
 static ROWS: [Row; 3] = [
-    // a label at another place
+    // a label at another location
     (
         ".WORD 1\nA: .WORD 2\n.END\n",
         "A: .WORD 2\n.END\n",
@@ -44,7 +44,7 @@ static ROWS: [Row; 3] = [
             flagged: 1,
         },
     ),
-    // a local label at another place
+    // a local label at another location
     (
         "NOP\n1$: BR 1$\n.END\n",
         "1$: BR 1$\n.END\n",

@@ -117,7 +117,7 @@ static GROWING: [Growing; 3] = [
         &[46, 102, 102, 102],
         120,
     ),
-    // a text ends where the place moves
+    // a text ends where the location moves
     (
         &[
             ".TITLE T",

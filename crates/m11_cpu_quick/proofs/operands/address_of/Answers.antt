@@ -1,5 +1,5 @@
 use Rattle.std.proofs.Common.{rules, refl}
-use Rattle.m11_cpu_quick.proofs.OperandsFound.{at_absolute, at_decrement, at_deferred, at_immediate_place, at_increment, at_index, at_relative}
+use Rattle.m11_cpu_quick.proofs.OperandsFound.{at_absolute, at_decrement, at_deferred, at_immediate_location, at_increment, at_index, at_relative}
 use Rattle.m11_cpu_quick.proofs.operands.address_of.Goals as goal
 
 pub returns-else-not-is_plain-clause-some : goal.returns-else-not-is_plain-clause-some
@@ -37,4 +37,4 @@ returns-else-not-is_plain-6-clause-some c =
 pub returns-else-not-is_plain-7-clause-some : goal.returns-else-not-is_plain-7-clause-some
 returns-else-not-is_plain-7-clause-some c =
     let is = rw c.in-Immediate.is at c.requires in
-    at_immediate_place _ _ _ _ _ c.args.machine.now is.0 is.1 (search rules) refl
+    at_immediate_location _ _ _ _ _ c.args.machine.now is.0 is.1 (search rules) refl

@@ -1,5 +1,5 @@
 use Rattle.std.proofs.Common.{rules}
-use Rattle.m11_cpu_quick.proofs.OperandsFound.{at_immediate, at_place, at_register}
+use Rattle.m11_cpu_quick.proofs.OperandsFound.{at_immediate, at_location, at_register}
 use Rattle.m11_cpu_quick.proofs.operands.value_of.Goals as goal
 
 pub returns-in-Register-clause-some : goal.returns-in-Register-clause-some
@@ -15,9 +15,9 @@ returns-in_ok-value-in-Immediate-clause-some c =
 
 pub returns-in_ok-address-in_default : goal.returns-in_ok-address-in_default
 returns-in_ok-address-in_default c =
-    let place = c.in_ok-address-in_default.ensures in record {
-      some = at_place _ _ _ _ _ _ _ _ c.args.machine.now place.some place.plain c.plain.ensures.value;
+    let location = c.in_ok-address-in_default.ensures in record {
+      some = at_location _ _ _ _ _ _ _ _ c.args.machine.now location.some location.plain c.plain.ensures.value;
       fits = c.plain.ensures.fits;
-      back = place.back;
+      back = location.back;
       none = search rules;
     }

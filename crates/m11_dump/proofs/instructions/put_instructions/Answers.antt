@@ -10,6 +10,6 @@ lines-preserved c =
       within = line_within all c.lines.text.items c.put_line.new.text.items c.args.bytes.now c.args.address c.lines.index
           c.in_ok-index.field-0 below c.lines.invariant.leads c.in_ok-index.ensures.some c.in_ok-index.ensures.there;
       leads = line_shown all c.lines.text.items c.put_line.new.text.items c.args.bytes.now c.args.address c.lines.index
-          c.in_ok-index.field-0 below c.lines.invariant.leads c.in_ok-index.ensures.some c.place_after.result
-          c.place_after.ensures c.in_ok-index.ensures.text c.in_ok-index.ensures.size;
+          c.in_ok-index.field-0 below c.lines.invariant.leads c.in_ok-index.ensures.some c.location_after.result
+          c.location_after.ensures c.in_ok-index.ensures.text c.in_ok-index.ensures.size;
     }

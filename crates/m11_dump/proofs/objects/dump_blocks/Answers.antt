@@ -1,5 +1,5 @@
 use Rattle.std.proofs.Common.{[], ◌∷◌, ◌++◌, refl}
-use Rattle.m11_obj_blocks.specs.Limited.{most_bytes, place}
+use Rattle.m11_obj_blocks.specs.Limited.{most_bytes, position}
 use Rattle.m11_base_writes.specs.Outputs.{output_of}
 use Rattle.m11_dump.proofs.Reading.{block_refused, block_taken, block_stops, dump_begins, dump_ends, reads_on, room_falls}
 use Rattle.m11_dump.specs.Objects.{parts_all}
@@ -9,15 +9,15 @@ pub reading-init : goal.reading-init
 reading-init g c = rw (c.new-reader.ensures, c.new-stand.ensures) (record {
   reads = refl;
   contents = [];
-  dumping = dump_begins c.args.view (place (g.F.Feed.text c.args.feed.now) (g.F.Feed.faults c.args.feed.now) most_bytes)
+  dumping = dump_begins c.args.view (position (g.F.Feed.text c.args.feed.now) (g.F.Feed.faults c.args.feed.now) most_bytes)
       (output_of g.S.Sink c.args.sink.now) c.args.rules.now refl c.requires;
 })
 
 pub reading-smaller : goal.reading-smaller
 reading-smaller g c =
     let reads = rw (c.reading.invariant.reads, c.in-Ok-true.field-0-test) at c.in-Ok-true.ensures.reads in
-    room_falls (place (g.F.Feed.text c.reading.feed) (g.F.Feed.faults c.reading.feed) c.reading.reader.room)
-    (place (g.F.Feed.text c.next_into.new.feed) (g.F.Feed.faults c.next_into.new.feed) c.next_into.new.self.room)
+    room_falls (position (g.F.Feed.text c.reading.feed) (g.F.Feed.faults c.reading.feed) c.reading.reader.room)
+    (position (g.F.Feed.text c.next_into.new.feed) (g.F.Feed.faults c.next_into.new.feed) c.next_into.new.self.room)
     c.next_into.new.block.items reads
 
 pub reading-preserved : goal.reading-preserved
@@ -25,11 +25,11 @@ reading-preserved g c =
     let reads = rw (c.reading.invariant.reads, c.in-Ok-true.field-0-test) at c.in-Ok-true.ensures.reads in record {
       reads = reads_on c.next_into.new.self.has_failed c.in-Ok-true.field-0 c.in-Ok-true.ensures.fails;
       contents = c.reading.invariant.contents ++ c.next_into.new.block.items ∷ [];
-      dumping = block_taken c.args.view (place (g.F.Feed.text c.args.feed.now) (g.F.Feed.faults c.args.feed.now) most_bytes)
-          (place (g.F.Feed.text c.reading.feed) (g.F.Feed.faults c.reading.feed) c.reading.reader.room)
+      dumping = block_taken c.args.view (position (g.F.Feed.text c.args.feed.now) (g.F.Feed.faults c.args.feed.now) most_bytes)
+          (position (g.F.Feed.text c.reading.feed) (g.F.Feed.faults c.reading.feed) c.reading.reader.room)
           (output_of g.S.Sink c.args.sink.now) (output_of g.S.Sink c.reading.sink) c.reading.stand c.reading.rules c.reading.invariant.contents
           c.reading.invariant.dumping
-          (place (g.F.Feed.text c.next_into.new.feed) (g.F.Feed.faults c.next_into.new.feed) c.next_into.new.self.room)
+          (position (g.F.Feed.text c.next_into.new.feed) (g.F.Feed.faults c.next_into.new.feed) c.next_into.new.self.room)
           c.next_into.new.block.items reads (output_of g.S.Sink c.take_block.new.sink) c.bytes_read.result c.take_block.new.rules
           c.in-Ok.after (c.in-Ok.ensures (parts_all c.reading.invariant.contents) c.reading.invariant.dumping.judged);
     }
@@ -38,11 +38,11 @@ pub returns-in-Err-take_block : goal.returns-in-Err-take_block
 returns-in-Err-take_block g c =
     let reads = rw (c.reading.invariant.reads, c.in-Ok-true.field-0-test) at c.in-Ok-true.ensures.reads in (
       c.next_into.new.self.room,
-      block_stops c.args.view (place (g.F.Feed.text c.args.feed.now) (g.F.Feed.faults c.args.feed.now) most_bytes)
-          (place (g.F.Feed.text c.reading.feed) (g.F.Feed.faults c.reading.feed) c.reading.reader.room)
+      block_stops c.args.view (position (g.F.Feed.text c.args.feed.now) (g.F.Feed.faults c.args.feed.now) most_bytes)
+          (position (g.F.Feed.text c.reading.feed) (g.F.Feed.faults c.reading.feed) c.reading.reader.room)
           (output_of g.S.Sink c.args.sink.now) (output_of g.S.Sink c.reading.sink) c.reading.stand c.reading.rules c.reading.invariant.contents
           c.reading.invariant.dumping
-          (place (g.F.Feed.text c.next_into.new.feed) (g.F.Feed.faults c.next_into.new.feed) c.next_into.new.self.room)
+          (position (g.F.Feed.text c.next_into.new.feed) (g.F.Feed.faults c.next_into.new.feed) c.next_into.new.self.room)
           c.next_into.new.block.items reads (output_of g.S.Sink c.take_block.new.sink) c.bytes_read.result
           c.take_block.new.rules c.in-Err-take_block.placed c.bytes_read.ensures
           (c.in-Err-take_block.ensures (parts_all c.reading.invariant.contents) c.reading.invariant.dumping.judged),
@@ -52,11 +52,11 @@ pub returns-in-Ok-false : goal.returns-in-Ok-false
 returns-in-Ok-false g c =
     let stops = rw (c.reading.invariant.reads, c.in-Ok-false.field-0-test) at c.in-Ok-false.ensures.reads in (
       c.next_into.new.self.room,
-      dump_ends c.args.view (place (g.F.Feed.text c.args.feed.now) (g.F.Feed.faults c.args.feed.now) most_bytes)
-          (place (g.F.Feed.text c.reading.feed) (g.F.Feed.faults c.reading.feed) c.reading.reader.room)
+      dump_ends c.args.view (position (g.F.Feed.text c.args.feed.now) (g.F.Feed.faults c.args.feed.now) most_bytes)
+          (position (g.F.Feed.text c.reading.feed) (g.F.Feed.faults c.reading.feed) c.reading.reader.room)
           (output_of g.S.Sink c.args.sink.now) (output_of g.S.Sink c.reading.sink) c.reading.stand c.reading.rules c.reading.invariant.contents
           c.reading.invariant.dumping
-          (place (g.F.Feed.text c.next_into.new.feed) (g.F.Feed.faults c.next_into.new.feed) c.next_into.new.self.room)
+          (position (g.F.Feed.text c.next_into.new.feed) (g.F.Feed.faults c.next_into.new.feed) c.next_into.new.self.room)
           c.bytes_read-in-Ok-false.result c.judge_end.result c.bytes_read-in-Ok-false.ensures stops
           (c.judge_end.ensures (parts_all c.reading.invariant.contents) c.reading.invariant.dumping.judged),
     )
@@ -65,11 +65,11 @@ pub returns-in-Err : goal.returns-in-Err
 returns-in-Err g c =
     let stops = rw c.reading.invariant.reads at c.in-Err.ensures.reads in (
       c.next_into.new.self.room,
-      block_refused c.args.view (place (g.F.Feed.text c.args.feed.now) (g.F.Feed.faults c.args.feed.now) most_bytes)
-          (place (g.F.Feed.text c.reading.feed) (g.F.Feed.faults c.reading.feed) c.reading.reader.room)
+      block_refused c.args.view (position (g.F.Feed.text c.args.feed.now) (g.F.Feed.faults c.args.feed.now) most_bytes)
+          (position (g.F.Feed.text c.reading.feed) (g.F.Feed.faults c.reading.feed) c.reading.reader.room)
           (output_of g.S.Sink c.args.sink.now) (output_of g.S.Sink c.reading.sink) c.reading.stand c.reading.rules c.reading.invariant.contents
           c.reading.invariant.dumping
-          (place (g.F.Feed.text c.next_into.new.feed) (g.F.Feed.faults c.next_into.new.feed) c.next_into.new.self.room)
+          (position (g.F.Feed.text c.next_into.new.feed) (g.F.Feed.faults c.next_into.new.feed) c.next_into.new.self.room)
           c.in-Err.fault c.placed.result c.fault_byte-byte.result c.bytes_read-in-Err.result c.placed.ensures
           c.fault_byte-byte.ensures c.bytes_read-in-Err.ensures stops,
     )

@@ -1,5 +1,5 @@
 use Rattle.std.proofs.Common.{◌≡◌, ℕ, List, false}
-use Rattle.m11_obj_blocks.specs.Limited.{most_bytes, place}
+use Rattle.m11_obj_blocks.specs.Limited.{most_bytes, position}
 use Rattle.m11_base_writes.specs.Outputs.{output_of}
 use Rattle.m11_dump.proofs.Reading.{Dumping}
 use Rattle.m11_dump.proofs.objects.dump_blocks.Given as goal
@@ -8,8 +8,8 @@ abbrev pub invariant-reading : goal.invariant-reading
 invariant-reading g l = record {
   reads : l.reader.has_failed ≡ false;
   contents : List (List ℕ);
-  dumping : Dumping l.view (place (g.F.Feed.text l.initial.feed) (g.F.Feed.faults l.initial.feed) most_bytes)
-      (place (g.F.Feed.text l.feed) (g.F.Feed.faults l.feed) l.reader.room)
+  dumping : Dumping l.view (position (g.F.Feed.text l.initial.feed) (g.F.Feed.faults l.initial.feed) most_bytes)
+      (position (g.F.Feed.text l.feed) (g.F.Feed.faults l.feed) l.reader.room)
       (output_of g.S.Sink l.initial.sink) (output_of g.S.Sink l.sink) l.stand l.rules contents;
 }
 

@@ -1,14 +1,14 @@
-use Rattle.m11_obj_blocks.specs.Limited.{place}
+use Rattle.m11_obj_blocks.specs.Limited.{position}
 use Rattle.m11_dump.proofs.Taping.{none_taken, one_taken}
 use Rattle.m11_dump.proofs.tapes.read_data.Goals as goal
 
 pub bytes-init : goal.bytes-init
-bytes-init g c = rw c.new-bytes.ensures.items (none_taken (place (g.F.Feed.text c.args.feed.now) (g.F.Feed.faults c.args.feed.now) c.args.reader.now.room) c.args.address c.args.count
+bytes-init g c = rw c.new-bytes.ensures.items (none_taken (position (g.F.Feed.text c.args.feed.now) (g.F.Feed.faults c.args.feed.now) c.args.reader.now.room) c.args.address c.args.count
     c.args.reader.now.stage c.requires)
 
 pub bytes-preserved : goal.bytes-preserved
-bytes-preserved g c = rw c.in_ok-push-in-Ok.ensures.items (one_taken (place (g.F.Feed.text c.args.feed.now) (g.F.Feed.faults c.args.feed.now) c.args.reader.now.room)
-    (place (g.F.Feed.text c.bytes.feed) (g.F.Feed.faults c.bytes.feed) c.bytes.reader.room) c.args.address c.args.count
+bytes-preserved g c = rw c.in_ok-push-in-Ok.ensures.items (one_taken (position (g.F.Feed.text c.args.feed.now) (g.F.Feed.faults c.args.feed.now) c.args.reader.now.room)
+    (position (g.F.Feed.text c.bytes.feed) (g.F.Feed.faults c.bytes.feed) c.bytes.reader.room) c.args.address c.args.count
     c.bytes.index c.bytes.reader.stage c.bytes.bytes.items c.bytes.invariant
-    (place (g.F.Feed.text c.byte.new.feed) (g.F.Feed.faults c.byte.new.feed) c.byte.new.self.room) c.byte.new.self.stage
+    (position (g.F.Feed.text c.byte.new.feed) (g.F.Feed.faults c.byte.new.feed) c.byte.new.self.room) c.byte.new.self.stage
     c.in-Ok.byte c.in-Ok.ensures.reads)

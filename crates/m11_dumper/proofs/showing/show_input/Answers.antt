@@ -1,6 +1,6 @@
 use Rattle.std.proofs.Common.{◌∙◌, ℕ, List, subst}
 use Rattle.std.specs.Io.KnownBytes.{Appends}
-use Rattle.m11_obj_blocks.specs.Limited.{place}
+use Rattle.m11_obj_blocks.specs.Limited.{position}
 use Rattle.m11_base_writes.specs.Outputs.{output_of}
 use Rattle.m11_dumper.proofs.Shown.{head_fails}
 use Rattle.m11_dumper.proofs.showing.show_input.Goals as goal
@@ -11,7 +11,7 @@ returns-in-Ok g c =
     let P : List ℕ → Type 0 = λ bytes. Appends (g.O.Sink.text c.args.out.now) (g.O.Sink.text c.put_or_fail.new.sink) bytes in
     let whole = subst P (c.deref.ensures.value ∙ c.in_ok-head.ensures) c.in_ok-put_or_fail.ensures.0 in (
       middle,
-      place (g.I.Feed.text c.dump.new.input) (g.I.Feed.faults c.dump.new.input) c.in-Ok.ensures.0,
+      position (g.I.Feed.text c.dump.new.input) (g.I.Feed.faults c.dump.new.input) c.in-Ok.ensures.0,
       (whole, c.in_ok-put_or_fail.ensures.1),
       c.in-Ok.ensures.1,
     )

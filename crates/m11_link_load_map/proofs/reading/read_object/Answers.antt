@@ -1,5 +1,5 @@
 use Rattle.std.proofs.Common.{refl, rules}
-use Rattle.m11_obj_blocks.specs.Limited.{place}
+use Rattle.m11_obj_blocks.specs.Limited.{position}
 use Rattle.m11_link.proofs.FirstRead.{laid_refused, laid_stops}
 use Rattle.m11_link.proofs.ObjectsRead.{block_falls, reads_on}
 use Rattle.m11_link_load_map.proofs.ReadOn.{seen_ends, seen_first, seen_more, stands_here}
@@ -15,8 +15,8 @@ items-init g c = rw c.new-reader.ensures (record {
 pub items-smaller : goal.items-smaller
 items-smaller g c =
     let reads = rw (c.items.invariant.reads, c.in-Ok-true.field-0-test) at c.in-Ok-true.ensures.reads in
-    block_falls (place (g.F.Feed.text c.items.feed) (g.F.Feed.faults c.items.feed) c.items.reader.room)
-    (place (g.F.Feed.text c.next_into.new.feed) (g.F.Feed.faults c.next_into.new.feed) c.next_into.new.self.room)
+    block_falls (position (g.F.Feed.text c.items.feed) (g.F.Feed.faults c.items.feed) c.items.reader.room)
+    (position (g.F.Feed.text c.next_into.new.feed) (g.F.Feed.faults c.next_into.new.feed) c.next_into.new.self.room)
     c.next_into.new.block.items reads
 
 pub items-preserved : goal.items-preserved

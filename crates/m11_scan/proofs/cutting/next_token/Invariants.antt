@@ -4,8 +4,8 @@ use Rattle.m11_scan.proofs.cutting.next_token.Given as goal
 
 abbrev pub invariant-pieces : goal.invariant-pieces
 invariant-pieces l = record {
-  same : tokens_from l.line.text l.begin ≡ tokens_from l.line.text l.place;
-  after : l.place ≤ l.begin;
+  same : tokens_from l.line.text l.begin ≡ tokens_from l.line.text l.column;
+  after : l.column ≤ l.begin;
   within : l.begin ≤ length l.line.text;
 }
 

@@ -7,15 +7,15 @@ use Rattle.m11_scan.proofs.cutting.token_at.Goals as goal
 pub returns-in-Cut-clause-token : goal.returns-in-Cut-clause-token
 returns-in-Cut-clause-token c =
     let same = ap length c.text-text.ensures.text in
-    token_stands c.args.line.now.text c.args.place c.first_piece-piece.result (omega arith)
+    token_stands c.args.line.now.text c.args.column c.first_piece-piece.result (omega arith)
     (cut_from _ _ _ _ c.text-text.ensures.text c.first_piece-piece.ensures.piece) c.first_piece-piece.ensures.begins _ c.in-Cut.is
 
 pub returns-in_default-clause-later : goal.returns-in_default-clause-later
 returns-in_default-clause-later c none =
     let same = ap length c.text-text.ensures.text in
-    let rest = ap length (take_rest c.text-text.result.now c.args.place) in
-    let left = length-drop c.args.place c.text-text.result.now in
+    let rest = ap length (take_rest c.text-text.result.now c.args.column) in
+    let left = length-drop c.args.column c.text-text.result.now in
     let within = c.first_piece-piece.ensures.within in
-    next_later c.args.line.now.text c.args.place c.first_piece-piece.result (omega arith)
+    next_later c.args.line.now.text c.args.column c.first_piece-piece.result (omega arith)
     (cut_from _ _ _ _ c.text-text.ensures.text c.first_piece-piece.ensures.piece) c.first_piece-piece.ensures.begins (omega arith)
     c.in_default.not-Cut

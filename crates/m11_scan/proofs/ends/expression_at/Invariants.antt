@@ -8,9 +8,9 @@ use Rattle.m11_scan.proofs.ends.expression_at.Given as goal
 abbrev pub invariant-tokens : goal.invariant-tokens
 invariant-tokens l = record {
   all : map (lexeme l.line.text) l.tokens.items ++ taken_of l.within (tokens_from l.line.text l.end)
-      ≡ expression_at l.line.text l.place;
-  end : end_of l.within l.end (tokens_from l.line.text l.end) ≡ expression_end l.line.text l.place;
-  least : l.place ≤ l.end;
+      ≡ expression_at l.line.text l.column;
+  end : end_of l.within l.end (tokens_from l.line.text l.end) ≡ expression_end l.line.text l.column;
+  least : l.column ≤ l.end;
   room : array_vec_len l.tokens ≤ l.end;
   most : l.end ≤ length l.line.text;
   deep : l.within.depth ≤ l.end;

@@ -5,8 +5,8 @@ use Rattle.m11_scan.proofs.ends.expression_end.Given as goal
 
 abbrev pub invariant-tokens : goal.invariant-tokens
 invariant-tokens l = record {
-  end : end_of l.within l.end (tokens_from l.line.text l.end) ≡ expression_end l.line.text l.place;
-  least : l.place ≤ l.end;
+  end : end_of l.within l.end (tokens_from l.line.text l.end) ≡ expression_end l.line.text l.column;
+  least : l.column ≤ l.end;
   most : l.end ≤ length l.line.text;
   deep : l.within.depth ≤ l.end;
 }

@@ -5,8 +5,8 @@ use Rattle.m11_scan_statements.proofs.listed.passed_over.Given as goal
 
 abbrev pub invariant-tokens : goal.invariant-tokens
 invariant-tokens l = record {
-  element : passed_over l.end (tokens_from l.line.text l.end) ≡ passed_over l.place (tokens_from l.line.text l.place);
-  least : l.place ≤ l.end;
+  element : passed_over l.end (tokens_from l.line.text l.end) ≡ passed_over l.column (tokens_from l.line.text l.column);
+  least : l.column ≤ l.end;
   most : l.end ≤ length l.line.text;
 }
 

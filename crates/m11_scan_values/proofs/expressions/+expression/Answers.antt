@@ -10,8 +10,8 @@ expression-operators-init g t c = record { carries = Begins _; within = omega ar
 
 pub expression-operators-preserved : goal.expression-operators-preserved
 expression-operators-preserved g t c =
-    let rest = ap length (take_rest c.operators.rest.now (c.in-Some.split.place + 1)) in
-    let size = length-drop (c.in-Some.split.place + 1) c.operators.rest.now in
+    let rest = ap length (take_rest c.operators.rest.now (c.in-Some.split.index + 1)) in
+    let size = length-drop (c.in-Some.split.index + 1) c.operators.rest.now in
     let within = c.operators.invariant.within in
     record {
       carries =

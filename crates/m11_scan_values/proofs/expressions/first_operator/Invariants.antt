@@ -1,14 +1,14 @@
 use Rattle.std.proofs.Common.{◌≡◌, ◌+◌, ◌≤◌, length, map}
 use Rattle.m11_scan.specs.Expressions.{begin, sort_of}
-use Rattle.m11_scan_values.specs.Places.{first_operator}
+use Rattle.m11_scan_values.specs.Splits.{first_operator}
 use Rattle.m11_scan_values.proofs.FirstOperators.{passed}
 use Rattle.m11_scan_values.proofs.expressions.first_operator.Given as goal
 
 abbrev pub invariant-tokens : goal.invariant-tokens
 invariant-tokens l = record {
-  first : passed l.count (first_operator l.place (map sort_of l.rest)) ≡ first_operator begin (map sort_of l.tokens);
+  first : passed l.count (first_operator l.index (map sort_of l.rest)) ≡ first_operator begin (map sort_of l.tokens);
   all : l.count + length l.rest ≡ length l.tokens;
-  deep : l.place.depth ≤ l.count;
+  deep : l.index.depth ≤ l.count;
 }
 
 abbrev pub decreases-tokens : goal.decreases-tokens

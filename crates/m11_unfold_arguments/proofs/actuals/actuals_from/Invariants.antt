@@ -8,10 +8,10 @@ abbrev pub invariant-actuals : goal.invariant-actuals
 invariant-actuals g l = record {
   texts :
       texts_of l.texts.items ++ (actuals_from (known_by (g.N.Names.base l.names) (g.N.Names.stands_for l.names)) l.line.text l.left l.begin).texts
-      ≡ (actuals_from (known_by (g.N.Names.base l.names) (g.N.Names.stands_for l.names)) l.line.text l.wanted l.place).texts;
+      ≡ (actuals_from (known_by (g.N.Names.base l.names) (g.N.Names.stands_for l.names)) l.line.text l.wanted l.column).texts;
   notes :
       joined l.notes (actuals_from (known_by (g.N.Names.base l.names) (g.N.Names.stands_for l.names)) l.line.text l.left l.begin).notes
-      ≡ joined l.initial.notes (actuals_from (known_by (g.N.Names.base l.names) (g.N.Names.stands_for l.names)) l.line.text l.wanted l.place).notes;
+      ≡ joined l.initial.notes (actuals_from (known_by (g.N.Names.base l.names) (g.N.Names.stands_for l.names)) l.line.text l.wanted l.column).notes;
   most : l.begin ≤ length l.line.text;
 }
 

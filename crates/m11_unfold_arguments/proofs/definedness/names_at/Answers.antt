@@ -44,7 +44,7 @@ pub names-preserved : goal.names-preserved
 names-preserved g c =
     let after = c.in-Some-joint_after.ensures.after in
     let begins = c.in-Some.ensures.begins in
-    let place = c.in-Some.ensures.place in
+    let column = c.in-Some.ensures.column in
     let within = c.in-Some-joint_after.ensures.within in
     let least = c.names.invariant.least in
     let same = c.from-begin.ensures in

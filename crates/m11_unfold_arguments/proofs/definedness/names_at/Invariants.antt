@@ -11,8 +11,8 @@ invariant-names g l = record {
       Leads l.notes l.initial.notes
       (names_in (tested (known_by (g.N.Names.base l.names) (g.N.Names.stands_for l.names)) l.wants_defined)
       (length l.line.text) l.before (tokens_from l.line.text l.begin))
-      (names_at (known_by (g.N.Names.base l.names) (g.N.Names.stands_for l.names)) l.wants_defined l.line.text l.place);
-  least : l.place ≤ l.begin;
+      (names_at (known_by (g.N.Names.base l.names) (g.N.Names.stands_for l.names)) l.wants_defined l.line.text l.column);
+  least : l.column ≤ l.begin;
   most : l.begin ≤ length l.line.text;
 }
 

@@ -7,6 +7,6 @@ pub returns-clause-notes : goal.returns-clause-notes
 returns-clause-notes g c =
     noted_at_once c.args.line.now.text c.args.notes.now c.condition.new.notes _
     (condition (known_by (g.N.Names.base c.args.names.now) (g.N.Names.stands_for c.args.names.now)) c.args.line.now.text
-    c.args.place)
+    c.args.column)
     c.in_ok-verdict.verdict _ _ c.in_ok-verdict.ensures.verdict c.in_ok-verdict.ensures.notes c.from-end.ensures
     c.after_comma-statement.ensures.statement c.comma_flags.ensures c.add_flags.ensures

@@ -6,10 +6,10 @@ use Rattle.m11_unfold_arguments.proofs.macros.formals_within.Given as goal
 
 abbrev pub invariant-formals : goal.invariant-formals
 invariant-formals l = record {
-  list : l.list.items ++ (formals_within l.left l.line.text l.end).list ≡ (formals_within l.bound l.line.text l.place).list;
+  list : l.list.items ++ (formals_within l.left l.line.text l.end).list ≡ (formals_within l.bound l.line.text l.column).list;
   flags :
       bit_or (bits_of l.flags) (formals_within l.left l.line.text l.end).flags
-      ≡ (formals_within l.bound l.line.text l.place).flags;
+      ≡ (formals_within l.bound l.line.text l.column).flags;
   most : l.end ≤ length l.line.text;
 }
 

@@ -1,8 +1,8 @@
 use Rattle.std.proofs.Common.{◌∙◌, ap, subst}
 use Rattle.m11_asm_outputs.specs.Outputs.{Outputs, outputs_of}
-use Rattle.m11_asm_rules.specs.Tables.{Table, place}
+use Rattle.m11_asm_rules.specs.Tables.{Table, location}
 use Rattle.m11_asm.specs.Second.{SecondEnds, SecondStands, SecondState}
-use Rattle.m11_asm.proofs.Finishing.{few_flagged, place_is, second_finishes}
+use Rattle.m11_asm.proofs.Finishing.{few_flagged, location_is, second_finishes}
 use Rattle.m11_asm.proofs.second.Second.finish.Goals as goal
 
 pub returns-clause-ends : goal.returns-clause-ends
@@ -13,7 +13,7 @@ returns-clause-ends g c = λ program source first.
     subst P c.self.view_is (λ stands.
     second_finishes program source first before _ stands now c.end.result
     (c.end.ensures.writes program stands.stands.lines stands.stands.taken.done.keeps
-    (c.place-place.ensures ∙ ap (λ (t : Table). place t) c.table.ensures ∙ place_is program source first before _ stands)
+    (c.location-location.ensures ∙ ap (λ (t : Table). location t) c.table.ensures ∙ location_is program source first before _ stands)
     (few_flagged program source first before _ stands))
     (c.end.ensures.counts program stands.stands.lines stands.stands.taken.done.keeps (few_flagged program source first before _ stands))
     (c.end.ensures.fit program stands.stands.lines stands.stands.taken.done.keeps) c.end.ensures.flushed)

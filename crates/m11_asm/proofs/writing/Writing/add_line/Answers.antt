@@ -8,16 +8,16 @@ use Rattle.m11_asm.specs.Written.{flag_E, message_writes}
 
 pub returns-then-has_ended-clause-writes : goal.returns-then-has_ended-clause-writes
 returns-then-has_ended-clause-writes g c = λ object.
-    writes_nothing _ _ (none_added c.args.read c.args.place c.args.has_ended c.if-has_ended.true)
+    writes_nothing _ _ (none_added c.args.read c.args.location c.args.has_ended c.if-has_ended.true)
 
 pub returns-in_err-put_listed-clause-writes : goal.returns-in_err-put_listed-clause-writes
 returns-in_err-put_listed-clause-writes g c = λ object.
-    one_added _ _ flag_E c.args.read c.args.place c.args.has_ended _ c.if-has_ended.false refl
-    (stopped_first assembly _ _ (all_to_listing (added_lines flag_E c.args.read c.args.place)) (message_writes flag_E c.args.read []) _ _
+    one_added _ _ flag_E c.args.read c.args.location c.args.has_ended _ c.if-has_ended.false refl
+    (stopped_first assembly _ _ (all_to_listing (added_lines flag_E c.args.read c.args.location)) (message_writes flag_E c.args.read []) _ _
     (c.in_err-put_listed.ensures object _) c.from_residual.ensures.1)
 
 pub returns-clause-writes : goal.returns-clause-writes
 returns-clause-writes g c = λ object.
-    one_added _ _ flag_E c.args.read c.args.place c.args.has_ended _ c.if-has_ended.false refl
-    (writes_then assembly _ _ _ (all_to_listing (added_lines flag_E c.args.read c.args.place)) (message_writes flag_E c.args.read []) _
+    one_added _ _ flag_E c.args.read c.args.location c.args.has_ended _ c.if-has_ended.false refl
+    (writes_then assembly _ _ _ (all_to_listing (added_lines flag_E c.args.read c.args.location)) (message_writes flag_E c.args.read []) _
     (c.in_ok-put_listed.ensures object _) (c.report.ensures.writes object _))

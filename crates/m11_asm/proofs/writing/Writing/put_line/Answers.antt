@@ -22,7 +22,7 @@ returns-in_err-put_pieces-clause-writes g c = λ program lines one put stands is
     let P : Option TextParts → Type 0 = λ t. IsOpenAfter (pieces_in program.map lines) t in
     let opens = subst P (sym (ap (λ (w : Writing). w.text) c.in_ok-begin.ensures.begins)) stands.text in
     stopped_alone assembly _ _ (head_before program lines ++ line_writes program lines one) _ _
-    (line_stops program lines one _ _ _ (pieces_from c.args.line.now.section c.args.line.now.place c.args.contents.now) _
+    (line_stops program lines one _ _ _ (pieces_from c.args.line.now.section c.args.line.now.location c.args.contents.now) _
     (pieces_so program lines one c.args.line.now put c.args.contents.now is same)
     (c.in_ok-begin.ensures.writes program lines _ _ stands)
     (c.in_err-put_pieces.ensures.writes (pieces_in program.map lines) opens _ _))
@@ -35,7 +35,7 @@ returns-in_err-list-clause-writes g c = λ program lines one put stands is same 
     let told = ap (λ (w : Writing). w.transfer) c.self.view_is ∙ ap (λ (w : Writing). w.transfer) c.in_ok-put_pieces.ensures.opens
     ∙ ap (λ (w : Writing). w.transfer) c.in_ok-begin.ensures.begins ∙ stands.transfer in
     let flags = bits_of c.with-flags.result in
-    line_goes_on program lines one _ _ _ _ (pieces_from c.args.line.now.section c.args.line.now.place c.args.contents.now) flags
+    line_goes_on program lines one _ _ _ _ (pieces_from c.args.line.now.section c.args.line.now.location c.args.contents.now) flags
     c.args.number one.given.live.line.text _ (pieces_so program lines one c.args.line.now put c.args.contents.now is same)
     (c.with-flags.ensures ∙ ap (bit_or (bits_of c.args.line.now.flags)) c.end_flags.ensures
     ∙ flags_so program lines one c.args.line.now put c.args.contents.now is same _ told)
@@ -52,7 +52,7 @@ returns-clause-writes g c = λ program lines one put stands is same number.
     let told = ap (λ (w : Writing). w.transfer) c.self.view_is ∙ ap (λ (w : Writing). w.transfer) c.in_ok-put_pieces.ensures.opens
     ∙ ap (λ (w : Writing). w.transfer) c.in_ok-begin.ensures.begins ∙ stands.transfer in
     let flags = bits_of c.with-flags.result in
-    line_goes_on program lines one _ _ _ _ (pieces_from c.args.line.now.section c.args.line.now.place c.args.contents.now) flags
+    line_goes_on program lines one _ _ _ _ (pieces_from c.args.line.now.section c.args.line.now.location c.args.contents.now) flags
     c.args.number c.text.result.now c.report.result (pieces_so program lines one c.args.line.now put c.args.contents.now is same)
     (c.with-flags.ensures ∙ ap (bit_or (bits_of c.args.line.now.flags)) c.end_flags.ensures
     ∙ flags_so program lines one c.args.line.now put c.args.contents.now is same _ told)
@@ -71,7 +71,7 @@ returns-clause-stands g c = λ program lines one put stands is same number.
     let told = ap (λ (w : Writing). w.transfer) c.self.view_is ∙ ap (λ (w : Writing). w.transfer) c.in_ok-put_pieces.ensures.opens
     ∙ ap (λ (w : Writing). w.transfer) c.in_ok-begin.ensures.begins ∙ stands.transfer in
     keeps_more program lines one c.args.self.now stands c.begin.new.self c.put_pieces.new.self c.list.new.self c.report.new.self
-    (pieces_from c.args.line.now.section c.args.line.now.place c.args.contents.now) (bits_of c.with-flags.result) c.report.result
+    (pieces_from c.args.line.now.section c.args.line.now.location c.args.contents.now) (bits_of c.with-flags.result) c.report.result
     c.in_ok-begin.ensures.begins c.in_ok-put_pieces.ensures.opens c.in_ok-list.ensures.keeps
     (pieces_so program lines one c.args.line.now put c.args.contents.now is same)
     (c.with-flags.ensures ∙ ap (bit_or (bits_of c.args.line.now.flags)) c.end_flags.ensures

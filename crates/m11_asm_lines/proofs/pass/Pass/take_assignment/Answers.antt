@@ -4,7 +4,7 @@ use Rattle.m11_asm_rules.specs.Assigning.{assignment}
 use Rattle.m11_asm_rules.specs.Changes.{changed}
 use Rattle.m11_asm_rules.specs.Items.{value_items}
 use Rattle.m11_asm_rules.specs.Meanings.{known_at}
-use Rattle.m11_asm_rules.specs.Tables.{place}
+use Rattle.m11_asm_rules.specs.Tables.{location}
 use Rattle.m11_asm_rules.specs.declared.meanings.Context.TheVariants.{LocalOnly}
 use Rattle.m11_asm_lines.specs.Passes.{Follows, Kept}
 use Rattle.m11_asm_table.specs.Alike as tables
@@ -17,7 +17,7 @@ returns-clause-takes c =
     subst P c.from-start.ensures
     (c.in_ok-assign_to.ensures.takes c.args.map.now
     (c.known_value_by-value.ensures
-    ∙ ap (λ (k : Kept). value_at (known_at c.args.map.now LocalOnly k.table (place k.table)) c.args.line.now.text c.from-start.result)
+    ∙ ap (λ (k : Kept). value_at (known_at c.args.map.now LocalOnly k.table (location k.table)) c.args.line.now.text c.from-start.result)
     c.self.view_is))
 
 pub returns-clause-tables : goal.returns-clause-tables
@@ -27,7 +27,7 @@ returns-clause-tables c =
     subst P c.from-start.ensures
     (c.in_ok-assign_to.ensures.tables c.args.map.now
     (c.known_value_by-value.ensures
-    ∙ ap (λ (k : Kept). value_at (known_at c.args.map.now LocalOnly k.table (place k.table)) c.args.line.now.text c.from-start.result)
+    ∙ ap (λ (k : Kept). value_at (known_at c.args.map.now LocalOnly k.table (location k.table)) c.args.line.now.text c.from-start.result)
     c.self.view_is))
 
 pub returns-clause-shows : goal.returns-clause-shows
@@ -35,7 +35,7 @@ returns-clause-shows c =
     c.value_item.ensures
     ∙ ap value_items
     (c.known_value_by-value.ensures
-    ∙ ap (λ (k : Kept). value_at (known_at c.args.map.now LocalOnly k.table (place k.table)) c.args.line.now.text c.from-start.result)
+    ∙ ap (λ (k : Kept). value_at (known_at c.args.map.now LocalOnly k.table (location k.table)) c.args.line.now.text c.from-start.result)
     c.self.view_is)
-    ∙ ap (λ (n : ℕ). value_items (value_at (known_at c.args.map.now LocalOnly c.args.self.now.table (place c.args.self.now.table))
+    ∙ ap (λ (n : ℕ). value_items (value_at (known_at c.args.map.now LocalOnly c.args.self.now.table (location c.args.self.now.table))
     c.args.line.now.text n)) c.from-start.ensures

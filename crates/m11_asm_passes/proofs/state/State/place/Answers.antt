@@ -66,7 +66,7 @@ returns-clause-places c =
       live = c.begin.new.live;
       flags = c.all_flags-placed.result;
       section = c.section_name-placed.result;
-      place = c.put_place-placed.result;
+      location = c.put_location-placed.result;
       counter = c.counter-placed.result;
       assigned = c.in_ok-placed.field-0;
       is_shown = c.is_shown-placed.result;
@@ -76,7 +76,7 @@ returns-clause-places c =
     (placed_so map (live_in c.begin.new.live) old (going_of c.begin.new.self) c.begin.new.live.action begun c.in_ok-begun.ensures.begins
     statement (subst S (sym c.begin.ensures.same) said) new placed refl refl
     (c.finish.ensures.put ∙ c.in_ok-put_line.ensures.puts) c.section_name-placed.ensures
-    c.put_place-placed.ensures c.counter-placed.ensures c.is_shown-placed.ensures
+    c.put_location-placed.ensures c.counter-placed.ensures c.is_shown-placed.ensures
     (c.all_flags-placed.ensures
     ∙ ap (λ (p : Put). bit_or (flags_from text statement.labels_end statement.body
     (bits_of statement.label_flags) (bits_of begun.found.doubly_defined) p.flags begun.act.notes.flags)

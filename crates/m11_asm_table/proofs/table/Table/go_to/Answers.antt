@@ -9,5 +9,5 @@ returns c =
     ap (λ (t : Table). t.modes.section) c.self.view_is in
     counter_follows c.self.inside.names.entries c.self.inside.local_symbols.entries c.self.inside.doubly_defined_names.keys
     c.self.inside.doubly_defined_symbols.keys c.self.inside.globals.keys c.self.inside.sections.entries c.self.inside.counters
-    c.self.inside.modes c.args.self.now c.self.view_is c.from.result c.args.place c.from.ensures
+    c.self.inside.modes c.args.self.now c.self.view_is c.from.result c.args.location c.from.ensures
     (omega (arith, c.from.ensures, same, c.self.told, c.requires))

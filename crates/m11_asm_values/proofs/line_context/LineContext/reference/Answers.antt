@@ -9,6 +9,6 @@ use Rattle.m11_asm_values.proofs.line_context.LineContext.reference.Goals as goa
 pub returns : goal.returns
 returns c =
     c.value_from.ensures
-    ∙ ap (λ (a : Asked). value_at (known_at a.map a.context a.table a.place) c.self.inside.line.now.text c.args.start)
+    ∙ ap (λ (a : Asked). value_at (known_at a.map a.context a.table a.location) c.self.inside.line.now.text c.args.start)
     c.new-names.ensures
-    ∙ ap (λ (s : Standpoint). value_at (known_at s.map MayBeGlobal s.table s.place) s.line c.args.start) c.self.view_is
+    ∙ ap (λ (s : Standpoint). value_at (known_at s.map MayBeGlobal s.table s.location) s.line c.args.start) c.self.view_is

@@ -12,7 +12,7 @@ pub returns-clause-notes : goal.returns-clause-notes
 returns-clause-notes g c =
     let known = known_by (g.N.Names.base c.args.names.now) (g.N.Names.stands_for c.args.names.now) in
     let text = c.args.line.now.text in
-    let asked = condition known text c.args.place in
+    let asked = condition known text c.args.column in
     let end = c.from.ensures ∙ ap (λ (a : Verdict). a.end) c.in_ok-verdict.ensures.verdict in
     c.add_flags.ensures ∙ ap (λ (n : Notes). with_flags n (bits_of c.left_over.result)) c.in_ok-verdict.ensures.notes
     ∙ ap (λ (l : ℕ). with_flags (joined c.args.notes.now (notes_of asked)) l)

@@ -21,38 +21,38 @@ operator_of is_due sorts.And = Some And
 operator_of is_due sorts.Or = Some Or
 operator_of is_due sort = None
 
--- the operator that a token is at a place, outside brackets
+-- the operator that a token is where it stands, outside brackets
 abbrev pub operator_at : Sort → Within → Option Operator
-operator_at sort place = if place.depth == 0 then operator_of place.is_due sort else None
+operator_at sort within = if within.depth == 0 then operator_of within.is_due sort else None
 
--- the place after a token of a role: a term is due after what stands before one, after operators and after `<`
+-- where an expression has come to after a token of a role: a term is due after what stands before one, after operators and after `<`
 abbrev pub after : Role → Within → Within
-after roles.Term place = record { depth = place.depth; is_due = false }
-after roles.Prefix place = record { depth = place.depth; is_due = true }
-after roles.Sign place = record { depth = place.depth; is_due = true }
-after roles.Operator place = record { depth = place.depth; is_due = true }
-after roles.Opens place = record { depth = place.depth + 1; is_due = true }
-after roles.Closes place = record { depth = place.depth - 1; is_due = false }
-after roles.Foreign place = place
+after roles.Term within = record { depth = within.depth; is_due = false }
+after roles.Prefix within = record { depth = within.depth; is_due = true }
+after roles.Sign within = record { depth = within.depth; is_due = true }
+after roles.Operator within = record { depth = within.depth; is_due = true }
+after roles.Opens within = record { depth = within.depth + 1; is_due = true }
+after roles.Closes within = record { depth = within.depth - 1; is_due = false }
+after roles.Foreign within = within
 
 -- an operator here, or one that stands later
 abbrev pub later : Option Operator → Option Split → Option Split
-later here (Some split) = Some (record { place = suc split.place; operator = split.operator })
-later (Some operator) None = Some (record { place = 0; operator = operator })
+later here (Some split) = Some (record { index = suc split.index; operator = split.operator })
+later (Some operator) None = Some (record { index = 0; operator = operator })
 later None None = None
 
 -- the last operator between two terms that stands outside brackets
 abbrev pub last_operator : Within → List Sort → Option Split
-last_operator place [] = None
-last_operator place (sort ∷ sorts) = later (operator_at sort place) (last_operator (after (role_of sort) place) sorts)
+last_operator within [] = None
+last_operator within (sort ∷ sorts) = later (operator_at sort within) (last_operator (after (role_of sort) within) sorts)
 
 -- an operator here, or the first one that stands later
 abbrev pub first_or : Option Operator → Option Split → Option Split
-first_or (Some operator) more = Some (record { place = 0; operator = operator })
-first_or None (Some split) = Some (record { place = suc split.place; operator = split.operator })
+first_or (Some operator) more = Some (record { index = 0; operator = operator })
+first_or None (Some split) = Some (record { index = suc split.index; operator = split.operator })
 first_or None None = None
 
 -- the first operator between two terms that stands outside brackets
 abbrev pub first_operator : Within → List Sort → Option Split
-first_operator place [] = None
-first_operator place (sort ∷ sorts) = first_or (operator_at sort place) (first_operator (after (role_of sort) place) sorts)
+first_operator within [] = None
+first_operator within (sort ∷ sorts) = first_or (operator_at sort within) (first_operator (after (role_of sort) within) sorts)

@@ -1,4 +1,4 @@
--- The pieces of live lines lie at places that are words.
+-- The pieces of live lines lie at locations that are words.
 use Rattle.std.proofs.Common.{ℕ, ◌+◌, ◌<◌, ◌%◌, List, [], ◌∷◌, ◌++◌, arith}
 use Rattle.std.specs.List.{AllByRecursion, flat_map}
 use Rattle.m11_asm.specs.Written.{pieces_in, pieces_of}
@@ -10,12 +10,12 @@ use Rattle.m11_asm_passes.specs.Lines.{Numbered, givens}
 use Rattle.m11_asm_rules.specs.Alignment.{gap}
 use Rattle.m11_asm_rules.specs.Contents.{content_size, further, pieces_from}
 use Rattle.m11_asm_rules.specs.Lines as lines
-use Rattle.m11_asm_rules.specs.Lines.{Action, after_line, action, line_put, pieces, put_place, stands}
+use Rattle.m11_asm_rules.specs.Lines.{Action, after_line, action, line_put, pieces, put_location, stands}
 use Rattle.m11_asm_rules.specs.Meanings.{Map}
 use Rattle.m11_asm_rules.specs.Operators.{is_even}
 use Rattle.m11_asm_rules.specs.Placements.{placed_from}
-use Rattle.m11_asm_rules.specs.Places.{last_set, moves_in, sizes_since}
-use Rattle.m11_asm_rules.specs.Tables.{Table, first_table, place, section_name}
+use Rattle.m11_asm_rules.specs.Locations.{last_set, moves_in, sizes_since}
+use Rattle.m11_asm_rules.specs.Tables.{Table, first_table, location, section_name}
 use Rattle.m11_unfold_rules.specs.Unfolding.{Given}
 
 word : (n : ℕ) → n % 65536 < 65536
@@ -27,19 +27,19 @@ from_word section start [] low = tt
 from_word section start (content ∷ contents) low =
     (low, from_word section (further start (content_size content)) contents (word (start + content_size content)))
 
-place_is_word : (table : Table) → place table < 65536
-place_is_word table = word (last_set (moves_in table.modes.section table.moves) + sizes_since (moves_in table.modes.section table.moves))
+location_is_word : (table : Table) → location table < 65536
+location_is_word table = word (last_set (moves_in table.modes.section table.moves) + sizes_since (moves_in table.modes.section table.moves))
 
-put_at_word : (table : Table) (done : Action) → put_place table done < 65536
-put_at_word table lines.NoAction = place_is_word table
-put_at_word table (lines.Assign name is_global start) = place_is_word table
-put_at_word table (lines.SetCounter start) = place_is_word table
-put_at_word table (lines.Operate operator start) = word (place table + gap (is_even operator) (place table))
+put_at_word : (table : Table) (done : Action) → put_location table done < 65536
+put_at_word table lines.NoAction = location_is_word table
+put_at_word table (lines.Assign name is_global start) = location_is_word table
+put_at_word table (lines.SetCounter start) = location_is_word table
+put_at_word table (lines.Operate operator start) = word (location table + gap (is_even operator) (location table))
 
 line_at_words : (map : Map) (table : Table) (given : Given) → AllByRecursion LiesAtWord (pieces map table given)
 line_at_words map table given =
     from_word (section_name (stands table given))
-    (put_place (stands table given) (action given.is_own given.live.line.text)) (line_put map (stands table given) given).contents
+    (put_location (stands table given) (action given.is_own given.live.line.text)) (line_put map (stands table given) given).contents
     (put_at_word (stands table given) (action given.is_own given.live.line.text))
 
 both_at_words : (xs ys : List Piece) → AllByRecursion LiesAtWord xs → AllByRecursion LiesAtWord ys → AllByRecursion LiesAtWord (xs ++ ys)

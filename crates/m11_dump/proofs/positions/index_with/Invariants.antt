@@ -1,6 +1,6 @@
 use Rattle.std.proofs.Common.{◌≡◌, ℕ, ◌≤◌, take, Err}
 use Rattle.m11_obj.specs.Reading.{content_of}
-use Rattle.m11_dump.proofs.places.index_with.Given as goal
+use Rattle.m11_dump.proofs.positions.index_with.Given as goal
 
 abbrev pub invariant-beginnings : goal.invariant-beginnings
 invariant-beginnings l = record {

@@ -1,4 +1,4 @@
--- What stands before a place in objects: the module so far, the sections that it entered, the section that texts go
+-- What stands before a position in objects: the module so far, the sections that it entered, the section that texts go
 -- to, the text that is relocated; and over all modules the names so far. (RT-11 Volume and File Formats Manual,
 -- "Object file format", GSD, TXT and RLD blocks.)
 use Rattle.std.specs.Prelude.{ℕ, ◌+◌, ◌||◌, Bool, true, false, List, [], ◌∷◌, length, Option, Some, None, if◌then◌else◌}

@@ -5,7 +5,7 @@ use Rattle.std.specs.List.{filter}
 use Rattle.std.specs.Map.{lookup}
 use Rattle.m11_base.specs.Rad50.{Name, is_same_name}
 use Rattle.m11_link_modules.specs.Parts.{Part}
-use Rattle.m11_link_modules.specs.Places.{section_names, sections_in}
+use Rattle.m11_link_modules.specs.Positions.{section_names, sections_in}
 use Rattle.m11_link_layout.specs.Modules.{module_at}
 use Rattle.m11_link_layout.specs.Sections.{first_attributes, is_relocatable, section_base, section_size}
 

@@ -7,7 +7,7 @@ use Rattle.m11_obj_blocks.specs.Limited.{Between}
 use Rattle.m11_obj_blocks.proofs.BlockFrames.{block_again, block_parts, blocks_framed}
 use Rattle.m11_obj_blocks.proofs.ReadSteps.{rest_is}
 use Rattle.m11_obj_blocks.specs.declared.block_fault.BlockFault.{BlockFault}
-use Rattle.m11_dump.specs.Places.{StandsAt, content_start}
+use Rattle.m11_dump.specs.Positions.{StandsAt, content_start}
 
 none_left : first_block [] ≡ Err Between
 unfolding first_block

@@ -8,8 +8,8 @@ use Rattle.m11_scan_statements.specs.declared.labels.LabelKind.{LabelKind}
 use Rattle.m11_scan_statements.specs.declared.labels.LabelKind.TheVariants as label
 use Rattle.m11_asm_rules.specs.Definitions.{Key, Named, Numbered, is_defined}
 use Rattle.m11_asm_rules.specs.Labels.{global_if, label_name, labelled, labels_stand, with_block, with_definition, with_doubly_defined, with_key, with_kind, with_label, with_labels, with_name}
-use Rattle.m11_asm_rules.specs.Places.{Moved, place_in}
-use Rattle.m11_asm_rules.specs.Tables.{Table, place}
+use Rattle.m11_asm_rules.specs.Locations.{Moved, location_in}
+use Rattle.m11_asm_rules.specs.Tables.{Table, location}
 
 -- what moved the counters of sections, and the section that lines go into
 abbrev pub Standing : Type 0
@@ -49,5 +49,5 @@ all_keep line table (named ∷ labels) =
 pub labels_stay : (table : Table) (line : List ℕ) → standing (labels_stand table line) ≡ standing table
 labels_stay table line = all_keep line table (labels_at line)
 
-pub labels_keep : (table : Table) (line : List ℕ) → place (labels_stand table line) ≡ place table
-labels_keep table line = ap (λ (s : Standing). place_in s.1 s.0) (labels_stay table line)
+pub labels_keep : (table : Table) (line : List ℕ) → location (labels_stand table line) ≡ location table
+labels_keep table line = ap (λ (s : Standing). location_in s.1 s.0) (labels_stay table line)

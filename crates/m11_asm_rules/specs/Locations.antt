@@ -7,31 +7,31 @@ use Rattle.std.specs.List.{list_any}
 pub data Move : Type 0 where
   -- it goes on by some bytes
   Steps : ℕ → Move
-  -- it is set to a place
+  -- it is set to a location
   Goes : ℕ → Move
 
 abbrev pub is_set : Move → Bool
 is_set (Steps size) = false
-is_set (Goes place) = true
+is_set (Goes location) = true
 
 abbrev pub has_set : List Move → Bool
 has_set moves = list_any is_set moves
 
--- the last place set; before any it is 0
+-- the last location set; before any it is 0
 abbrev pub last_set : List Move → ℕ
 last_set [] = 0
 last_set (Steps size ∷ moves) = last_set moves
-last_set (Goes place ∷ moves) = if has_set moves then last_set moves else place
+last_set (Goes location ∷ moves) = if has_set moves then last_set moves else location
 
 -- the sizes of the lines since then
 abbrev pub sizes_since : List Move → ℕ
 sizes_since [] = 0
 sizes_since (Steps size ∷ moves) = if has_set moves then sizes_since moves else size + sizes_since moves
-sizes_since (Goes place ∷ moves) = sizes_since moves
+sizes_since (Goes location ∷ moves) = sizes_since moves
 
--- the place after some lines of a section
-abbrev pub place_after : List Move → ℕ
-place_after moves = (last_set moves + sizes_since moves) % 65536
+-- the location after some lines of a section
+abbrev pub location_after : List Move → ℕ
+location_after moves = (last_set moves + sizes_since moves) % 65536
 
 -- ---- lines of all sections
 
@@ -50,13 +50,13 @@ moves_in section (moved ∷ more) =
     if moved.section == section then moved.move ∷ moves_in section more else moves_in section more
 
 -- where the counter of a section stands after lines of all sections
-abbrev pub place_in : ℕ → List Moved → ℕ
-place_in section moves = place_after (moves_in section moves)
+abbrev pub location_in : ℕ → List Moved → ℕ
+location_in section moves = location_after (moves_in section moves)
 
--- the greatest place that a counter has after one of some lines, before which others stand
+-- the greatest location that a counter has after one of some lines, before which others stand
 abbrev pub greatest_after : List Move → List Move → ℕ
 greatest_after before [] = 0
-greatest_after before (move ∷ moves) = max (place_after (before ++ move ∷ [])) (greatest_after (before ++ move ∷ []) moves)
+greatest_after before (move ∷ moves) = max (location_after (before ++ move ∷ [])) (greatest_after (before ++ move ∷ []) moves)
 
 -- the size of a section
 abbrev pub size_in : ℕ → List Moved → ℕ

@@ -1,5 +1,5 @@
 use Rattle.m11_dump.proofs.Offsets.{none_shorter}
-use Rattle.m11_dump.proofs.places.index_with.Goals as goal
+use Rattle.m11_dump.proofs.positions.index_with.Goals as goal
 
 pub beginnings-init : goal.beginnings-init
 beginnings-init c = record {

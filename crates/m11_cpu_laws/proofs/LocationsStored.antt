@@ -1,4 +1,4 @@
--- Which bytes a store of a result may write: those of its place.
+-- Which bytes a store of a result may write: those of its location.
 use Rattle.std.proofs.Common.{◌≡◌, ℕ, ◌%◌, Bool, true, false, cond, List, [], ◌∷◌, Option, Some, None, Result, Ok, refl, sym, subst}
 use Rattle.m11_base_instructions.specs.declared.instruction.ConditionCodes.{ConditionCodes}
 use Rattle.m11_base_instructions.specs.declared.instruction.DoubleOp.{DoubleOp}
@@ -16,7 +16,7 @@ use Rattle.m11_cpu_machine.specs.DoubleOperands.{change_double, change_exclusive
 use Rattle.m11_cpu_machine.specs.Machine.{finished, is_status, with_condition_codes}
 use Rattle.m11_cpu_machine.specs.Addressing.{fetch, put_result, store}
 use Rattle.m11_cpu_machine.specs.SingleOperands.{change_at}
-use Rattle.m11_cpu_laws.specs.Writes.{place_bytes, word_bytes, written_by}
+use Rattle.m11_cpu_laws.specs.Writes.{location_bytes, word_bytes, written_by}
 use Rattle.m11_cpu_machine.specs.declared.abort.Abort.{Abort}
 use Rattle.m11_cpu_machine.specs.declared.console.DeviceRegister.{DeviceRegister}
 use Rattle.m11_cpu_machine.specs.declared.console.DeviceRegister.TheVariants.{ReceiverStatus, ReceiverBuffer, TransmitterStatus, TransmitterBuffer, ProcessorStatus}
@@ -72,20 +72,20 @@ byte_stores address v memory m e =
     (at_cond (is_odd address) (at_comes (stores_none (address ∷ []) memory (store_odd address, m) e))
     (device_stores (address ∷ []) memory (device_at address) v m e))
 
-place_stores : (place : OperandLocation) (size : Size) (v : ℕ) (memory : List ℕ) (m : Machine) → Same memory m
-    → Always (store place size v m) (λ y. Stores (place_bytes place size) memory y)
+location_stores : (location : OperandLocation) (size : Size) (v : ℕ) (memory : List ℕ) (m : Machine) → Same memory m
+    → Always (store location size v m) (λ y. Stores (location_bytes location size) memory y)
 unfolding store
-place_stores (InRegister register) Word v memory m e = at_comes (kept_same _ memory m.memory e)
-place_stores (InRegister register) Byte v memory m e = at_comes (kept_same _ memory m.memory e)
-place_stores (InMemory address) Word v memory m e = word_stores address v memory m e
-place_stores (InMemory address) Byte v memory m e = byte_stores address (v % 256) memory m e
+location_stores (InRegister register) Word v memory m e = at_comes (kept_same _ memory m.memory e)
+location_stores (InRegister register) Byte v memory m e = at_comes (kept_same _ memory m.memory e)
+location_stores (InMemory address) Word v memory m e = word_stores address v memory m e
+location_stores (InMemory address) Byte v memory m e = byte_stores address (v % 256) memory m e
 
-moved_stores : (place : OperandLocation) (size : Size) (v : ℕ) (memory : List ℕ) (m : Machine) → Same memory m
-    → Always (store_moved place size v m) (λ y. Stores (place_bytes place size) memory y)
+moved_stores : (location : OperandLocation) (size : Size) (v : ℕ) (memory : List ℕ) (m : Machine) → Same memory m
+    → Always (store_moved location size v m) (λ y. Stores (location_bytes location size) memory y)
 unfolding store_moved
-moved_stores (InRegister register) Word v memory m e = place_stores (InRegister register) Word v memory m e
+moved_stores (InRegister register) Word v memory m e = location_stores (InRegister register) Word v memory m e
 moved_stores (InRegister register) Byte v memory m e = at_comes (kept_same _ memory m.memory e)
-moved_stores (InMemory address) size v memory m e = place_stores (InMemory address) size v memory m e
+moved_stores (InMemory address) size v memory m e = location_stores (InMemory address) size v memory m e
 
 -- condition codes after it
 finished_memory : (test : Bool) (codes : ConditionCodes) (m : Machine)
@@ -94,57 +94,57 @@ finished_memory true codes m = refl
 finished_memory false codes m = refl
 
 abbrev closing : OperandLocation → ConditionCodes → Unit {0} → Act (Unit {0})
-closing place codes done n = Comes (Ok tt, finished place codes n)
+closing location codes done n = Comes (Ok tt, finished location codes n)
 
-finishes : (act : Act (Unit {0})) (place : OperandLocation) (codes : ConditionCodes) (m : Machine) (bytes memory : List ℕ)
+finishes : (act : Act (Unit {0})) (location : OperandLocation) (codes : ConditionCodes) (m : Machine) (bytes memory : List ℕ)
     → Always (act m) (λ y. Stores bytes memory y)
-    → Always ((act >>= closing place codes) m) (λ y. Stores bytes memory y)
-finishes act place codes m bytes memory a =
-    at_bind act (closing place codes) m (λ y. Stores bytes memory y) (λ y. Stores bytes memory y) a (λ e n k. k)
+    → Always ((act >>= closing location codes) m) (λ y. Stores bytes memory y)
+finishes act location codes m bytes memory a =
+    at_bind act (closing location codes) m (λ y. Stores bytes memory y) (λ y. Stores bytes memory y) a (λ e n k. k)
     (λ u n k.
     let P : List ℕ → Type 0 = λ content. Kept bytes memory content in
-    at_comes (subst P (sym (finished_memory (is_status place) codes n)) k))
+    at_comes (subst P (sym (finished_memory (is_status location) codes n)) k))
 
-pub result_stores : (place : OperandLocation) (size : Size) (computed : Computed) (memory : List ℕ) (m : Machine)
+pub result_stores : (location : OperandLocation) (size : Size) (computed : Computed) (memory : List ℕ) (m : Machine)
     → Same memory m
-    → Always (put_result place size computed m) (λ y. Stores (place_bytes place size) memory y)
+    → Always (put_result location size computed m) (λ y. Stores (location_bytes location size) memory y)
 unfolding put_result
-result_stores place size computed memory m e =
-    finishes (store place size computed.value) place computed.codes m (place_bytes place size) memory
-    (place_stores place size computed.value memory m e)
+result_stores location size computed memory m e =
+    finishes (store location size computed.value) location computed.codes m (location_bytes location size) memory
+    (location_stores location size computed.value memory m e)
 
-pub move_stores : (place : OperandLocation) (size : Size) (source : ℕ) (memory : List ℕ) (m : Machine) → Same memory m
-    → Always (move_to place size source m) (λ y. Stores (place_bytes place size) memory y)
+pub move_stores : (location : OperandLocation) (size : Size) (source : ℕ) (memory : List ℕ) (m : Machine) → Same memory m
+    → Always (move_to location size source m) (λ y. Stores (location_bytes location size) memory y)
 unfolding move_to
-move_stores place size source memory m e =
-    finishes (store_moved place size source) place (double_result Mov size source 0 m.status.codes).codes m
-    (place_bytes place size) memory (moved_stores place size source memory m e)
+move_stores location size source memory m e =
+    finishes (store_moved location size source) location (double_result Mov size source 0 m.status.codes).codes m
+    (location_bytes location size) memory (moved_stores location size source memory m e)
 
 -- an operation that reads its destination first
-changes : (place : OperandLocation) (size : Size) (next : ℕ → Act (Unit {0})) (memory : List ℕ) (m : Machine) → Same memory m
+changes : (location : OperandLocation) (size : Size) (next : ℕ → Act (Unit {0})) (memory : List ℕ) (m : Machine) → Same memory m
     → ((value : ℕ) (n : Machine) → Same memory n → Always (next value n)
-    (λ y. Stores (place_bytes place size) memory y))
-    → Always ((fetch place size >>= next) m) (λ y. Stores (place_bytes place size) memory y)
-changes place size next memory m e k =
-    at_bind (fetch place size) next m (λ y. Same memory y.1) (λ y. Stores (place_bytes place size) memory y)
-    (fetch_quiet memory place size m e) (λ abort n f. kept_same _ memory n.memory f) k
+    (λ y. Stores (location_bytes location size) memory y))
+    → Always ((fetch location size >>= next) m) (λ y. Stores (location_bytes location size) memory y)
+changes location size next memory m e k =
+    at_bind (fetch location size) next m (λ y. Same memory y.1) (λ y. Stores (location_bytes location size) memory y)
+    (fetch_quiet memory location size m e) (λ abort n f. kept_same _ memory n.memory f) k
 
-pub double_stores : (operation : DoubleOp) (place : OperandLocation) (size : Size) (source : ℕ) (memory : List ℕ)
+pub double_stores : (operation : DoubleOp) (location : OperandLocation) (size : Size) (source : ℕ) (memory : List ℕ)
     (m : Machine) → Same memory m
-    → Always (change_double operation place size source m) (λ y. Stores (place_bytes place size) memory y)
+    → Always (change_double operation location size source m) (λ y. Stores (location_bytes location size) memory y)
 unfolding change_double
-double_stores operation place size source memory m e =
-    changes place size _ memory m e (λ value n f. result_stores place size _ memory n f)
+double_stores operation location size source memory m e =
+    changes location size _ memory m e (λ value n f. result_stores location size _ memory n f)
 
-pub exclusive_stores : (source : ℕ) (place : OperandLocation) (memory : List ℕ) (m : Machine) → Same memory m
-    → Always (change_exclusive source place m) (λ y. Stores (place_bytes place Word) memory y)
+pub exclusive_stores : (source : ℕ) (location : OperandLocation) (memory : List ℕ) (m : Machine) → Same memory m
+    → Always (change_exclusive source location m) (λ y. Stores (location_bytes location Word) memory y)
 unfolding change_exclusive
-exclusive_stores source place memory m e =
-    changes place Word _ memory m e (λ value n f. result_stores place Word _ memory n f)
+exclusive_stores source location memory m e =
+    changes location Word _ memory m e (λ value n f. result_stores location Word _ memory n f)
 
-pub single_stores : (operation : SingleOp) (size : Size) (place : OperandLocation) (memory : List ℕ) (m : Machine)
+pub single_stores : (operation : SingleOp) (size : Size) (location : OperandLocation) (memory : List ℕ) (m : Machine)
     → Same memory m
-    → Always (change_at operation size place m) (λ y. Stores (place_bytes place size) memory y)
+    → Always (change_at operation size location m) (λ y. Stores (location_bytes location size) memory y)
 unfolding change_at
-single_stores operation size place memory m e =
-    changes place size _ memory m e (λ value n f. result_stores place size _ memory n f)
+single_stores operation size location memory m e =
+    changes location size _ memory m e (λ value n f. result_stores location size _ memory n f)

@@ -1,5 +1,5 @@
--- Where lines stand, what the lines before them have made, and what a live line shows. (MACRO-11 Language Reference Manual,
--- "Macro directives" and "Conditional assembly directives".)
+-- The level of nesting at which lines stand, what the lines before them have made, and what a live line shows. (MACRO-11 Language
+-- Reference Manual, "Macro directives" and "Conditional assembly directives".)
 use Rattle.std.specs.Prelude.{ℕ, ◌+◌, Bool, true, false, nat_lt, List, [], ◌∷◌, length, Option, None}
 use Rattle.m11_base.specs.Devices.{Bytes}
 use Rattle.m11_base.specs.Rad50.{Name}
@@ -18,8 +18,8 @@ use Rattle.m11_unfold_rules.specs.Macros.{defined}
 use Rattle.m11_unfold_rules.specs.Stages.{Macro, Stage}
 use Rattle.m11_unfold_rules.specs.Unfolding.{Given}
 
--- where lines stand
-pub record Place : Type 0 where
+-- the level of nesting at which lines stand
+pub record Level : Type 0 where
   -- the expansions that are open around them, the innermost first
   pub around : List Mark
   -- the conditions of the innermost expansion that are open around them, the innermost first
@@ -37,8 +37,8 @@ pub record Situation : Type 0 where
   pub taken : ℕ
 
 -- a source stands in no expansion and in no condition, and before its first line nothing was made
-abbrev pub source_place : Place
-source_place = record { around = []; entered = [] }
+abbrev pub source_level : Level
+source_level = record { around = []; entered = [] }
 
 abbrev pub beginning : Situation
 beginning = record { macros = []; defined_bytes = 0; created = first_created; taken = 0 }
@@ -61,54 +61,54 @@ abbrev pub only_entered : List OpenCondition → OpenConditions
 only_entered entered = record { entered = entered; nested = 0; is_past = false }
 
 -- inside a condition: in a part that is live or not
-abbrev pub within_condition : Bool → Bool → Place → Place
-within_condition holds is_live place =
-    record place { entered = record { holds = holds; is_live = is_live } ∷ place.entered }
+abbrev pub within_condition : Bool → Bool → Level → Level
+within_condition holds is_live level =
+    record level { entered = record { holds = holds; is_live = is_live } ∷ level.entered }
 
 -- one more condition may be open
-abbrev pub has_condition_left : Place → Bool
-has_condition_left place = nat_lt (length place.entered + conditions_in place.around) most_conditions
+abbrev pub has_condition_left : Level → Bool
+has_condition_left level = nat_lt (length level.entered + conditions_in level.around) most_conditions
 
 -- ---- expansions
 
 -- inside an expansion: it has no condition of its own yet, and its end carries those around it
-abbrev pub mark_at : Place → Option ℕ → ℕ → Mark
-mark_at place arguments bytes = record { arguments = arguments; bytes = bytes; conditions = only_entered place.entered }
+abbrev pub mark_at : Level → Option ℕ → ℕ → Mark
+mark_at level arguments bytes = record { arguments = arguments; bytes = bytes; conditions = only_entered level.entered }
 
-abbrev pub within_expansion : Option ℕ → ℕ → Place → Place
-within_expansion arguments bytes place = record { around = mark_at place arguments bytes ∷ place.around; entered = [] }
+abbrev pub within_expansion : Option ℕ → ℕ → Level → Level
+within_expansion arguments bytes level = record { around = mark_at level arguments bytes ∷ level.around; entered = [] }
 
 -- ---- lines
 
 -- what the operator of a line is: a macro that is defined, or else a directive
-abbrev pub operation_at : Place → Situation → SourceLine → Operation
-operation_at place situation line = operation (only_entered place.entered) situation.macros line.text
+abbrev pub operation_at : Level → Situation → SourceLine → Operation
+operation_at level situation line = operation (only_entered level.entered) situation.macros line.text
 
 -- a live line of unfolding's own, with its flags and symbols
-abbrev pub own_line : Place → Known → SourceLine → Notes → Given
-own_line place known line notes = record {
-  live = record { line = line; is_expanded = has_mark place.around };
+abbrev pub own_line : Level → Known → SourceLine → Notes → Given
+own_line level known line notes = record {
+  live = record { line = line; is_expanded = has_mark level.around };
   known = known;
   is_own = true;
   notes = notes;
-  arguments = count_in place.around;
+  arguments = count_in level.around;
 }
 
 -- any other live line
-abbrev pub other_line : Place → Known → SourceLine → Given
-other_line place known line = record {
-  live = record { line = line; is_expanded = has_mark place.around };
+abbrev pub other_line : Level → Known → SourceLine → Given
+other_line level known line = record {
+  live = record { line = line; is_expanded = has_mark level.around };
   known = known;
   is_own = false;
   notes = no_notes;
-  arguments = count_in place.around;
+  arguments = count_in level.around;
 }
 
 -- the stage at which what is left is taken next
-abbrev pub stage_of : Place → Situation → List Left → Stage
-stage_of place situation left = record {
+abbrev pub stage_of : Level → Situation → List Left → Stage
+stage_of level situation left = record {
   left = left;
-  conditions = only_entered place.entered;
+  conditions = only_entered level.entered;
   opening = None;
   macros = situation.macros;
   defined_bytes = situation.defined_bytes;

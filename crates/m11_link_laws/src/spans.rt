@@ -4,7 +4,7 @@ ghost use Rattle.std.specs.Prelude.{◌≡◌, ℕ, ◌+◌, ◌<◌, ◌≤◌,
 ghost use Rattle.m11_link_modules.specs.Parts.{Part};
 ghost use Rattle.m11_link_layout.specs.Sections.{first_attributes, is_overlaid, is_relocatable, is_too_large};
 ghost use Rattle.m11_link_layout.specs.Sections.{module_base, section_base, section_size, top};
-ghost use Rattle.m11_link_laws.specs.Places.{LieInOrder, relocatable_names, size_entered, span_of};
+ghost use Rattle.m11_link_laws.specs.Spans.{LieInOrder, relocatable_names, size_entered, span_of};
 
 /// Relocatable sections lie from the bottom on, in the order of their first entries: each begins where the one before
 /// it ends, and the last one ends at the top. So each ends no later than any that follows it begins: no two overlap.

@@ -8,16 +8,16 @@ use Rattle.std.proofs.lemmas.List.{map-append}
 use Rattle.std.proofs.lemmas.List.Sums.{sum_by-cons}
 use Rattle.m11_base.specs.Rad50.{Name, is_same_name}
 use Rattle.m11_asm_directory.specs.Rows.{directory_rows}
-use Rattle.m11_link_layout.specs.Globals.{definition_value, first_definition, global_value, place_value}
+use Rattle.m11_link_layout.specs.Globals.{definition_value, first_definition, global_value, location_value}
 use Rattle.m11_link_layout.specs.Modules.{indexed, module_at, modules_before}
 use Rattle.m11_link_layout.specs.Sections.{base_entered, contribution_base, first_attributes, is_relocatable, module_base, names_before, offset_after, room_of, section_base, section_size, size_under, sizes_of, top, total}
 use Rattle.m11_link_layout.specs.declared.definition.Definition.{Definition}
-use Rattle.m11_link_layout.specs.declared.definition.GlobalPlace.{GlobalPlace}
-use Rattle.m11_link_layout.specs.declared.definition.GlobalPlace.TheVariants.{Absolute, In}
+use Rattle.m11_link_layout.specs.declared.definition.GlobalLocation.{GlobalLocation}
+use Rattle.m11_link_layout.specs.declared.definition.GlobalLocation.TheVariants.{Absolute, In}
 use Rattle.m11_link_text.specs.Findings.{findings_of}
 use Rattle.m11_link_text.specs.Relocation.{modulo, symbol}
 use Rattle.m11_link_modules.specs.Parts.{Part, Directory, Entry, EndOfDirectory, Text, Relocations, Relocated, EndOfModule, EndOfFile}
-use Rattle.m11_link_modules.specs.Places.{distinct, section_by, section_in, section_names, sections_in}
+use Rattle.m11_link_modules.specs.Positions.{distinct, section_by, section_in, section_names, sections_in}
 use Rattle.m11_obj.specs.declared.gsd.GsdEntry.{GsdEntry}
 use Rattle.m11_obj_texts.specs.declared.directory.DirectoryRow.{DirectoryRow}
 use Rattle.m11_obj_texts.specs.Directory.{entry_of}
@@ -238,13 +238,13 @@ module _ (sources : List Source) where
       → module_base bottom (link_parts sources) index name ≡ contribution bottom sources index name
   unfolding module_base contribution_base contribution
   module_same bottom index name =
-      ap₂ (λ own place. modulo (base_entered (lookup (is_same_name name) own) place)) (own_same index)
+      ap₂ (λ own location. modulo (base_entered (lookup (is_same_name name) own) location)) (own_same index)
       (ap₂ (λ base offset. base + offset) (base_same bottom name) (offset_same index name))
 
   -- ---- globals
 
-  value_same : (bottom index : ℕ) (place : GlobalPlace)
-      → place_value bottom (link_parts sources) index place ≡ image.address_of bottom sources index place
+  value_same : (bottom index : ℕ) (location : GlobalLocation)
+      → location_value bottom (link_parts sources) index location ≡ image.address_of bottom sources index location
   value_same bottom index (Absolute number) = refl
   value_same bottom index (In section number) =
       ap (λ base. modulo (base + number)) (module_same bottom index section)
@@ -253,7 +253,7 @@ module _ (sources : List Source) where
       → unwrap_or (option_map (definition_value bottom (link_parts sources)) found) 0
       ≡ unwrap_or (option_map (image.definition_value bottom sources) found) 0
   defined_same bottom None = refl
-  defined_same bottom (Some definition) = value_same bottom definition.module_index definition.place
+  defined_same bottom (Some definition) = value_same bottom definition.module_index definition.location
 
   global_same : (bottom : ℕ) (name : Name)
       → symbol (findings_of bottom (link_parts sources)) name ≡ global bottom sources name

@@ -3,7 +3,7 @@ use Rattle.std.specs.Prelude.{◌≡◌, ℕ, ◌+◌, ◌-◌, ◌<◌, ◌≤�
 use Rattle.m11_base.specs.Devices.{Bytes}
 use Rattle.m11_obj_blocks.specs.Blocks as blocks
 use Rattle.m11_obj_blocks.specs.Tapes as tapes
-use Rattle.m11_obj_blocks.specs.Limited.{EndsBetween, EndsInside, Fails, Never, Passes, Place, Read, Refuses, Stops, Why, most_bytes}
+use Rattle.m11_obj_blocks.specs.Limited.{EndsBetween, EndsInside, Fails, Never, Passes, Position, Read, Refuses, Stops, Why, most_bytes}
 use Rattle.m11_link_modules.specs.declared.fault.ModuleFault.{ModuleFault}
 use Rattle.m11_link_modules.specs.declared.fault.ModuleFault.TheVariants as rule
 use Rattle.m11_obj.specs.Reading.{content_of}
@@ -16,7 +16,7 @@ use Rattle.m11_dump.specs.declared.fault.Placed.{Placed}
 -- ---- a fault of blocks or of a tape
 
 -- the bytes that were given before a call stopped
-abbrev pub given_of : {Fault A : Type 0} (read : Bytes → Read Fault A) (old new : Place) (why : Why Fault) → Stops read old new why
+abbrev pub given_of : {Fault A : Type 0} (read : Bytes → Read Fault A) (old new : Position) (why : Why Fault) → Stops read old new why
     → Bytes
 given_of read old new Fails stops = stops.0
 given_of read old new EndsBetween stops = stops.0
@@ -32,7 +32,7 @@ stop_byte (Refuses fault) count = count - 1
 stop_byte why count = count
 
 -- a call stopped after all these bytes of the file and its own, as this byte shows
-abbrev pub StopsAt : {Fault A : Type 0} → (Bytes → Read Fault A) → Why Fault → Place → Place → Bytes → ℕ → Type 0
+abbrev pub StopsAt : {Fault A : Type 0} → (Bytes → Read Fault A) → Why Fault → Position → Position → Bytes → ℕ → Type 0
 StopsAt read why here new before byte = (stops : Stops read here new why)
     × (byte ≡ stop_byte why (length (before ++ given_of read here new why stops)))
 
@@ -79,8 +79,8 @@ rule_byte inner content count = content_start content count
 -- ---- any fault
 
 -- how many bytes were read, by how many more are within the limit
-abbrev pub count_read : Place → ℕ
-count_read place = most_bytes - place.room
+abbrev pub count_read : Position → ℕ
+count_read location = most_bytes - location.room
 
 -- the byte of a fault of blocks or of a tape, after so many bytes; what no byte shows comes after them
 abbrev pub fault_byte : DumpFault → ℕ → ℕ

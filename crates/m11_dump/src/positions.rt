@@ -3,7 +3,7 @@
 ghost use Rattle.std.specs.Prelude.{◌≡◌, ◌≤◌, ◌<◌, ◌^◌, ◌↔◌, length, Err, IsTrue};
 ghost use Rattle.m11_obj_blocks.specs.Frames.{content_limit};
 ghost use Rattle.m11_obj.specs.Reading.{content_of};
-ghost use Rattle.m11_dump.specs.Places as spec;
+ghost use Rattle.m11_dump.specs.Positions as spec;
 
 use crate::fault::{DumpFault, Placed};
 use m11_link_modules::ModuleFault;
