@@ -4,7 +4,7 @@ use Rattle.std.proofs.lemmas.List.{map-append}
 use Rattle.std.proofs.lemmas.List.Concat.{flat_map-append}
 use Rattle.indexmap.specs.IndexSet.{insert_key}
 use Rattle.m11_base.specs.Rad50.{Name, is_same_name}
-use Rattle.m11_unfold_rules.specs.Unfolding.{Given}
+use Rattle.m11_unfold_rules.specs.Unfolding.{UnfoldedLine}
 use Rattle.m11_scan_values.specs.Quantities.{Quantity}
 use Rattle.m11_asm_rules.specs.Lines.{after_line}
 use Rattle.m11_asm_rules.specs.Meanings.{empty_map}
@@ -25,11 +25,11 @@ last_more [] (Some one) = refl
 last_more [] None = refl
 last_more (first ∷ all) one = ap (λ l. last_or l first) (last_more all one) ∙ or_joins one (last_of all) first
 
-title_more : (all : List Given) (one : Given)
+title_more : (all : List UnfoldedLine) (one : UnfoldedLine)
     → last_of (map line_title (all ++ one ∷ [])) ≡ last_or (line_title one) (last_of (map line_title all))
 title_more all one = ap last_of (map-append line_title all (one ∷ [])) ∙ last_more (map line_title all) (line_title one)
 
-identification_more : (all : List Given) (one : Given) → last_of (map line_identification (all ++ one ∷ []))
+identification_more : (all : List UnfoldedLine) (one : UnfoldedLine) → last_of (map line_identification (all ++ one ∷ []))
     ≡ last_or (line_identification one) (last_of (map line_identification all))
 identification_more all one =
     ap last_of (map-append line_identification all (one ∷ [])) ∙ last_more (map line_identification all) (line_identification one)
@@ -38,14 +38,14 @@ once_joined : (names first second : List Name) → each_once names (first ++ sec
 once_joined names [] second = refl
 once_joined names (name ∷ first) second = once_joined (insert_key is_same_name names name) first second
 
-weak_more : (all : List Given) (one : Given) → each_once [] (flat_map line_weak_names (all ++ one ∷ []))
+weak_more : (all : List UnfoldedLine) (one : UnfoldedLine) → each_once [] (flat_map line_weak_names (all ++ one ∷ []))
     ≡ each_once (each_once [] (flat_map line_weak_names all)) (line_weak_names one)
 weak_more all one =
     ap (each_once []) (flat_map-append line_weak_names all (one ∷ []))
     ∙ once_joined [] (flat_map line_weak_names all) (flat_map line_weak_names (one ∷ []))
     ∙ ap (each_once (each_once [] (flat_map line_weak_names all))) (append-nil (line_weak_names one))
 
-transfer_more : (table : Table) (all : List Given) (one : Given) → transfer_after empty_map table (all ++ one ∷ [])
+transfer_more : (table : Table) (all : List UnfoldedLine) (one : UnfoldedLine) → transfer_after empty_map table (all ++ one ∷ [])
     ≡ last_or (line_transfer empty_map (after_lines empty_map table all) one) (transfer_after empty_map table all)
 transfer_more table [] one = one_alone (line_transfer empty_map table one)
   where
@@ -58,7 +58,7 @@ transfer_more table (first ∷ all) one =
     ∙ or_joins (line_transfer empty_map (after_lines empty_map (after_line empty_map table first) all) one)
     (transfer_after empty_map (after_line empty_map table first) all) (line_transfer empty_map table first)
 
-pub finds_more : (all : List Given) (one : Given)
+pub finds_more : (all : List UnfoldedLine) (one : UnfoldedLine)
     → facts_of (all ++ one ∷ []) ≡ with_line (table_after empty_map all) one (facts_of all)
 finds_more all one =
     rw (title_more all one, identification_more all one, weak_more all one, transfer_more first_table all one) refl

@@ -8,15 +8,15 @@ use Rattle.m11_asm_outputs.specs.Outputs.{AreFlushed, Gains, Outputs, Write, Wri
 use Rattle.m11_asm.specs.Facts.{Facts}
 use Rattle.m11_asm.specs.First.{Symbols}
 use Rattle.m11_scan_lines.specs.Line.{SourceLine}
-use Rattle.m11_asm_passes.specs.Lines.{Numbered}
-use Rattle.m11_asm_passes.specs.States.{Going, PassStands}
+use Rattle.m11_asm_passes.specs.Lines.{NumberedLine}
+use Rattle.m11_asm_passes.specs.States.{PassState, PassStands}
 use Rattle.m11_asm_pass_laws.proofs.Counting.{at_most}
 use Rattle.m11_asm_rules.specs.Meanings.{Map, map_of}
 use Rattle.m11_asm_rules.specs.Locations.{location_in}
 use Rattle.m11_asm_rules.specs.Tables.{Table, location}
 use Rattle.m11_asm_rules.specs.declared.modes.Modes.{Modes}
-use Rattle.m11_asm_lines.specs.UsedSymbols.{Gathered}
-use Rattle.m11_asm_lines.specs.Passes.{Kept}
+use Rattle.m11_asm_lines.specs.UsedSymbols.{UsedNames}
+use Rattle.m11_asm_lines.specs.Passes.{TableState}
 use Rattle.m11_asm_table.specs.Alike.{Alike}
 use Rattle.m11_unfold_rules.specs.Limits.{most_lines}
 use Rattle.m11_unfold_rules.specs.Stages.{start}
@@ -32,44 +32,44 @@ use Rattle.m11_asm_lines.specs.declared.counting.Counting.TheVariants.{Definitio
 
 -- ---- before the first line
 
-module _ (kept : Kept) (gathered : Gathered) (facts : Facts) (going : Going) (writing : Writing) (fault : Option AsmFault)
-    (stands : (map : Map) → PassStands map Definitions [] [] going) (first_stage : going.unfolder.stage ≡ start [])
-    (keeps : WritingStands (program_kept kept gathered facts) [] writing) (goes : fault ≡ None) where
+module _ (kept : TableState) (used_names : UsedNames) (facts : Facts) (pass_state : PassState) (writing : Writing) (fault : Option AsmFault)
+    (stands : (map : Map) → PassStands map Definitions [] [] pass_state) (first_stage : pass_state.unfolder.stage ≡ start [])
+    (keeps : WritingStands (program_kept kept used_names facts) [] writing) (goes : fault ≡ None) where
   begun : (first now : Outputs) → Gains first now []
-      → SecondStands (program_in (record { kept = kept; gathered = gathered; facts = facts })) [] first now
-      (record { map = map_of kept.table; going = going; writing = writing; read = 0; has_ended = false; fault = fault })
+      → SecondStands (program_in (record { kept = kept; used_names = used_names; facts = facts })) [] first now
+      (record { map = map_of kept.table; pass_state = pass_state; writing = writing; read = 0; has_ended = false; fault = fault })
   unfolding program_kept
   begun first now gains =
-      let program = program_in (record { kept = kept; gathered = gathered; facts = facts }) in
+      let program = program_in (record { kept = kept; used_names = used_names; facts = facts }) in
       record {
         map_is = refl;
-        stands = stands_first program.map Definitions (Wrote program first now writing) going fault (stands (map_of kept.table)) (record {
+        stands = stands_first program.map Definitions (Wrote program first now writing) pass_state fault (stands (map_of kept.table)) (record {
           keeps = keeps;
           gains = subst (λ (ws : List Write). Gains first now ws) (sym (nothing_written program)) gains;
         }) first_stage goes;
       }
 
-  pub second_begins : (symbols : Symbols) → kept ≡ symbols.kept → gathered ≡ symbols.gathered → facts ≡ symbols.facts
+  pub second_begins : (symbols : Symbols) → kept ≡ symbols.kept → used_names ≡ symbols.used_names → facts ≡ symbols.facts
       → (first now : Outputs) → Gains first now []
       → SecondStands (program_in symbols) [] first now
-      (record { map = map_of kept.table; going = going; writing = writing; read = 0; has_ended = false; fault = fault })
+      (record { map = map_of kept.table; pass_state = pass_state; writing = writing; read = 0; has_ended = false; fault = fault })
   second_begins symbols kept_is gathered_is facts_are first now gains =
-      let symbols_are : record { kept = kept; gathered = gathered; facts = facts } ≡ symbols =
-      ap (λ (k : Kept). record { kept = k; gathered = gathered; facts = facts }) kept_is
-      ∙ ap (λ (g : Gathered). record { kept = symbols.kept; gathered = g; facts = facts }) gathered_is
-      ∙ ap (λ (f : Facts). record { kept = symbols.kept; gathered = symbols.gathered; facts = f }) facts_are in
+      let symbols_are : record { kept = kept; used_names = used_names; facts = facts } ≡ symbols =
+      ap (λ (k : TableState). record { kept = k; used_names = used_names; facts = facts }) kept_is
+      ∙ ap (λ (g : UsedNames). record { kept = symbols.kept; used_names = g; facts = facts }) gathered_is
+      ∙ ap (λ (f : Facts). record { kept = symbols.kept; used_names = symbols.used_names; facts = f }) facts_are in
       let P : Symbols → Type 0 = λ s. SecondStands (program_in s) [] first now
-      (record { map = map_of kept.table; going = going; writing = writing; read = 0; has_ended = false; fault = fault }) in
+      (record { map = map_of kept.table; pass_state = pass_state; writing = writing; read = 0; has_ended = false; fault = fault }) in
       subst P symbols_are (begun first now gains)
 
 -- ---- after the last line
 
-flags_counted : (program : Program) (before all : List Numbered) → length (flags_after program before all) ≡ length all
+flags_counted : (program : Program) (before all : List NumberedLine) → length (flags_after program before all) ≡ length all
 flags_counted program before [] = refl
 flags_counted program before (line ∷ all) =
     let rest = flags_counted program (before ++ line ∷ []) all in omega (arith, rest)
 
-flagged_few : (program : Program) (lines : List Numbered) → flagged_in program lines ≤ length lines
+flagged_few : (program : Program) (lines : List NumberedLine) → flagged_in program lines ≤ length lines
 unfolding flagged_in
 flagged_few program lines =
     let few = count_by-le-length is_flagged (flags_after program [] lines) in omega (arith, few, flags_counted program [] lines)
@@ -78,7 +78,7 @@ least_added : (has_end : Bool) → (if has_end then 0 else 1) ≤ 1
 least_added true = omega arith
 least_added false = omega arith
 
-pub count_few : (program : Program) (lines : List Numbered) (has_end : Bool) → length lines ≤ most_lines
+pub count_few : (program : Program) (lines : List NumberedLine) (has_end : Bool) → length lines ≤ most_lines
     → flagged_count program lines has_end ≤ most_counted
 count_few program lines has_end few = omega (arith, few, flagged_few program lines, least_added has_end)
 
@@ -88,13 +88,13 @@ location_same one other alike =
 
 module _ (program : Program) (source : List SourceLine) (first now : Outputs) (state : SecondState)
     (stands : SecondStands program source first now state) where
-  pub location_is : location state.going.kept.table ≡ last_location program stands.stands.lines
+  pub location_is : location state.pass_state.kept.table ≡ last_location program stands.stands.lines
   location_is = location_same _ _ stands.stands.taken.stands.matches.alike
 
   pub few_flagged : flagged_count program stands.stands.lines state.has_ended ≤ most_counted
   few_flagged =
       count_few program stands.stands.lines state.has_ended
-      (at_most program.map Definitions source stands.stands.lines state.going.unfolder.stage stands.stands.taken.stands.lines_are)
+      (at_most program.map Definitions source stands.stands.lines state.pass_state.unfolder.stage stands.stands.taken.stands.lines_are)
 
   pub second_finishes : (new : Outputs) (result : Result AsmDone AsmFault) → Writes now new (last_writes program stands.stands.lines (ended_with state)) result
       → IfOk result (λ done. done.flagged ≡ flagged_count program stands.stands.lines state.has_ended)
@@ -102,7 +102,7 @@ module _ (program : Program) (source : List SourceLine) (first now : Outputs) (s
       → OnOk result (AreFlushed new) → SecondEnds program source first new state result
   second_finishes new result writes count fit flushed = record {
     lines = stands.stands.lines;
-    stage = state.going.unfolder.stage;
+    stage = state.pass_state.unfolder.stage;
     live = stands.stands.taken.stands.lines_are;
     read = stands.stands.read;
     ended = stands.stands.ended;

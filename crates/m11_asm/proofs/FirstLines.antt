@@ -166,11 +166,11 @@ module _ {F : Type 0} (pass : Pass F) (first : FirstState) (taken : FirstTaken p
     taken.reading,
     taken.reads,
     record { read = length taken.source; has_end = first.has_ended },
-    ends_by empty_map none_used taken.source taken.stands.lines first.going.unfolder.stage taken.stands.taken.stands.lines_are
+    ends_by empty_map none_used taken.source taken.stands.lines first.pass_state.unfolder.stage taken.stands.taken.stands.lines_are
         first.has_ended taken.stands.ended taken.stands.needs taken.reading first.has_ended refl taken.taken_up,
   )
 
   pub first_gives : GivesToEnd pass empty_map none_used taken.stands.lines
   first_gives =
-      given_to_end empty_map none_used taken.source taken.stands.lines first.going.unfolder.stage taken.stands.taken.stands.lines_are
+      given_to_end empty_map none_used taken.source taken.stands.lines first.pass_state.unfolder.stage taken.stands.taken.stands.lines_are
       first.has_ended taken.stands.ended taken.stands.needs pass first.has_ended refl taken.given

@@ -8,7 +8,7 @@ use Rattle.m11_asm_faults.specs.declared.fault.AsmFault.TheVariants.{TooMuchSour
 use Rattle.m11_scan_lines.specs.Line.{SourceLine}
 use Rattle.m11_scan_lines.specs.Lines.{most_lines}
 use Rattle.m11_unfold_rules.specs.Stages.{start}
-use Rattle.m11_unfold_rules.specs.Unfolding.{Given}
+use Rattle.m11_unfold_rules.specs.Unfolding.{UnfoldedLine}
 use Rattle.m11_asm_rules.specs.Lines.{after_line}
 use Rattle.m11_asm_rules.specs.Meanings.{Map, empty_map}
 use Rattle.m11_asm_rules.specs.Placements.{after_lines, table_after}
@@ -17,11 +17,11 @@ use Rattle.m11_asm_lines.specs.Counting.{none_used}
 use Rattle.m11_asm_lines.specs.declared.counting.Counting.{Counting}
 use Rattle.m11_asm_table.specs.Alike.{Alike}
 use Rattle.m11_asm_passes.specs.Lines as lines
-use Rattle.m11_asm_passes.specs.Lines.{Numbered, givens, numbered, table_at}
+use Rattle.m11_asm_passes.specs.Lines.{NumberedLine, givens, numbered, table_at}
 use Rattle.m11_asm_passes.specs.Placed.{IsLive, live_in}
 use Rattle.m11_asm_passes.specs.Reaching.{PlacesLine, Reaches, Refused}
 use Rattle.m11_asm_passes.specs.Refusals.{given_by}
-use Rattle.m11_asm_passes.specs.States.{Going, PassState, PassStands, fed}
+use Rattle.m11_asm_passes.specs.States.{PassState, SourcePassState, PassStands, fed}
 use Rattle.m11_asm_passes.specs.Turns.{SaysLive, Turns}
 use Rattle.m11_asm_passes.specs.declared.placed.LiveLine.{LiveLine}
 use Rattle.m11_asm_passes.specs.declared.turns.Turn.{Turn}
@@ -34,34 +34,34 @@ use Rattle.m11_asm.proofs.Taking.{Feeds, SomeTaken, ends_all, number_so, places_
 
 -- the law of the calls of a first pass
 abbrev pub TurnsSo : Type 0
-TurnsSo = (before : Counting) (source : List SourceLine) (lines : List Numbered) (old new : Going)
+TurnsSo = (before : Counting) (source : List SourceLine) (lines : List NumberedLine) (old new : PassState)
     (live : LiveLine) (result : Result Turn AsmFault) → PassStands empty_map before source lines old
     → Turns empty_map old new (live_in live) (SaysLive live) result
     → Reaches empty_map before source lines new (live_in live) (SaysLive live) result
 
 -- ---- one line more
 
-givens_more : (all : List Numbered) (one : Numbered) → givens (all ++ one ∷ []) ≡ givens all ++ one.given ∷ []
+givens_more : (all : List NumberedLine) (one : NumberedLine) → givens (all ++ one ∷ []) ≡ givens all ++ one.given ∷ []
 givens_more all one = map-append lines.given_in all (one ∷ [])
 
-tables_more : (table : Table) (all : List Given) (one : Given)
+tables_more : (table : Table) (all : List UnfoldedLine) (one : UnfoldedLine)
     → after_lines empty_map table (all ++ one ∷ []) ≡ after_line empty_map (after_lines empty_map table all) one
 tables_more table [] one = refl
 tables_more table (given ∷ all) one = tables_more (after_line empty_map table given) all one
 
-table_more : (all : List Numbered) (one : Numbered)
+table_more : (all : List NumberedLine) (one : NumberedLine)
     → table_at empty_map (all ++ one ∷ []) ≡ after_line empty_map (table_at empty_map all) one.given
 table_more all one = ap (table_after empty_map) (givens_more all one) ∙ tables_more first_table (givens all) one.given
 
-facts_more : (all : List Numbered) (one : Numbered)
+facts_more : (all : List NumberedLine) (one : NumberedLine)
     → facts_of (givens (all ++ one ∷ [])) ≡ with_line (table_at empty_map all) one.given (facts_of (givens all))
 facts_more all one = ap facts_of (givens_more all one) ∙ finds_more (givens all) one.given
 
 -- ---- one call
 
-module _ (turn : TurnsSo) (source : List SourceLine) (old new : Going) (live : LiveLine) (facts : Facts)
+module _ (turn : TurnsSo) (source : List SourceLine) (old new : PassState) (live : LiveLine) (facts : Facts)
     (some : SomeTaken empty_map none_used (AreFactsOf facts) source old) where
-  law : (lines : List Numbered) (result : Result Turn AsmFault) → PassStands empty_map none_used source lines old
+  law : (lines : List NumberedLine) (result : Result Turn AsmFault) → PassStands empty_map none_used source lines old
       → Turns empty_map old new (live_in live) (SaysLive live) result
       → Reaches empty_map none_used source lines new (live_in live) (SaysLive live) result
   law lines result stands turned = turn none_used source lines old new live result stands turned
@@ -69,7 +69,7 @@ module _ (turn : TurnsSo) (source : List SourceLine) (old new : Going) (live : L
   module _ (came : Turn) (turned : Turns empty_map old new (live_in live) (SaysLive live) (Ok came)) where
     -- what is noted of a live line is what it says
     pub placed_more : came ≡ Line → (later : Facts) (table : Table) → table ≡ new.kept.table
-        → ((before : Table) (given : Given) → IsLive given live
+        → ((before : Table) (given : UnfoldedLine) → IsLive given live
         → Alike table (after_line empty_map before given) → later ≡ with_line before given facts)
         → SomeTaken empty_map none_used (AreFactsOf later) source new
     placed_more is later table table_is notes =
@@ -109,17 +109,17 @@ module _ (turn : TurnsSo) (source : List SourceLine) (old new : Going) (live : L
 -- ---- a line of the source
 
 -- before the first one
-pub begins : (going : Going) (counting : Counting) (facts : Facts) (fault : Option AsmFault)
-    → ((map : Map) → PassStands map counting [] [] going) → counting ≡ none_used → going.unfolder.stage ≡ start []
+pub begins : (pass_state : PassState) (counting : Counting) (facts : Facts) (fault : Option AsmFault)
+    → ((map : Map) → PassStands map counting [] [] pass_state) → counting ≡ none_used → pass_state.unfolder.stage ≡ start []
     → facts ≡ no_facts → fault ≡ None
-    → FirstStands [] (record { going = going; facts = facts; read = 0; has_ended = false; fault = fault })
-begins going counting facts fault stands none first untold goes =
-    let P : Counting → Type 0 = λ g. PassStands empty_map g [] [] going in
-    stands_first empty_map none_used (AreFactsOf facts) going fault (subst P none (stands empty_map)) untold first goes
+    → FirstStands [] (record { pass_state = pass_state; facts = facts; read = 0; has_ended = false; fault = fault })
+begins pass_state counting facts fault stands none first untold goes =
+    let P : Counting → Type 0 = λ g. PassStands empty_map g [] [] pass_state in
+    stands_first empty_map none_used (AreFactsOf facts) pass_state fault (subst P none (stands empty_map)) untold first goes
 
-module _ (source : List SourceLine) (line : SourceLine) (pass : PassState) (facts : Facts) (read : ℕ) (has_ended : Bool)
+module _ (source : List SourceLine) (line : SourceLine) (pass : SourcePassState) (facts : Facts) (read : ℕ) (has_ended : Bool)
     (fault : Option AsmFault) (old : FirstState)
-    (view_is : record { going = pass.going; facts = facts; read = read; has_ended = has_ended; fault = fault } ≡ old)
+    (view_is : record { pass_state = pass.pass_state; facts = facts; read = read; has_ended = has_ended; fault = fault } ≡ old)
     (goes : has_ended ≡ false) (numbers : Result ℕ AsmFault) where
   goes_so : old.has_ended ≡ false
   goes_so = sym (ap (λ (s : FirstState). s.has_ended) view_is) ∙ goes
@@ -135,10 +135,10 @@ module _ (source : List SourceLine) (line : SourceLine) (pass : PassState) (fact
       let P : AsmFault → Type 0 = λ f. FirstFails (source ++ line ∷ []) old f in
       subst P (sym (is ∙ full.0)) (goes_so, sym (ap (λ (s : FirstState). s.read) view_is) ∙ full.1)
 
-  module _ (feeds : Feeds) (fed_pass : PassState) (fed_is : fed_pass ≡ record { going = fed line pass.going; fault = pass.fault })
+  module _ (feeds : Feeds) (fed_pass : SourcePassState) (fed_is : fed_pass ≡ record { pass_state = fed line pass.pass_state; fault = pass.fault })
       (number : ℕ) (counts : IfOk numbers (λ n. n ≡ read + 1)) (fits : IfOk numbers (λ n. read < most_lines))
-      (number_is : Ok number ≡ numbers) (outcome : Result Bool AsmFault) (new_going : Going) (new_facts : Facts)
-      (takes : (source : List SourceLine) (lines : List Numbered) → Taken empty_map none_used (AreFactsOf facts) source lines fed_pass.going
+      (number_is : Ok number ≡ numbers) (outcome : Result Bool AsmFault) (new_going : PassState) (new_facts : Facts)
+      (takes : (source : List SourceLine) (lines : List NumberedLine) → Taken empty_map none_used (AreFactsOf facts) source lines fed_pass.pass_state
       → TakesLeft source new_going new_facts outcome)
       (stands : FirstStands source old) where
     has_room : HasRoom old
@@ -148,15 +148,15 @@ module _ (source : List SourceLine) (line : SourceLine) (pass : PassState) (fact
         (goes_so, subst N (ap (λ (s : FirstState). s.read) view_is) (subst R (sym number_is) fits))
 
     abbrev state : FirstState
-    state = record { going = pass.going; facts = facts; read = read; has_ended = has_ended; fault = fault }
+    state = record { pass_state = pass.pass_state; facts = facts; read = read; has_ended = has_ended; fault = fault }
 
     here : FirstStands source state
     here = let S : FirstState → Type 0 = λ s. FirstStands source s in subst S (sym view_is) stands
 
     left : TakesLeft (source ++ line ∷ []) new_going new_facts outcome
     left =
-        let G : Going → Type 0 = λ g. Taken empty_map none_used (AreFactsOf facts) (source ++ line ∷ []) here.lines g in
-        takes (source ++ line ∷ []) here.lines (subst G (sym (ap (λ (p : PassState). p.going) fed_is))
+        let G : PassState → Type 0 = λ g. Taken empty_map none_used (AreFactsOf facts) (source ++ line ∷ []) here.lines g in
+        takes (source ++ line ∷ []) here.lines (subst G (sym (ap (λ (p : SourcePassState). p.pass_state) fed_is))
         (read_more empty_map none_used (AreFactsOf facts) source line (line_state state) here feeds goes))
 
     fails_so : (stopped : AsmFault) → TakesLeft (source ++ line ∷ []) new_going new_facts (Err stopped)
@@ -176,7 +176,7 @@ module _ (source : List SourceLine) (line : SourceLine) (pass : PassState) (fact
         → IfOk outcome (λ e. e ≡ false → new_going.unfolder.stage.left ≡ [])
         → kept ≡ option_or before_fault (result_err outcome) → before_fault ≡ None
         → FirstTakes source line old
-        (record { going = new_going; facts = new_facts; read = number; has_ended = ended; fault = kept }) (Ok tt)
+        (record { pass_state = new_going; facts = new_facts; read = number; has_ended = ended; fault = kept }) (Ok tt)
     line_takes ended kept before_fault same needs kept_is none =
         let P : Result Bool AsmFault → Type 0 = λ r. TakesLeft (source ++ line ∷ []) new_going new_facts r in
         inr (

@@ -3,7 +3,7 @@ use Rattle.std.proofs.Common.{◌≤◌, ℕ, List, length, Result, Ok, Err, ref
 use Rattle.m11_asm_faults.specs.declared.fault.AsmFault.{AsmFault}
 use Rattle.m11_asm_outputs.specs.Outputs.{AreFlushed, Gains, Outputs, Write}
 use Rattle.m11_asm.specs.First.{Symbols}
-use Rattle.m11_asm_passes.specs.Lines.{Numbered, givens}
+use Rattle.m11_asm_passes.specs.Lines.{NumberedLine, givens}
 use Rattle.m11_asm_rules.specs.Limits.{most_sections}
 use Rattle.m11_asm_rules.specs.Meanings.{empty_map}
 use Rattle.m11_scan_line_laws.specs.Readings.{Reading}
@@ -31,7 +31,7 @@ module _ {F : Type 0} (first : Pass F) (laws : LawsOfFirstPasses) (symbols : Sym
       (programs_alike gives.1.source gives.1.stands.lines gives.0 gives.1.stands.taken (subst P gives.2 few) laws)
 
 module _ {F : Type 0} (Untouched : Type 0) (first second : Pass F) (old new : Outputs) where
-  runs_by : (lines : List Numbered) → ReadsFirst first (Ok lines) → (result : Result AsmDone AsmFault)
+  runs_by : (lines : List NumberedLine) → ReadsFirst first (Ok lines) → (result : Result AsmDone AsmFault)
       → ReadsSecond second (program_of (givens lines)) old new result → AsmRunsOr Untouched first second old new result
   runs_by lines read (Ok done) reads = (lines, read, reads)
   runs_by lines read (Err stopped) reads = inr (lines, read, reads)
@@ -46,7 +46,7 @@ module _ {F : Type 0} (Untouched : Type 0) (first second : Pass F) (old new : Ou
 
 -- how far the feeds of both have given
 module _ {F : Type 0} (first second : Pass F) where
-  gives_by : (lines : List Numbered) → GivesToEnd first empty_map none_used lines → (result : Result AsmDone AsmFault)
+  gives_by : (lines : List NumberedLine) → GivesToEnd first empty_map none_used lines → (result : Result AsmDone AsmFault)
       → SecondGives second (program_of (givens lines)) result → AsmGives first second result
   gives_by lines given (Ok done) gives = (lines, given, gives)
   gives_by lines given (Err stopped) gives = inr (lines, given, gives)

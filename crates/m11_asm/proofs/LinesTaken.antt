@@ -10,7 +10,7 @@ use Rattle.m11_scan_line_laws.specs.Readings.{Reading}
 use Rattle.m11_unfold_rules.specs.Stages.{Stage}
 use Rattle.m11_asm_rules.specs.Meanings.{Map}
 use Rattle.m11_asm_lines.specs.declared.counting.Counting.{Counting}
-use Rattle.m11_asm_passes.specs.Lines.{Numbered, PassLines}
+use Rattle.m11_asm_passes.specs.Lines.{NumberedLine, PassLines}
 use Rattle.m11_asm.specs.Extents as extents
 use Rattle.m11_asm.specs.Extents.{GivesToEnd, GivesToFault, HaveGiven}
 use Rattle.m11_asm.specs.Outcome as outcome
@@ -18,15 +18,15 @@ use Rattle.m11_asm.specs.Outcome.{Ends, Unended}
 use Rattle.m11_asm.specs.Passes.{Pass, pass_of}
 use Rattle.m11_asm.specs.SourceTaken.{IsTakenUp, SourceTaken}
 use Rattle.m11_asm.specs.Standing.{LineState, Stands}
-use Rattle.m11_asm.specs.Written.{Ended}
+use Rattle.m11_asm.specs.Written.{EndOfSource}
 use Rattle.m11_asm.proofs.LinesRead.{SoFar, all_read, begun, given_all, given_till, lines_given, past_bytes, past_lines}
 
 -- ---- after live lines of a source, up to a stage
 
-abbrev ended_at : List SourceLine → Bool → Ended
+abbrev ended_at : List SourceLine → Bool → EndOfSource
 ended_at source has_end = record { read = length source; has_end = has_end }
 
-module _ (map_ : Map) (counting : Counting) (source : List SourceLine) (lines : List Numbered) (stage : Stage)
+module _ (map_ : Map) (counting : Counting) (source : List SourceLine) (lines : List NumberedLine) (stage : Stage)
     (live : PassLines map_ counting source lines stage) (has_ended : Bool) (ended : has_ended ≡ stage.has_ended)
     (needs : has_ended ≡ false → stage.left ≡ []) where
   pub unended_at : has_ended ≡ false → Unended map_ counting source lines
@@ -46,10 +46,10 @@ module _ (map_ : Map) (counting : Counting) (source : List SourceLine) (lines : 
   given_to_end pass false is given = extents.GivesToEnd.WithoutEnd source (unended_at is) given
 
 -- where `.END` isn't live, nothing is left of the lines
-pub unended_so : (map_ : Map) (counting : Counting) (Done : List Numbered → Type 0) (source : List SourceLine) (state : LineState)
+pub unended_so : (map_ : Map) (counting : Counting) (Done : List NumberedLine → Type 0) (source : List SourceLine) (state : LineState)
     → (stands : Stands map_ counting Done source state) → state.has_ended ≡ false → Unended map_ counting source stands.lines
 unended_so map_ counting Done source state stands goes =
-    unended_at map_ counting source stands.lines state.going.unfolder.stage stands.taken.stands.lines_are state.has_ended stands.ended
+    unended_at map_ counting source stands.lines state.pass_state.unfolder.stage stands.taken.stands.lines_are state.has_ended stands.ended
     stands.needs goes
 
 -- ---- over feeds
@@ -97,7 +97,7 @@ module _ {F : Type 0} (text : F → Option Text) (faults : F → ℕ) (initial h
         }
 
   -- a fault of reading: the feeds gave no more than what shows it
-  pub given_to_fault : (map_ : Map) (counting : Counting) (source : List SourceLine) (lines : List Numbered)
+  pub given_to_fault : (map_ : Map) (counting : Counting) (source : List SourceLine) (lines : List NumberedLine)
       → SoFar text faults initial here reader source → Unended map_ counting source lines
       → (later : List F) (reader' : LineReading) (came : LineFault)
       → ReadsNext (position text faults here reader) (position text faults later reader') (Err came)

@@ -11,7 +11,7 @@ use Rattle.m11_scan_statements.specs.declared.bodies.Body.{Body}
 use Rattle.m11_scan_statements.specs.declared.bodies.Body.TheVariants as body
 use Rattle.m11_scan_statements.specs.declared.spans.Span.{Span}
 use Rattle.m11_unfold_rules.specs.Taking.{Live}
-use Rattle.m11_unfold_rules.specs.Unfolding.{Given}
+use Rattle.m11_unfold_rules.specs.Unfolding.{UnfoldedLine}
 use Rattle.m11_scan_values.specs.Quantities.{Quantity}
 use Rattle.m11_asm_rules.specs.Changes.{changed}
 use Rattle.m11_asm_rules.specs.Exports.{transfer}
@@ -98,10 +98,10 @@ transfer_alike : (one other : Table) → Alike one other → (line : Bytes) (sta
 transfer_alike one other alike line start =
     let told : Quantity → Option Quantity = λ value. if has_expression line start then Some value else None in
     ap (λ (p : ℕ). told (value_at (known_at empty_map LocalOnly one p) line start)) (alike_location one other alike)
-    ∙ ap (λ (k : expressions.Known). told (value_at k line start)) (alike_known one other alike empty_map LocalOnly (location other))
+    ∙ ap (λ (k : expressions.KnownSymbols). told (value_at k line start)) (alike_known one other alike empty_map LocalOnly (location other))
 
 -- the line changes nothing
-ends_so : (before : Table) (given : Given) (start : ℕ) → Operate (operators.Directive word.End) start ≡ action given.is_own given.live.line.text
+ends_so : (before : Table) (given : UnfoldedLine) (start : ℕ) → Operate (operators.Directive word.End) start ≡ action given.is_own given.live.line.text
     → after_line empty_map before given ≡ stands before given
 unfolding line_change
 ends_so before given start is =
@@ -110,7 +110,7 @@ ends_so before given start is =
 
 -- ---- a live line
 
-module _ (before table : Table) (given : Given) (facts : Facts) (alike : Alike table (after_line empty_map before given))
+module _ (before table : Table) (given : UnfoldedLine) (facts : Facts) (alike : Alike table (after_line empty_map before given))
     (stood : BodyStands (labels_end given.live.line.text) (length given.live.line.text) (body_of given.live.line.text)) where
   abbrev Is : Action → Type 0
   Is of = of ≡ action given.is_own given.live.line.text
@@ -149,7 +149,7 @@ module _ (before table : Table) (given : Given) (facts : Facts) (alike : Alike t
       ∙ by_directed (stands before given) given.live.line.text facts (directed given)
 
 pub noted : ((line : Bytes) → BodyStands (labels_end line) (length line) (body_of line))
-    → (before table : Table) (given : Given) (live : LiveLine) (old new : Facts)
+    → (before table : Table) (given : UnfoldedLine) (live : LiveLine) (old new : Facts)
     → IsLive given live → Alike table (after_line empty_map before given)
     → new ≡ with_action table live.line.text live.action old → new ≡ with_line before given old
 noted stand before table given live old new is alike so =
@@ -159,7 +159,7 @@ noted stand before table given live old new is alike so =
 pub notes : ((line : Bytes) → BodyStands (labels_end line) (length line) (body_of line))
     → (table : Table) (live : LiveLine) (old new : Facts) {E : Type 0} (result : Result (Unit {0}) E)
     → IfOk result (λ _. new ≡ with_action table live.line.text live.action old)
-    → IfOk result (λ _. (before : Table) (given : Given) → IsLive given live
+    → IfOk result (λ _. (before : Table) (given : UnfoldedLine) → IsLive given live
     → Alike table (after_line empty_map before given) → new ≡ with_line before given old)
 notes stand table live old new (Ok done) so = λ before given is alike. noted stand before table given live old new is alike so
 notes stand table live old new (Err fault) so = tt

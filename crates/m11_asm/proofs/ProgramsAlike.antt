@@ -20,7 +20,7 @@ use Rattle.m11_asm_pass_laws.proofs.LiveLines.{exceeds_same, pass_lines_same, ta
 use Rattle.m11_asm_pass_laws.proofs.MapsAlike.{after_line_same, all_flags_same, items_same, pieces_same}
 use Rattle.m11_obj_texts.specs.declared.directory.DirectoryRow.{DirectoryRow}
 use Rattle.m11_obj_texts.specs.declared.pieces.Piece.{Piece}
-use Rattle.m11_asm_passes.specs.Lines.{Numbered, PassLines, givens, table_at}
+use Rattle.m11_asm_passes.specs.Lines.{NumberedLine, PassLines, givens, table_at}
 use Rattle.m11_asm_passes.specs.Placed.{all_flags}
 use Rattle.m11_asm_passes.specs.Reaching.{Exceeds}
 use Rattle.m11_asm_rules.specs.Exports.{transfer_flags}
@@ -32,10 +32,10 @@ use Rattle.m11_asm_rules.specs.Tables.{Table, first_table, location}
 use Rattle.m11_scan_line_laws.specs.Readings.{Reading}
 use Rattle.m11_scan.specs.ErrorFlags.{flags_text}
 use Rattle.m11_asm.specs.Program.{Program}
-use Rattle.m11_asm.specs.Written.{Ended, added_writes, closing_writes, flagged_count, flagged_in, head_before, is_flagged, last_location, last_writes, flags_after, flags_at, line_writes, message_writes, pieces_in, pieces_of, program_writes, written, written_after}
+use Rattle.m11_asm.specs.Written.{EndOfSource, added_writes, closing_writes, flagged_count, flagged_in, head_before, is_flagged, last_location, last_writes, flags_after, flags_at, line_writes, message_writes, pieces_in, pieces_of, program_writes, written, written_after}
 use Rattle.m11_asm.specs.declared.done.AsmDone.{AsmDone}
 use Rattle.m11_unfold_rules.specs.Stages.{Stage}
-use Rattle.m11_unfold_rules.specs.Unfolding.{Given}
+use Rattle.m11_unfold_rules.specs.Unfolding.{UnfoldedLine}
 use Rattle.m11_scan_values.specs.Quantities.{Quantity}
 use Rattle.m11_asm.specs.Extents as extents
 use Rattle.m11_asm.specs.Extents.{GivesToEnd, GivesToFault, GivesToStop, SecondGives}
@@ -56,7 +56,7 @@ pub record AlikePrograms (one other : Program) : Type 0 where
 module _ (one other : Program) (alike : AlikePrograms one other) where
   -- ---- pieces
 
-  placed_same : (table : Table) (all : List Given)
+  placed_same : (table : Table) (all : List UnfoldedLine)
       → flat_map pieces_of (placed_from one.map table all) ≡ flat_map pieces_of (placed_from other.map table all)
   placed_same table [] = refl
   placed_same table (given ∷ all) =
@@ -66,13 +66,13 @@ module _ (one other : Program) (alike : AlikePrograms one other) where
       (after_line_same one.map other.map alike.maps table given)
       ∙ ap (λ (p : List Piece). pieces other.map table given ++ p) (placed_same (after_line other.map table given) all)
 
-  pieces_alike : (all : List Numbered) → pieces_in one.map all ≡ pieces_in other.map all
+  pieces_alike : (all : List NumberedLine) → pieces_in one.map all ≡ pieces_in other.map all
   unfolding pieces_in
   pieces_alike all = placed_same first_table (givens all)
 
   -- ---- flags
 
-  flags_alike : (before : List Numbered) (line : Numbered) → flags_at one before line ≡ flags_at other before line
+  flags_alike : (before : List NumberedLine) (line : NumberedLine) → flags_at one before line ≡ flags_at other before line
   flags_alike before line =
       let end : Option Quantity → ℕ = λ transfer. end_in (transfer_flags transfer) (directed line.given) in
       ap (λ (t : Table). bit_or (all_flags one.map t line.given) (end one.transfer)) (table_at_same one.map other.map alike.maps before)
@@ -80,27 +80,27 @@ module _ (one other : Program) (alike : AlikePrograms one other) where
       (all_flags_same one.map other.map alike.maps (table_at other.map before) line.given)
       ∙ ap (λ (q : Option Quantity). bit_or (all_flags other.map (table_at other.map before) line.given) (end q)) alike.transfer
 
-  all_flags_alike : (before all : List Numbered) → flags_after one before all ≡ flags_after other before all
+  all_flags_alike : (before all : List NumberedLine) → flags_after one before all ≡ flags_after other before all
   all_flags_alike before [] = refl
   all_flags_alike before (line ∷ all) =
       ap (λ (l : ℕ). l ∷ flags_after one (before ++ line ∷ []) all) (flags_alike before line)
       ∙ ap (λ (ls : List ℕ). flags_at other before line ∷ ls) (all_flags_alike (before ++ line ∷ []) all)
 
-  flagged_alike : (all : List Numbered) → flagged_in one all ≡ flagged_in other all
+  flagged_alike : (all : List NumberedLine) → flagged_in one all ≡ flagged_in other all
   unfolding flagged_in
   flagged_alike all = ap (λ (ls : List ℕ). count_by is_flagged ls) (all_flags_alike [] all)
 
-  pub counts_alike : (all : List Numbered) (has_end : Bool) → flagged_count one all has_end ≡ flagged_count other all has_end
+  pub counts_alike : (all : List NumberedLine) (has_end : Bool) → flagged_count one all has_end ≡ flagged_count other all has_end
   counts_alike all has_end = ap (λ (n : ℕ). n + (if has_end then 0 else 1)) (flagged_alike all)
 
   -- ---- writes
 
-  head_alike : (before : List Numbered) → head_before one before ≡ head_before other before
+  head_alike : (before : List NumberedLine) → head_before one before ≡ head_before other before
   head_alike [] = ap (λ (rows : List DirectoryRow). content_writes (head_contents rows)) alike.rows
   head_alike (line ∷ before) = refl
 
   -- the listing of a line depends on the maps by its items and by the levels after it
-  listing_same : (table : Table) (flags number : ℕ) (given : Given)
+  listing_same : (table : Table) (flags number : ℕ) (given : UnfoldedLine)
       → listing_writes one.map table flags number given ≡ listing_writes other.map table flags number given
   unfolding listing_writes
   listing_same table flags number given =
@@ -112,7 +112,7 @@ module _ (one other : Program) (alike : AlikePrograms one other) where
       all_to_listing (listed_lines (flags_text flags) number (location table) at l text) else [])
       (items_same one.map other.map alike.maps table given)
 
-  listing_alike : (before : List Numbered) (line : Numbered)
+  listing_alike : (before : List NumberedLine) (line : NumberedLine)
       → listing_writes one.map (table_at one.map before) (flags_at one before line) line.number line.given
       ≡ listing_writes other.map (table_at other.map before) (flags_at other before line) line.number line.given
   listing_alike before line =
@@ -121,7 +121,7 @@ module _ (one other : Program) (alike : AlikePrograms one other) where
       ∙ ap (λ (l : ℕ). listing_writes one.map (table_at other.map before) l line.number line.given) (flags_alike before line)
       ∙ listing_same (table_at other.map before) (flags_at other before line) line.number line.given
 
-  line_alike : (before : List Numbered) (line : Numbered) → line_writes one before line ≡ line_writes other before line
+  line_alike : (before : List NumberedLine) (line : NumberedLine) → line_writes one before line ≡ line_writes other before line
   unfolding line_writes
   line_alike before line =
       let text : Bytes = line.given.live.line.text in
@@ -140,18 +140,18 @@ module _ (one other : Program) (alike : AlikePrograms one other) where
       (listing_writes other.map (table_at other.map before) (flags_at other before line) line.number line.given))
       (flags_alike before line)
 
-  after_alike : (before all : List Numbered) → written_after one before all ≡ written_after other before all
+  after_alike : (before all : List NumberedLine) → written_after one before all ≡ written_after other before all
   after_alike before [] = refl
   after_alike before (line ∷ all) =
       ap (λ (h : List Write). (h ++ line_writes one before line) ++ written_after one (before ++ line ∷ []) all) (head_alike before)
       ∙ ap (λ (l : List Write). (head_before other before ++ l) ++ written_after one (before ++ line ∷ []) all) (line_alike before line)
       ∙ ap (λ (w : List Write). (head_before other before ++ line_writes other before line) ++ w) (after_alike (before ++ line ∷ []) all)
 
-  pub written_alike : (all : List Numbered) → written one all ≡ written other all
+  pub written_alike : (all : List NumberedLine) → written one all ≡ written other all
   unfolding written
   written_alike all = after_alike [] all
 
-  closing_alike : (all : List Numbered) (has_end : Bool)
+  closing_alike : (all : List NumberedLine) (has_end : Bool)
       → closing_writes (pieces_in one.map all) one.symbols one.sections (flagged_count one all has_end)
       ≡ closing_writes (pieces_in other.map all) other.symbols other.sections (flagged_count other all has_end)
   closing_alike all has_end =
@@ -161,7 +161,7 @@ module _ (one other : Program) (alike : AlikePrograms one other) where
       alike.sections
       ∙ ap (λ (n : ℕ). closing_writes (pieces_in other.map all) other.symbols other.sections n) (counts_alike all has_end)
 
-  last_alike : (all : List Numbered) (ended : Ended) → last_writes one all ended ≡ last_writes other all ended
+  last_alike : (all : List NumberedLine) (ended : EndOfSource) → last_writes one all ended ≡ last_writes other all ended
   last_alike all ended =
       let closing : Program → List Write = λ p. closing_writes (pieces_in p.map all) p.symbols p.sections (flagged_count p all ended.has_end) in
       ap (λ (h : List Write). h ++ (added_writes ended (last_location one all) ++ closing one)) (head_alike all)
@@ -169,33 +169,33 @@ module _ (one other : Program) (alike : AlikePrograms one other) where
       (table_at_same one.map other.map alike.maps all)
       ∙ ap (λ (w : List Write). head_before other all ++ (added_writes ended (last_location other all) ++ w)) (closing_alike all ended.has_end)
 
-  pub program_alike : (all : List Numbered) (ended : Ended) → program_writes one all ended ≡ program_writes other all ended
+  pub program_alike : (all : List NumberedLine) (ended : EndOfSource) → program_writes one all ended ≡ program_writes other all ended
   program_alike all ended = rw (written_alike all, last_alike all ended) refl
 
   -- ---- passes
 
-  lines_alike : (source : List SourceLine) (all : List Numbered) (stage : Stage)
+  lines_alike : (source : List SourceLine) (all : List NumberedLine) (stage : Stage)
       → PassLines one.map Definitions source all stage → PassLines other.map Definitions source all stage
   lines_alike source all stage live = pass_lines_same one.map other.map alike.maps Definitions source all stage live
 
-  unended_alike : (source : List SourceLine) (all : List Numbered) → Unended one.map Definitions source all
+  unended_alike : (source : List SourceLine) (all : List NumberedLine) → Unended one.map Definitions source all
       → Unended other.map Definitions source all
   unended_alike source all u =
       record { stage = u.stage; live = lines_alike source all u.stage u.live; left = u.left; goes_on = u.goes_on }
 
-  exceeds_alike : (source : List SourceLine) (all : List Numbered) (limit : AsmFault)
+  exceeds_alike : (source : List SourceLine) (all : List NumberedLine) (limit : AsmFault)
       → Exceeds one.map Definitions source all limit → Exceeds other.map Definitions source all limit
   exceeds_alike source all limit exceeds = exceeds_same one.map other.map alike.maps Definitions source all limit exceeds
 
   module _ (reading : Reading) where
-    ends_alike : (all : List Numbered) (ended : Ended) → Ends one.map Definitions reading all ended
+    ends_alike : (all : List NumberedLine) (ended : EndOfSource) → Ends one.map Definitions reading all ended
         → Ends other.map Definitions reading all ended
     ends_alike all ended (outcome.Ends.AtEnd source more stage are live ends is) =
         outcome.Ends.AtEnd source more stage are (lines_alike source all stage live) ends is
     ends_alike all ended (outcome.Ends.WithoutEnd u none is) =
         outcome.Ends.WithoutEnd (unended_alike reading.lines all u) none is
 
-    refuses_alike : (all : List Numbered) (stopped : AsmFault) → Refuses one.map Definitions reading all stopped
+    refuses_alike : (all : List NumberedLine) (stopped : AsmFault) → Refuses one.map Definitions reading all stopped
         → Refuses other.map Definitions reading all stopped
     refuses_alike all stopped (outcome.Refuses.AtReading fault some is u) =
         outcome.Refuses.AtReading fault some is (unended_alike reading.lines all u)
@@ -213,7 +213,7 @@ module _ (one other : Program) (alike : AlikePrograms one other) where
     among_alike : (Stop : List Write → Type 0) → StopsAmongWrites Stop one reading → StopsAmongWrites Stop other reading
     among_alike Stop s = record { writes = s.writes; are = writes_alike s.writes s.are; stops = s.stops }
 
-  gains_alike : (old new : Outputs) (all : List Numbered) → Gains old new (written one all) → Gains old new (written other all)
+  gains_alike : (old new : Outputs) (all : List NumberedLine) → Gains old new (written one all) → Gains old new (written other all)
   gains_alike old new all gains = let P : List Write → Type 0 = λ ws. Gains old new ws in subst P (written_alike all) gains
 
   module _ {F : Type 0} (pass : Pass F) (old new : Outputs) where
@@ -242,7 +242,7 @@ module _ (one other : Program) (alike : AlikePrograms one other) where
   -- how far feeds have given
 
   module _ {F : Type 0} (pass : Pass F) where
-    to_end_alike : (all : List Numbered) → GivesToEnd pass one.map Definitions all
+    to_end_alike : (all : List NumberedLine) → GivesToEnd pass one.map Definitions all
         → GivesToEnd pass other.map Definitions all
     to_end_alike all (extents.GivesToEnd.AtEnd source stage live ends given) =
         extents.GivesToEnd.AtEnd source stage (lines_alike source all stage live) ends given

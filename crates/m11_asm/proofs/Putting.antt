@@ -22,17 +22,17 @@ use Rattle.m11_obj_texts.specs.Texts.{TextParts}
 use Rattle.m11_obj_texts.specs.declared.directory.DirectoryRow.{DirectoryRow}
 use Rattle.m11_obj_texts.specs.declared.pieces.Piece.{Piece}
 use Rattle.m11_obj_texts.specs.declared.pieces.PieceContent.{PieceContent}
-use Rattle.m11_asm_passes.specs.Lines.{Numbered, table_at}
+use Rattle.m11_asm_passes.specs.Lines.{NumberedLine, table_at}
 use Rattle.m11_asm_passes.specs.Placed.{IsPlaced, all_flags}
 use Rattle.m11_asm_passes.specs.declared.placed.PlacedLine.{PlacedLine}
-use Rattle.m11_asm_rules.specs.Contents.{Put, pieces_from}
+use Rattle.m11_asm_rules.specs.Contents.{Emission, pieces_from}
 use Rattle.m11_asm_rules.specs.Exports.{transfer_flags}
 use Rattle.m11_asm_rules.specs.Lines.{Action, action, pieces, put_location, stands}
 use Rattle.m11_asm_rules.specs.Sources.{directed_in, end_in}
 use Rattle.m11_asm_rules.specs.Tables.{Table, section_name}
 use Rattle.m11_asm_lines.specs.Actions.{action_seen}
-use Rattle.m11_asm_lines.specs.UsedSymbols.{Gathered}
-use Rattle.m11_asm_lines.specs.Passes.{Kept}
+use Rattle.m11_asm_lines.specs.UsedSymbols.{UsedNames}
+use Rattle.m11_asm_lines.specs.Passes.{TableState}
 use Rattle.m11_scan.specs.ErrorFlags.{flags_text}
 use Rattle.m11_scan.specs.Views.{bits_of}
 use Rattle.m11_asm_symbol_list.specs.Sections.{section_entries}
@@ -69,16 +69,16 @@ true_false is other = no (sym is ∙ other)
     no e = cc
 
 -- where some line was written, the head was
-head_stays_by : (program : Program) (lines : List Numbered) → is_some_line lines ≡ true → head_before program lines ≡ []
+head_stays_by : (program : Program) (lines : List NumberedLine) → is_some_line lines ≡ true → head_before program lines ≡ []
 head_stays_by program [] is = absurd (true_false is refl)
 head_stays_by program (line ∷ lines) is = refl
 
-head_is_by : (program : Program) (lines : List Numbered) → is_some_line lines ≡ false
+head_is_by : (program : Program) (lines : List NumberedLine) → is_some_line lines ≡ false
     → head_before program lines ≡ content_writes (head_contents program.rows)
 head_is_by program [] is = refl
 head_is_by program (line ∷ lines) is = absurd (true_false refl is)
 
-module _ (program : Program) (lines : List Numbered) (writing : Writing) (stands : WritingStands program lines writing) where
+module _ (program : Program) (lines : List NumberedLine) (writing : Writing) (stands : WritingStands program lines writing) where
   pub head_stays : writing.has_begun ≡ true → head_before program lines ≡ []
   head_stays is = head_stays_by program lines (sym stands.begun ∙ is)
 
@@ -115,22 +115,22 @@ counted_least : (flags count : ℕ) → counted flags (min count most_counted)
     ≡ min (count + (if is_flagged flags then 1 else 0)) most_counted
 counted_least flags count = least_by (is_flagged flags) count
 
-pub counted_exactly : (program : Program) (lines : List Numbered) (has_end : Bool) → flagged_count program lines has_end ≤ most_counted
+pub counted_exactly : (program : Program) (lines : List NumberedLine) (has_end : Bool) → flagged_count program lines has_end ≤ most_counted
     → counted_last has_end (min (flagged_in program lines) most_counted) ≡ flagged_count program lines has_end
 counted_exactly program lines true few = counted_least 0 (flagged_in program lines) ∙ min-eq_left few
 counted_exactly program lines false few = counted_least 8 (flagged_in program lines) ∙ min-eq_left few
 
 -- ---- a placed line
 
-pub line_parts : (program : Program) (lines : List Numbered) (one : Numbered)
+pub line_parts : (program : Program) (lines : List NumberedLine) (one : NumberedLine)
     → content_writes (records_closed_by (pieces_in program.map lines) (pieces program.map (table_at program.map lines) one.given))
     ++ (listing_writes program.map (table_at program.map lines) (flags_at program lines one) one.number one.given
     ++ message_writes (flags_at program lines one) one.number one.given.live.line.text) ≡ line_writes program lines one
 unfolding line_writes
 line_parts program lines one = refl
 
-module _ (program : Program) (lines : List Numbered) (one : Numbered) (placed : PlacedLine) (put : Put) (contents : List PieceContent)
-    (is : IsPlaced program.map (table_at program.map lines) one.given placed put) (same : put.contents ≡ contents) where
+module _ (program : Program) (lines : List NumberedLine) (one : NumberedLine) (placed : PlacedLine) (emission : Emission) (contents : List PieceContent)
+    (is : IsPlaced program.map (table_at program.map lines) one.given placed emission) (same : emission.contents ≡ contents) where
   pub pieces_so : pieces_from placed.section placed.location contents ≡ pieces program.map (table_at program.map lines) one.given
   pieces_so =
       let stood : Table = stands (table_at program.map lines) one.given in
@@ -152,11 +152,11 @@ module _ (program : Program) (lines : List Numbered) (one : Numbered) (placed : 
       ∙ ap (λ (d : Action). bit_or own (end_in (transfer_flags program.transfer) (directed_in d))) is.is_live.action_is
 
 -- the lines of a line in the listing, with these flags and this number
-abbrev pub shown : Program → List Numbered → Numbered → ℕ → ℕ → List Write
+abbrev pub shown : Program → List NumberedLine → NumberedLine → ℕ → ℕ → List Write
 shown program lines one flags number = listing_writes program.map (table_at program.map lines) flags number one.given
 
 -- the writes of a line's parts, one after the other
-module _ (program : Program) (lines : List Numbered) (one : Numbered) (a b c : Outputs) where
+module _ (program : Program) (lines : List NumberedLine) (one : NumberedLine) (a b c : Outputs) where
   abbrev pub texts : List Piece → List Write
   texts ps = content_writes (records_closed_by (pieces_in program.map lines) ps)
 
@@ -183,7 +183,7 @@ module _ (program : Program) (lines : List Numbered) (one : Numbered) (a b c : O
       → Gains a b (head_before program lines) → Gains b c (texts ps)
       → Writes c d (shown program lines one flags number ++ message_writes flags number text) result
       → Writes a d (head_before program lines ++ line_writes program lines one) result
-  line_goes_on d ps flags number text result are flags_are number_is text_is head put goes =
+  line_goes_on d ps flags number text result are flags_are number_is text_is head emission goes =
       let P : List Write → Type 0 = λ ws. Writes a d (head_before program lines ++ ws) result in
       let Q : List Piece → Type 0 = λ these. Gains b c (texts these) in
       let own : ℕ = flags_at program lines one in
@@ -192,11 +192,11 @@ module _ (program : Program) (lines : List Numbered) (one : Numbered) (a b c : O
       ap (λ (l : ℕ). of l number text) flags_are ∙ ap (λ (n : ℕ). of own n text) number_is ∙ ap (of own one.number) text_is in
       subst P (line_parts program lines one)
       (writes_then assembly a b d (head_before program lines) (texts here ++ rest) result head
-      (writes_then assembly b c d (texts here) rest result (subst Q are put) (writes_as c d _ _ result same goes)))
+      (writes_then assembly b c d (texts here) rest result (subst Q are emission) (writes_as c d _ _ result same goes)))
 
 -- what is kept after it
-module _ (program : Program) (lines : List Numbered) (one : Numbered) (old : Writing) (stands : WritingStands program lines old) where
-  some_more : (all : List Numbered) → true ≡ is_some_line (all ++ one ∷ [])
+module _ (program : Program) (lines : List NumberedLine) (one : NumberedLine) (old : Writing) (stands : WritingStands program lines old) where
+  some_more : (all : List NumberedLine) → true ≡ is_some_line (all ++ one ∷ [])
   some_more [] = refl
   some_more (line ∷ all) = refl
 
@@ -237,19 +237,19 @@ none_put : (program : Program) → pieces_in program.map [] ≡ []
 unfolding pieces_in
 none_put program = refl
 
-pub keeps_more : {E : Type 0} (program : Program) (lines : List Numbered) (one : Numbered) (old : Writing)
-    → WritingStands program lines old → (began put listed new : Writing) (more : List Piece) (flags : ℕ) (result : Result (Unit {0}) E)
-    → began ≡ begun old → put ≡ opened put.text began → listed ≡ put
+pub keeps_more : {E : Type 0} (program : Program) (lines : List NumberedLine) (one : NumberedLine) (old : Writing)
+    → WritingStands program lines old → (began emission listed new : Writing) (more : List Piece) (flags : ℕ) (result : Result (Unit {0}) E)
+    → began ≡ begun old → emission ≡ opened emission.text began → listed ≡ emission
     → more ≡ pieces program.map (table_at program.map lines) one.given
-    → flags ≡ flags_at program lines one → IsOpenAfter (pieces_in program.map lines ++ more) put.text
+    → flags ≡ flags_at program lines one → IsOpenAfter (pieces_in program.map lines ++ more) emission.text
     → AllFit (head_contents program.rows) → AllFit (records_closed_by (pieces_in program.map lines) more)
     → IfOk result (λ _. new ≡ record listed { flagged = counted flags listed.flagged })
     → IfOk result (λ _. WritingStands program (lines ++ one ∷ []) new)
-keeps_more program lines one old stands began put listed new more flags (Err stopped) begins opens stays more_is flags_is open_after head_fits more_fit so = tt
-keeps_more program lines one old stands began put listed new more flags (Ok done) begins opens stays more_is flags_is open_after head_fits more_fit so =
-    let whole = so ∙ ap (λ (w : Writing). record w { flagged = counted flags w.flagged }) (stays ∙ opens ∙ ap (opened put.text) begins) in
+keeps_more program lines one old stands began emission listed new more flags (Err stopped) begins opens stays more_is flags_is open_after head_fits more_fit so = tt
+keeps_more program lines one old stands began emission listed new more flags (Ok done) begins opens stays more_is flags_is open_after head_fits more_fit so =
+    let whole = so ∙ ap (λ (w : Writing). record w { flagged = counted flags w.flagged }) (stays ∙ opens ∙ ap (opened emission.text) begins) in
     subst (λ (w : Writing). WritingStands program (lines ++ one ∷ []) w) (sym whole)
-    (stands_more program lines one old stands put.text more flags more_is flags_is open_after head_fits more_fit)
+    (stands_more program lines one old stands emission.text more flags more_is flags_is open_after head_fits more_fit)
 
 -- ---- the end
 
@@ -276,7 +276,7 @@ table_so writing symbols sections count symbols_are sections_are counts =
     ∙ ap (λ (n : ℕ). all_to_listing (last_lines writing.symbols writing.sections n)) counts
 
 -- the text that is open after all lines, and what closes all
-module _ (program : Program) (lines : List Numbered) (old begun_ new : Writing) (stands : WritingStands program lines old)
+module _ (program : Program) (lines : List NumberedLine) (old begun_ new : Writing) (stands : WritingStands program lines old)
     (has_end : Bool) (begins : begun_ ≡ begun old) (counts : new ≡ record begun_ { flagged = counted_last has_end begun_.flagged }) where
   pub last_open : IsOpenAfter (pieces_in program.map lines) new.text
   last_open =
@@ -300,7 +300,7 @@ module _ (program : Program) (lines : List Numbered) (old begun_ new : Writing) 
       ∙ ap (λ (n : ℕ). closing_writes ps program.symbols program.sections n) (last_count few)
 
 -- the records of the object, where its head and the last of them fit
-pub object_fits : (program : Program) (lines : List Numbered) (writing : Writing) → WritingStands program lines writing
+pub object_fits : (program : Program) (lines : List NumberedLine) (writing : Writing) → WritingStands program lines writing
     → AllFit (head_contents program.rows) → AllFit (last_records (pieces_in program.map lines) ++ EndOfModule ∷ [])
     → AllFit (object_contents program.rows (pieces_in program.map lines))
 object_fits program lines writing stands head last =
@@ -310,12 +310,12 @@ object_fits program lines writing stands head last =
 
 -- ---- before the first line
 
-pub stands_first : (kept : Kept) (gathered : Gathered) (facts : Facts) (rows : List DirectoryRow) (transfer : Option Quantity)
+pub stands_first : (kept : TableState) (used_names : UsedNames) (facts : Facts) (rows : List DirectoryRow) (transfer : Option Quantity)
     (symbols : List SymbolEntry) (sections : List SectionEntry) (text : Option TextParts)
-    → rows ≡ directory_rows (directory_facts_in kept gathered facts) → transfer ≡ facts.transfer
-    → symbols ≡ symbol_entries (directory_facts_in kept gathered facts) (all_names gathered)
-    → sections ≡ section_entries (directory_facts_in kept gathered facts) → IsOpenAfter [] text
-    → WritingStands (program_kept kept gathered facts) [] (record {
+    → rows ≡ directory_rows (directory_facts_in kept used_names facts) → transfer ≡ facts.transfer
+    → symbols ≡ symbol_entries (directory_facts_in kept used_names facts) (all_names used_names)
+    → sections ≡ section_entries (directory_facts_in kept used_names facts) → IsOpenAfter [] text
+    → WritingStands (program_kept kept used_names facts) [] (record {
       rows = rows;
       transfer = transfer;
       symbols = symbols;
@@ -325,8 +325,8 @@ pub stands_first : (kept : Kept) (gathered : Gathered) (facts : Facts) (rows : L
       flagged = 0;
     })
 unfolding program_kept
-stands_first kept gathered facts rows transfer symbols sections text rows_are told symbols_are sections_are opens =
-    let program = program_kept kept gathered facts in
+stands_first kept used_names facts rows transfer symbols sections text rows_are told symbols_are sections_are opens =
+    let program = program_kept kept used_names facts in
     record {
       rows = rows_are;
       transfer = told;

@@ -9,8 +9,8 @@ use Rattle.m11_asm.proofs.Counting.{one_longer}
 use Rattle.m11_scan_lines.specs.Line.{SourceLine}
 use Rattle.m11_scan_lines.specs.Lines.{most_lines}
 use Rattle.m11_asm_passes.specs.Lines as lines
-use Rattle.m11_asm_passes.specs.Lines.{Numbered, with_line}
-use Rattle.m11_asm_passes.specs.States.{Going, PassState, fed}
+use Rattle.m11_asm_passes.specs.Lines.{NumberedLine, with_line}
+use Rattle.m11_asm_passes.specs.States.{PassState, SourcePassState, fed}
 use Rattle.m11_asm_rules.specs.Meanings.{Map}
 use Rattle.m11_asm.specs.Program.{Program}
 use Rattle.m11_asm.specs.Second.{LineCall, SecondFails, SecondStands, SecondState, SecondTakes, TakesLeft, Wrote, line_state}
@@ -19,22 +19,22 @@ use Rattle.m11_asm.proofs.Taking.{Feeds, number_so, read_more, stands_more}
 use Rattle.m11_asm.specs.Writing.{Writing}
 use Rattle.m11_asm_lines.specs.declared.counting.Counting.TheVariants.{Definitions}
 
-abbrev pub state_of : Map → Going → Writing → ℕ → Bool → Option AsmFault → SecondState
-state_of map going writing read has_ended fault =
-    record { map = map; going = going; writing = writing; read = read; has_ended = has_ended; fault = fault }
+abbrev pub state_of : Map → PassState → Writing → ℕ → Bool → Option AsmFault → SecondState
+state_of map pass_state writing read has_ended fault =
+    record { map = map; pass_state = pass_state; writing = writing; read = read; has_ended = has_ended; fault = fault }
 
 abbrev pub between : Outputs → Outputs → SecondState → SecondState → LineCall
 between before now old new = record { before = before; now = now; old = old; new = new }
 
-module _ (program : Program) (source : List SourceLine) (line : SourceLine) (first before : Outputs) (map_ : Map) (going : Going)
+module _ (program : Program) (source : List SourceLine) (line : SourceLine) (first before : Outputs) (map_ : Map) (pass_state : PassState)
     (writing : Writing) (read : ℕ) (has_ended : Bool) (stopped : Option AsmFault) (goes : has_ended ≡ false)
-    (stands : SecondStands program source first before (state_of map_ going writing read has_ended stopped)) where
+    (stands : SecondStands program source first before (state_of map_ pass_state writing read has_ended stopped)) where
   abbrev state : SecondState
-  state = state_of map_ going writing read has_ended stopped
+  state = state_of map_ pass_state writing read has_ended stopped
 
-  live_more : lines.PassLines program.map Definitions (source ++ line ∷ []) stands.stands.lines (with_line line going.unfolder.stage)
+  live_more : lines.PassLines program.map Definitions (source ++ line ∷ []) stands.stands.lines (with_line line pass_state.unfolder.stage)
   live_more =
-      lines.PassLines.Reading source stands.stands.lines going.unfolder.stage line stands.stands.taken.stands.lines_are
+      lines.PassLines.Reading source stands.stands.lines pass_state.unfolder.stage line stands.stands.taken.stands.lines_are
       (stands.stands.needs goes) (sym stands.stands.ended ∙ goes)
 
   too_long : read ≡ most_lines → SecondFails program (source ++ line ∷ []) first before fault.TooMuchSource
@@ -42,7 +42,7 @@ module _ (program : Program) (source : List SourceLine) (line : SourceLine) (fir
     too_many = one_longer source line ∙ ap (λ (n : ℕ). n + 1) (sym stands.stands.read ∙ full);
     among = record {
       lines = stands.stands.lines;
-      stage = with_line line going.unfolder.stage;
+      stage = with_line line pass_state.unfolder.stage;
       live = live_more;
       stops = stands.stands.taken.done.gains;
     };
@@ -51,7 +51,7 @@ module _ (program : Program) (source : List SourceLine) (line : SourceLine) (fir
   -- there are too many lines
   pub line_refused : (numbers : Result ℕ AsmFault) (came : AsmFault) (new : SecondState) (result : Result (Unit {0}) AsmFault)
       → IfErr numbers (λ f. (f ≡ fault.TooMuchSource) × (read ≡ most_lines)) → Err came ≡ numbers → IsErrAnd result (λ f. f ≡ came)
-      → SecondTakes program source line first (between before before (state_of map_ going writing read has_ended stopped) new) result
+      → SecondTakes program source line first (between before before (state_of map_ pass_state writing read has_ended stopped) new) result
   line_refused numbers came new (Ok done) refuses same is = absurd is
   line_refused numbers came new (Err other) refuses same is =
       let R : Result ℕ AsmFault → Type 0 = λ r. IfErr r (λ f. (f ≡ fault.TooMuchSource) × (read ≡ most_lines)) in
@@ -59,20 +59,20 @@ module _ (program : Program) (source : List SourceLine) (line : SourceLine) (fir
       let P : AsmFault → Type 0 = λ f. SecondFails program (source ++ line ∷ []) first before f in
       (goes, subst P (sym (is ∙ full.0)) (too_long full.1))
 
-  module _ (feeds : Feeds) (pass fed_pass : PassState) (going_is : pass.going ≡ going)
-      (fed_is : fed_pass ≡ record { going = fed line pass.going; fault = pass.fault }) (numbers : Result ℕ AsmFault) (number : ℕ)
+  module _ (feeds : Feeds) (pass fed_pass : SourcePassState) (going_is : pass.pass_state ≡ pass_state)
+      (fed_is : fed_pass ≡ record { pass_state = fed line pass.pass_state; fault = pass.fault }) (numbers : Result ℕ AsmFault) (number : ℕ)
       (counts : IfOk numbers (λ n. n ≡ read + 1)) (number_is : Ok number ≡ numbers) (map' : Map) (map_is : map' ≡ map_)
-      (now : Outputs) (outcome : Result Bool AsmFault) (new_going : Going) (new_writing : Writing)
-      (takes : (program : Program) (source : List SourceLine) (lines : List Numbered) (first : Outputs) → map' ≡ program.map
-      → number ≡ length source → Taken program.map Definitions (Wrote program first before writing) source lines fed_pass.going
+      (now : Outputs) (outcome : Result Bool AsmFault) (new_going : PassState) (new_writing : Writing)
+      (takes : (program : Program) (source : List SourceLine) (lines : List NumberedLine) (first : Outputs) → map' ≡ program.map
+      → number ≡ length source → Taken program.map Definitions (Wrote program first before writing) source lines fed_pass.pass_state
       → TakesLeft program source first now new_going new_writing outcome) where
     left : TakesLeft program (source ++ line ∷ []) first now new_going new_writing outcome
     left =
         let all : List SourceLine = source ++ line ∷ [] in
-        let G : Going → Type 0 =
+        let G : PassState → Type 0 =
         λ g. Taken program.map Definitions (Wrote program first before writing) all stands.stands.lines g in
-        let fed_so : fed line going ≡ fed_pass.going =
-        ap (fed line) (sym going_is) ∙ sym (ap (λ (p : PassState). p.going) fed_is) in
+        let fed_so : fed line pass_state ≡ fed_pass.pass_state =
+        ap (fed line) (sym going_is) ∙ sym (ap (λ (p : SourcePassState). p.pass_state) fed_is) in
         takes program all stands.stands.lines first (map_is ∙ stands.map_is)
         (number_so program.map Definitions (Wrote program first before writing) source line (line_state state) stands.stands numbers
         number counts number_is)
@@ -82,7 +82,7 @@ module _ (program : Program) (source : List SourceLine) (line : SourceLine) (fir
 
     pub line_fails : (came : AsmFault) (new : SecondState) (result : Result (Unit {0}) AsmFault) → Err came ≡ outcome
         → IsErrAnd result (λ f. f ≡ came)
-        → SecondTakes program source line first (between before now (state_of map_ going writing read has_ended stopped) new) result
+        → SecondTakes program source line first (between before now (state_of map_ pass_state writing read has_ended stopped) new) result
     line_fails came new (Ok done) same is = absurd is
     line_fails came new (Err other) same is =
         let P : Result Bool AsmFault → Type 0 =
@@ -94,7 +94,7 @@ module _ (program : Program) (source : List SourceLine) (line : SourceLine) (fir
     pub line_takes : (ended : Bool) (kept : Option AsmFault) (before_fault : Option AsmFault) → Ok ended ≡ outcome
         → IfOk outcome (λ e. e ≡ false → new_going.unfolder.stage.left ≡ [])
         → kept ≡ option_or before_fault (result_err outcome) → before_fault ≡ None
-        → SecondTakes program source line first (between before now (state_of map_ going writing read has_ended stopped)
+        → SecondTakes program source line first (between before now (state_of map_ pass_state writing read has_ended stopped)
         (state_of map_ new_going new_writing number ended kept)) (Ok tt)
     line_takes ended kept before_fault same needs kept_is none =
         let P : Result Bool AsmFault → Type 0 = λ r. TakesLeft program (source ++ line ∷ []) first now new_going new_writing r in

@@ -16,7 +16,7 @@ use Rattle.m11_asm_passes.specs.Lines as lines
 use Rattle.m11_scan_line_laws.specs.Extents.{GaveLines}
 use Rattle.m11_asm.specs.Program.{Program}
 use Rattle.m11_asm.specs.Second.{SecondEnds, SecondFails, SecondStands, SecondState, SecondTakes, StopsAmong, Wrote, ended_with, line_state}
-use Rattle.m11_asm.specs.Written.{Ended, flagged_count, pieces_in, program_writes, written}
+use Rattle.m11_asm.specs.Written.{EndOfSource, flagged_count, pieces_in, program_writes, written}
 use Rattle.m11_asm.specs.declared.done.AsmDone.{AsmDone}
 use Rattle.m11_unfold_rules.specs.Stages.{start}
 use Rattle.m11_base_writes.proofs.Writing.{refused_between}
@@ -187,8 +187,8 @@ module _ {F : Type 0} (text : F → Option Text) (faults : F → ℕ) (program :
       (result : Result AsmDone AsmFault) (ends : SecondEnds program taken.source old new second result) where
     all_ends : Ends program.map Definitions taken.reading ends.lines (ended_with second)
     all_ends =
-        let at : ℕ → Ended = λ n. record { read = n; has_end = second.has_ended } in
-        let P : Ended → Type 0 = λ e. Ends program.map Definitions taken.reading ends.lines e in
+        let at : ℕ → EndOfSource = λ n. record { read = n; has_end = second.has_ended } in
+        let P : EndOfSource → Type 0 = λ e. Ends program.map Definitions taken.reading ends.lines e in
         subst P (sym (ap at ends.read))
         (ends_by program.map Definitions taken.source ends.lines ends.stage ends.live second.has_ended ends.ended ends.needs
         taken.reading second.has_ended refl taken.taken_up)

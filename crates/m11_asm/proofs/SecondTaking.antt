@@ -5,16 +5,16 @@ use Rattle.m11_asm_faults.specs.declared.fault.AsmFault.TheVariants as fault
 use Rattle.m11_asm_outputs.specs.Outputs.{Gains, Outputs, Stops, StopsBetween, Write, assembly}
 use Rattle.m11_scan_lines.specs.Line.{SourceLine}
 use Rattle.m11_obj_texts.specs.declared.pieces.PieceContent.{PieceContent}
-use Rattle.m11_asm_passes.specs.Lines.{Numbered, numbered, table_at}
+use Rattle.m11_asm_passes.specs.Lines.{NumberedLine, numbered, table_at}
 use Rattle.m11_asm_passes.specs.Placed.{IsPlaced, live_in}
 use Rattle.m11_asm_passes.specs.Reaching.{PlacesLine, Reaches, Refused}
 use Rattle.m11_asm_passes.specs.Refusals.{given_by}
-use Rattle.m11_asm_passes.specs.States.{Going, PassStands}
+use Rattle.m11_asm_passes.specs.States.{PassState, PassStands}
 use Rattle.m11_asm_passes.specs.Turns.{SaysPlaced, Turns}
 use Rattle.m11_asm_passes.specs.declared.placed.PlacedLine.{PlacedLine}
 use Rattle.m11_asm_passes.specs.declared.turns.Turn.{Turn}
 use Rattle.m11_asm_passes.specs.declared.turns.Turn.TheVariants.{NeedLine, End, Line}
-use Rattle.m11_asm_rules.specs.Contents.{Put}
+use Rattle.m11_asm_rules.specs.Contents.{Emission}
 use Rattle.m11_asm_rules.specs.Meanings.{Map}
 use Rattle.m11_asm_lines.specs.declared.counting.Counting.{Counting}
 use Rattle.m11_base_writes.proofs.Writing.{gains_then, stops_after}
@@ -29,23 +29,23 @@ use Rattle.m11_asm_lines.specs.declared.counting.Counting.TheVariants.{Definitio
 
 -- the law of the calls of a second pass
 abbrev pub TurnsSo : Type 0
-TurnsSo = (map : Map) (before : Counting) (source : List SourceLine) (lines : List Numbered) (old new : Going)
+TurnsSo = (map : Map) (before : Counting) (source : List SourceLine) (lines : List NumberedLine) (old new : PassState)
     (placed : PlacedLine) (result : Result Turn AsmFault) → PassStands map before source lines old
-    → Turns map old new (live_in placed.live) (SaysPlaced map placed new.put) result
-    → Reaches map before source lines new (live_in placed.live) (SaysPlaced map placed new.put) result
+    → Turns map old new (live_in placed.live) (SaysPlaced map placed new.emission) result
+    → Reaches map before source lines new (live_in placed.live) (SaysPlaced map placed new.emission) result
 
-module _ (turn : TurnsSo) (program : Program) (source : List SourceLine) (first now : Outputs) (old new : Going) (placed : PlacedLine)
+module _ (turn : TurnsSo) (program : Program) (source : List SourceLine) (first now : Outputs) (old new : PassState) (placed : PlacedLine)
     (writing : Writing) (some : SomeTaken program.map Definitions (Wrote program first now writing) source old) (map_ : Map)
     (same : map_ ≡ program.map) where
-  law : (lines : List Numbered) (result : Result Turn AsmFault) → PassStands program.map Definitions source lines old
-      → Turns program.map old new (live_in placed.live) (SaysPlaced program.map placed new.put) result
-      → Reaches program.map Definitions source lines new (live_in placed.live) (SaysPlaced program.map placed new.put) result
+  law : (lines : List NumberedLine) (result : Result Turn AsmFault) → PassStands program.map Definitions source lines old
+      → Turns program.map old new (live_in placed.live) (SaysPlaced program.map placed new.emission) result
+      → Reaches program.map Definitions source lines new (live_in placed.live) (SaysPlaced program.map placed new.emission) result
   law lines result stands turned = turn program.map Definitions source lines old new placed result stands turned
 
-  turned_so : (result : Result Turn AsmFault) → Turns map_ old new (live_in placed.live) (SaysPlaced map_ placed new.put) result
-      → Turns program.map old new (live_in placed.live) (SaysPlaced program.map placed new.put) result
+  turned_so : (result : Result Turn AsmFault) → Turns map_ old new (live_in placed.live) (SaysPlaced map_ placed new.emission) result
+      → Turns program.map old new (live_in placed.live) (SaysPlaced program.map placed new.emission) result
   turned_so result turned =
-      let P : Map → Type 0 = λ m. Turns m old new (live_in placed.live) (SaysPlaced m placed new.put) result in subst P same turned
+      let P : Map → Type 0 = λ m. Turns m old new (live_in placed.live) (SaysPlaced m placed new.emission) result in subst P same turned
 
   -- nothing is stopped among the writes of the lines so far: memory was refused before the next one
   all_between : StopsBetween first now (written program some.0)
@@ -56,35 +56,35 @@ module _ (turn : TurnsSo) (program : Program) (source : List SourceLine) (first 
     gains = some.1.done.gains;
   }
 
-  module _ (came : Turn) (turned : Turns map_ old new (live_in placed.live) (SaysPlaced map_ placed new.put) (Ok came)) where
+  module _ (came : Turn) (turned : Turns map_ old new (live_in placed.live) (SaysPlaced map_ placed new.emission) (Ok came)) where
     pub left_rests : came ≡ NeedLine → TakesAll program.map Definitions (Wrote program first now writing) source new false
     left_rests is =
-        rests_all program.map Definitions source old new (live_in placed.live) (SaysPlaced program.map placed new.put) law
+        rests_all program.map Definitions source old new (live_in placed.live) (SaysPlaced program.map placed new.emission) law
         (Wrote program first now writing) some came (turned_so (Ok came) turned) is
 
     pub left_ends : came ≡ End → TakesAll program.map Definitions (Wrote program first now writing) source new true
     left_ends is =
-        ends_all program.map Definitions source old new (live_in placed.live) (SaysPlaced program.map placed new.put) law
+        ends_all program.map Definitions source old new (live_in placed.live) (SaysPlaced program.map placed new.emission) law
         (Wrote program first now writing) some came (turned_so (Ok came) turned) is
 
     module _ (is : came ≡ Line) where
-      here : PlacesLine program.map Definitions source some.0 new (live_in placed.live) (SaysPlaced program.map placed new.put)
+      here : PlacesLine program.map Definitions source some.0 new (live_in placed.live) (SaysPlaced program.map placed new.emission)
       here =
-          places_line program.map Definitions source old new (live_in placed.live) (SaysPlaced program.map placed new.put) law
+          places_line program.map Definitions source old new (live_in placed.live) (SaysPlaced program.map placed new.emission) law
           (Wrote program first now writing) some came (turned_so (Ok came) turned) is
 
-      one : Numbered
+      one : NumberedLine
       one = numbered (length source) (given_by (table_at program.map some.0) (live_in placed.live) here.stage)
 
-      module _ (number : ℕ) (number_is : number ≡ length source) (contents : List PieceContent) (contents_are : contents ≡ new.put.contents)
+      module _ (number : ℕ) (number_is : number ≡ length source) (contents : List PieceContent) (contents_are : contents ≡ new.emission.contents)
           (later : Outputs) (writing' : Writing) where
-        pub placed_more : ((one : Numbered) (put : Put)
-            → WritingStands program some.0 writing → IsPlaced program.map (table_at program.map some.0) one.given placed put
-            → put.contents ≡ contents → number ≡ one.number
+        pub placed_more : ((one : NumberedLine) (emission : Emission)
+            → WritingStands program some.0 writing → IsPlaced program.map (table_at program.map some.0) one.given placed emission
+            → emission.contents ≡ contents → number ≡ one.number
             → Gains now later (head_before program some.0 ++ line_writes program some.0 one))
-            → ((one : Numbered) (put : Put)
-            → WritingStands program some.0 writing → IsPlaced program.map (table_at program.map some.0) one.given placed put
-            → put.contents ≡ contents → number ≡ one.number → WritingStands program (some.0 ++ one ∷ []) writing')
+            → ((one : NumberedLine) (emission : Emission)
+            → WritingStands program some.0 writing → IsPlaced program.map (table_at program.map some.0) one.given placed emission
+            → emission.contents ≡ contents → number ≡ one.number → WritingStands program (some.0 ++ one ∷ []) writing')
             → SomeTaken program.map Definitions (Wrote program first later writing') source new
         unfolding here one
         placed_more writes keeps = (
@@ -92,10 +92,10 @@ module _ (turn : TurnsSo) (program : Program) (source : List SourceLine) (first 
           record {
             stands = here.stands;
             done = record {
-              keeps = keeps one new.put some.1.done.keeps here.is_said (sym contents_are) number_is;
+              keeps = keeps one new.emission some.1.done.keeps here.is_said (sym contents_are) number_is;
               gains = subst (λ (ws : List Write). Gains first later ws) (sym (written_more program some.0 one))
                   (gains_then assembly first now later (written program some.0) (next_writes program some.0 one) some.1.done.gains
-                  (writes one new.put some.1.done.keeps here.is_said (sym contents_are) number_is));
+                  (writes one new.emission some.1.done.keeps here.is_said (sym contents_are) number_is));
             };
           },
         )
@@ -117,9 +117,9 @@ module _ (turn : TurnsSo) (program : Program) (source : List SourceLine) (first 
         stops_so other stops = absurd stops
 
         pub stops_there : (stopped : AsmFault) (result : Result Bool AsmFault)
-            → ((one : Numbered) (put : Put)
-            → WritingStands program some.0 writing → IsPlaced program.map (table_at program.map some.0) one.given placed put
-            → put.contents ≡ contents → number ≡ one.number
+            → ((one : NumberedLine) (emission : Emission)
+            → WritingStands program some.0 writing → IsPlaced program.map (table_at program.map some.0) one.given placed emission
+            → emission.contents ≡ contents → number ≡ one.number
             → Stops now later (head_before program some.0 ++ line_writes program some.0 one) stopped)
             → IsErrAnd result (λ f. f ≡ stopped) → TakesLeft program source first later new writing' result
         unfolding here one
@@ -127,13 +127,13 @@ module _ (turn : TurnsSo) (program : Program) (source : List SourceLine) (first 
         stops_there stopped (Err other) writes is =
             let P : AsmFault → Type 0 = λ f. SecondFails program source first later f in
             subst P (sym is)
-            (stops_so stopped (stops_more stopped (writes one new.put some.1.done.keeps here.is_said (sym contents_are) number_is)))
+            (stops_so stopped (stops_more stopped (writes one new.emission some.1.done.keeps here.is_said (sym contents_are) number_is)))
 
   -- the pass passes a limit, or memory is refused
-  module _ (limit : AsmFault) (turned : Turns map_ old new (live_in placed.live) (SaysPlaced map_ placed new.put) (Err limit)) where
+  module _ (limit : AsmFault) (turned : Turns map_ old new (live_in placed.live) (SaysPlaced map_ placed new.emission) (Err limit)) where
     refused : Refused program.map Definitions source some.0 limit
     refused =
-        refused_after program.map Definitions source old new (live_in placed.live) (SaysPlaced program.map placed new.put) law
+        refused_after program.map Definitions source old new (live_in placed.live) (SaysPlaced program.map placed new.emission) law
         (Wrote program first now writing) some limit (turned_so (Err limit) turned)
 
     fails_so : (stopped : AsmFault) → Refused program.map Definitions source some.0 stopped

@@ -5,7 +5,7 @@ use Rattle.m11_asm_faults.specs.declared.fault.AsmFault.{AsmFault}
 use Rattle.m11_asm_faults.specs.declared.fault.AsmFault.TheVariants as fault
 use Rattle.m11_scan_lines.specs.Line.{SourceLine}
 use Rattle.m11_scan_lines.specs.declared.fault.LineFault.{LineFault}
-use Rattle.m11_asm_passes.specs.Lines.{Numbered, PassLines, givens}
+use Rattle.m11_asm_passes.specs.Lines.{NumberedLine, PassLines, givens}
 use Rattle.m11_asm_passes.specs.Reaching.{Exceeds}
 use Rattle.m11_asm_rules.specs.Meanings.{Map, empty_map}
 use Rattle.m11_asm_lines.specs.Counting.{none_used}
@@ -27,7 +27,7 @@ HaveGiven pass source false = GaveAll pass.text pass.old pass.new source
 
 -- it took the source up to the line in which `.END` became live, and the feeds gave just the lines up to that one; or it took all of the
 -- source, and the feeds gave all that they had
-pub data GivesToEnd {F : Type 0} (pass : Pass F) (map : Map) (counting : Counting) (lines : List Numbered) : Type 0 where
+pub data GivesToEnd {F : Type 0} (pass : Pass F) (map : Map) (counting : Counting) (lines : List NumberedLine) : Type 0 where
   AtEnd : (source : List SourceLine) (stage : Stage) → PassLines map counting source lines stage → stage.has_ended ≡ true
       → GaveLines pass.text pass.old pass.new source → GivesToEnd pass map counting lines
   WithoutEnd : (source : List SourceLine) → Unended map counting source lines → GaveAll pass.text pass.old pass.new source
@@ -36,34 +36,34 @@ pub data GivesToEnd {F : Type 0} (pass : Pass F) (map : Map) (counting : Countin
 -- it stopped after some live lines of the source, and the feeds gave just the lines up to that to which these belong; or it stopped when
 -- all was taken, and the feeds gave all that they had
 pub data GivesToStop {F : Type 0} (pass : Pass F) (map : Map) (counting : Counting) : Type 0 where
-  InLine : (source : List SourceLine) (lines : List Numbered) (stage : Stage) → PassLines map counting source lines stage
+  InLine : (source : List SourceLine) (lines : List NumberedLine) (stage : Stage) → PassLines map counting source lines stage
       → GaveLines pass.text pass.old pass.new source → GivesToStop pass map counting
-  AfterAll : (source : List SourceLine) (lines : List Numbered) → Unended map counting source lines
+  AfterAll : (source : List SourceLine) (lines : List NumberedLine) → Unended map counting source lines
       → GaveAll pass.text pass.old pass.new source → GivesToStop pass map counting
 
 -- by its fault: the feeds gave no more than what came before one failed; up to the byte that passes a limit of reading; as far as that
 -- where memory or an output failed; or up to the end of the line in which a limit is passed
 abbrev pub GivesToFault : {F : Type 0} → Pass F → Map → Counting → AsmFault → Type 0
 GivesToFault pass map counting fault.Read =
-    (source : List SourceLine) × (lines : List Numbered) × Unended map counting source lines × GaveTill pass.text pass.old pass.new source
+    (source : List SourceLine) × (lines : List NumberedLine) × Unended map counting source lines × GaveTill pass.text pass.old pass.new source
 GivesToFault pass map counting fault.TooMuchSource =
-    (source : List SourceLine) × (lines : List Numbered) × Unended map counting source lines
+    (source : List SourceLine) × (lines : List NumberedLine) × Unended map counting source lines
     × (limit : LineFault) × GavePast pass.text pass.old pass.new source limit
 GivesToFault pass map counting fault.NoMemory = GivesToStop pass map counting
 GivesToFault pass map counting (fault.Write output) = GivesToStop pass map counting
 GivesToFault pass map counting stopped =
-    (source : List SourceLine) × (lines : List Numbered) × Exceeds map counting source lines stopped
+    (source : List SourceLine) × (lines : List NumberedLine) × Exceeds map counting source lines stopped
     × GaveLines pass.text pass.old pass.new source
 
 -- ---- both passes
 
 abbrev pub SecondGives : {F : Type 0} → Pass F → Program → Result AsmDone AsmFault → Type 0
-SecondGives pass program (Ok done) = (lines : List Numbered) × GivesToEnd pass program.map Definitions lines
+SecondGives pass program (Ok done) = (lines : List NumberedLine) × GivesToEnd pass program.map Definitions lines
 SecondGives pass program (Err stopped) = GivesToFault pass program.map Definitions stopped
 
 -- the first pass to its end, and the second one under what the first one gives; or the first one to its fault, and nothing of the second
 abbrev pub AsmGives : {F : Type 0} → Pass F → Pass F → Result AsmDone AsmFault → Type 0
 AsmGives first second (Ok done) =
-    (lines : List Numbered) × GivesToEnd first empty_map none_used lines × SecondGives second (program_of (givens lines)) (Ok done)
+    (lines : List NumberedLine) × GivesToEnd first empty_map none_used lines × SecondGives second (program_of (givens lines)) (Ok done)
 AsmGives first second (Err stopped) = (GivesToFault first empty_map none_used stopped × (second.new ≡ second.old))
-    ⊎ ((lines : List Numbered) × GivesToEnd first empty_map none_used lines × SecondGives second (program_of (givens lines)) (Err stopped))
+    ⊎ ((lines : List NumberedLine) × GivesToEnd first empty_map none_used lines × SecondGives second (program_of (givens lines)) (Err stopped))

@@ -4,7 +4,7 @@
 use Rattle.std.specs.Prelude.{List, [], ◌∷◌, Option, None}
 use Rattle.indexmap.specs.IndexSet.{insert_key}
 use Rattle.m11_base.specs.Rad50.{Name, is_same_name}
-use Rattle.m11_unfold_rules.specs.Unfolding.{Given}
+use Rattle.m11_unfold_rules.specs.Unfolding.{UnfoldedLine}
 use Rattle.m11_scan_values.specs.Quantities.{Quantity}
 use Rattle.m11_asm_rules.specs.Meanings.{empty_map}
 use Rattle.m11_asm_rules.specs.Sources.{last_or, line_identification, line_title, line_transfer, line_weak_names, source_identification, source_title, source_transfer, weak_names}
@@ -26,7 +26,7 @@ each_once names [] = names
 each_once names (name ∷ more) = each_once (insert_key is_same_name names name) more
 
 -- the facts with what one more line says, after a table
-abbrev pub with_line : Table → Given → Facts → Facts
+abbrev pub with_line : Table → UnfoldedLine → Facts → Facts
 with_line table given facts = record {
   title = last_or (line_title given) facts.title;
   identification = last_or (line_identification given) facts.identification;
@@ -35,7 +35,7 @@ with_line table given facts = record {
 }
 
 -- what the lines of a source say in all
-abbrev pub facts_of : List Given → Facts
+abbrev pub facts_of : List UnfoldedLine → Facts
 facts_of lines = record {
   title = source_title lines;
   identification = source_identification lines;

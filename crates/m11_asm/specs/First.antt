@@ -6,30 +6,30 @@ use Rattle.m11_asm_faults.specs.declared.fault.AsmFault.TheVariants.{TooMuchSour
 use Rattle.m11_scan_lines.specs.Line.{SourceLine}
 use Rattle.m11_scan_lines.specs.Lines.{most_lines}
 use Rattle.m11_asm_rules.specs.Meanings.{empty_map}
-use Rattle.m11_asm_lines.specs.Counting.{gathered_in, none_used}
-use Rattle.m11_asm_lines.specs.UsedSymbols.{Gathered}
-use Rattle.m11_asm_lines.specs.Passes.{Kept}
-use Rattle.m11_asm_passes.specs.Lines.{Numbered, givens}
+use Rattle.m11_asm_lines.specs.Counting.{used_names_in, none_used}
+use Rattle.m11_asm_lines.specs.UsedSymbols.{UsedNames}
+use Rattle.m11_asm_lines.specs.Passes.{TableState}
+use Rattle.m11_asm_passes.specs.Lines.{NumberedLine, givens}
 use Rattle.m11_asm_passes.specs.Reaching.{Refused}
-use Rattle.m11_asm_passes.specs.States.{Going}
+use Rattle.m11_asm_passes.specs.States.{PassState}
 use Rattle.m11_asm.specs.Facts.{Facts, facts_of}
 use Rattle.m11_asm.specs.Standing.{LineState, Stands, TakesAll}
 
 -- the pass, what the lines said beside names and locations, how many were read, whether `.END` became live, and the fault that ended the
 -- pass, if one did
 pub record FirstState : Type 0 where
-  pub going : Going
+  pub pass_state : PassState
   pub facts : Facts
   pub read : ℕ
   pub has_ended : Bool
   pub fault : Option AsmFault
 
 -- this is what live lines say beside names and locations, as it is noted
-abbrev pub AreFactsOf : Facts → List Numbered → Type 0
+abbrev pub AreFactsOf : Facts → List NumberedLine → Type 0
 AreFactsOf facts lines = facts ≡ facts_of (givens lines)
 
 abbrev pub line_state : FirstState → LineState
-line_state state = record { going = state.going; read = state.read; has_ended = state.has_ended; fault = state.fault }
+line_state state = record { pass_state = state.pass_state; read = state.read; has_ended = state.has_ended; fault = state.fault }
 
 -- all that follows from lines of the source is done
 abbrev pub FirstStands : List SourceLine → FirstState → Type 0
@@ -46,7 +46,7 @@ IsFull state = (state.has_ended ≡ false) × (state.read ≡ most_lines)
 -- the source has a line too many, or it passes another limit with this line, or memory is refused
 abbrev pub FirstFails : List SourceLine → FirstState → AsmFault → Type 0
 FirstFails source old TooMuchSource = IsFull old
-FirstFails source old fault = HasRoom old × (lines : List Numbered) × Refused empty_map none_used source lines fault
+FirstFails source old fault = HasRoom old × (lines : List NumberedLine) × Refused empty_map none_used source lines fault
 
 -- one more line of the source: after `.END` became live none is read
 abbrev pub FirstTakes : List SourceLine → SourceLine → FirstState → FirstState → Result (Unit {0}) AsmFault → Type 0
@@ -57,17 +57,17 @@ FirstTakes source line old new (Err fault) = FirstFails (source ++ line ∷ []) 
 -- ---- between the live lines of one line of the source
 
 -- up to the end of what is left; or the source passes a limit
-abbrev pub TakesLeft : List SourceLine → Going → Facts → Result Bool AsmFault → Type 0
+abbrev pub TakesLeft : List SourceLine → PassState → Facts → Result Bool AsmFault → Type 0
 TakesLeft source new facts (Ok has_ended) = TakesAll empty_map none_used (AreFactsOf facts) source new has_ended
-TakesLeft source new facts (Err fault) = (lines : List Numbered) × Refused empty_map none_used source lines fault
+TakesLeft source new facts (Err fault) = (lines : List NumberedLine) × Refused empty_map none_used source lines fault
 
 -- ---- what the pass gives
 
 -- the table after the last line with the sizes of sections, the names that the lines use, and what they say beside that
 pub record Symbols : Type 0 where
-  pub kept : Kept
-  pub gathered : Gathered
+  pub kept : TableState
+  pub used_names : UsedNames
   pub facts : Facts
 
 abbrev pub symbols_of : FirstState → Symbols
-symbols_of state = record { kept = state.going.kept; gathered = gathered_in state.going.counting; facts = state.facts }
+symbols_of state = record { kept = state.pass_state.kept; used_names = used_names_in state.pass_state.counting; facts = state.facts }

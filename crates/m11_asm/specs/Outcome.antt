@@ -7,7 +7,7 @@ use Rattle.m11_asm_faults.specs.declared.fault.AsmFault.{AsmFault}
 use Rattle.m11_asm_outputs.specs.Outputs.{Write}
 use Rattle.m11_scan_lines.specs.Line.{SourceLine}
 use Rattle.m11_scan_lines.specs.declared.fault.LineFault.{LineFault}
-use Rattle.m11_asm_passes.specs.Lines.{Numbered, PassLines, givens}
+use Rattle.m11_asm_passes.specs.Lines.{NumberedLine, PassLines, givens}
 use Rattle.m11_asm_passes.specs.Reaching.{Exceeds}
 use Rattle.m11_asm_rules.specs.Meanings.{Map, empty_map}
 use Rattle.m11_asm_lines.specs.Counting.{none_used}
@@ -15,27 +15,27 @@ use Rattle.m11_asm_lines.specs.declared.counting.Counting.{Counting}
 use Rattle.m11_asm_lines.specs.declared.counting.Counting.TheVariants.{Definitions}
 use Rattle.m11_scan_line_laws.specs.Readings.{Reading}
 use Rattle.m11_asm.specs.Program.{Program, program_of}
-use Rattle.m11_asm.specs.Written.{Ended, flagged_count, program_writes, written}
+use Rattle.m11_asm.specs.Written.{EndOfSource, flagged_count, program_writes, written}
 use Rattle.m11_unfold_rules.specs.Stages.{Stage}
 
 -- ---- the live lines of a source, under a map and by which names count
 
 -- all lines were read, nothing is left of them, and `.END` didn't become live
-pub record Unended (map : Map) (counting : Counting) (source : List SourceLine) (lines : List Numbered) : Type 0 where
+pub record Unended (map : Map) (counting : Counting) (source : List SourceLine) (lines : List NumberedLine) : Type 0 where
   pub stage : Stage
   pub live : PassLines map counting source lines stage
   pub left : stage.left ≡ []
   pub goes_on : stage.has_ended ≡ false
 
 -- these are its live lines: up to the line in which `.END` becomes live, or up to the end
-pub data Ends (map : Map) (counting : Counting) (reading : Reading) (lines : List Numbered) (ended : Ended) : Type 0 where
+pub data Ends (map : Map) (counting : Counting) (reading : Reading) (lines : List NumberedLine) (ended : EndOfSource) : Type 0 where
   AtEnd : (source more : List SourceLine) (stage : Stage) → reading.lines ≡ source ++ more → PassLines map counting source lines stage
       → stage.has_ended ≡ true → ended ≡ record { read = length source; has_end = true } → Ends map counting reading lines ended
   WithoutEnd : Unended map counting reading.lines lines → reading.fault ≡ None
       → ended ≡ record { read = length reading.lines; has_end = false } → Ends map counting reading lines ended
 
 -- it is refused after these live lines: where reading stops, or at the first limit that is passed
-pub data Refuses (map : Map) (counting : Counting) (reading : Reading) (lines : List Numbered) (stopped : AsmFault) : Type 0 where
+pub data Refuses (map : Map) (counting : Counting) (reading : Reading) (lines : List NumberedLine) (stopped : AsmFault) : Type 0 where
   AtReading : (fault : LineFault) → reading.fault ≡ Some fault → stopped ≡ of_lines fault → Unended map counting reading.lines lines
       → Refuses map counting reading lines stopped
   AtLimit : (source more : List SourceLine) (limit : AsmFault) → reading.lines ≡ source ++ more
@@ -52,14 +52,14 @@ pub data Outcome : Type 0 where
 -- the outcome of two readings. Those of one source are the same
 pub data HasOutcome (first second : Reading) : Outcome → Type 0 where
   -- a refusal of the first one has written nothing
-  FirstRefuses : (lines : List Numbered) (fault : AsmFault) → Refuses empty_map none_used first lines fault
+  FirstRefuses : (lines : List NumberedLine) (fault : AsmFault) → Refuses empty_map none_used first lines fault
       → HasOutcome first second (Refused fault [])
   -- one of the second one has written what the live lines before it write
-  SecondRefuses : (lines : List Numbered) (ended : Ended) (program : Program) (others : List Numbered) (fault : AsmFault)
+  SecondRefuses : (lines : List NumberedLine) (ended : EndOfSource) (program : Program) (others : List NumberedLine) (fault : AsmFault)
       → Ends empty_map none_used first lines ended → program ≡ program_of (givens lines)
       → Refuses program.map Definitions second others fault
       → HasOutcome first second (Refused fault (written program others))
-  Assembles : (lines : List Numbered) (ended : Ended) (program : Program) (others : List Numbered) (end : Ended)
+  Assembles : (lines : List NumberedLine) (ended : EndOfSource) (program : Program) (others : List NumberedLine) (end : EndOfSource)
       → Ends empty_map none_used first lines ended → program ≡ program_of (givens lines)
       → Ends program.map Definitions second others end
       → HasOutcome first second (Assembled (program_writes program others end) (flagged_count program others end.has_end))

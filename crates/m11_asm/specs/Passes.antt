@@ -6,14 +6,14 @@ use Rattle.m11_asm_faults.specs.declared.fault.AsmFault.TheVariants as fault
 use Rattle.m11_asm_outputs.specs.Outputs.{AreFlushed, Gains, Outputs, StopsBetween, StopsIn, Write}
 use Rattle.m11_base.specs.Feed.{NoneFailed, Text}
 use Rattle.m11_scan_lines.specs.Line.{SourceLine}
-use Rattle.m11_asm_passes.specs.Lines.{Numbered, PassLines}
+use Rattle.m11_asm_passes.specs.Lines.{NumberedLine, PassLines}
 use Rattle.m11_asm_rules.specs.Meanings.{empty_map}
 use Rattle.m11_asm_lines.specs.Counting.{none_used}
 use Rattle.m11_asm_lines.specs.declared.counting.Counting.TheVariants.{Definitions}
 use Rattle.m11_scan_line_laws.specs.Calls.{FailReading, HaveReading}
 use Rattle.m11_scan_line_laws.specs.Readings.{Reading}
 use Rattle.m11_asm.specs.Program.{Program}
-use Rattle.m11_asm.specs.Written.{Ended, flagged_count, pieces_in, program_writes, written}
+use Rattle.m11_asm.specs.Written.{EndOfSource, flagged_count, pieces_in, program_writes, written}
 use Rattle.m11_asm.specs.declared.done.AsmDone.{AsmDone}
 use Rattle.m11_unfold_rules.specs.Stages.{Stage}
 use Rattle.m11_asm.specs.Outcome.{Ends, Refuses, Unended}
@@ -39,22 +39,22 @@ ReadsTill pass lines = FailReading pass.text pass.faults pass.old pass.new (reco
 -- ---- the first pass
 
 -- the live lines of the source; or the source is refused; or a feed failed, and what had come till then isn't; or memory was refused
-abbrev pub ReadsFirst : {F : Type 0} → Pass F → Result (List Numbered) AsmFault → Type 0
-ReadsFirst pass (Ok lines) = (reading : Reading) × Reads pass reading × (ended : Ended) × Ends empty_map none_used reading lines ended
+abbrev pub ReadsFirst : {F : Type 0} → Pass F → Result (List NumberedLine) AsmFault → Type 0
+ReadsFirst pass (Ok lines) = (reading : Reading) × Reads pass reading × (ended : EndOfSource) × Ends empty_map none_used reading lines ended
 ReadsFirst pass (Err fault.Read) =
-    (source : List SourceLine) × ReadsTill pass source × (lines : List Numbered) × Unended empty_map none_used source lines
+    (source : List SourceLine) × ReadsTill pass source × (lines : List NumberedLine) × Unended empty_map none_used source lines
 ReadsFirst pass (Err fault.NoMemory) = NoneFailed pass.faults pass.old pass.new
 ReadsFirst pass (Err (fault.Write output)) = ⊥
 ReadsFirst pass (Err stopped) =
-    (reading : Reading) × Reads pass reading × (lines : List Numbered) × Refuses empty_map none_used reading lines stopped
+    (reading : Reading) × Reads pass reading × (lines : List NumberedLine) × Refuses empty_map none_used reading lines stopped
 
 -- ---- the second pass
 
 -- these are the writes of some first live lines of the source, or all writes
 pub data AreWrites (program : Program) (reading : Reading) : List Write → Type 0 where
-  SoFar : (source more : List SourceLine) (lines : List Numbered) (stage : Stage) → reading.lines ≡ source ++ more
+  SoFar : (source more : List SourceLine) (lines : List NumberedLine) (stage : Stage) → reading.lines ≡ source ++ more
       → PassLines program.map Definitions source lines stage → AreWrites program reading (written program lines)
-  All : (lines : List Numbered) (ended : Ended) → Ends program.map Definitions reading lines ended
+  All : (lines : List NumberedLine) (ended : EndOfSource) → Ends program.map Definitions reading lines ended
       → AreWrites program reading (program_writes program lines ended)
 
 -- it stops among such writes
@@ -65,8 +65,8 @@ pub record StopsAmongWrites (Stop : List Write → Type 0) (program : Program) (
 
 -- all is written, object and listing hold nothing of it back, and each record of the object fits its block
 pub record WritesAll (program : Program) (reading : Reading) (old new : Outputs) (done : AsmDone) : Type 0 where
-  pub lines : List Numbered
-  pub ended : Ended
+  pub lines : List NumberedLine
+  pub ended : EndOfSource
   pub ends : Ends program.map Definitions reading lines ended
   pub gains : Gains old new (program_writes program lines ended)
   pub flushed : AreFlushed new
@@ -74,7 +74,7 @@ pub record WritesAll (program : Program) (reading : Reading) (old new : Outputs)
   pub fit : AllFit (object_contents program.rows (pieces_in program.map lines))
 
 -- exactly what these live lines write is written
-abbrev pub WritesLines : Program → List Numbered → Outputs → Outputs → Type 0
+abbrev pub WritesLines : Program → List NumberedLine → Outputs → Outputs → Type 0
 WritesLines program lines old new = Gains old new (written program lines)
 
 -- by its result: all is written; or a feed failed, or the source is refused, and exactly what the live lines before that write is
@@ -83,11 +83,11 @@ abbrev pub ReadsSecond : {F : Type 0} → Pass F → Program → Outputs → Out
 ReadsSecond pass program old new (Ok done) = (reading : Reading) × Reads pass reading × WritesAll program reading old new done
 ReadsSecond pass program old new (Err fault.Read) =
     (source : List SourceLine) × ReadsTill pass source
-    × (lines : List Numbered) × Unended program.map Definitions source lines × WritesLines program lines old new
+    × (lines : List NumberedLine) × Unended program.map Definitions source lines × WritesLines program lines old new
 ReadsSecond pass program old new (Err fault.NoMemory) =
     (reading : Reading) × Reads pass reading × StopsAmongWrites (StopsBetween old new) program reading
 ReadsSecond pass program old new (Err (fault.Write output)) =
     (reading : Reading) × Reads pass reading × StopsAmongWrites (StopsIn output old new) program reading
 ReadsSecond pass program old new (Err stopped) =
     (reading : Reading) × Reads pass reading
-    × (lines : List Numbered) × Refuses program.map Definitions reading lines stopped × WritesLines program lines old new
+    × (lines : List NumberedLine) × Refuses program.map Definitions reading lines stopped × WritesLines program lines old new

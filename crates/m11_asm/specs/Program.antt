@@ -14,18 +14,18 @@ use Rattle.m11_asm_rules.specs.Meanings.{Map, empty_map, map_of}
 use Rattle.m11_asm_rules.specs.Placements.{program_map, table_after}
 use Rattle.m11_asm_rules.specs.Locations.{size_in}
 use Rattle.m11_asm_rules.specs.Tables.{first_table}
-use Rattle.m11_asm_lines.specs.Counting.{gathered_in, none_used}
-use Rattle.m11_asm_lines.specs.UsedSymbols.{Gathered}
-use Rattle.m11_asm_lines.specs.Passes.{Kept}
+use Rattle.m11_asm_lines.specs.Counting.{used_names_in, none_used}
+use Rattle.m11_asm_lines.specs.UsedSymbols.{UsedNames}
+use Rattle.m11_asm_lines.specs.Passes.{TableState}
 use Rattle.m11_asm_symbol_list.specs.Sections.{section_entries}
 use Rattle.m11_asm_symbol_list.specs.Symbols.{symbol_entries}
-use Rattle.m11_unfold_rules.specs.Unfolding.{Given}
+use Rattle.m11_unfold_rules.specs.Unfolding.{UnfoldedLine}
 use Rattle.m11_scan_values.specs.Quantities.{Quantity}
 
 pub record Program : Type 0 where
   -- what its lines give their names in the end, and which names they mention
   pub map : Map
-  pub used_symbols : Gathered
+  pub used_symbols : UsedNames
   -- the rows of its directory
   pub rows : List DirectoryRow
   -- the names and the sections of its symbol table
@@ -35,16 +35,16 @@ pub record Program : Type 0 where
   pub transfer : Option Quantity
 
 -- the names that stand in its symbol table
-abbrev pub all_names : Gathered → List Name
+abbrev pub all_names : UsedNames → List Name
 all_names used_symbols = used_symbols.names ++ used_symbols.registers
 
 -- ---- of the lines that became live in the first pass
 
 -- the names that they mention
-abbrev pub used_in : List Given → Gathered
-used_in lines = gathered_in (counting_after empty_map first_table lines none_used)
+abbrev pub used_in : List UnfoldedLine → UsedNames
+used_in lines = used_names_in (counting_after empty_map first_table lines none_used)
 
-abbrev pub directory_facts_of : List Given → DirectoryFacts
+abbrev pub directory_facts_of : List UnfoldedLine → DirectoryFacts
 directory_facts_of lines = record {
   table = table_after empty_map lines;
   size_of = λ number. size_in number (table_after empty_map lines).moves;
@@ -55,7 +55,7 @@ directory_facts_of lines = record {
   transfer = (facts_of lines).transfer;
 }
 
-abbrev pub program_of : List Given → Program
+abbrev pub program_of : List UnfoldedLine → Program
 program_of lines = record {
   map = program_map lines;
   used_symbols = used_in lines;
@@ -67,26 +67,26 @@ program_of lines = record {
 
 -- ---- as a first pass keeps it
 
-abbrev pub directory_facts_in : Kept → Gathered → Facts → DirectoryFacts
-directory_facts_in kept gathered facts = record {
+abbrev pub directory_facts_in : TableState → UsedNames → Facts → DirectoryFacts
+directory_facts_in kept used_names facts = record {
   table = kept.table;
   size_of = λ number. slice_index kept.sizes number;
-  referred = gathered.referred;
+  referred = used_names.referred;
   weak = facts.weak;
   title = facts.title;
   identification = facts.identification;
   transfer = facts.transfer;
 }
 
-unfoldable pub program_kept : Kept → Gathered → Facts → Program
-program_kept kept gathered facts = record {
+unfoldable pub program_kept : TableState → UsedNames → Facts → Program
+program_kept kept used_names facts = record {
   map = map_of kept.table;
-  used_symbols = gathered;
-  rows = directory_rows (directory_facts_in kept gathered facts);
-  symbols = symbol_entries (directory_facts_in kept gathered facts) (all_names gathered);
-  sections = section_entries (directory_facts_in kept gathered facts);
+  used_symbols = used_names;
+  rows = directory_rows (directory_facts_in kept used_names facts);
+  symbols = symbol_entries (directory_facts_in kept used_names facts) (all_names used_names);
+  sections = section_entries (directory_facts_in kept used_names facts);
   transfer = facts.transfer;
 }
 
 abbrev pub program_in : Symbols → Program
-program_in symbols = program_kept symbols.kept symbols.gathered symbols.facts
+program_in symbols = program_kept symbols.kept symbols.used_names symbols.facts

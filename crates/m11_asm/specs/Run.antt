@@ -2,7 +2,7 @@
 use Rattle.std.specs.Prelude.{◌≡◌, ◌⊎◌, List, Result, Ok, Err}
 use Rattle.m11_asm_faults.specs.declared.fault.AsmFault.{AsmFault}
 use Rattle.m11_asm_outputs.specs.Outputs.{Outputs}
-use Rattle.m11_asm_passes.specs.Lines.{Numbered, givens}
+use Rattle.m11_asm_passes.specs.Lines.{NumberedLine, givens}
 use Rattle.m11_asm.specs.Program.{program_of}
 use Rattle.m11_asm.specs.declared.done.AsmDone.{AsmDone}
 use Rattle.m11_asm.specs.Passes.{Pass, ReadsFirst, ReadsSecond}
@@ -11,10 +11,10 @@ use Rattle.m11_asm.specs.Passes.{Pass, ReadsFirst, ReadsSecond}
 -- this is untouched
 abbrev pub AsmRunsOr : {F : Type 0} → Type 0 → Pass F → Pass F → Outputs → Outputs → Result AsmDone AsmFault → Type 0
 AsmRunsOr Untouched first second old new (Ok done) =
-    (lines : List Numbered) × ReadsFirst first (Ok lines) × ReadsSecond second (program_of (givens lines)) old new (Ok done)
+    (lines : List NumberedLine) × ReadsFirst first (Ok lines) × ReadsSecond second (program_of (givens lines)) old new (Ok done)
 AsmRunsOr Untouched first second old new (Err stopped) =
     (ReadsFirst first (Err stopped) × (second.new ≡ second.old) × Untouched)
-    ⊎ ((lines : List Numbered) × ReadsFirst first (Ok lines)
+    ⊎ ((lines : List NumberedLine) × ReadsFirst first (Ok lines)
     × ReadsSecond second (program_of (givens lines)) old new (Err stopped))
 
 -- a refused first pass writes nothing

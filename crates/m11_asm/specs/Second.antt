@@ -7,34 +7,34 @@ use Rattle.m11_scan_lines.specs.Line.{SourceLine}
 use Rattle.m11_scan_lines.specs.Lines.{most_lines}
 use Rattle.m11_unfold_rules.specs.Stages.{Stage}
 use Rattle.m11_asm_rules.specs.Meanings.{Map}
-use Rattle.m11_asm_passes.specs.Lines.{Numbered, PassLines}
+use Rattle.m11_asm_passes.specs.Lines.{NumberedLine, PassLines}
 use Rattle.m11_asm_passes.specs.Reaching.{Exceeds}
-use Rattle.m11_asm_passes.specs.States.{Going}
+use Rattle.m11_asm_passes.specs.States.{PassState}
 use Rattle.m11_asm_lines.specs.declared.counting.Counting.TheVariants.{Definitions}
 use Rattle.m11_asm_outputs.specs.Object.{AllFit, object_contents}
 use Rattle.m11_asm_outputs.specs.Outputs.{AreFlushed, Gains, Outputs, StopsBetween, StopsIn, Write, Writes}
 use Rattle.m11_asm.specs.Program.{Program}
 use Rattle.m11_asm.specs.Standing.{LineState, Stands, TakesAll}
-use Rattle.m11_asm.specs.Written.{Ended, flagged_count, pieces_in, program_writes, written}
+use Rattle.m11_asm.specs.Written.{EndOfSource, flagged_count, pieces_in, program_writes, written}
 use Rattle.m11_asm.specs.Writing.{Writing, WritingStands}
 use Rattle.m11_asm.specs.declared.done.AsmDone.{AsmDone}
 
 -- the map, the pass, what is kept of what was written, how many lines were read, whether `.END` became live, and the fault that ended it
 pub record SecondState : Type 0 where
   pub map : Map
-  pub going : Going
+  pub pass_state : PassState
   pub writing : Writing
   pub read : ℕ
   pub has_ended : Bool
   pub fault : Option AsmFault
 
 -- exactly what live lines write was written, on outputs that were the first ones, and what is kept is what was written of them
-pub record Wrote (program : Program) (first now : Outputs) (writing : Writing) (lines : List Numbered) : Type 0 where
+pub record Wrote (program : Program) (first now : Outputs) (writing : Writing) (lines : List NumberedLine) : Type 0 where
   pub keeps : WritingStands program lines writing
   pub gains : Gains first now (written program lines)
 
 abbrev pub line_state : SecondState → LineState
-line_state state = record { going = state.going; read = state.read; has_ended = state.has_ended; fault = state.fault }
+line_state state = record { pass_state = state.pass_state; read = state.read; has_ended = state.has_ended; fault = state.fault }
 
 -- all that follows from lines of the source is done
 pub record SecondStands (program : Program) (source : List SourceLine) (first now : Outputs) (state : SecondState) : Type 0 where
@@ -45,14 +45,14 @@ pub record SecondStands (program : Program) (source : List SourceLine) (first no
 
 -- among the writes of live lines of the source
 pub record StopsAmong (Stop : List Write → Type 0) (program : Program) (source : List SourceLine) : Type 0 where
-  pub lines : List Numbered
+  pub lines : List NumberedLine
   pub stage : Stage
   pub live : PassLines program.map Definitions source lines stage
   pub stops : Stop (written program lines)
 
 -- the source passes a limit after these live lines, and exactly what they write was written
 pub record StopsAtLimit (program : Program) (source : List SourceLine) (first now : Outputs) (stopped : AsmFault) : Type 0 where
-  pub lines : List Numbered
+  pub lines : List NumberedLine
   pub exceeds : Exceeds program.map Definitions source lines stopped
   pub gains : Gains first now (written program lines)
 
@@ -92,21 +92,21 @@ SecondTakes program source line first call (Err stopped) =
 -- ---- between the live lines of one line of the source
 
 -- up to the end of what is left; or it stops
-abbrev pub TakesLeft : Program → List SourceLine → Outputs → Outputs → Going → Writing → Result Bool AsmFault → Type 0
-TakesLeft program source first now going writing (Ok has_ended) =
-    TakesAll program.map Definitions (Wrote program first now writing) source going has_ended
-TakesLeft program source first now going writing (Err stopped) = SecondFails program source first now stopped
+abbrev pub TakesLeft : Program → List SourceLine → Outputs → Outputs → PassState → Writing → Result Bool AsmFault → Type 0
+TakesLeft program source first now pass_state writing (Ok has_ended) =
+    TakesAll program.map Definitions (Wrote program first now writing) source pass_state has_ended
+TakesLeft program source first now pass_state writing (Err stopped) = SecondFails program source first now stopped
 
 -- ---- the end
 
-abbrev pub ended_with : SecondState → Ended
+abbrev pub ended_with : SecondState → EndOfSource
 ended_with state = record { read = state.read; has_end = state.has_ended }
 
 -- after all lines of a source, or after that in which `.END` became live: all is written, or it stops among that; where all is written,
 -- object and listing hold nothing of it back, and each record of the object fits its block
 pub record SecondEnds (program : Program) (source : List SourceLine) (first now : Outputs) (state : SecondState)
     (result : Result AsmDone AsmFault) : Type 0 where
-  pub lines : List Numbered
+  pub lines : List NumberedLine
   pub stage : Stage
   pub live : PassLines program.map Definitions source lines stage
   pub read : state.read ≡ length source

@@ -5,41 +5,41 @@ use Rattle.m11_asm_faults.specs.declared.fault.AsmFault.{AsmFault}
 use Rattle.m11_scan_lines.specs.Line.{SourceLine}
 use Rattle.m11_asm_rules.specs.Meanings.{Map}
 use Rattle.m11_asm_lines.specs.declared.counting.Counting.{Counting}
-use Rattle.m11_asm_passes.specs.Lines.{Numbered}
-use Rattle.m11_asm_passes.specs.States.{Going, PassState, PassStands}
+use Rattle.m11_asm_passes.specs.Lines.{NumberedLine}
+use Rattle.m11_asm_passes.specs.States.{PassState, SourcePassState, PassStands}
 
 -- what a pass keeps of the lines of its source: where it stands, how many were read, whether `.END` became live, and the fault that ended
 -- the pass, if one did
 pub record LineState : Type 0 where
-  pub going : Going
+  pub pass_state : PassState
   pub read : ℕ
   pub has_ended : Bool
   pub fault : Option AsmFault
 
 -- the pass goes on where no fault came, and where `.END` didn't come nothing is left to take
-pub record GoesOn (fault : Option AsmFault) (has_ended : Bool) (pass : PassState) : Type 0 where
+pub record GoesOn (fault : Option AsmFault) (has_ended : Bool) (pass : SourcePassState) : Type 0 where
   pub goes_on : fault ≡ None → pass.fault ≡ None
-  pub needs : fault ≡ None → has_ended ≡ false → pass.going.unfolder.stage.left ≡ []
+  pub needs : fault ≡ None → has_ended ≡ false → pass.pass_state.unfolder.stage.left ≡ []
 
 -- these are the live lines of a source, under a map and by which names count, and they are done with
-pub record Taken (map : Map) (counting : Counting) (Done : List Numbered → Type 0) (source : List SourceLine) (lines : List Numbered)
-    (going : Going) : Type 0 where
-  pub stands : PassStands map counting source lines going
+pub record Taken (map : Map) (counting : Counting) (Done : List NumberedLine → Type 0) (source : List SourceLine) (lines : List NumberedLine)
+    (pass_state : PassState) : Type 0 where
+  pub stands : PassStands map counting source lines pass_state
   pub done : Done lines
 
 -- all that follows from lines of the source is done
-pub record Stands (map : Map) (counting : Counting) (Done : List Numbered → Type 0) (source : List SourceLine) (state : LineState)
+pub record Stands (map : Map) (counting : Counting) (Done : List NumberedLine → Type 0) (source : List SourceLine) (state : LineState)
     : Type 0 where
-  pub lines : List Numbered
-  pub taken : Taken map counting Done source lines state.going
+  pub lines : List NumberedLine
+  pub taken : Taken map counting Done source lines state.pass_state
   pub read : state.read ≡ length source
-  pub ended : state.has_ended ≡ state.going.unfolder.stage.has_ended
-  pub needs : state.has_ended ≡ false → state.going.unfolder.stage.left ≡ []
+  pub ended : state.has_ended ≡ state.pass_state.unfolder.stage.has_ended
+  pub needs : state.has_ended ≡ false → state.pass_state.unfolder.stage.left ≡ []
   pub goes_on : state.fault ≡ None
 
 -- all that follows from the last line of the source is taken, up to the end of what is left
-pub record TakesAll (map : Map) (counting : Counting) (Done : List Numbered → Type 0) (source : List SourceLine) (going : Going)
+pub record TakesAll (map : Map) (counting : Counting) (Done : List NumberedLine → Type 0) (source : List SourceLine) (pass_state : PassState)
     (has_ended : Bool) : Type 0 where
-  pub lines : List Numbered
-  pub taken : Taken map counting Done source lines going
-  pub ended : has_ended ≡ going.unfolder.stage.has_ended
+  pub lines : List NumberedLine
+  pub taken : Taken map counting Done source lines pass_state
+  pub ended : has_ended ≡ pass_state.unfolder.stage.has_ended

@@ -6,7 +6,7 @@ use Rattle.m11_obj_texts.specs.Texts.{TextParts}
 use Rattle.m11_obj_texts.specs.declared.directory.DirectoryRow.{DirectoryRow}
 use Rattle.m11_scan_values.specs.Quantities.{Quantity}
 use Rattle.m11_asm_outputs.specs.Object.{AllFit, IsOpenAfter, closed_records, head_contents}
-use Rattle.m11_asm_passes.specs.Lines.{Numbered}
+use Rattle.m11_asm_passes.specs.Lines.{NumberedLine}
 use Rattle.m11_asm.specs.Program.{Program}
 use Rattle.m11_asm.specs.Written.{flagged_in, is_flagged, flag_E, pieces_in}
 
@@ -38,12 +38,12 @@ counted flags count = if is_flagged flags then min (count + 1) most_counted else
 abbrev pub counted_last : Bool → ℕ → ℕ
 counted_last has_end count = if has_end then count else counted flag_E count
 
-abbrev pub is_some_line : List Numbered → Bool
+abbrev pub is_some_line : List NumberedLine → Bool
 is_some_line [] = false
 is_some_line (line ∷ lines) = true
 
 -- it is what is kept after these lines
-pub record WritingStands (program : Program) (lines : List Numbered) (writing : Writing) : Type 0 where
+pub record WritingStands (program : Program) (lines : List NumberedLine) (writing : Writing) : Type 0 where
   pub rows : writing.rows ≡ program.rows
   pub transfer : writing.transfer ≡ program.transfer
   pub symbols : writing.symbols ≡ program.symbols

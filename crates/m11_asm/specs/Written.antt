@@ -14,23 +14,23 @@ use Rattle.m11_asm_listing.specs.declared.symbol_table.SymbolEntry.{SymbolEntry}
 use Rattle.m11_obj.specs.Records.{EndOfModule}
 use Rattle.m11_obj_texts.specs.declared.pieces.Piece.{Piece}
 use Rattle.m11_scan.specs.ErrorFlags.{flags_text}
-use Rattle.m11_unfold_rules.specs.Unfolding.{Given}
+use Rattle.m11_unfold_rules.specs.Unfolding.{UnfoldedLine}
 use Rattle.m11_asm_rules.specs.Exports.{transfer_flags}
 use Rattle.m11_asm_rules.specs.Lines.{pieces}
 use Rattle.m11_asm_rules.specs.Meanings.{Map}
-use Rattle.m11_asm_rules.specs.Placements.{Placed, placement}
+use Rattle.m11_asm_rules.specs.Placements.{LinePlacement, placement}
 use Rattle.m11_asm_rules.specs.Sources.{directed, end_in}
 use Rattle.m11_asm_rules.specs.Tables.{Table, location}
 use Rattle.m11_asm_outputs.specs.Object.{content_writes, head_contents, last_records, records_closed_by}
 use Rattle.m11_asm_outputs.specs.Outputs.{Write, flushes, to_messages}
-use Rattle.m11_asm_passes.specs.Lines.{Numbered, givens, table_at}
+use Rattle.m11_asm_passes.specs.Lines.{NumberedLine, givens, table_at}
 use Rattle.m11_asm_passes.specs.Placed.{all_flags}
 use Rattle.m11_asm.specs.Program.{Program}
 
 -- ---- messages
 
 -- the flags that a line reports: its own, and at `.END` those of the expression that names decide, as the first pass found them
-abbrev pub reported_flags : Program → Table → Given → ℕ
+abbrev pub reported_flags : Program → Table → UnfoldedLine → ℕ
 reported_flags program table given =
     bit_or (all_flags program.map table given) (end_in (transfer_flags program.transfer) (directed given))
 
@@ -48,58 +48,58 @@ message_writes flags number text =
 
 -- ---- pieces
 
-abbrev pub pieces_of : Placed → List Piece
+abbrev pub pieces_of : LinePlacement → List Piece
 pieces_of line = line.pieces
 
 -- those of some lines, one after the other
-unfoldable pub pieces_in : Map → List Numbered → List Piece
+unfoldable pub pieces_in : Map → List NumberedLine → List Piece
 pieces_in map lines = flat_map pieces_of (placement map (givens lines))
 
 -- ---- a line, after those before it
 
 -- the head is written before what the first line writes, or else at the end
-abbrev pub head_before : Program → List Numbered → List Write
+abbrev pub head_before : Program → List NumberedLine → List Write
 head_before program [] = content_writes (head_contents program.rows)
 head_before program (line ∷ lines) = []
 
 -- the flags of a line
-abbrev pub flags_at : Program → List Numbered → Numbered → ℕ
+abbrev pub flags_at : Program → List NumberedLine → NumberedLine → ℕ
 flags_at program before line = reported_flags program (table_at program.map before) line.given
 
 -- the texts that its pieces close, then its lines in the listing, and then its message
-unfoldable pub line_writes : Program → List Numbered → Numbered → List Write
+unfoldable pub line_writes : Program → List NumberedLine → NumberedLine → List Write
 line_writes program before line =
     content_writes (records_closed_by (pieces_in program.map before) (pieces program.map (table_at program.map before) line.given))
     ++ (listing_writes program.map (table_at program.map before) (flags_at program before line) line.number line.given
     ++ message_writes (flags_at program before line) line.number line.given.live.line.text)
 
-abbrev pub written_after : Program → List Numbered → List Numbered → List Write
+abbrev pub written_after : Program → List NumberedLine → List NumberedLine → List Write
 written_after program before [] = []
 written_after program before (line ∷ lines) =
     (head_before program before ++ line_writes program before line) ++ written_after program (before ++ line ∷ []) lines
 
 -- what some lines write, from the first one on
-unfoldable pub written : Program → List Numbered → List Write
+unfoldable pub written : Program → List NumberedLine → List Write
 written program lines = written_after program [] lines
 
 -- the flags of some lines
-abbrev pub flags_after : Program → List Numbered → List Numbered → List ℕ
+abbrev pub flags_after : Program → List NumberedLine → List NumberedLine → List ℕ
 flags_after program before [] = []
 flags_after program before (line ∷ lines) = flags_at program before line ∷ flags_after program (before ++ line ∷ []) lines
 
 -- how many of them are flagged
-unfoldable pub flagged_in : Program → List Numbered → ℕ
+unfoldable pub flagged_in : Program → List NumberedLine → ℕ
 flagged_in program lines = count_by is_flagged (flags_after program [] lines)
 
 -- ---- the end
 
 -- after how many lines of the source were read, and whether `.END` became live
-pub record Ended : Type 0 where
+pub record EndOfSource : Type 0 where
   pub read : ℕ
   pub has_end : Bool
 
 -- how many lines are flagged, with the one that is added
-abbrev pub flagged_count : Program → List Numbered → Bool → ℕ
+abbrev pub flagged_count : Program → List NumberedLine → Bool → ℕ
 flagged_count program lines has_end = flagged_in program lines + (if has_end then 0 else 1)
 
 -- an empty line with flags: a line of the listing, with the counter, and a message
@@ -107,7 +107,7 @@ abbrev pub added_to_both : ℕ → ℕ → ℕ → List Write
 added_to_both flags read counter = all_to_listing (added_lines flags read counter) ++ message_writes flags read []
 
 -- where there is no `.END`, an empty line is added, which is flagged E
-abbrev pub added_writes : Ended → ℕ → List Write
+abbrev pub added_writes : EndOfSource → ℕ → List Write
 added_writes ended counter = if ended.has_end then [] else added_to_both flag_E ended.read counter
 
 -- the last text and the end of the module; the symbol table; a flush of object and listing, which have then got all; the count of flagged
@@ -118,16 +118,16 @@ closing_writes pieces symbols sections count =
     ++ (all_to_listing (last_lines symbols sections count) ++ (flushes ++ to_messages (count_line count) ∷ []))
 
 -- where the location counter stands after some lines
-abbrev pub last_location : Program → List Numbered → ℕ
+abbrev pub last_location : Program → List NumberedLine → ℕ
 last_location program lines = location (table_at program.map lines)
 
 -- the head, if no line became live; the line that is added, where the counter stands; and what closes all
-abbrev pub last_writes : Program → List Numbered → Ended → List Write
+abbrev pub last_writes : Program → List NumberedLine → EndOfSource → List Write
 last_writes program lines ended =
     head_before program lines
     ++ (added_writes ended (last_location program lines)
     ++ closing_writes (pieces_in program.map lines) program.symbols program.sections (flagged_count program lines ended.has_end))
 
 -- all that the lines of a source write
-abbrev pub program_writes : Program → List Numbered → Ended → List Write
+abbrev pub program_writes : Program → List NumberedLine → EndOfSource → List Write
 program_writes program lines ended = written program lines ++ last_writes program lines ended

@@ -13,7 +13,7 @@ ghost use Rattle.m11_asm_rules.specs.Meanings.{empty_map};
 ghost use Rattle.m11_asm_rules.specs.Sources.{last_or};
 ghost use Rattle.m11_asm_rules.specs.Tables.{Table as LineTable};
 ghost use Rattle.m11_asm_table.specs.Alike.{Alike};
-ghost use Rattle.m11_unfold_rules.specs.Unfolding.{Given};
+ghost use Rattle.m11_unfold_rules.specs.Unfolding.{UnfoldedLine};
 ghost use Rattle.m11_scan_values.specs.Quantities.{quantity};
 
 use indexmap::IndexSet;
@@ -94,29 +94,29 @@ impl Facts {
         self.transfer
     }
 
-    /// Notes what a live line says, where the table is that after the line. Error: memory may be refused.
-    pub fn note(&mut self, live: &LiveLine, table: &Table) -> Result<(), AllocError>
-        ensures { IfOk result (λ _. (before : LineTable) (given : Given) → IsLive given live.now
+    /// Adds what a live line says, where the table is that after the line. Error: memory may be refused.
+    pub fn add_line(&mut self, live: &LiveLine, table: &Table) -> Result<(), AllocError>
+        ensures { IfOk result (λ _. (before : LineTable) (given : UnfoldedLine) → IsLive given live.now
             → Alike table.now (after_line empty_map before given) → self.new ≡ with_line before given self.old) }
     {
         // what stands in a line lies in it
         labels_and_body_stand_in_order();
-        self.note_action(live, table)
+        self.add_action(live, table)
     }
 
     // What stands after its labels says.
-    fn note_action(&mut self, live: &LiveLine, table: &Table) -> Result<(), AllocError>
+    fn add_action(&mut self, live: &LiveLine, table: &Table) -> Result<(), AllocError>
         ensures { IfOk result (λ _. self.new ≡ with_action table.now live.now.line.text live.now.action self.old) }
     {
         match live.action {
             Action::Operate(operator, start) => {
-                self.note_operator(&live.line, table, operator, start)
+                self.add_operator(&live.line, table, operator, start)
             }
             _ => Ok(()),
         }
     }
 
-    fn note_operator(
+    fn add_operator(
         &mut self,
         line: &Line,
         table: &Table,
@@ -127,13 +127,13 @@ impl Facts {
     {
         match operator {
             Operator::Directive(directive) => {
-                self.note_directive(line, table, directive, within(line, start))
+                self.add_directive(line, table, directive, within(line, start))
             }
             Operator::Instruction(_) => Ok(()),
         }
     }
 
-    fn note_directive(
+    fn add_directive(
         &mut self,
         line: &Line,
         table: &Table,
@@ -145,23 +145,23 @@ impl Facts {
     {
         match directive {
             Directive::Title => {
-                self.note_title(line, start);
+                self.add_title(line, start);
                 Ok(())
             }
             Directive::Ident => {
-                self.note_identification(line, start);
+                self.add_ident(line, start);
                 Ok(())
             }
-            Directive::Weak => self.note_weak(line, start),
+            Directive::Weak => self.add_weak(line, start),
             Directive::End => {
-                self.note_transfer(line, table, start);
+                self.add_transfer(line, table, start);
                 Ok(())
             }
             _ => Ok(()),
         }
     }
 
-    fn note_title(&mut self, line: &Line, start: usize)
+    fn add_title(&mut self, line: &Line, start: usize)
         requires { start ≤ length line.now.text }
         ensures { self.new ≡ record self.old { title = last_or (exports.title line.now.text start) self.old.title } }
     {
@@ -170,7 +170,7 @@ impl Facts {
         }
     }
 
-    fn note_identification(&mut self, line: &Line, start: usize)
+    fn add_ident(&mut self, line: &Line, start: usize)
         requires { start ≤ length line.now.text }
         ensures { self.new ≡ record self.old {
           identification = last_or (exports.ident line.now.text start) self.old.identification;
@@ -181,7 +181,7 @@ impl Facts {
         }
     }
 
-    fn note_weak(&mut self, line: &Line, start: usize) -> Result<(), AllocError>
+    fn add_weak(&mut self, line: &Line, start: usize) -> Result<(), AllocError>
         requires { start ≤ length line.now.text }
         ensures { IfOk result (λ _. self.new
             ≡ record self.old { weak = each_once self.old.weak (listed_names line.now.text start) }) }
@@ -189,7 +189,7 @@ impl Facts {
         insert_all(&mut self.weak, listed_names(line, start).as_slice())
     }
 
-    fn note_transfer(&mut self, line: &Line, table: &Table, start: usize)
+    fn add_transfer(&mut self, line: &Line, table: &Table, start: usize)
         requires { start ≤ length line.now.text }
         ensures { self.new ≡ record self.old {
           transfer = last_or (exports.transfer empty_map table.now line.now.text start) self.old.transfer;

@@ -4,7 +4,7 @@
 ghost use Rattle.std.specs.Prelude.{◌≡◌, [], List, None, Some, Err, IfOk, false};
 ghost use Rattle.std.specs.Result.{result_err};
 ghost use Rattle.m11_scan_lines.specs.Line.{SourceLine};
-ghost use Rattle.m11_asm_passes.specs.Lines.{Numbered};
+ghost use Rattle.m11_asm_passes.specs.Lines.{NumberedLine};
 ghost use Rattle.m11_asm.specs.First.{AreFactsOf, FirstStands, FirstTakes, TakesLeft, symbols_of};
 ghost use Rattle.m11_asm.specs.Standing.{Taken};
 ghost use Rattle.m11_asm_lines.specs.Counting.{none_used};
@@ -42,7 +42,7 @@ impl Model for First {
     ghost Value = { FirstState };
 
     ghost view = { λ f. record {
-      going = f.pass.going;
+      pass_state = f.pass.pass_state;
       facts = f.facts;
       read = f.read;
       has_ended = f.has_ended;
@@ -118,25 +118,25 @@ impl First {
     }
 }
 
-// Defines what is left to take, and notes what it says: whether `.END` became live. Its lines are put into `live`.
+// Defines what is left to take, and adds what it says: whether `.END` became live. Its lines are put into `live`.
 fn take_left(
     pass: &mut SourcePass,
     facts: &mut Facts,
     live: &mut LiveLine,
 ) -> Result<bool, AsmFault>
     requires { pass.old.fault ≡ None }
-    ensures takes { (source : List SourceLine) (lines : List Numbered)
-        → Taken empty_map none_used (AreFactsOf facts.old) source lines pass.old.going
-        → TakesLeft source pass.new.going facts.new result }
+    ensures takes { (source : List SourceLine) (lines : List NumberedLine)
+        → Taken empty_map none_used (AreFactsOf facts.old) source lines pass.old.pass_state
+        → TakesLeft source pass.new.pass_state facts.new result }
     ensures goes_on { IfOk result (λ _. pass.new.fault ≡ None) }
-    ensures needs { IfOk result (λ has_ended. has_ended ≡ false → pass.new.going.unfolder.stage.left ≡ []) }
+    ensures needs { IfOk result (λ has_ended. has_ended ≡ false → pass.new.pass_state.unfolder.stage.left ≡ []) }
 {
     the_calls_place_the_lines_of_a_source();
     'lines: loop {
         match pass.define(live)? {
             Turn::NeedLine => return Ok(false),
             Turn::End => return Ok(true),
-            Turn::Line => facts.note(live, pass.table())?,
+            Turn::Line => facts.add_line(live, pass.table())?,
         }
         // most lines of a source are one live line
         if pass.needs_line() {

@@ -4,7 +4,7 @@ ghost use Rattle.std.specs.Prelude.{◌≡◌, [], List, None, Some, Err, IfOk, 
 ghost use Rattle.std.specs.Result.{result_err};
 ghost use Rattle.m11_asm_outputs.specs.Outputs.{Gains, Outputs, outputs_of};
 ghost use Rattle.m11_scan_lines.specs.Line.{SourceLine};
-ghost use Rattle.m11_asm_passes.specs.Lines.{Numbered};
+ghost use Rattle.m11_asm_passes.specs.Lines.{NumberedLine};
 ghost use Rattle.m11_asm.specs.Program.{Program, program_in};
 ghost use Rattle.m11_asm.specs.Second.{SecondEnds, SecondStands, SecondTakes, TakesLeft, Wrote};
 ghost use Rattle.m11_asm.specs.Standing.{Taken};
@@ -49,7 +49,7 @@ impl Model for Second {
 
     ghost view = { λ s. record {
       map = map_of s.first.table;
-      going = s.pass.going;
+      pass_state = s.pass.pass_state;
       writing = s.writing;
       read = s.read;
       has_ended = s.has_ended;
@@ -164,14 +164,14 @@ impl Second {
         ensures again { (fault : AsmFault) → self.fault ≡ Some fault → (result ≡ Err fault)
             × (object.new ≡ object.old) × (listing.new ≡ listing.old) × (messages.new ≡ messages.old) }
     {
-        let done = self.finish(object, listing, messages);
+        let done = self.end_in_place(object, listing, messages);
         // proof: where it goes in place, this function alone takes minutes to prove
         drop(self);
         done
     }
 
     // What `end` does, by a borrow, so that `end` can let the pass go in one call, whatever comes.
-    fn finish<S: Sink, T: Sink, U: Sink>(
+    fn end_in_place<S: Sink, T: Sink, U: Sink>(
         &mut self,
         object: &mut S,
         listing: &mut Option<T>,
@@ -185,7 +185,14 @@ impl Second {
     {
         self.fault.check()?;
         let location = self.pass.table().location();
-        self.writing.end(self.has_ended, self.read, location, object, listing, messages)
+        self.writing.end(
+            self.has_ended,
+            self.read,
+            location,
+            object,
+            listing,
+            messages,
+        )
     }
 }
 
@@ -204,15 +211,15 @@ fn take_left<S: Sink, T: Sink, U: Sink>(
     messages: &mut U,
 ) -> Result<bool, AsmFault>
     requires { pass.old.fault ≡ None }
-    ensures takes { (program : Program) (source : List SourceLine) (lines : List Numbered) (first : Outputs)
+    ensures takes { (program : Program) (source : List SourceLine) (lines : List NumberedLine) (first : Outputs)
         → map.now ≡ program.map → number ≡ length source
         → Taken program.map Definitions
         (Wrote program first (outputs_of S.Sink T.Sink U.Sink object.old listing.old messages.old) writing.old) source lines
-        pass.old.going
+        pass.old.pass_state
         → TakesLeft program source first (outputs_of S.Sink T.Sink U.Sink object.new listing.new messages.new)
-        pass.new.going writing.new result }
+        pass.new.pass_state writing.new result }
     ensures goes_on { IfOk result (λ _. pass.new.fault ≡ None) }
-    ensures needs { IfOk result (λ has_ended. has_ended ≡ false → pass.new.going.unfolder.stage.left ≡ []) }
+    ensures needs { IfOk result (λ has_ended. has_ended ≡ false → pass.new.pass_state.unfolder.stage.left ≡ []) }
 {
     the_calls_place_the_lines_of_a_source();
     'lines: loop {

@@ -20,13 +20,13 @@ impl Model for Symbols {
 
     ghost Value = { spec.Symbols };
 
-    ghost view = { λ s. record { kept = s.pass; gathered = s.used_symbols; facts = s.facts } };
+    ghost view = { λ s. record { kept = s.pass; used_names = s.used_symbols; facts = s.facts } };
 }
 
 impl Symbols {
     // What a pass gives that took its lines.
     pub(crate) fn new(pass: Pass, used_symbols: UsedSymbols, facts: Facts) -> Symbols
-        ensures { result ≡ record { kept = pass; gathered = used_symbols; facts = facts } }
+        ensures { result ≡ record { kept = pass; used_names = used_symbols; facts = facts } }
     {
         Symbols {
             pass,
@@ -46,7 +46,7 @@ impl Symbols {
     /// The table after the last line with the sizes of sections, the names that the lines use, and what they say beside that.
     pub fn into_parts(self) -> (Pass, UsedSymbols, Facts)
         ensures pass { result.0 ≡ self.kept }
-        ensures used_symbols { result.1 ≡ self.gathered }
+        ensures used_symbols { result.1 ≡ self.used_names }
         ensures facts { result.2 ≡ self.facts }
     {
         (self.pass, self.used_symbols, self.facts)

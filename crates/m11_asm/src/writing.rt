@@ -10,9 +10,9 @@ ghost use Rattle.m11_asm_directory.specs.FirstPass.{directory_facts};
 ghost use Rattle.m11_asm_listing_writes.specs.Listed.{listing_writes};
 ghost use Rattle.m11_asm_listing.specs.Messages.{count_line};
 ghost use Rattle.m11_obj_texts.specs.declared.pieces.Piece.{Piece};
-ghost use Rattle.m11_asm_passes.specs.Lines.{Numbered, table_at};
+ghost use Rattle.m11_asm_passes.specs.Lines.{NumberedLine, table_at};
 ghost use Rattle.m11_asm_passes.specs.Placed.{IsPlaced};
-ghost use Rattle.m11_asm_rules.specs.Contents.{Put, pieces_from};
+ghost use Rattle.m11_asm_rules.specs.Contents.{Emission, pieces_from};
 ghost use Rattle.m11_asm_rules.specs.Exports as exports;
 ghost use Rattle.m11_asm_rules.specs.Meanings.{Map};
 ghost use Rattle.m11_asm_rules.specs.Sources.{directed_in, end_in};
@@ -22,7 +22,7 @@ ghost use Rattle.m11_scan.specs.Views.{bits_of};
 ghost use Rattle.m11_asm.specs.Program.{Program, program_kept, directory_facts_in};
 ghost use Rattle.m11_asm.specs.Writing.{WritingStands, begun, counted, counted_last, most_counted, opened};
 ghost use Rattle.m11_asm.specs.Written.{added_writes, closing_writes, flagged_count, head_before, last_location, last_writes, line_writes, message_writes, pieces_in};
-ghost use Rattle.m11_unfold_rules.specs.Unfolding.{Given};
+ghost use Rattle.m11_unfold_rules.specs.Unfolding.{UnfoldedLine};
 ghost use Rattle.m11_scan_values.specs.Quantities.{quantity};
 ghost use Rattle.m11_base_writes.specs.Outputs.{Output, optional_output, output_of};
 
@@ -116,7 +116,7 @@ impl Writing {
     }
 
     /// What a placed line writes: the head of the object where it is the first, the texts that its pieces close, its lines in the listing,
-    /// and its message if it is flagged. The number is that of the source's line, and the contents are what the line puts.
+    /// and its message if it is flagged. The number is that of the source's line, and the contents are what the line emits.
     ///
     /// Errors: `Write` of an output, and `NoMemory` between two writes.
     pub fn put_line<S: Sink, T: Sink, U: Sink>(
@@ -128,15 +128,15 @@ impl Writing {
         listing: &mut Option<T>,
         messages: &mut U,
     ) -> Result<(), AsmFault>
-        ensures writes { (program : Program) (lines : List Numbered) (one : Numbered) (put : Put)
-            → WritingStands program lines self.old → IsPlaced program.map (table_at program.map lines) one.given line.now put
-            → put.contents ≡ contents.now → number ≡ one.number → Writes
+        ensures writes { (program : Program) (lines : List NumberedLine) (one : NumberedLine) (emission : Emission)
+            → WritingStands program lines self.old → IsPlaced program.map (table_at program.map lines) one.given line.now emission
+            → emission.contents ≡ contents.now → number ≡ one.number → Writes
             (outputs_of S.Sink T.Sink U.Sink object.old listing.old messages.old)
             (outputs_of S.Sink T.Sink U.Sink object.new listing.new messages.new)
             (head_before program lines ++ line_writes program lines one) result }
-        ensures stands { (program : Program) (lines : List Numbered) (one : Numbered) (put : Put)
-            → WritingStands program lines self.old → IsPlaced program.map (table_at program.map lines) one.given line.now put
-            → put.contents ≡ contents.now → number ≡ one.number → IfOk result (λ _. WritingStands program (lines ++ one ∷ []) self.new) }
+        ensures stands { (program : Program) (lines : List NumberedLine) (one : NumberedLine) (emission : Emission)
+            → WritingStands program lines self.old → IsPlaced program.map (table_at program.map lines) one.given line.now emission
+            → emission.contents ≡ contents.now → number ≡ one.number → IfOk result (λ _. WritingStands program (lines ++ one ∷ []) self.new) }
     {
         self.begin(object)?;
         self.put_pieces(line, contents, object)?;
@@ -149,12 +149,12 @@ impl Writing {
     // speed: inline, since each placed line comes here, and only the first one finds no head.
     #[inline(always)]
     fn begin<S: Sink>(&mut self, object: &mut S) -> Result<(), AsmFault>
-        ensures writes { (program : Program) (lines : List Numbered) (listing messages : Output)
+        ensures writes { (program : Program) (lines : List NumberedLine) (listing messages : Output)
             → WritingStands program lines self.old → Writes
             (outputs (output_of S.Sink object.old) listing messages)
             (outputs (output_of S.Sink object.new) listing messages) (head_before program lines) result }
         ensures begins { IfOk result (λ _. self.new ≡ begun self.old) }
-        ensures fit { (program : Program) (lines : List Numbered) → WritingStands program lines self.old
+        ensures fit { (program : Program) (lines : List NumberedLine) → WritingStands program lines self.old
             → IfOk result (λ _. AllFit (head_contents program.rows)) }
     {
         if self.has_begun {
@@ -201,8 +201,8 @@ impl Writing {
         contents: &[PieceContent],
         listing: &mut Option<T>,
     ) -> Result<(), AsmFault>
-        ensures writes { (map : Map) (table : Table) (given : Given) (put : Put) (object messages : Output)
-            → IsPlaced map table given line.now put → put.contents ≡ contents.now → Writes
+        ensures writes { (map : Map) (table : Table) (given : UnfoldedLine) (emission : Emission) (object messages : Output)
+            → IsPlaced map table given line.now emission → emission.contents ≡ contents.now → Writes
             (outputs object (optional_output T.Sink listing.old) messages)
             (outputs object (optional_output T.Sink listing.new) messages)
             (listing_writes map table (bits_of flags) number given) result }
@@ -251,15 +251,15 @@ impl Writing {
         listing: &mut Option<T>,
         messages: &mut U,
     ) -> Result<AsmDone, AsmFault>
-        ensures writes { (program : Program) (lines : List Numbered) → WritingStands program lines self.old
+        ensures writes { (program : Program) (lines : List NumberedLine) → WritingStands program lines self.old
             → location ≡ last_location program lines → flagged_count program lines has_ended ≤ most_counted → Writes
             (outputs_of S.Sink T.Sink U.Sink object.old listing.old messages.old)
             (outputs_of S.Sink T.Sink U.Sink object.new listing.new messages.new)
             (last_writes program lines (record { read = read; has_end = has_ended })) result }
-        ensures counts { (program : Program) (lines : List Numbered) → WritingStands program lines self.old
+        ensures counts { (program : Program) (lines : List NumberedLine) → WritingStands program lines self.old
             → flagged_count program lines has_ended ≤ most_counted
             → IfOk result (λ done. done.flagged ≡ flagged_count program lines has_ended) }
-        ensures fit { (program : Program) (lines : List Numbered) → WritingStands program lines self.old
+        ensures fit { (program : Program) (lines : List NumberedLine) → WritingStands program lines self.old
             → OnOk result (AllFit (object_contents program.rows (pieces_in program.map lines))) }
         ensures flushed { OnOk result (AreFlushed (outputs_of S.Sink T.Sink U.Sink object.new listing.new messages.new)) }
     {

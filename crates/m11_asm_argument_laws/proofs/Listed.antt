@@ -4,10 +4,10 @@ use Rattle.std.specs.Prelude.{◌-◌, ◌==◌, ◌&&◌, ◌||◌, if◌then�
 use Rattle.std.specs.List.{prefix_len}
 use Rattle.std.proofs.lemmas.Bool.{cases_lt, eqb-true}
 use Rattle.std.proofs.lemmas.List.{drop-drop, drop_all, length-drop}
-use Rattle.m11_unfold_arguments.specs.Actuals.{Given, actuals_from, followed_by, given_as, given_by, unwanted, wanted_by}
+use Rattle.m11_unfold_arguments.specs.Actuals.{ActualTexts, actuals_from, followed_by, given_as, given_by, unwanted, wanted_by}
 use Rattle.m11_unfold_arguments.specs.Conditions.{text_of}
 use Rattle.m11_unfold_arguments.specs.Digits.{digits_of}
-use Rattle.m11_unfold_arguments.specs.Expressions.{Known, number_at}
+use Rattle.m11_unfold_arguments.specs.Expressions.{KnownSymbols, number_at}
 use Rattle.m11_unfold_arguments.specs.Macros.{NextListed, formal_name, formals_after, formals_by, formals_within, listed_at, listed_by, listed_named}
 use Rattle.m11_unfold_arguments.specs.Macros.NextListed.{Ending, Formally}
 use Rattle.m11_base.specs.Devices.{Bytes}
@@ -230,7 +230,7 @@ past_actual : (line : List ℕ) (column : ℕ) → length line ≤ column → ne
 past_actual line column past =
     ap (λ (t : List ℕ). actual_in line (after_blanks line column) true t) (drop_all (after_blanks line column) line (omega arith))
 
-module _ (known : Known) (line : List ℕ) (wanted column : ℕ)
+module _ (known : KnownSymbols) (line : List ℕ) (wanted column : ℕ)
     (rest : (next : ℕ) → column < next → AreActuals known line next (actuals_from known line wanted next)) where
   by_actual : (found : Option Actual) → next_actual line column true ≡ found → GoesOn line column found
       → AreActuals known line column (wanted_by known line (λ next. actuals_from known line wanted next) found)
@@ -239,7 +239,7 @@ module _ (known : Known) (line : List ℕ) (wanted column : ℕ)
       OneActual column actual (actuals_from known line wanted (separator_at line actual.end).end) is
       (rest (separator_at line actual.end).end on)
 
-pub all_actuals : (known : Known) (line : Bytes) (wanted column : ℕ) → length line ≤ column + wanted
+pub all_actuals : (known : KnownSymbols) (line : Bytes) (wanted column : ℕ) → length line ≤ column + wanted
     → AreActuals known line column (actuals_from known line wanted column)
 all_actuals known line zero column past =
     let none = past_actual line column (omega arith) in
@@ -249,19 +249,19 @@ all_actuals known line (suc wanted) column past =
     (next_actual line column true) refl (next_goes line column)
 
 -- an actual has one text
-pub record HasOne (given : Given) : Type 0 where
+pub record HasOne (given : ActualTexts) : Type 0 where
   pub text : List ℕ
   pub is : given.texts ≡ text ∷ []
 
-one_as : (known : Known) (line : List ℕ) (actual : Actual) (kind : ActualKind) → HasOne (given_as known line actual kind)
+one_as : (known : KnownSymbols) (line : List ℕ) (actual : Actual) (kind : ActualKind) → HasOne (given_as known line actual kind)
 one_as known line actual Bare = record { text = text_of line actual; is = refl }
 one_as known line actual Bracketed = record { text = text_of line actual; is = refl }
 one_as known line actual Digits =
     record { text = digits_of (base_of known.radix) (number_at known line actual.inside.start); is = refl }
 
-module _ (known : Known) (line : List ℕ) where
+module _ (known : KnownSymbols) (line : List ℕ) where
   -- those that are wanted are the first
-  one_wanted : (actual : Actual) (wanted : ℕ) (found all : Given) (one : HasOne (given_by known line actual))
+  one_wanted : (actual : Actual) (wanted : ℕ) (found all : ActualTexts) (one : HasOne (given_by known line actual))
       → found.texts ≡ take wanted all.texts
       → (followed_by (given_by known line actual) found).texts
       ≡ take (suc wanted) (followed_by (given_by known line actual) all).texts
@@ -270,7 +270,7 @@ module _ (known : Known) (line : List ℕ) where
       ∙ ap (λ (ts : List (List ℕ)). one.text ∷ ts) same
       ∙ sym (ap (λ (ts : List (List ℕ)). take (suc wanted) (ts ++ all.texts)) one.is)
 
-  pub first_actuals : (wanted column : ℕ) (all : Given) → AreActuals known line column all
+  pub first_actuals : (wanted column : ℕ) (all : ActualTexts) → AreActuals known line column all
       → (actuals_from known line wanted column).texts ≡ take wanted all.texts
   first_actuals zero column all are = refl
   first_actuals (suc wanted) column _ (NoActual _ none) =

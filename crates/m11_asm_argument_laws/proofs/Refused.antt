@@ -3,12 +3,12 @@ use Rattle.std.proofs.Common.{◌≡◌, ℕ, Bool, true, false, List, [], ◌�
 use Rattle.std.specs.Prelude.{if◌then◌else◌}
 use Rattle.std.specs.Int.RustNames.{bit_or}
 use Rattle.std.proofs.lemmas.Bool.{false≢true}
-use Rattle.m11_unfold_arguments.specs.Conditions.{Asked, actual_flags, asked, asked_by, compared, condition, defined, first_by, matched, named, named_by, numeric, refused, same, second_by, text_of}
+use Rattle.m11_unfold_arguments.specs.Conditions.{ConditionResult, actual_flags, asked, asked_by, compared, condition, defined, first_by, matched, named, named_by, numeric, refused, same, second_by, text_of}
 use Rattle.m11_unfold_arguments.specs.Definedness.{Tested, after_joint, after_symbol, joined_to, joining, names_at, names_in, tested}
-use Rattle.m11_unfold_arguments.specs.Expressions.{Known, has_expression, number_at, number_flags, symbols_at}
+use Rattle.m11_unfold_arguments.specs.Expressions.{KnownSymbols, has_expression, number_at, number_flags, symbols_at}
 use Rattle.m11_unfold_arguments.specs.LeftOvers.{has_token, left_over, start_of}
-use Rattle.m11_unfold_arguments.specs.Notes.{noting}
-use Rattle.m11_unfold_arguments.specs.Repeats.{notes, rept_count, rounds_of}
+use Rattle.m11_unfold_arguments.specs.Remarks.{remarks_of}
+use Rattle.m11_unfold_arguments.specs.Repeats.{remarks, rept_count, rounds_of}
 use Rattle.m11_unfold_arguments.specs.declared.definedness.Joint.{Joint}
 use Rattle.m11_unfold_arguments.specs.declared.definedness.SoFar.{SoFar}
 use Rattle.m11_base.specs.Devices.{Bytes}
@@ -28,7 +28,7 @@ use Rattle.m11_asm_argument_laws.specs.Refusals.IsRefused.{Lacking, Unknown, Unn
 use Rattle.m11_asm_argument_laws.specs.Refusals.LacksArgument.{WithBadName, WithOneText, WithoutNumber, WithoutText}
 
 -- it doesn't hold, and its flags are A and perhaps I
-pub record IsOff (asked : Asked) : Type 0 where
+pub record IsOff (asked : ConditionResult) : Type 0 where
   pub off : asked.holds ≡ false
   pub skips : Bool
   pub flags : asked.flags ≡ bit_or flag_A (flag_if skips flag_I)
@@ -57,7 +57,7 @@ bad_off line column names None is =
     record { off = refl; skips = skipped_between line column names.end; flags = refl }
 bad_off line column names (Some verdict) is = absurd (cc)
 
-defined_off : (known : Known) (line : Bytes) (column : ℕ) (wants : Bool) → HasBadName (tokens_from line column)
+defined_off : (known : KnownSymbols) (line : Bytes) (column : ℕ) (wants : Bool) → HasBadName (tokens_from line column)
     → IsOff (defined known line column wants)
 defined_off known line column wants bad =
     let names = names_at known wants line column in
@@ -66,7 +66,7 @@ defined_off known line column wants bad =
 
 -- ---- a missing number
 
-numeric_off : (known : Known) (line : Bytes) (column : ℕ) (condition : Condition) → has_expression line column ≡ false
+numeric_off : (known : KnownSymbols) (line : Bytes) (column : ℕ) (condition : Condition) → has_expression line column ≡ false
     → IsOff (numeric known line column condition)
 numeric_off known line column condition none =
     subst (λ (b : Bool). IsOff (if b then compared known line column condition else refused column)) (sym none) (refused_off column)
@@ -88,7 +88,7 @@ single_off line column wants first some single =
 
 -- ---- conditions
 
-number_off : (known : Known) (line : Bytes) (column : ℕ) (condition : Condition) → asks_number condition ≡ true
+number_off : (known : KnownSymbols) (line : Bytes) (column : ℕ) (condition : Condition) → asks_number condition ≡ true
     → has_expression line column ≡ false → IsOff (asked known line column condition)
 number_off known line column Zero is none = numeric_off known line column Zero none
 number_off known line column NotZero is none = numeric_off known line column NotZero none
@@ -98,19 +98,19 @@ number_off known line column NotNegative is none = numeric_off known line column
 number_off known line column NotPositive is none = numeric_off known line column NotPositive none
 number_off known line column _ is none = absurd (false≢true is)
 
-names_off : (known : Known) (line : Bytes) (column : ℕ) (condition : Condition) → asks_names condition ≡ true
+names_off : (known : KnownSymbols) (line : Bytes) (column : ℕ) (condition : Condition) → asks_names condition ≡ true
     → HasBadName (tokens_from line column) → IsOff (asked known line column condition)
 names_off known line column Defined is bad = defined_off known line column true bad
 names_off known line column NotDefined is bad = defined_off known line column false bad
 names_off known line column _ is bad = absurd (false≢true is)
 
-texts_off : (known : Known) (line : Bytes) (column : ℕ) (condition : Condition) → asks_texts condition ≡ true
+texts_off : (known : KnownSymbols) (line : Bytes) (column : ℕ) (condition : Condition) → asks_texts condition ≡ true
     → ((wants : Bool) → IsOff (same line column wants)) → IsOff (asked known line column condition)
 texts_off known line column Identical is off = off true
 texts_off known line column Different is off = off false
 texts_off known line column _ is off = absurd (false≢true is)
 
-asked_off : (known : Known) (line : Bytes) (column : ℕ) (condition : Condition) → LacksArgument line column condition
+asked_off : (known : KnownSymbols) (line : Bytes) (column : ℕ) (condition : Condition) → LacksArgument line column condition
     → IsOff (asked known line column condition)
 asked_off known line column condition (WithoutNumber is none) = number_off known line column condition is none
 asked_off known line column condition (WithBadName is bad) = names_off known line column condition is bad
@@ -119,7 +119,7 @@ asked_off known line column condition (WithoutText is none) =
 asked_off known line column condition (WithOneText is first some single) =
     texts_off known line column condition is (λ wants. single_off line column wants first some single)
 
-refused_named : (known : Known) (line : Bytes) (column : ℕ) → IsRefused line column → IsOff (named_by known line (tokens_from line column))
+refused_named : (known : KnownSymbols) (line : Bytes) (column : ℕ) → IsRefused line column → IsOff (named_by known line (tokens_from line column))
 refused_named known line column (Unnamed none) =
     subst (λ (tokens : List Lexeme). IsOff (named_by known line tokens)) (sym none) (refused_off (length line))
 refused_named known line column (Unknown name tokens stands none) =
@@ -137,10 +137,10 @@ has_A true false = refl
 has_A false true = refl
 has_A false false = refl
 
-pub refused-false : (known : Known) (line : Bytes) (column : ℕ) → IsRefused line column → (condition known line column).holds ≡ false
+pub refused-false : (known : KnownSymbols) (line : Bytes) (column : ℕ) → IsRefused line column → (condition known line column).holds ≡ false
 refused-false known line column is = (refused_named known line column is).off
 
-pub refused-flagged : (known : Known) (line : Bytes) (column : ℕ) → IsRefused line column
+pub refused-flagged : (known : KnownSymbols) (line : Bytes) (column : ℕ) → IsRefused line column
     → HasFlag flag_A (condition known line column).flags
 refused-flagged known line column is =
     let off = refused_named known line column is in
@@ -155,13 +155,13 @@ left_A true false = refl
 left_A false true = refl
 left_A false false = refl
 
-module _ (known : Known) (line : Bytes) (column : ℕ) (none : has_expression line column ≡ false) where
+module _ (known : KnownSymbols) (line : Bytes) (column : ℕ) (none : has_expression line column ≡ false) where
   pub rounds-none : rept_count known line column ≡ 0
   rounds-none = ap (λ (b : Bool). if b then rounds_of (number_at known line column) else 0) none
 
-  pub rounds-flagged : HasFlag flag_A (notes known line column).flags
+  pub rounds-flagged : HasFlag flag_A (remarks known line column).flags
   rounds-flagged =
       subst (λ (b : Bool). HasFlag flag_A (if b then
-      noting (bit_or (number_flags known line column) (left_over line (expression_end line column))) (symbols_at line column)
-      else noting (bit_or flag_A (left_over line column)) []).flags) (sym none)
+      remarks_of (bit_or (number_flags known line column) (left_over line (expression_end line column))) (symbols_at line column)
+      else remarks_of (bit_or flag_A (left_over line column)) []).flags) (sym none)
       (left_A (has_token (tokens_from line column)) (skipped_between line column (length line)))

@@ -2,8 +2,8 @@
 -- definitions and macro calls" and ".GLOBL directive".)
 use Rattle.std.specs.Prelude.{◌≡◌, ℕ, true, false, List, [], ◌∷◌, Option, Some, None}
 use Rattle.std.specs.Int.RustNames.{bit_or}
-use Rattle.m11_unfold_arguments.specs.Actuals.{Given, followed_by, given_by, nothing_given}
-use Rattle.m11_unfold_arguments.specs.Expressions.{Known}
+use Rattle.m11_unfold_arguments.specs.Actuals.{ActualTexts, followed_by, given_by, nothing_given}
+use Rattle.m11_unfold_arguments.specs.Expressions.{KnownSymbols}
 use Rattle.m11_unfold_arguments.specs.Macros.{listed_at}
 use Rattle.m11_unfold_arguments.specs.Macros.NextListed.{Ending, Formally}
 use Rattle.m11_unfold_arguments.specs.declared.macros.MacroFormal.{MacroFormal}
@@ -28,11 +28,11 @@ pub data AreFormals (line : Bytes) : ℕ → List MacroFormal → ℕ → Type 0
 
 -- actuals that stand one after the other from a column on, with what reading them leaves: blanks, a comma or both stand between
 -- two
-pub data AreActuals (known : Known) (line : Bytes) : ℕ → Given → Type 0 where
+pub data AreActuals (known : KnownSymbols) (line : Bytes) : ℕ → ActualTexts → Type 0 where
   -- where none stands next, they end
   NoActual : (column : ℕ) → next_actual line column true ≡ None → AreActuals known line column nothing_given
   -- where one stands next, the others stand after what separates it from them
-  OneActual : (column : ℕ) (actual : Actual) (more : Given) → next_actual line column true ≡ Some actual
+  OneActual : (column : ℕ) (actual : Actual) (more : ActualTexts) → next_actual line column true ≡ Some actual
       → AreActuals known line (separator_at line actual.end).end more
       → AreActuals known line column (followed_by (given_by known line actual) more)
 

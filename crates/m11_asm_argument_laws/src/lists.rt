@@ -3,8 +3,8 @@
 
 ghost use Rattle.std.specs.Prelude.{◌≡◌, ◌+◌, ◌≤◌, ℕ, length, take};
 ghost use Rattle.m11_asm_argument_laws.specs.Lists.{AreActuals, AreFormals, AreNames};
-ghost use Rattle.m11_unfold_arguments.specs.Actuals.{Given, actuals_from};
-ghost use Rattle.m11_unfold_arguments.specs.Expressions.{Known};
+ghost use Rattle.m11_unfold_arguments.specs.Actuals.{ActualTexts, actuals_from};
+ghost use Rattle.m11_unfold_arguments.specs.Expressions.{KnownSymbols};
 ghost use Rattle.m11_unfold_arguments.specs.Macros.{formals_after};
 ghost use Rattle.m11_base.specs.Devices.{Bytes};
 ghost use Rattle.m11_scan_lines.specs.Line.{line_limit};
@@ -19,9 +19,9 @@ pub fn formals_stand_one_after_the_other()
 /// A call takes its actuals in their order: where enough are wanted all that stand one after the other, and else the first of
 /// them.
 pub fn actuals_stand_one_after_the_other()
-    ensures all { (known : Known) (line : Bytes) (wanted column : ℕ) → length line ≤ column + wanted
+    ensures all { (known : KnownSymbols) (line : Bytes) (wanted column : ℕ) → length line ≤ column + wanted
         → AreActuals known line column (actuals_from known line wanted column) }
-    ensures first { (known : Known) (line : Bytes) (wanted column : ℕ) (all : Given) → AreActuals known line column all
+    ensures first { (known : KnownSymbols) (line : Bytes) (wanted column : ℕ) (all : ActualTexts) → AreActuals known line column all
         → (actuals_from known line wanted column).texts ≡ take wanted all.texts }
 {}
 

@@ -3,7 +3,7 @@ use Rattle.std.specs.Prelude.{ℕ, List, [], ◌∷◌, ◌++◌, map}
 use Rattle.m11_base.specs.Devices.{Bytes}
 use Rattle.m11_asm_data.specs.declared.packing.Waiting.{Waiting}
 use Rattle.m11_asm_data.specs.declared.packing.Waiting.TheVariants.{Nothing, One, Two}
-use Rattle.m11_asm_rules.specs.Contents.{Put, followed_by, put}
+use Rattle.m11_asm_rules.specs.Contents.{Emission, followed_by, emission}
 use Rattle.m11_asm_rules.specs.Strings.{Codes, character_code, character_flags, packed_words}
 
 -- the codes that wait for a third one
@@ -23,6 +23,6 @@ text_codes text = codes_of (map character_code text) (character_flags text)
 abbrev pub codes_first : List ℕ → Codes → Codes
 codes_first codes more = codes_of (codes ++ more.codes) more.flags
 
--- what is put in the end, where codes come after what was put and those that wait
-abbrev pub packing : Put → Waiting → Codes → Put
-packing done waiting more = followed_by done (put (packed_words (waiting_codes waiting ++ more.codes)) more.flags)
+-- what is emitted in the end, where codes come after what was emitted and those that wait
+abbrev pub packing : Emission → Waiting → Codes → Emission
+packing done waiting more = followed_by done (emission (packed_words (waiting_codes waiting ++ more.codes)) more.flags)

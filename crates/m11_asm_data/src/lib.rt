@@ -7,7 +7,7 @@
 mod storage;
 
 pub use storage::{
-    LIMIT_SIZE, blkb_size, blkw_size, block_flags, byte_size, put_bytes, put_limits, put_words,
+    LIMIT_SIZE, blkb_size, blkw_size, block_flags, byte_size, emit_bytes, emit_limits, emit_words,
     word_size,
 };
 
@@ -22,5 +22,5 @@ mod ascii;
 mod packing;
 mod radix50;
 
-pub use ascii::{ascii_size, asciz_size, put_ascii, put_asciz};
-pub use radix50::{put_rad50, rad50_size};
+pub use ascii::{ascii_size, asciz_size, emit_ascii, emit_asciz};
+pub use radix50::{emit_rad50, rad50_size};

@@ -6,7 +6,7 @@ ghost use Rattle.m11_asm_rules.specs.Strings as spec;
 ghost use Rattle.m11_scan.specs.Views.{bits_of};
 ghost use Rattle.m11_asm_data.specs.Packing.{codes_first, codes_of, packing, text_codes};
 
-use m11_asm_values::Put;
+use m11_asm_values::Emission;
 use m11_base::Rad50;
 use m11_scan::ErrorFlags;
 use std::alloc::AllocError;
@@ -24,49 +24,53 @@ pub(crate) enum Waiting {
 
 impl Waiting {
     // One code more. Three codes are a word.
-    pub(crate) fn with(self, code: u16, put: &mut Put) -> Result<Waiting, AllocError>
+    pub(crate) fn with(self, code: u16, emission: &mut Emission) -> Result<Waiting, AllocError>
         ensures { IfOk result (λ after. (more : spec.Codes)
-            → packing put.new after more ≡ packing put.old self (codes_first (code ∷ []) more)) }
+            → packing emission.new after more ≡ packing emission.old self (codes_first (code ∷ []) more)) }
     {
         match self {
             Waiting::Nothing => Ok(Waiting::One(code)),
             Waiting::One(first) => Ok(Waiting::Two(first, code)),
             Waiting::Two(first, second) => {
-                put.add_fixed_word(packed(first, second, code))?;
+                emission.add_fixed_word(packed(first, second, code))?;
                 Ok(Waiting::Nothing)
             }
         }
     }
 
     // Ends the codes: blanks fill the last word.
-    pub(crate) fn end(self, put: &mut Put) -> Result<(), AllocError>
-        ensures { IfOk result (λ _. put.new ≡ packing put.old self (codes_of [] 0)) }
+    pub(crate) fn end(self, emission: &mut Emission) -> Result<(), AllocError>
+        ensures { IfOk result (λ _. emission.new ≡ packing emission.old self (codes_of [] 0)) }
     {
         match self {
             Waiting::Nothing => Ok(()),
-            Waiting::One(first) => put.add_fixed_word(packed(first, 0, 0)),
-            Waiting::Two(first, second) => put.add_fixed_word(packed(first, second, 0)),
+            Waiting::One(first) => emission.add_fixed_word(packed(first, 0, 0)),
+            Waiting::Two(first, second) => emission.add_fixed_word(packed(first, second, 0)),
         }
     }
 
     // The codes of characters, with A for one that has none.
     #[tactic(auto, using(crate::proofs::Packs::flagged_codes))]
-    pub(crate) fn with_text(self, text: &[u8], put: &mut Put) -> Result<Waiting, AllocError>
+    pub(crate) fn with_text(
+        self,
+        text: &[u8],
+        emission: &mut Emission,
+    ) -> Result<Waiting, AllocError>
         ensures { IfOk result (λ after. (more : spec.Codes)
-            → packing put.new after more ≡ packing put.old self (spec.codes_then (text_codes text.now) more)) }
+            → packing emission.new after more ≡ packing emission.old self (spec.codes_then (text_codes text.now) more)) }
     {
-        put.add_flags(character_flags(text));
-        self.with_characters(text, put)
+        emission.add_flags(character_flags(text));
+        self.with_characters(text, emission)
     }
 
     // The codes of characters.
-    fn with_characters(self, text: &[u8], put: &mut Put) -> Result<Waiting, AllocError>
+    fn with_characters(self, text: &[u8], emission: &mut Emission) -> Result<Waiting, AllocError>
         ensures { IfOk result (λ after. (more : spec.Codes)
-            → packing put.new after more ≡ packing put.old self (codes_first (map spec.character_code text.now) more)) }
+            → packing emission.new after more ≡ packing emission.old self (codes_first (map spec.character_code text.now) more)) }
     {
         let mut waiting = self;
         'characters: for character in text {
-            waiting = waiting.with(character_code(*character), put)?;
+            waiting = waiting.with(character_code(*character), emission)?;
         }
         Ok(waiting)
     }

@@ -11,7 +11,7 @@ ghost use Rattle.m11_scan_values.specs.Quantities.{quantity};
 use crate::flags::text_flags;
 use crate::packing::Waiting;
 use crate::parts::{parts_at, text_size};
-use m11_asm_values::{LineContext, Put};
+use m11_asm_values::{Emission, LineContext};
 use m11_scan::{ErrorFlags, Line};
 use m11_scan_statements::{Part, PartKind};
 use m11_scan_values::Value;
@@ -26,58 +26,75 @@ pub fn rad50_size(line: &Line, start: usize) -> u16
 }
 
 /// The words of a `.RAD50`. Blanks fill the last one. Error: memory may be refused.
-pub fn put_rad50(put: &mut Put, line_context: &LineContext, start: usize) -> Result<(), AllocError>
+pub fn emit_rad50(
+    emission: &mut Emission,
+    line_context: &LineContext,
+    start: usize,
+) -> Result<(), AllocError>
     requires { start ≤ length line_context.now.line }
-    ensures { IfOk result (λ _. put.new ≡ followed_by put.old
+    ensures { IfOk result (λ _. emission.new ≡ followed_by emission.old
         (spec.rad50 line_context.now.map line_context.now.table line_context.now.location line_context.now.line start)) }
 {
     let parts = parts_at(line_context.line(), start);
-    put.add_flags(text_flags(line_context.line(), start, &parts));
-    let waiting = pack_parts(put, line_context, Waiting::Nothing, parts.list.as_slice())?;
-    waiting.end(put)
+    emission.add_flags(text_flags(line_context.line(), start, &parts));
+    let waiting = pack_parts(
+        emission,
+        line_context,
+        Waiting::Nothing,
+        parts.list.as_slice(),
+    )?;
+    waiting.end(emission)
 }
 
 // The codes of parts, one after the other.
 fn pack_parts(
-    put: &mut Put,
+    emission: &mut Emission,
     line_context: &LineContext,
     waiting: Waiting,
     parts: &[Part],
 ) -> Result<Waiting, AllocError>
-    ensures { IfOk result (λ after. packing put.new after (codes_of [] 0) ≡ packing put.old waiting
+    ensures { IfOk result (λ after. packing emission.new after (codes_of [] 0) ≡ packing emission.old waiting
         (spec.parts_codes (line_context_of line_context.now).known line_context.now.line parts.now)) }
 {
     let mut waiting = waiting;
     'parts: for part in parts {
-        waiting = pack_part(put, line_context, waiting, *part)?;
+        waiting = pack_part(emission, line_context, waiting, *part)?;
     }
     Ok(waiting)
 }
 
 // The codes of a part.
 fn pack_part(
-    put: &mut Put,
+    emission: &mut Emission,
     line_context: &LineContext,
     waiting: Waiting,
     part: Part,
 ) -> Result<Waiting, AllocError>
-    ensures { IfOk result (λ after. (more : spec.Codes) → packing put.new after more ≡ packing put.old waiting
+    ensures { IfOk result (λ after. (more : spec.Codes) → packing emission.new after more ≡ packing emission.old waiting
         (spec.codes_then (spec.part_codes (line_context_of line_context.now).known line_context.now.line part part.kind) more)) }
 {
     match part.kind {
-        PartKind::Text => waiting.with_text(part.inside.text(line_context.line()), put),
-        PartKind::Expression => pack_value(put, waiting, line_context.value(part.inside.start)),
+        PartKind::Text => waiting.with_text(part.inside.text(line_context.line()), emission),
+        PartKind::Expression => pack_value(
+            emission,
+            waiting,
+            line_context.value(part.inside.start),
+        ),
     }
 }
 
 // The code of an expression: the low six bits of its number.
-fn pack_value(put: &mut Put, waiting: Waiting, value: Value) -> Result<Waiting, AllocError>
+fn pack_value(
+    emission: &mut Emission,
+    waiting: Waiting,
+    value: Value,
+) -> Result<Waiting, AllocError>
     ensures { IfOk result (λ after. (more : spec.Codes)
-        → packing put.new after more ≡ packing put.old waiting (spec.codes_then (spec.value_codes (quantity value)) more)) }
+        → packing emission.new after more ≡ packing emission.old waiting (spec.codes_then (spec.value_codes (quantity value)) more)) }
 {
     let code = value.number % 0o100;
-    put.add_flags(value_flags(value));
-    waiting.with(code, put)
+    emission.add_flags(value_flags(value));
+    waiting.with(code, emission)
 }
 
 // The flags of an expression: it has to be an absolute number up to 47.

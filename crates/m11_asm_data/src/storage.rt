@@ -13,7 +13,7 @@ ghost use Rattle.m11_scan_values.specs.Quantities.{quantity};
 
 use m11_asm_operands::elements_at;
 use m11_asm_table::{FirmNames, Table};
-use m11_asm_values::{LineContext, Put, further, put_byte, put_word};
+use m11_asm_values::{Emission, LineContext, emit_byte, emit_word, further};
 use m11_scan::{ErrorFlags, Line, expression_end};
 use m11_scan_values::Value;
 use m11_unfold_arguments::{has_expression, left_over, skip_flags, value_at};
@@ -48,15 +48,19 @@ fn element_count(line: &Line, start: usize) -> u16
 }
 
 /// The words of a `.WORD`. Error: memory may be refused.
-pub fn put_words(put: &mut Put, line_context: &LineContext, start: usize) -> Result<(), AllocError>
+pub fn emit_words(
+    emission: &mut Emission,
+    line_context: &LineContext,
+    start: usize,
+) -> Result<(), AllocError>
     requires { start ≤ length line_context.now.line }
-    ensures { IfOk result (λ _. put.new ≡ followed_by put.old
+    ensures { IfOk result (λ _. emission.new ≡ followed_by emission.old
         (spec.words line_context.now.map line_context.now.table line_context.now.location line_context.now.line start)) }
 {
     let elements = elements_at(line_context.line(), start);
-    put.add_flags(end_flags(line_context.line(), start, usize::from(elements.end)));
-    put_words_from(
-        put,
+    emission.add_flags(end_flags(line_context.line(), start, usize::from(elements.end)));
+    emit_words_from(
+        emission,
         line_context,
         line_context.location(),
         elements.columns.as_slice(),
@@ -64,48 +68,52 @@ pub fn put_words(put: &mut Put, line_context: &LineContext, start: usize) -> Res
 }
 
 // Elements as words, one after the other.
-fn put_words_from(
-    put: &mut Put,
+fn emit_words_from(
+    emission: &mut Emission,
     line_context: &LineContext,
     location: u16,
     starts: &[u8],
 ) -> Result<(), AllocError>
-    ensures { IfOk result (λ _. put.new ≡ followed_by put.old
+    ensures { IfOk result (λ _. emission.new ≡ followed_by emission.old
         (spec.words_from line_context.now.map line_context.now.table line_context.now.line location starts.now)) }
 {
     let mut location = location;
     'elements: for start in starts {
-        location = put_element_word(put, line_context, location, *start)?;
+        location = emit_element_word(emission, line_context, location, *start)?;
     }
     Ok(())
 }
 
 // An element as a word, and the location after it.
-fn put_element_word(
-    put: &mut Put,
+fn emit_element_word(
+    emission: &mut Emission,
     line_context: &LineContext,
     location: u16,
     start: u8,
 ) -> Result<u16, AllocError>
     ensures { IfOk result (λ next. (starts : List ℕ)
-        → followed_by put.new (spec.words_from line_context.now.map line_context.now.table line_context.now.line next starts)
-        ≡ followed_by put.old (spec.words_from line_context.now.map line_context.now.table line_context.now.line location (start ∷ starts))) }
+        → followed_by emission.new (spec.words_from line_context.now.map line_context.now.table line_context.now.line next starts)
+        ≡ followed_by emission.old (spec.words_from line_context.now.map line_context.now.table line_context.now.line location (start ∷ starts))) }
 {
     let value = element_value(line_context, location, start);
-    put_word(put, line_context, false, location, value)?;
+    emit_word(emission, line_context, false, location, value)?;
     Ok(further(location, 2))
 }
 
 /// The bytes of a `.BYTE`. Error: memory may be refused.
-pub fn put_bytes(put: &mut Put, line_context: &LineContext, start: usize) -> Result<(), AllocError>
+pub fn emit_bytes(
+    emission: &mut Emission,
+    line_context: &LineContext,
+    start: usize,
+) -> Result<(), AllocError>
     requires { start ≤ length line_context.now.line }
-    ensures { IfOk result (λ _. put.new ≡ followed_by put.old
+    ensures { IfOk result (λ _. emission.new ≡ followed_by emission.old
         (spec.bytes line_context.now.map line_context.now.table line_context.now.location line_context.now.line start)) }
 {
     let elements = elements_at(line_context.line(), start);
-    put.add_flags(end_flags(line_context.line(), start, usize::from(elements.end)));
-    put_bytes_from(
-        put,
+    emission.add_flags(end_flags(line_context.line(), start, usize::from(elements.end)));
+    emit_bytes_from(
+        emission,
         line_context,
         line_context.location(),
         elements.columns.as_slice(),
@@ -113,35 +121,35 @@ pub fn put_bytes(put: &mut Put, line_context: &LineContext, start: usize) -> Res
 }
 
 // Elements as bytes, one after the other.
-fn put_bytes_from(
-    put: &mut Put,
+fn emit_bytes_from(
+    emission: &mut Emission,
     line_context: &LineContext,
     location: u16,
     starts: &[u8],
 ) -> Result<(), AllocError>
-    ensures { IfOk result (λ _. put.new ≡ followed_by put.old
+    ensures { IfOk result (λ _. emission.new ≡ followed_by emission.old
         (spec.bytes_from line_context.now.map line_context.now.table line_context.now.line location starts.now)) }
 {
     let mut location = location;
     'elements: for start in starts {
-        location = put_element_byte(put, line_context, location, *start)?;
+        location = emit_element_byte(emission, line_context, location, *start)?;
     }
     Ok(())
 }
 
 // An element as a byte, and the location after it.
-fn put_element_byte(
-    put: &mut Put,
+fn emit_element_byte(
+    emission: &mut Emission,
     line_context: &LineContext,
     location: u16,
     start: u8,
 ) -> Result<u16, AllocError>
     ensures { IfOk result (λ next. (starts : List ℕ)
-        → followed_by put.new (spec.bytes_from line_context.now.map line_context.now.table line_context.now.line next starts)
-        ≡ followed_by put.old (spec.bytes_from line_context.now.map line_context.now.table line_context.now.line location (start ∷ starts))) }
+        → followed_by emission.new (spec.bytes_from line_context.now.map line_context.now.table line_context.now.line next starts)
+        ≡ followed_by emission.old (spec.bytes_from line_context.now.map line_context.now.table line_context.now.line location (start ∷ starts))) }
 {
     let value = element_value(line_context, location, start);
-    put_byte(put, line_context, location, value)?;
+    emit_byte(emission, line_context, location, value)?;
     Ok(further(location, 1))
 }
 
@@ -179,11 +187,15 @@ fn end_flags(line: &Line, start: usize, end: usize) -> ErrorFlags
 }
 
 /// The limits of the program, for a `.LIMIT`. Error: memory may be refused.
-pub fn put_limits(put: &mut Put, line_context: &LineContext, start: usize) -> Result<(), AllocError>
+pub fn emit_limits(
+    emission: &mut Emission,
+    line_context: &LineContext,
+    start: usize,
+) -> Result<(), AllocError>
     requires { start ≤ length line_context.now.line }
-    ensures { IfOk result (λ _. put.new ≡ followed_by put.old (spec.limits line_context.now.line start)) }
+    ensures { IfOk result (λ _. emission.new ≡ followed_by emission.old (spec.limits line_context.now.line start)) }
 {
-    put.add_limits(left_over(line_context.line(), start))
+    emission.add_limits(left_over(line_context.line(), start))
 }
 
 /// The size of a `.BLKB` in bytes.

@@ -20,7 +20,7 @@ use m11_base::blank_name;
 use m11_scan::{ErrorFlags, Line, Sort, next_token};
 use m11_scan_statements::Span;
 use m11_unfold_arguments::{
-    NameAt, after_comma, flags_before, left_over, name_at, column_in, rest_flags, skip_flags,
+    NameAt, after_comma, column_in, flags_before, left_over, name_at, rest_flags, skip_flags,
 };
 
 // The attributes of sections.

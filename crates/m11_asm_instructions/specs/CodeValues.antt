@@ -5,7 +5,7 @@ use Rattle.m11_unfold_arguments.specs.Expressions.{value_at}
 use Rattle.m11_base_instructions.specs.declared.instruction.Op.{Op}
 use Rattle.m11_asm_rules.specs.Codes.{LineContext, field_flags}
 use Rattle.m11_asm_rules.specs.declared.fields.Field.{Field}
-use Rattle.m11_asm_rules.specs.declared.fields.Field.TheVariants.{Formed, Registered, Targeted, Numbered, Missing}
+use Rattle.m11_asm_rules.specs.declared.fields.Field.TheVariants.{Operand, Register, Target, Number, Missing}
 use Rattle.m11_asm_rules.specs.declared.operands.Form.{Form}
 use Rattle.m11_asm_rules.specs.declared.operands.Form.TheVariants.{Absent, InRegister, Indexed, Unindexed, AfterCounter}
 use Rattle.m11_scan_values.specs.Quantities.{Quantity, absolute}
@@ -23,10 +23,10 @@ form_value line_context (Unindexed start) = value_at line_context.known line_con
 form_value line_context (AfterCounter kind start) = no_value
 
 abbrev pub field_value : LineContext → Field → Quantity
-field_value line_context (Formed form) = form_value line_context form
-field_value line_context (Registered start) = value_at line_context.known line_context.line start
-field_value line_context (Targeted start) = value_at line_context.known line_context.line start
-field_value line_context (Numbered start) = value_at line_context.known line_context.line start
+field_value line_context (Operand form) = form_value line_context form
+field_value line_context (Register start) = value_at line_context.known line_context.line start
+field_value line_context (Target start) = value_at line_context.known line_context.line start
+field_value line_context (Number start) = value_at line_context.known line_context.line start
 field_value line_context Missing = no_value
 
 -- the value in the first of some fields

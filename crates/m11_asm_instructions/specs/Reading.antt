@@ -10,7 +10,7 @@ use Rattle.m11_asm_rules.specs.Tables.{Table, location}
 use Rattle.m11_asm_rules.specs.declared.operators.Operator.{Operator}
 use Rattle.m11_asm_rules.specs.declared.operators.Operator.TheVariants as operators
 
--- the fields of an operator that puts at a location of its section, and whose name ends at a column of its line
+-- the fields of an operator that emits at a location of its section, and whose name ends at a column of its line
 abbrev pub fields_at : Table → ℕ → Bytes → ℕ → Operator → Fields
 fields_at table here line start (operators.Instruction operation) = instructions.fields table here line start operation
 fields_at table here line start (operators.Directive directive) = no_fields 0

@@ -38,10 +38,10 @@ fn field_value(line_context: &LineContext, field: Field, term: Option<Token>) ->
     ensures { quantity result ≡ spec.field_value (line_context_of line_context.now) field }
 {
     match field {
-        Field::Formed(form) => form_value(line_context, form, term),
-        Field::Registered(start) => line_context.value_by(start, term),
-        Field::Targeted(start) => line_context.value_by(start, term),
-        Field::Numbered(start) => line_context.value_by(start, term),
+        Field::Operand(form) => form_value(line_context, form, term),
+        Field::Register(start) => line_context.value_by(start, term),
+        Field::Target(start) => line_context.value_by(start, term),
+        Field::Number(start) => line_context.value_by(start, term),
         Field::Missing => no_value(),
     }
 }

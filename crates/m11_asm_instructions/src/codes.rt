@@ -25,7 +25,7 @@ fn operand_in(fields: &[Field], value: &Value) -> Operand
     ensures { (line_context : Stated) → quantity value.now ≡ value_in line_context fields.now → result ≡ spec.operand_in line_context fields.now }
 {
     match fields {
-        [Field::Formed(form), ..] => operand_of(*form, value),
+        [Field::Operand(form), ..] => operand_of(*form, value),
         _ => Operand {
             mode: Mode::Register,
             register: Register::R0,
@@ -38,7 +38,7 @@ fn register_in(fields: &[Field], value: &Value) -> Register
     ensures { (line_context : Stated) → quantity value.now ≡ value_in line_context fields.now → result ≡ spec.register_in line_context fields.now }
 {
     match fields {
-        [Field::Registered(_), ..] => register(value),
+        [Field::Register(_), ..] => register(value),
         _ => Register::R0,
     }
 }
@@ -49,7 +49,7 @@ fn branch_in(line_context: &LineContext, fields: &[Field], value: &Value) -> u8
     ensures { result ≡ spec.branch_in (line_context_of line_context.now) fields.now }
 {
     match fields {
-        [Field::Targeted(_), ..] => branch_offset(
+        [Field::Target(_), ..] => branch_offset(
             line_context.table(),
             line_context.location(),
             value,
@@ -65,7 +65,7 @@ fn loop_in(line_context: &LineContext, fields: &[Field], value: &Value) -> u8
     ensures below { result < 64 }
 {
     match fields {
-        [Field::Targeted(_), ..] => loop_offset(line_context.table(), line_context.location(), value),
+        [Field::Target(_), ..] => loop_offset(line_context.table(), line_context.location(), value),
         _ => 0,
     }
 }
@@ -77,7 +77,7 @@ fn number_in(operation: NumberOp, fields: &[Field], value: &Value) -> u8
     ensures below { result < encoding.number_limit operation }
 {
     match fields {
-        [Field::Numbered(_), ..] => (value.number % number_limit(operation)) as u8,
+        [Field::Number(_), ..] => (value.number % number_limit(operation)) as u8,
         _ => 0,
     }
 }
@@ -159,7 +159,11 @@ fn reach_flags(line_context: &LineContext, operation: Op, target: &Value) -> Err
         → bits_of result ≡ spec.reach_flags (line_context_of line_context.now) operation start }
 {
     match operation {
-        Op::Sob => target_flags(loop_reaches(line_context.table(), line_context.location(), target)),
+        Op::Sob => target_flags(loop_reaches(
+            line_context.table(),
+            line_context.location(),
+            target,
+        )),
         _ => target_flags(branch_reaches(line_context.table(), line_context.location(), target)),
     }
 }
@@ -200,10 +204,10 @@ fn field_flags(line_context: &LineContext, operation: Op, field: Field, value: &
     ensures { bits_of result ≡ spec.field_flags (line_context_of line_context.now) operation field }
 {
     match field {
-        Field::Formed(form) => form_flags(form, value),
-        Field::Registered(_) => as_register_flags(value),
-        Field::Targeted(_) => targeted_flags(line_context, operation, value),
-        Field::Numbered(_) => numbered_flags(operation, value),
+        Field::Operand(form) => form_flags(form, value),
+        Field::Register(_) => as_register_flags(value),
+        Field::Target(_) => targeted_flags(line_context, operation, value),
+        Field::Number(_) => numbered_flags(operation, value),
         Field::Missing => ErrorFlags::none(),
     }
 }

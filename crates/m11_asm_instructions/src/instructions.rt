@@ -16,10 +16,10 @@ ghost use Rattle.m11_scan_values.specs.Quantities.{quantity};
 
 use crate::code_values::value_in;
 use crate::codes::{flags_in, instruction, others};
-use crate::operands::{put_form, size_of};
+use crate::operands::{emit_form, size_of};
 use m11_asm_operands::FieldTerms;
 use m11_asm_rules::Field;
-use m11_asm_values::{LineContext, Put, fixed, further};
+use m11_asm_values::{Emission, LineContext, fixed, further};
 use m11_base_instructions::{Op, encode};
 use m11_scan::{ErrorFlags, Token};
 use m11_scan_values::Value;
@@ -45,8 +45,8 @@ fn fields_flags(
 }
 
 // The instruction's own word. The value of each field is found once for its bits and for its flags.
-fn put_code(
-    put: &mut Put,
+fn emit_code(
+    emission: &mut Emission,
     line_context: &LineContext,
     operation: Op,
     fields: &[Field],
@@ -55,19 +55,19 @@ fn put_code(
     requires listed { IsTrue (is_listed operation) }
     requires few { length fields.now ≤ 2 }
     requires terms { AreTerms line_context.now.line fields.now terms.now }
-    ensures { IfOk result (λ _. put.new ≡ followed_by put.old (codes.code (line_context_of line_context.now) operation fields.now)) }
+    ensures { IfOk result (λ _. emission.new ≡ followed_by emission.old (codes.code (line_context_of line_context.now) operation fields.now)) }
 {
     let first = value_in(line_context, fields, terms.first);
     let second = value_in(line_context, others(fields), terms.second);
     let code = encode(&instruction(line_context, operation, fields, &first, &second));
     let flags = fields_flags(line_context, operation, fields, &first, &second);
-    put.add_word(fixed(code), flags)
+    emission.add_word(fixed(code), flags)
 }
 
 // The word of a field after the instruction, if it has one, and the location after it. Where the field is found to be one term, this is its
 // token.
-fn put_field(
-    put: &mut Put,
+fn emit_field(
+    emission: &mut Emission,
     line_context: &LineContext,
     location: u16,
     field: Field,
@@ -75,12 +75,12 @@ fn put_field(
 ) -> Result<u16, AllocError>
     requires { IfSome term (λ term. IsFieldTerm line_context.now.line field term) }
     ensures { IfOk result (λ next. (forms : List Form)
-        → followed_by put.new (codes.words_from (line_context_of line_context.now) next forms)
-        ≡ followed_by put.old (codes.words_from (line_context_of line_context.now) location (with_form field forms))) }
+        → followed_by emission.new (codes.words_from (line_context_of line_context.now) next forms)
+        ≡ followed_by emission.old (codes.words_from (line_context_of line_context.now) location (with_form field forms))) }
 {
     match field {
-        Field::Formed(form) => {
-            put_form(put, line_context, location, form, term)?;
+        Field::Operand(form) => {
+            emit_form(emission, line_context, location, form, term)?;
             Ok(further(location, size_of(form)))
         }
         _ => Ok(location),
@@ -88,29 +88,29 @@ fn put_field(
 }
 
 // The words after the instruction, one after the other.
-fn put_words_after(
-    put: &mut Put,
+fn emit_words_after(
+    emission: &mut Emission,
     line_context: &LineContext,
     location: u16,
     fields: &[Field],
     terms: &FieldTerms,
 ) -> Result<(), AllocError>
     requires { AreTerms line_context.now.line fields.now terms.now }
-    ensures { IfOk result (λ _. put.new
-        ≡ followed_by put.old (codes.words_from (line_context_of line_context.now) location (forms_of fields.now))) }
+    ensures { IfOk result (λ _. emission.new
+        ≡ followed_by emission.old (codes.words_from (line_context_of line_context.now) location (forms_of fields.now))) }
 {
     let mut location = location;
     let mut terms = *terms;
     'fields: for field in fields {
-        location = put_field(put, line_context, location, *field, terms.first)?;
+        location = emit_field(emission, line_context, location, *field, terms.first)?;
         terms = terms.others();
     }
     Ok(())
 }
 
 /// The words of an instruction, from its fields, the location after them, their flags and their terms. Error: memory may be refused.
-pub fn put_instruction(
-    put: &mut Put,
+pub fn emit_instruction(
+    emission: &mut Emission,
     line_context: &LineContext,
     operation: Op,
     start: usize,
@@ -123,13 +123,13 @@ pub fn put_instruction(
     requires few { length fields.now ≤ 2 }
     requires terms { AreTerms line_context.now.line fields.now terms.now }
     requires within { end ≤ length line_context.now.line }
-    ensures { IfOk result (λ _. put.new ≡ followed_by put.old
+    ensures { IfOk result (λ _. emission.new ≡ followed_by emission.old
         (spec.assembled (line_context_of line_context.now) start operation (fields_of fields.now end (bits_of flags)))) }
 {
-    put.add_flags(line_flags(line_context, start, end, flags));
-    put_code(put, line_context, operation, fields, terms)?;
-    put_words_after(
-        put,
+    emission.add_flags(line_flags(line_context, start, end, flags));
+    emit_code(emission, line_context, operation, fields, terms)?;
+    emit_words_after(
+        emission,
         line_context,
         further(line_context.location(), 2),
         fields,

@@ -1,4 +1,4 @@
-//! What an instruction puts: the fields that a line writes, their values, what these become in the code, and the words after it, each with
+//! What an instruction emits: the fields that a line writes, their values, what these become in the code, and the words after it, each with
 //! its flags. (PDP-11/40 Processor Handbook, "Instruction set" and "Addressing modes"; MACRO-11 Language Reference Manual, "Operand
 //! field".)
 #![tactic(auto)]
@@ -17,4 +17,4 @@ mod operands;
 // The word of the code, and the words after it.
 mod instructions;
 
-pub use instructions::put_instruction;
+pub use instructions::emit_instruction;

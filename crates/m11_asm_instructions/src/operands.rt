@@ -15,7 +15,7 @@ ghost use Rattle.m11_scan.specs.Views.{bits_of};
 ghost use Rattle.m11_scan_values.specs.Quantities.{quantity};
 
 use m11_asm_rules::Form;
-use m11_asm_values::{LineContext, Put, put_word};
+use m11_asm_values::{Emission, LineContext, emit_word};
 use m11_base_instructions::{Mode, Operand, Register};
 use m11_scan::{ErrorFlags, Token};
 use m11_scan_values::Value;
@@ -86,29 +86,43 @@ pub(crate) fn size_of(form: Form) -> u16
 
 // The word after the instruction for a form, whose term this is, at a location of its own; `.` in it is the location of the instruction.
 #[tactic(auto, using(m11_asm_values::proofs::Joining::followed_nothing))]
-pub(crate) fn put_form(
-    put: &mut Put,
+pub(crate) fn emit_form(
+    emission: &mut Emission,
     line_context: &LineContext,
     location: u16,
     form: Form,
     term: Option<Token>,
 ) -> Result<(), AllocError>
     requires { IfSome term (λ term. IsFormTerm line_context.now.line form term) }
-    ensures { IfOk result (λ _. put.new ≡ followed_by put.old (spec.form_words (line_context_of line_context.now) location form)) }
+    ensures { IfOk result (λ _. emission.new ≡ followed_by emission.old (spec.form_words (line_context_of line_context.now) location form)) }
 {
     match form {
         Form::Absent | Form::InRegister(_, _) => Ok(()),
-        Form::Indexed(_, _, index) => put_reference(put, line_context, false, location, index, None),
-        Form::Unindexed(_) => put.add_fixed_word(0),
+        Form::Indexed(_, _, index) => emit_reference(
+            emission,
+            line_context,
+            false,
+            location,
+            index,
+            None,
+        ),
+        Form::Unindexed(_) => emission.add_fixed_word(0),
         Form::AfterCounter(mode, start) => {
-            put_reference(put, line_context, is_relative(mode), location, start, term)
+            emit_reference(
+                emission,
+                line_context,
+                is_relative(mode),
+                location,
+                start,
+                term,
+            )
         }
     }
 }
 
 // A word for the expression at a column of the line. Where it is found to be one term, this is its token.
-fn put_reference(
-    put: &mut Put,
+fn emit_reference(
+    emission: &mut Emission,
     line_context: &LineContext,
     is_relative: bool,
     location: u16,
@@ -116,9 +130,9 @@ fn put_reference(
     term: Option<Token>,
 ) -> Result<(), AllocError>
     requires { IfSome term (λ term. IsAlone line_context.now.line start term) }
-    ensures { IfOk result (λ _. put.new ≡ followed_by put.old (word line_context.now.table is_relative
+    ensures { IfOk result (λ _. emission.new ≡ followed_by emission.old (word line_context.now.table is_relative
         location (value_at (line_context_of line_context.now).refers line_context.now.line start))) }
 {
     let value = line_context.reference_by(start, term);
-    put_word(put, line_context, is_relative, location, value)
+    emit_word(emission, line_context, is_relative, location, value)
 }

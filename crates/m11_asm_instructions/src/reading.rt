@@ -1,4 +1,4 @@
-//! Reads the fields of operators, once for what they put, use and change. (MACRO-11 Language Reference Manual, "Operand field".)
+//! Reads the fields of operators, once for what they emit, use and change. (MACRO-11 Language Reference Manual, "Operand field".)
 
 ghost use Rattle.std.specs.Prelude.{◌≡◌, ◌≤◌, length};
 ghost use Rattle.m11_base.specs.Devices.{Bytes};

@@ -8,7 +8,7 @@ use Rattle.m11_obj_texts.specs.Pieces.{content_bytes, relocation_at}
 use Rattle.m11_obj_texts.specs.declared.pieces.PieceContent.{PieceContent}
 use Rattle.m11_obj_texts.specs.declared.pieces.PieceContent.TheVariants.{Byte, Word}
 use Rattle.m11_obj_texts.specs.declared.pieces.RelocationKind.{RelocationKind}
-use Rattle.m11_obj_texts.specs.declared.pieces.Stored.{Stored}
+use Rattle.m11_obj_texts.specs.declared.pieces.StoredConstant.{StoredConstant}
 
 -- the bytes that a relocation stores, or those of the text where there is none
 abbrev pub bytes_by : Findings → ℕ → ℕ → ℕ → Bytes → Option Relocation → Bytes
@@ -22,7 +22,7 @@ abbrev pub linked_bytes : Findings → ℕ → ℕ → ℕ → PieceContent → 
 linked_bytes found module_index own linked_location content =
     bytes_by found module_index own linked_location (content_bytes content) (relocation_at 4 content)
 
-abbrev pub constant_of : RelocationKind → ℕ → Stored
+abbrev pub constant_of : RelocationKind → ℕ → StoredConstant
 constant_of kind constant = record { constant = constant; kind = kind }
 
 -- the linked bytes of a word, and of a byte

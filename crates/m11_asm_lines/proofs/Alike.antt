@@ -123,7 +123,7 @@ module _ (one other : Table) (alike : Alike one other) where
       → value_at (known_at map LocalOnly one (location one)) line start ≡ value_at (known_at map LocalOnly other (location other)) line start
   alike_value map line start =
       ap (λ (p : ℕ). value_at (known_at map LocalOnly one p) line start) alike_location
-      ∙ ap (λ (k : expressions.Known). value_at k line start) (alike_known map LocalOnly (location other))
+      ∙ ap (λ (k : expressions.KnownSymbols). value_at k line start) (alike_known map LocalOnly (location other))
 
   pub alike_assigned : (map : Map) (key : Key) (line : Bytes) (start : ℕ)
       → assigned map one key line start ≡ assigned map other key line start

@@ -26,7 +26,7 @@ use Rattle.m11_asm_lines.proofs.Alike.{alike_assigned, alike_labelled}
 use Rattle.m11_asm_lines.proofs.Passes.{counted_more}
 use Rattle.m11_asm_lines.proofs.Room.{overfills}
 use Rattle.m11_asm_lines.specs.Faults.{Overfills, Refuses}
-use Rattle.m11_asm_lines.specs.Passes.{Follows, Kept, Matches}
+use Rattle.m11_asm_lines.specs.Passes.{Follows, TableState, Matches}
 
 -- ---- assignments
 
@@ -42,7 +42,7 @@ gives map name line start table value firm definition is value_is firm_is =
     is ∙ ap (λ (v : Quantity). given name v firm) value_is
     ∙ ap (given name (value_at (known_at map LocalOnly table (location table)) line start)) firm_is
 
-pub assigns : {A : Type 0} (map : Map) (key : Key) (line : Bytes) (start : ℕ) (old new : Kept) (definition : Definition)
+pub assigns : {A : Type 0} (map : Map) (key : Key) (line : Bytes) (start : ℕ) (old new : TableState) (definition : Definition)
     (result : Result A AsmFault) → definition ≡ assigned map old.table key line start
     → IfOk result (λ _. Follows old new (with_definition definition))
     → IfOk result (λ _. Follows old new (λ told. with_definition (assigned map told key line start) told))
@@ -76,7 +76,7 @@ defined_alike one other told same =
     ∙ sym (counted_more other told.definitions told refl) in
     ap (λ (n : ℕ). many n (local_count (with_definition one told))) names ∙ ap (many (name_count (with_definition other told))) symbols
 
-pub overfills_assigned : {A : Type 0} (map : Map) (name : Name) (line : Bytes) (start : ℕ) (old : Kept) (definition : Definition)
+pub overfills_assigned : {A : Type 0} (map : Map) (name : Name) (line : Bytes) (start : ℕ) (old : TableState) (definition : Definition)
     (result : Result A AsmFault) → definition.key ≡ Named name
     → IfErr result (λ fault. (told : Table) → Matches old told
     → Refuses fault (has_too_many (with_definition definition told) ≡ true) ⊥)
@@ -93,7 +93,7 @@ global_overfills : (is_global : Bool) (name : Name) (fault : AsmFault) (after : 
 global_overfills true name fault after refuses = refuses
 global_overfills false name fault after refuses = refuses
 
-pub overfills_value : (map : Map) (name : Name) (line : Bytes) (start : ℕ) (is_global : Bool) (fault : AsmFault) (old : Kept) (told : Table)
+pub overfills_value : (map : Map) (name : Name) (line : Bytes) (start : ℕ) (is_global : Bool) (fault : AsmFault) (old : TableState) (told : Table)
     → is_labelled (Named name) old.table.definitions ≡ false → Matches old told
     → Overfills fault (with_definition (assigned map told (Named name) line start) told)
     → Overfills fault (with_value map name is_global line start told)
@@ -165,7 +165,7 @@ module _ (map : Map) (name : Name) (line : Bytes) (start : ℕ) (old new : Table
       (λ told alike. exports (with_definition (assigned map told (Named name) line start) told) (defines told alike))
 
 -- the same of what a pass keeps
-module _ (map : Map) (name : Name) (line : Bytes) (start : ℕ) (old new : Kept) (is : is_labelled (Named name) old.table.definitions ≡ false) where
+module _ (map : Map) (name : Name) (line : Bytes) (start : ℕ) (old new : TableState) (is : is_labelled (Named name) old.table.definitions ≡ false) where
   kept_so : (is_global : Bool) → Follows old new (valued map name line start is_global false)
       → Follows old new (with_value map name is_global line start)
   kept_so is_global follows told matches =
@@ -176,7 +176,7 @@ module _ (map : Map) (name : Name) (line : Bytes) (start : ℕ) (old new : Kept)
       → Follows old new (with_value map name false line start)
   kept_defines follows = kept_so false follows
 
-  pub kept_exports : (middle : Kept) → Follows old middle (λ told. with_definition (assigned map told (Named name) line start) told)
+  pub kept_exports : (middle : TableState) → Follows old middle (λ told. with_definition (assigned map told (Named name) line start) told)
       → Follows middle new (with_global name) → Follows old new (with_value map name true line start)
   kept_exports middle defines exports = kept_so true
       (λ told matches. exports (with_definition (assigned map told (Named name) line start) told) (defines told matches))
@@ -198,7 +198,7 @@ others_all name names = take_all (length (name ∷ names) - 1) names (omega arit
 none_first : 1 ≤ 0 → ⊥
 none_first e = omega (arith, e)
 
-pub exports_then : {A : Type 0} (names : List (Option Name)) (name other : Option Name) (old middle new : Kept)
+pub exports_then : {A : Type 0} (names : List (Option Name)) (name other : Option Name) (old middle new : TableState)
     (result : Result A AsmFault) → 1 ≤ length names → get_or names 0 other ≡ name
     → Follows old middle (with_globals (names_among (name ∷ [])))
     → IfOk result (λ _. Follows middle new (with_globals (names_among (take (length names - 1) (drop 1 names)))))

@@ -12,7 +12,7 @@ use Rattle.m11_asm_rules.specs.SymbolUses.{SymbolUse, defined, symbol_use, named
 use Rattle.m11_asm_rules.specs.declared.meanings.Context.{Context}
 use Rattle.m11_asm_lines.specs.Faults.{Refuses}
 use Rattle.m11_asm_lines.specs.Labels.{FitsUpToLabel}
-use Rattle.m11_asm_lines.specs.UsedSymbols.{Adds, Gathered, in_context, is_register, names_referred, noted, registers_used, with_all, with_name, with_reference, with_register}
+use Rattle.m11_asm_lines.specs.UsedSymbols.{Adds, UsedNames, in_context, is_register, names_referred, with_name_used, registers_used, with_all, with_name, with_reference, with_register}
 use Rattle.m11_scan_statements.specs.declared.labels.Label.{Label}
 use Rattle.m11_scan_values.specs.declared.names.Symbol.{Symbol}
 use Rattle.m11_scan_values.specs.declared.names.Symbol.TheVariants.{Ordinary, Local, Counter}
@@ -33,10 +33,10 @@ referred_joined [] second names = refl
 referred_joined (symbol_use ∷ first) second names =
     referred_joined first second (with_reference symbol_use.symbol symbol_use.context names)
 
-abbrev gathered : List Name → List Name → List Name → Gathered
-gathered names registers referred = record { names = names; registers = registers; referred = referred }
+abbrev used_names : List Name → List Name → List Name → UsedNames
+used_names names registers referred = record { names = names; registers = registers; referred = referred }
 
-pub all_joined : (first second : List SymbolUse) (old : Gathered)
+pub all_joined : (first second : List SymbolUse) (old : UsedNames)
     → with_all (first ++ second) old ≡ with_all second (with_all first old)
 all_joined first second old =
     rw (names_joined first second old.names, registers_joined first second old.registers, referred_joined first second old.referred)
@@ -44,12 +44,12 @@ all_joined first second old =
 
 -- ---- one name
 
-pub noted_register : (name : Name) (old : Gathered) → is_register name ≡ true
-    → record old { registers = with_name name old.registers } ≡ noted name old
+pub noted_register : (name : Name) (old : UsedNames) → is_register name ≡ true
+    → record old { registers = with_name name old.registers } ≡ with_name_used name old
 noted_register name old is = rw is refl
 
-pub noted_other : (name : Name) (old : Gathered) → is_register name ≡ false
-    → record old { names = with_name name old.names } ≡ noted name old
+pub noted_other : (name : Name) (old : UsedNames) → is_register name ≡ false
+    → record old { names = with_name name old.names } ≡ with_name_used name old
 noted_other name old is = rw is refl
 
 -- ---- names don't become fewer
@@ -78,19 +78,19 @@ uses_more (symbol_use ∷ symbol_uses) names =
 
 -- ---- one part after another
 
-pub added_then : (first second : List SymbolUse) (old middle new : Gathered) (result : Result (Unit {0}) AsmFault)
+pub added_then : (first second : List SymbolUse) (old middle new : UsedNames) (result : Result (Unit {0}) AsmFault)
     → middle ≡ with_all first old → Adds second middle new result → Adds (first ++ second) old new result
 added_then first second old middle new (Ok _) added adds =
     adds ∙ ap (with_all second) added ∙ sym (all_joined first second old)
 added_then first second old middle new (Err fault) added refuses =
-    let P : Gathered → Type 0 = λ g. Refuses fault (most_names < length g.names) ⊥ in
+    let P : UsedNames → Type 0 = λ g. Refuses fault (most_names < length g.names) ⊥ in
     subst P (ap (with_all second) added ∙ sym (all_joined first second old)) refuses
 
-refused_more : (fault : AsmFault) (first second : List SymbolUse) (old : Gathered)
+refused_more : (fault : AsmFault) (first second : List SymbolUse) (old : UsedNames)
     → Refuses fault (most_names < length (with_all first old).names) ⊥
     → Refuses fault (most_names < length (with_all (first ++ second) old).names) ⊥
 refused_more TooManySymbols first second old refuses =
-    let P : Gathered → Type 0 = λ g. most_names < length g.names in
+    let P : UsedNames → Type 0 = λ g. most_names < length g.names in
     subst P (sym (all_joined first second old))
     (let more : length (with_all first old).names ≤ length (with_all second (with_all first old)).names
     = uses_more second (with_all first old).names in
@@ -99,7 +99,7 @@ refused_more NoMemory first second old refuses = tt
 refused_more other first second old refuses = refuses
 
 -- a fault of the first part is that of the whole
-pub failed_first : (first second : List SymbolUse) (old new : Gathered) (fault : AsmFault) (result : Result (Unit {0}) AsmFault)
+pub failed_first : (first second : List SymbolUse) (old new : UsedNames) (fault : AsmFault) (result : Result (Unit {0}) AsmFault)
     → Refuses fault (most_names < length (with_all first old).names) ⊥ → IsErrAnd result (λ f. f ≡ fault)
     → Adds (first ++ second) old new result
 failed_first first second old new fault (Ok done) refuses is = absurd is
@@ -114,9 +114,9 @@ others_all : {A : Type 0} (item : A) (items : List A) → take (length (item ∷
 others_all item items = take_all (length (item ∷ items) - 1) items (omega arith)
 
 -- of a list as a slice has it: the first item, and those after it
-module _ {A : Type 0} (symbol_uses : A → List SymbolUse) (items : List A) (item other : A) (old : Gathered)
+module _ {A : Type 0} (symbol_uses : A → List SymbolUse) (items : List A) (item other : A) (old : UsedNames)
     (result : Result (Unit {0}) AsmFault) where
-  pub failed_item : (new : Gathered) (fault : AsmFault) → 1 ≤ length items → get_or items 0 other ≡ item
+  pub failed_item : (new : UsedNames) (fault : AsmFault) → 1 ≤ length items → get_or items 0 other ≡ item
       → Refuses fault (most_names < length (with_all (symbol_uses item) old).names) ⊥ → IsErrAnd result (λ f. f ≡ fault)
       → Adds (flat_map symbol_uses items) old new result
   failed_item new fault some first refuses is = by_items items some first
@@ -127,7 +127,7 @@ module _ {A : Type 0} (symbol_uses : A → List SymbolUse) (items : List A) (ite
           let P : A → Type 0 = λ i. Refuses fault (most_names < length (with_all (symbol_uses i) old).names) ⊥ in
           failed_first (symbol_uses found) (flat_map symbol_uses rest) old new fault result (subst P (sym first) refuses) is
 
-  pub item_then : (middle new : Gathered) → 1 ≤ length items → get_or items 0 other ≡ item
+  pub item_then : (middle new : UsedNames) → 1 ≤ length items → get_or items 0 other ≡ item
       → middle ≡ with_all (symbol_uses item) old
       → Adds (flat_map symbol_uses (take (length items - 1) (drop 1 items))) middle new result
       → Adds (flat_map symbol_uses items) old new result
@@ -147,7 +147,7 @@ defined_joined : (name : Option Name) (names : List (Option Name))
 defined_joined (Some name) names = refl
 defined_joined None names = refl
 
-pub failed_name : (names : List (Option Name)) (name other : Option Name) (old new : Gathered) (fault : AsmFault)
+pub failed_name : (names : List (Option Name)) (name other : Option Name) (old new : UsedNames) (fault : AsmFault)
     (result : Result (Unit {0}) AsmFault) → 1 ≤ length names → get_or names 0 other ≡ name
     → Refuses fault (most_names < length (with_all (defined name) old).names) ⊥ → IsErrAnd result (λ f. f ≡ fault)
     → Adds (map named (names_among names)) old new result
@@ -158,7 +158,7 @@ failed_name (found ∷ names) name other old new fault result some first refuses
     subst Q (defined_joined found names)
     (failed_first (defined found) (map named (names_among names)) old new fault result (subst P (sym first) refuses) is)
 
-pub failed_symbol : (context : Context) (symbols : List Symbol) (symbol other : Symbol) (old new : Gathered) (fault : AsmFault)
+pub failed_symbol : (context : Context) (symbols : List Symbol) (symbol other : Symbol) (old new : UsedNames) (fault : AsmFault)
     (result : Result (Unit {0}) AsmFault) → 1 ≤ length symbols → get_or symbols 0 other ≡ symbol
     → Refuses fault (most_names < length (with_all (symbol_use context symbol ∷ []) old).names) ⊥
     → IsErrAnd result (λ f. f ≡ fault) → Adds (in_context context symbols) old new result
@@ -169,12 +169,12 @@ failed_symbol context (found ∷ symbols) symbol other old new fault result some
 
 -- ---- memory is refused at a label, and up to it no name is one too many
 
-pub first_label : (symbol_uses : Label → List SymbolUse) (labels : List Label) (other : Label) (old : Gathered) → 1 ≤ length labels
+pub first_label : (symbol_uses : Label → List SymbolUse) (labels : List Label) (other : Label) (old : UsedNames) → 1 ≤ length labels
     → length (with_all (symbol_uses (get_or labels 0 other)) old).names ≤ most_names
     → FitsUpToLabel labels (λ some. length (with_all (flat_map symbol_uses some) old).names ≤ most_names)
 first_label symbol_uses [] other old some fits = absurd (none_first some)
 first_label symbol_uses (label ∷ others) other old some fits =
-    let P : Gathered → Type 0 = λ g. length g.names ≤ most_names in
+    let P : UsedNames → Type 0 = λ g. length g.names ≤ most_names in
     record {
       done = [];
       label = label;
@@ -183,14 +183,14 @@ first_label symbol_uses (label ∷ others) other old some fits =
       fits = subst P (sym (all_joined (symbol_uses label) [] old)) fits;
     }
 
-pub later_label : (symbol_uses : Label → List SymbolUse) (labels : List Label) (other : Label) (old middle : Gathered) → 1 ≤ length labels
+pub later_label : (symbol_uses : Label → List SymbolUse) (labels : List Label) (other : Label) (old middle : UsedNames) → 1 ≤ length labels
     → middle ≡ with_all (symbol_uses (get_or labels 0 other)) old
     → FitsUpToLabel (take (length labels - 1) (drop 1 labels))
     (λ some. length (with_all (flat_map symbol_uses some) middle).names ≤ most_names)
     → FitsUpToLabel labels (λ some. length (with_all (flat_map symbol_uses some) old).names ≤ most_names)
 later_label symbol_uses [] other old middle some first later = absurd (none_first some)
 later_label symbol_uses (label ∷ others) other old middle some first later =
-    let P : Gathered → Type 0 = λ g. length g.names ≤ most_names in
+    let P : UsedNames → Type 0 = λ g. length g.names ≤ most_names in
     let rest : List SymbolUse = flat_map symbol_uses (later.done ++ later.label ∷ []) in
     record {
       done = label ∷ later.done;

@@ -20,7 +20,7 @@ use Rattle.m11_asm_table.specs.Alike.{Alike, Follows}
 use Rattle.m11_asm_lines.proofs.Alike.{alike_defined, alike_location, alike_section, same_labelled}
 use Rattle.m11_asm_lines.specs.Labels.{Defines}
 use Rattle.m11_asm_lines.specs.Moved.{is_at, is_in, is_location_of, flag_P, moved_key, moved_kind, moved_flags, moved_name}
-use Rattle.m11_asm_lines.specs.Passes.{Kept, Matches}
+use Rattle.m11_asm_lines.specs.Passes.{TableState, Matches}
 
 -- ---- one key
 
@@ -127,7 +127,7 @@ labels_then line (label ∷ others) other old middle new some first rest = λ to
     let P : List Label → Type 0 = λ ls. Follows middle new (λ t. with_labels line t ls) in
     subst P (others_all label others) rest (with_label line told label) (first told alike)
 
-pub moved_then : (map : Map) (line : Bytes) (labels : List Label) (other : Label) (table : Table) (old middle : Kept)
+pub moved_then : (map : Map) (line : Bytes) (labels : List Label) (other : Label) (table : Table) (old middle : TableState)
     (flags moved more : ℕ) → 1 ≤ length labels → table ≡ old.table
     → Defines old middle flags (λ told. with_label line told (get_or labels 0 other))
     (λ told. kind_flags told (label_name line (get_or labels 0 other)) (get_or labels 0 other).kind)

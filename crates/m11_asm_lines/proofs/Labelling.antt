@@ -22,25 +22,25 @@ use Rattle.m11_asm_lines.proofs.Passes.{counted_more}
 use Rattle.m11_asm_lines.proofs.Room.{AtLeast, as_many, few_told, refuses_more}
 use Rattle.m11_asm_lines.specs.Faults.{Refuses}
 use Rattle.m11_asm_lines.specs.Labels.{Defines, DefinesAll, FitsUpToLabel}
-use Rattle.m11_asm_lines.specs.Passes.{Follows, Kept, Matches}
+use Rattle.m11_asm_lines.specs.Passes.{Follows, TableState, Matches}
 
 -- ---- one key
 
 -- a label's definition, as the code makes it, is that of the definitions' table
-pub labelled_there : (kept : Kept) (told : Table) (key : Key) → Matches kept told → labelled kept.table key ≡ labelled told key
+pub labelled_there : (kept : TableState) (told : Table) (key : Key) → Matches kept told → labelled kept.table key ≡ labelled told key
 labelled_there kept told key matches = same_labelled kept.table told matches.alike key
 
-pub defined_there : (kept : Kept) (told : Table) (key : Key) → Matches kept told
+pub defined_there : (kept : TableState) (told : Table) (key : Key) → Matches kept told
     → is_defined key kept.table.definitions ≡ is_defined key told.definitions
 defined_there kept told key matches = alike_defined kept.table told matches.alike key
 
-pub labels_here : (old new : Kept) (key : Key) (definition : Definition) → definition ≡ labelled old.table key
+pub labels_here : (old new : TableState) (key : Key) (definition : Definition) → definition ≡ labelled old.table key
     → Follows old new (with_definition definition) → Follows old new (λ told. with_definition (labelled told key) told)
 labels_here old new key definition e follows told matches =
     let P : Definition → Type 0 = λ d. Matches new (with_definition d told) in
     subst P (e ∙ labelled_there old told key matches) (follows told matches)
 
-module _ (old new : Kept) where
+module _ (old new : TableState) where
   pub names_double : (name : Name) (is_global : Bool) → is_defined (Named name) old.table.definitions ≡ true
       → Follows old new (with_doubly_defined (Named name))
       → Defines old new 64 (λ told. with_name is_global told (Some name)) (λ told. name_flags told (Some name))
@@ -94,7 +94,7 @@ module _ (old new : Kept) where
       subst P (key_of told number matches) (rw there refl)
 
 -- the block is read before
-module _ (old new : Kept) (block number : ℕ) (is : block ≡ old.table.modes.block) where
+module _ (old new : TableState) (block number : ℕ) (is : block ≡ old.table.modes.block) where
   pub blocks_double : is_defined (Numbered block number) old.table.definitions ≡ true → Follows old new (with_doubly_defined (Numbered block number))
       → Defines old new 64 (λ told. with_key (Numbered told.modes.block number) told)
       (λ told. key_flags told (Numbered told.modes.block number))
@@ -139,7 +139,7 @@ module _ (old new : Kept) (block number : ℕ) (is : block ≡ old.table.modes.b
       rw there (few_told old told matches few symbols)
 
 -- what is said of the table with the definition of a name, is said of that with the label
-pub names_said : (Said : Table → Type 0) (old : Kept) (name : Name) (definition : Definition)
+pub names_said : (Said : Table → Type 0) (old : TableState) (name : Name) (definition : Definition)
     → definition ≡ labelled old.table (Named name) → ((told : Table) → Matches old told → Said (with_definition definition told))
     → (told : Table) → Matches old told → Said (with_definition (labelled told (Named name)) told)
 names_said Said old name definition e says told matches =
@@ -152,7 +152,7 @@ opened_too_many : (is_global : Bool) (name : Name) (told : Table)
 opened_too_many true name told = refl
 opened_too_many false name told = refl
 
-module _ (old : Kept) (name : Name) (is_global : Bool) where
+module _ (old : TableState) (name : Name) (is_global : Bool) where
   pub opens_said : (Said : Bool → Type 0) → is_defined (Named name) old.table.definitions ≡ false
       → ((told : Table) → Matches old told → Said (has_too_many (with_definition (labelled told (Named name)) told)))
       → (told : Table) → Matches old told → Said (has_too_many (with_name is_global told (Some name)))
@@ -212,7 +212,7 @@ labels_count line told (label ∷ labels) =
     let symbols_then = more.symbols in
     record { names = omega (arith, names, names_then); symbols = omega (arith, symbols, symbols_then) }
 
-pub labels_defined : (line : Bytes) (label : Label) (others : List Label) (old middle new : Kept) (flags more : ℕ)
+pub labels_defined : (line : Bytes) (label : Label) (others : List Label) (old middle new : TableState) (flags more : ℕ)
     → Defines old middle flags (λ told. with_label line told label)
     (λ told. kind_flags told (label_name line label) label.kind)
     → DefinesAll line others middle new more
@@ -235,7 +235,7 @@ others_all label others = take_all (length (label ∷ others) - 1) others (omega
 none_first : 1 ≤ 0 → ⊥
 none_first e = omega (arith, e)
 
-pub first_defined : (line : Bytes) (labels : List Label) (other : Label) (old middle new : Kept) (flags more : ℕ) → 1 ≤ length labels
+pub first_defined : (line : Bytes) (labels : List Label) (other : Label) (old middle new : TableState) (flags more : ℕ) → 1 ≤ length labels
     → Defines old middle flags (λ told. with_label line told (get_or labels 0 other))
     (λ told. kind_flags told (label_name line (get_or labels 0 other)) (get_or labels 0 other).kind)
     → DefinesAll line (take (length labels - 1) (drop 1 labels)) middle new more
@@ -245,7 +245,7 @@ first_defined line (label ∷ others) other old middle new flags more some first
     let P : List Label → Type 0 = λ ls. DefinesAll line ls middle new more in
     labels_defined line label others old middle new flags more first (subst P (others_all label others) rest)
 
-pub first_refused : (line : Bytes) (labels : List Label) (other : Label) (fault : AsmFault) (old : Kept) → 1 ≤ length labels
+pub first_refused : (line : Bytes) (labels : List Label) (other : Label) (fault : AsmFault) (old : TableState) → 1 ≤ length labels
     → ((told : Table) → Matches old told
     → Refuses fault (has_too_many (with_label line told (get_or labels 0 other)) ≡ true) ⊥)
     → (told : Table) → Matches old told

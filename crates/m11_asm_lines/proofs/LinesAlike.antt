@@ -1,4 +1,4 @@
--- Tables that are alike have the same lines: what a line changes, puts and mentions, and its flags.
+-- Tables that are alike have the same lines: what a line changes, emits and mentions, and its flags.
 use Rattle.std.proofs.Common.{◌≡◌, ◌∙◌, ℕ, ◌*◌, Bool, true, false, if◌then◌else◌, List, [], ◌∷◌, Option, Some, None, refl, sym, ap}
 use Rattle.std.specs.Int.RustNames.{bit_or}
 use Rattle.m11_unfold_arguments.specs.Expressions as expressions
@@ -19,19 +19,19 @@ use Rattle.m11_asm_rules.specs.Alignment.{gap, gap_flags, location_for}
 use Rattle.m11_asm_rules.specs.Assigning as assigning
 use Rattle.m11_asm_rules.specs.Changes.{Change, Numbers}
 use Rattle.m11_asm_rules.specs.Counts as counts
-use Rattle.m11_asm_rules.specs.Contents.{Put, byte, element_value, fixed_byte, followed_by, further, nothing, put, with_flags, word}
-use Rattle.m11_asm_rules.specs.Effects.{change_by, directive_change, directive_put, operator_change, operator_put, steps}
+use Rattle.m11_asm_rules.specs.Contents.{Emission, byte, element_value, fixed_byte, followed_by, further, nothing, emission, with_flags, word}
+use Rattle.m11_asm_rules.specs.Effects.{change_by, directive_change, directive_emission, operator_change, operator_emission, steps}
 use Rattle.m11_asm_rules.specs.Elements.{elements_at}
 use Rattle.m11_asm_rules.specs.Exports as exports
 use Rattle.m11_asm_rules.specs.Fields.{Fields, fields_at, forms_of}
 use Rattle.m11_asm_rules.specs.Instructions.{assembled, fields}
-use Rattle.m11_asm_rules.specs.Lines.{Assign, Action, Operate, NoAction, SetCounter as SetsLocation, change_of, operation_put, put_by}
+use Rattle.m11_asm_rules.specs.Lines.{Assign, Action, Operate, NoAction, SetCounter as SetsLocation, change_of, operation_emission, emission_by}
 use Rattle.m11_asm_rules.specs.Labels.{flag_M}
 use Rattle.m11_asm_rules.specs.Meanings.{Map, empty_map, firm_known, known_at}
 use Rattle.m11_asm_rules.specs.SymbolUses.{action_uses, field_uses}
 use Rattle.m11_asm_rules.specs.Operands.{instruction_size}
 use Rattle.m11_asm_rules.specs.Operators.{is_even}
-use Rattle.m11_asm_rules.specs.Locations.{Moved}
+use Rattle.m11_asm_rules.specs.Locations.{SectionMove}
 use Rattle.m11_asm_rules.specs.declared.sections.Section.{Section}
 use Rattle.m11_asm_rules.specs.Storage as storage
 use Rattle.m11_asm_rules.specs.Strings as strings
@@ -62,7 +62,7 @@ firm_alike one other alike = record {
 }
 
 -- a table with other definitions and counters, and the same sections and settings
-abbrev beside : Table → List Definition → List Key → List Name → List Moved → Table
+abbrev beside : Table → List Definition → List Key → List Name → List SectionMove → Table
 beside one definitions doubly_defined globals moves = record {
   definitions = definitions;
   doubly_defined = doubly_defined;
@@ -72,7 +72,7 @@ beside one definitions doubly_defined globals moves = record {
   modes = one.modes;
 }
 
-module _ (one : Table) (definitions : List Definition) (doubly_defined : List Key) (globals : List Name) (moves : List Moved)
+module _ (one : Table) (definitions : List Definition) (doubly_defined : List Key) (globals : List Name) (moves : List SectionMove)
     (alike : Alike one (beside one definitions doubly_defined globals moves)) where
   abbrev other : Table
   other = beside one definitions doubly_defined globals moves
@@ -87,13 +87,13 @@ module _ (one : Table) (definitions : List Definition) (doubly_defined : List Ke
   fields_alike : (here : ℕ) (line : Bytes) (start : ℕ) (operation : Op)
       → fields one here line start operation ≡ fields other here line start operation
   fields_alike here line start operation =
-      ap (λ (k : expressions.Known). fields_at k line start operation) (known_alike here)
+      ap (λ (k : expressions.KnownSymbols). fields_at k line start operation) (known_alike here)
 
   -- ---- what changes
 
   block_alike : (here : ℕ) (line : Bytes) (start : ℕ) → storage.block_count one here line start ≡ storage.block_count other here line start
   block_alike here line start =
-      ap (λ (k : expressions.Known). if has_expression line start then number_at k line start else 1) (known_alike here)
+      ap (λ (k : expressions.KnownSymbols). if has_expression line start then number_at k line start else 1) (known_alike here)
 
   directive_alike : (passed here : ℕ) (line : Bytes) (start : ℕ) (arguments : Option ℕ) (of : Directive)
       → directive_change one passed here line start arguments of ≡ directive_change other passed here line start arguments of
@@ -118,7 +118,7 @@ module _ (one : Table) (definitions : List Definition) (doubly_defined : List Ke
   counter_alike : (line : Bytes) (start : ℕ) → assigning.counter_value one line start ≡ assigning.counter_value other line start
   counter_alike line start =
       ap (λ (p : ℕ). value_at (firm_known one p) line start) same_location
-      ∙ ap (λ (k : expressions.Known). value_at k line start) (known_alike (location other))
+      ∙ ap (λ (k : expressions.KnownSymbols). value_at k line start) (known_alike (location other))
 
   change_alike : (line : Bytes) (arguments : Option ℕ) (action : Action)
       → change_of one line arguments action ≡ change_of other line arguments action
@@ -127,46 +127,46 @@ module _ (one : Table) (definitions : List Definition) (doubly_defined : List Ke
   change_alike line arguments (SetsLocation start) = ap (λ (v : Quantity). assigning.counter_to one v) (counter_alike line start)
   change_alike line arguments (Operate operator start) = operator_alike line start arguments operator
 
-  -- ---- what is put
+  -- ---- what is emitted
 
   module _ (map : Map) (line : Bytes) where
     words_alike : (starts : List ℕ) (here : ℕ)
         → storage.words_from map one line here starts ≡ storage.words_from map other line here starts
     words_alike [] here = refl
     words_alike (start ∷ starts) here =
-        ap (λ (k : expressions.Known). followed_by (word one false here (element_value k line start))
+        ap (λ (k : expressions.KnownSymbols). followed_by (word one false here (element_value k line start))
         (storage.words_from map one line (further here 2) starts)) (alike_known one other alike map MayBeGlobal here)
-        ∙ ap (λ (p : Put). followed_by (word other false here (element_value (known_at map MayBeGlobal other here) line start)) p)
+        ∙ ap (λ (p : Emission). followed_by (word other false here (element_value (known_at map MayBeGlobal other here) line start)) p)
         (words_alike starts (further here 2))
 
     bytes_alike : (starts : List ℕ) (here : ℕ)
         → storage.bytes_from map one line here starts ≡ storage.bytes_from map other line here starts
     bytes_alike [] here = refl
     bytes_alike (start ∷ starts) here =
-        ap (λ (k : expressions.Known). followed_by (byte one here (element_value k line start))
+        ap (λ (k : expressions.KnownSymbols). followed_by (byte one here (element_value k line start))
         (storage.bytes_from map one line (further here 1) starts)) (alike_known one other alike map MayBeGlobal here)
-        ∙ ap (λ (p : Put). followed_by (byte other here (element_value (known_at map MayBeGlobal other here) line start)) p)
+        ∙ ap (λ (p : Emission). followed_by (byte other here (element_value (known_at map MayBeGlobal other here) line start)) p)
         (bytes_alike starts (further here 1))
 
     part_alike : (here : ℕ) (part : Part) (of : PartKind)
         → strings.part_bytes map one here line part of ≡ strings.part_bytes map other here line part of
     part_alike here part Text = refl
     part_alike here part Expression =
-        ap (λ (k : expressions.Known). byte one here (value_at k line part.inside.start)) (alike_known one other alike map MayBeGlobal here)
+        ap (λ (k : expressions.KnownSymbols). byte one here (value_at k line part.inside.start)) (alike_known one other alike map MayBeGlobal here)
 
     parts_alike : (parts : List Part) (here : ℕ)
         → strings.parts_bytes map one here line parts ≡ strings.parts_bytes map other here line parts
     parts_alike [] here = refl
     parts_alike (part ∷ parts) here =
-        ap (λ (p : Put). followed_by p
+        ap (λ (p : Emission). followed_by p
         (strings.parts_bytes map one (further here (strings.part_size line part part.kind)) line parts))
         (part_alike here part part.kind)
-        ∙ ap (λ (p : Put). followed_by (strings.part_bytes map other here line part part.kind) p)
+        ∙ ap (λ (p : Emission). followed_by (strings.part_bytes map other here line part part.kind) p)
         (parts_alike parts (further here (strings.part_size line part part.kind)))
 
     ascii_alike : (here start : ℕ) → strings.ascii map one here line start ≡ strings.ascii map other here line start
     ascii_alike here start =
-        ap (λ (p : Put). with_flags (strings.text_flags line start (strings.parts_at line start)) p)
+        ap (λ (p : Emission). with_flags (strings.text_flags line start (strings.parts_at line start)) p)
         (parts_alike (strings.parts_at line start).list here)
 
     definition_alike : (name : Name) → assigning.definition_flags map one name ≡ assigning.definition_flags map other name
@@ -180,7 +180,7 @@ module _ (one : Table) (definitions : List Definition) (doubly_defined : List Ke
     block_flags_alike : (here start : ℕ)
         → nothing (storage.block_flags one here line start) ≡ nothing (storage.block_flags other here line start)
     block_flags_alike here start =
-        ap (λ (k : expressions.Known). nothing (if has_expression line start then
+        ap (λ (k : expressions.KnownSymbols). nothing (if has_expression line start then
         bit_or (expressions.number_flags k line start) (left_over line (expression_end line start)) else left_over line start))
         (known_alike here)
 
@@ -189,18 +189,18 @@ module _ (one : Table) (definitions : List Definition) (doubly_defined : List Ke
         ap (λ (q : Quantity). if has_expression line start then Some q else None) (alike_value one other alike map line start)
 
     put_directive_alike : (here start : ℕ) (arguments : Option ℕ) (of : Directive)
-        → directive_put map one here line start arguments of ≡ directive_put map other here line start arguments of
+        → directive_emission map one here line start arguments of ≡ directive_emission map other here line start arguments of
     put_directive_alike here start arguments directive.Word =
-        ap (λ (p : Put). with_flags (storage.end_flags line start (elements_at line start).end) p)
+        ap (λ (p : Emission). with_flags (storage.end_flags line start (elements_at line start).end) p)
         (words_alike (elements_at line start).columns here)
     put_directive_alike here start arguments directive.Byte =
-        ap (λ (p : Put). with_flags (storage.end_flags line start (elements_at line start).end) p)
+        ap (λ (p : Emission). with_flags (storage.end_flags line start (elements_at line start).end) p)
         (bytes_alike (elements_at line start).columns here)
     put_directive_alike here start arguments directive.Ascii = ascii_alike here start
     put_directive_alike here start arguments directive.Asciz =
-        ap (λ (p : Put). followed_by p (put (fixed_byte 0 ∷ []) 0)) (ascii_alike here start)
+        ap (λ (p : Emission). followed_by p (emission (fixed_byte 0 ∷ []) 0)) (ascii_alike here start)
     put_directive_alike here start arguments directive.Rad50 =
-        ap (λ (k : expressions.Known). strings.rad50_words (strings.text_flags line start (strings.parts_at line start))
+        ap (λ (k : expressions.KnownSymbols). strings.rad50_words (strings.text_flags line start (strings.parts_at line start))
         (strings.parts_codes k line (strings.parts_at line start).list)) (alike_known one other alike map LocalOnly here)
     put_directive_alike here start arguments directive.Blkb = block_flags_alike here start
     put_directive_alike here start arguments directive.Blkw = block_flags_alike here start
@@ -216,23 +216,23 @@ module _ (one : Table) (definitions : List Definition) (doubly_defined : List Ke
     put_directive_alike here start arguments of = refl
 
     put_operator_alike : (here start : ℕ) (arguments : Option ℕ) (operator : Operator)
-        → operator_put map one here line start arguments operator ≡ operator_put map other here line start arguments operator
+        → operator_emission map one here line start arguments operator ≡ operator_emission map other here line start arguments operator
     put_operator_alike here start arguments (operators.Instruction operation) =
-        let at : expressions.Known → expressions.Known → Fields → Put = λ known refers found.
+        let at : expressions.KnownSymbols → expressions.KnownSymbols → Fields → Emission = λ known refers found.
         assembled (record { table = one; location = here; known = known; refers = refers; line = line }) start operation found in
-        ap (λ (k : expressions.Known). at k (known_at map MayBeGlobal one here) (fields one here line start operation))
+        ap (λ (k : expressions.KnownSymbols). at k (known_at map MayBeGlobal one here) (fields one here line start operation))
         (alike_known one other alike map LocalOnly here)
-        ∙ ap (λ (k : expressions.Known). at (known_at map LocalOnly other here) k (fields one here line start operation))
+        ∙ ap (λ (k : expressions.KnownSymbols). at (known_at map LocalOnly other here) k (fields one here line start operation))
         (alike_known one other alike map MayBeGlobal here)
         ∙ ap (at (known_at map LocalOnly other here) (known_at map MayBeGlobal other here)) (fields_alike here line start operation)
     put_operator_alike here start arguments (operators.Directive of) = put_directive_alike here start arguments of
 
     operation_alike : (start : ℕ) (arguments : Option ℕ) (operator : Operator)
-        → operation_put map one line arguments operator start ≡ operation_put map other line arguments operator start
+        → operation_emission map one line arguments operator start ≡ operation_emission map other line arguments operator start
     operation_alike start arguments operator =
         ap (λ (p : ℕ). with_flags (gap_flags (is_even operator) p)
-        (operator_put map one (location_for (is_even operator) p) line start arguments operator)) same_location
-        ∙ ap (λ (p : Put). with_flags (gap_flags (is_even operator) (location other)) p)
+        (operator_emission map one (location_for (is_even operator) p) line start arguments operator)) same_location
+        ∙ ap (λ (p : Emission). with_flags (gap_flags (is_even operator) (location other)) p)
         (put_operator_alike (location_for (is_even operator) (location other)) start arguments operator)
 
     target_alike : (name : Option Name) → assigning.target_flags map one name ≡ assigning.target_flags map other name
@@ -247,10 +247,10 @@ module _ (one : Table) (definitions : List Definition) (doubly_defined : List Ke
         ap (λ (n : ℕ). with_value n (value_at (known_at map LocalOnly one (location one)) line start)) (target_alike (assigning.target line name))
         ∙ ap (λ (p : ℕ). with_value (assigning.target_flags map other (assigning.target line name))
         (value_at (known_at map LocalOnly one p) line start)) same_location
-        ∙ ap (λ (k : expressions.Known). with_value (assigning.target_flags map other (assigning.target line name)) (value_at k line start))
+        ∙ ap (λ (k : expressions.KnownSymbols). with_value (assigning.target_flags map other (assigning.target line name)) (value_at k line start))
         (alike_known one other alike map LocalOnly (location other))
 
-    put_alike : (arguments : Option ℕ) (action : Action) → put_by map one line arguments action ≡ put_by map other line arguments action
+    put_alike : (arguments : Option ℕ) (action : Action) → emission_by map one line arguments action ≡ emission_by map other line arguments action
     put_alike arguments NoAction = refl
     put_alike arguments (Assign name is_global start) = ap nothing (assignment_alike name start)
     put_alike arguments (SetsLocation start) =
@@ -302,10 +302,10 @@ module _ (one other : Table) (alike : Alike one other) where
       ∙ ap (λ (t : Table). change_of t line arguments action) same_but
 
   pub puts_alike : (map : Map) (line : Bytes) (arguments : Option ℕ) (action : Action)
-      → put_by map one line arguments action ≡ put_by map other line arguments action
+      → emission_by map one line arguments action ≡ emission_by map other line arguments action
   puts_alike map line arguments action =
       put_alike one other.definitions other.doubly_defined other.globals other.moves beside_alike map line arguments action
-      ∙ ap (λ (t : Table). put_by map t line arguments action) same_but
+      ∙ ap (λ (t : Table). emission_by map t line arguments action) same_but
 
   pub all_uses_alike : (line : Bytes) (arguments : Option ℕ) (action : Action)
       → action_uses one line arguments action ≡ action_uses other line arguments action

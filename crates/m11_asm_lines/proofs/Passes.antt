@@ -21,9 +21,9 @@ use Rattle.m11_asm_table.specs.Alike.{Alike}
 use Rattle.m11_asm_lines.proofs.Alike.{alike_defined, alike_itself, alike_location}
 use Rattle.m11_asm_lines.proofs.Room.{few_of_both, many_names, many_symbols}
 use Rattle.m11_asm_lines.proofs.Sizes.{size_here, size_there}
-use Rattle.m11_asm_lines.specs.Passes.{Follows, Kept, Matches, no_sizes, size_at, with_size}
+use Rattle.m11_asm_lines.specs.Passes.{Follows, TableState, Matches, no_sizes, size_at, with_size}
 
-abbrev pub keeping : Table → ℕ → ℕ → List ℕ → Kept
+abbrev pub keeping : Table → ℕ → ℕ → List ℕ → TableState
 keeping table names local_symbols sizes = record { table = table; names = names; local_symbols = local_symbols; sizes = sizes }
 
 -- ---- what the same change leaves of a table itself
@@ -43,7 +43,7 @@ counted_more definition definitions told e =
     last_one : (n : ℕ) → 0 + n ≡ n
     last_one n = omega arith
 
-defines : (old : Kept) (new : Table) (names locals : ℕ) (definition : Definition)
+defines : (old : TableState) (new : Table) (names locals : ℕ) (definition : Definition)
     → tables.Follows old.table new (with_definition definition)
     → ((told : Table) → Matches old told → names ≡ name_count (with_definition definition told))
     → locals ≡ old.local_symbols + cond (is_local definition.key) 1 0
@@ -72,7 +72,7 @@ names_by names count is_new false name definition told same e counted new known 
     counted ∙ ap (λ (b : Bool). names + cond b 1 0) new ∙ ap (λ (n : ℕ). n + 1) same
     ∙ sym (new_counts name definition told e known)
 
-names_more : (old : Kept) (count : ℕ) (is_new : Bool) (name : Name) (definition : Definition) → definition.key ≡ Named name
+names_more : (old : TableState) (count : ℕ) (is_new : Bool) (name : Name) (definition : Definition) → definition.key ≡ Named name
     → count ≡ old.names + cond is_new 1 0 → is_new ≡ not (is_defined (Named name) old.table.definitions)
     → (told : Table) → Matches old told → count ≡ name_count (with_definition definition told)
 names_more old count is_new name definition e counted new told matches =
@@ -81,7 +81,7 @@ names_more old count is_new name definition e counted new told matches =
 
 -- ---- what leaves definitions and counters as they are
 
-doubles : (old : Kept) (new : Table) (key : Key) → tables.Follows old.table new (with_doubly_defined key)
+doubles : (old : TableState) (new : Table) (key : Key) → tables.Follows old.table new (with_doubly_defined key)
     → Follows old (keeping new old.names old.local_symbols old.sizes) (with_doubly_defined key)
 doubles old new key follows told matches = record {
   alike = follows told matches.alike;
@@ -90,7 +90,7 @@ doubles old new key follows told matches = record {
   sizes = matches.sizes;
 }
 
-exports : (old : Kept) (new : Table) (name : Name) → tables.Follows old.table new (with_global name)
+exports : (old : TableState) (new : Table) (name : Name) → tables.Follows old.table new (with_global name)
     → Follows old (keeping new old.names old.local_symbols old.sizes) (with_global name)
 exports old new name follows told matches = record {
   alike = follows told matches.alike;
@@ -127,12 +127,12 @@ size_by sizes section number location_now told move false e within same there =
     differs : (section number : ℕ) → (section == number) ≡ false → number ≢ section
     differs section number e = grind (arith, nat_tests)
 
-counts : (old : Kept) (table : Table) (new : Kept) (move : Move) → tables.Follows old.table table (with_move move)
+counts : (old : TableState) (table : Table) (new : TableState) (move : Move) → tables.Follows old.table table (with_move move)
     → new ≡ with_size (keeping table old.names old.local_symbols old.sizes) → old.table.modes.section < length old.sizes
     → Follows old new (with_move move)
 counts old table new move follows e within told matches =
     let went : Alike table (with_move move told) = follows told matches.alike in
-    let P : Kept → Type 0 = λ k. Matches k (with_move move told) in
+    let P : TableState → Type 0 = λ k. Matches k (with_move move told) in
     let S : ℕ → Type 0 = λ n. n < length old.sizes in
     let T : ℕ → Type 0 = λ n. (number : ℕ) → number < 64
     → size_at (slice_set old.sizes n (max (size_at old.sizes n) (location table))) number
@@ -150,15 +150,15 @@ counts old table new move follows e within told matches =
 
 -- ---- what is kept, by its parts
 
-module _ (table : Table) (names locals : ℕ) (sizes : List ℕ) (old : Kept) (is : keeping table names locals sizes ≡ old) where
+module _ (table : Table) (names locals : ℕ) (sizes : List ℕ) (old : TableState) (is : keeping table names locals sizes ≡ old) where
   pub modes_kept : (new : Table) (change : Table → Table) → tables.Follows table new change
       → (change table).modes ≡ table.modes → new.modes ≡ old.table.modes
   modes_kept new change follows same =
-      modes_stay table new change follows same ∙ ap (λ (k : Kept). k.table.modes) is
+      modes_stay table new change follows same ∙ ap (λ (k : TableState). k.table.modes) is
 
   pub table_kept : (new : Table) (change : Table → Table) → tables.Follows table new change → tables.Follows old.table new change
   table_kept new change follows =
-      let P : Kept → Type 0 = λ k. tables.Follows k.table new change in
+      let P : TableState → Type 0 = λ k. tables.Follows k.table new change in
       subst P is follows
 
   pub name_defined : (name : Name) (definition : Definition) (new : Table) (after : ℕ) (is_new : Bool) → definition.key ≡ Named name
@@ -166,7 +166,7 @@ module _ (table : Table) (names locals : ℕ) (sizes : List ℕ) (old : Kept) (i
       → tables.Follows table new (with_definition definition)
       → Follows old (keeping new after locals sizes) (with_definition definition)
   name_defined name definition new after is_new e counted known follows =
-      let P : Kept → Type 0 = λ k. Follows k (keeping new after locals sizes) (with_definition definition) in
+      let P : TableState → Type 0 = λ k. Follows k (keeping new after locals sizes) (with_definition definition) in
       subst P is (defines (keeping table names locals sizes) new after locals definition follows
       (names_more (keeping table names locals sizes) after is_new name definition e counted
       (known ∙ ap (λ (k : Key). not (is_defined k table.definitions)) e))
@@ -179,7 +179,7 @@ module _ (table : Table) (names locals : ℕ) (sizes : List ℕ) (old : Kept) (i
       → after ≡ locals + 1 → tables.Follows table new (with_definition definition)
       → Follows old (keeping new names after sizes) (with_definition definition)
   symbol_defined block number definition new after e one follows =
-      let P : Kept → Type 0 = λ k. Follows k (keeping new names after sizes) (with_definition definition) in
+      let P : TableState → Type 0 = λ k. Follows k (keeping new names after sizes) (with_definition definition) in
       subst P is (defines (keeping table names locals sizes) new names after definition follows
       (λ told matches. matches.names ∙ sym (symbol_counts block number definition told e))
       (one ∙ ap (λ (k : Key). locals + cond (is_local k) 1 0) (sym e)))
@@ -188,13 +188,13 @@ module _ (table : Table) (names locals : ℕ) (sizes : List ℕ) (old : Kept) (i
 
   known_by : (told : Table) (key : Key) → Matches old told → is_defined key table.definitions ≡ is_defined key told.definitions
   known_by told key matches =
-      ap (λ (k : Kept). is_defined key k.table.definitions) is ∙ alike_defined old.table told matches.alike key
+      ap (λ (k : TableState). is_defined key k.table.definitions) is ∙ alike_defined old.table told matches.alike key
 
   names_are : (told : Table) → Matches old told → names ≡ name_count told
-  names_are told matches = ap (λ (k : Kept). k.names) is ∙ matches.names
+  names_are told matches = ap (λ (k : TableState). k.names) is ∙ matches.names
 
   locals_are : (told : Table) → Matches old told → locals ≡ local_count told
-  locals_are told matches = ap (λ (k : Kept). k.local_symbols) is ∙ matches.local_symbols
+  locals_are told matches = ap (λ (k : TableState). k.local_symbols) is ∙ matches.local_symbols
 
   pub names_full : (name : Name) (definition : Definition) (told : Table) → definition.key ≡ Named name → 4104 ≤ names
       → is_defined definition.key table.definitions ≡ false → Matches old told → has_too_many (with_definition definition told) ≡ true
@@ -258,27 +258,27 @@ module _ (table : Table) (names locals : ℕ) (sizes : List ℕ) (old : Kept) (i
   pub key_doubly_defined : (key : Key) (new : Table) → tables.Follows table new (with_doubly_defined key)
       → Follows old (keeping new names locals sizes) (with_doubly_defined key)
   key_doubly_defined key new follows =
-      let P : Kept → Type 0 = λ k. Follows k (keeping new names locals sizes) (with_doubly_defined key) in
+      let P : TableState → Type 0 = λ k. Follows k (keeping new names locals sizes) (with_doubly_defined key) in
       subst P is (doubles (keeping table names locals sizes) new key follows)
 
   pub name_exported : (name : Name) (new : Table) → tables.Follows table new (with_global name)
       → Follows old (keeping new names locals sizes) (with_global name)
   name_exported name new follows =
-      let P : Kept → Type 0 = λ k. Follows k (keeping new names locals sizes) (with_global name) in
+      let P : TableState → Type 0 = λ k. Follows k (keeping new names locals sizes) (with_global name) in
       subst P is (exports (keeping table names locals sizes) new name follows)
 
-  pub counter_moved : (move : Move) (moved : Table) (new : Kept) → tables.Follows table moved (with_move move)
+  pub counter_moved : (move : Move) (moved : Table) (new : TableState) → tables.Follows table moved (with_move move)
       → new ≡ with_size (keeping moved names locals sizes) → table.modes.section < length sizes
       → Follows old new (with_move move)
   counter_moved move moved new follows e within =
-      let P : Kept → Type 0 = λ k. Follows k new (with_move move) in
+      let P : TableState → Type 0 = λ k. Follows k new (with_move move) in
       subst P is (counts (keeping table names locals sizes) moved new move follows e within)
 
-  pub counter_told : (move : Move) (moved : Table) (new : Kept) → tables.Follows table moved (with_move move)
+  pub counter_told : (move : Move) (moved : Table) (new : TableState) → tables.Follows table moved (with_move move)
       → new ≡ with_size (keeping moved names locals sizes) → tables.Follows old.table new.table (with_move move)
   counter_told move moved new follows e =
       let P : Table → Type 0 = λ t. tables.Follows old.table t (with_move move) in
-      subst P (sym (ap (λ (k : Kept). k.table) e)) (table_kept moved (with_move move) follows)
+      subst P (sym (ap (λ (k : TableState). k.table) e)) (table_kept moved (with_move move) follows)
 
   pub section_stays : (move : Move) (moved : Table) → tables.Follows table moved (with_move move) → old.table.modes.section < 64
       → moved.modes.section < 64
@@ -290,7 +290,7 @@ module _ (table : Table) (names locals : ℕ) (sizes : List ℕ) (old : Kept) (i
   -- the array of sizes has one for each section
   pub section_within : old.table.modes.section < 64 → length sizes ≡ 64 → table.modes.section < length sizes
   section_within below all =
-      let P : Kept → Type 0 = λ k. k.table.modes.section < 64 in
+      let P : TableState → Type 0 = λ k. k.table.modes.section < 64 in
       let Q : ℕ → Type 0 = λ n. table.modes.section < n in
       subst Q (sym all) (subst P (sym is) below)
 

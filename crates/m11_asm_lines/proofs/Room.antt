@@ -7,7 +7,7 @@ use Rattle.m11_asm_faults.specs.declared.fault.AsmFault.TheVariants.{TooManySymb
 use Rattle.m11_asm_rules.specs.Limits.{has_too_many, local_count, most_defined_names, most_local_symbols, name_count}
 use Rattle.m11_asm_rules.specs.Tables.{Table}
 use Rattle.m11_asm_lines.specs.Faults.{Overfills, Refuses}
-use Rattle.m11_asm_lines.specs.Passes.{Kept, Matches}
+use Rattle.m11_asm_lines.specs.Passes.{TableState, Matches}
 
 -- ---- by numbers
 
@@ -37,7 +37,7 @@ many_symbols table many =
     ∙ or_true (nat_lt most_defined_names (name_count table))
 
 -- a table of which a pass keeps what counts has no more than the pass
-pub few_told : (kept : Kept) (told : Table) → Matches kept told → kept.names ≤ most_defined_names
+pub few_told : (kept : TableState) (told : Table) → Matches kept told → kept.names ≤ most_defined_names
     → kept.local_symbols ≤ most_local_symbols → has_too_many told ≡ false
 few_told kept told matches names symbols =
     let N : ℕ → Type 0 = λ n. n ≤ most_defined_names in

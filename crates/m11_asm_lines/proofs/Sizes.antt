@@ -2,7 +2,7 @@
 use Rattle.std.proofs.Common.{◌≡◌, ◌∙◌, ℕ, ◌==◌, Bool, true, false, if◌then◌else◌, max, List, [], ◌∷◌, ◌++◌, refl, sym, ap, arith}
 use Rattle.std.proofs.Math.Nat.{max_comm}
 use Rattle.std.proofs.lemmas.List.{append-nil, append_assoc}
-use Rattle.m11_asm_rules.specs.Locations.{Move, Moved, greatest_after, in_section, location_after, location_in, moves_in, size_in}
+use Rattle.m11_asm_rules.specs.Locations.{Move, SectionMove, greatest_after, in_section, location_after, location_in, moves_in, size_in}
 
 -- ---- one section
 
@@ -23,7 +23,7 @@ greatest_more before (first ∷ moves) move =
 
 -- ---- all sections
 
-moves_joined : (section : ℕ) (first second : List Moved)
+moves_joined : (section : ℕ) (first second : List SectionMove)
     → moves_in section (first ++ second) ≡ moves_in section first ++ moves_in section second
 moves_joined section [] second = refl
 moves_joined section (moved ∷ first) second =
@@ -35,7 +35,7 @@ moves_joined section (moved ∷ first) second =
     by_first true move first second = refl
     by_first false move first second = refl
 
-pub size_here : (section other : ℕ) (moves : List Moved) (move : Move) → (other == section) ≡ true
+pub size_here : (section other : ℕ) (moves : List SectionMove) (move : Move) → (other == section) ≡ true
     → size_in section (moves ++ in_section other move ∷ [])
     ≡ max (size_in section moves) (location_in section (moves ++ in_section other move ∷ []))
 size_here section other moves move e =
@@ -45,7 +45,7 @@ size_here section other moves move e =
     ap (greatest_after []) here ∙ greatest_more [] (moves_in section moves) move
     ∙ ap (λ (l : List Move). max (size_in section moves) (location_after l)) (sym here)
 
-pub size_there : (section other : ℕ) (moves : List Moved) (move : Move) → (other == section) ≡ false
+pub size_there : (section other : ℕ) (moves : List SectionMove) (move : Move) → (other == section) ≡ false
     → size_in section (moves ++ in_section other move ∷ []) ≡ size_in section moves
 size_there section other moves move e =
     ap (greatest_after [])

@@ -7,26 +7,26 @@ use Rattle.m11_base.specs.Rad50.{Name}
 use Rattle.m11_asm_rules.specs.Limits.{most_names}
 use Rattle.m11_asm_rules.specs.SymbolUses.{SymbolUse}
 use Rattle.m11_asm_lines.specs.Faults.{Refuses}
-use Rattle.m11_asm_lines.specs.UsedSymbols.{Gathered, none_gathered, with_all}
+use Rattle.m11_asm_lines.specs.UsedSymbols.{UsedNames, no_used_names, with_all}
 use Rattle.m11_asm_lines.specs.declared.counting.Counting.{Counting}
 use Rattle.m11_asm_lines.specs.declared.counting.Counting.TheVariants.{SymbolUses, Definitions}
 
 -- before the first line of a first reading
 abbrev pub none_used : Counting
-none_used = SymbolUses none_gathered
+none_used = SymbolUses no_used_names
 
 -- what lines used so far
-abbrev pub gathered_in : Counting → Gathered
-gathered_in (SymbolUses gathered) = gathered
-gathered_in Definitions = none_gathered
+abbrev pub used_names_in : Counting → UsedNames
+used_names_in (SymbolUses used_names) = used_names
+used_names_in Definitions = no_used_names
 
 abbrev pub names_counted : Counting → List Name
-names_counted (SymbolUses gathered) = gathered.names
+names_counted (SymbolUses used_names) = used_names.names
 names_counted Definitions = []
 
 -- what is counted with further uses of symbols
 abbrev pub with_counted : List SymbolUse → Counting → Counting
-with_counted symbol_uses (SymbolUses gathered) = SymbolUses (with_all symbol_uses gathered)
+with_counted symbol_uses (SymbolUses used_names) = SymbolUses (with_all symbol_uses used_names)
 with_counted symbol_uses Definitions = Definitions
 
 -- uses of symbols are counted, or one of them is a name too many

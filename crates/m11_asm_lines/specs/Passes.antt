@@ -7,7 +7,7 @@ use Rattle.m11_asm_rules.specs.Tables.{Table, location}
 use Rattle.m11_asm_table.specs.Alike.{Alike}
 
 -- the table of the last definitions, how many names and local symbols are defined, and the sizes of sections by their numbers
-pub record Kept : Type 0 where
+pub record TableState : Type 0 where
   pub table : Table
   pub names : ℕ
   pub local_symbols : ℕ
@@ -17,14 +17,14 @@ abbrev pub size_at : List ℕ → ℕ → ℕ
 size_at sizes number = get_or sizes number 0
 
 -- a table of all definitions, as the lines of a source make it, of which a pass keeps what counts
-pub record Matches (kept : Kept) (table : Table) : Type 0 where
+pub record Matches (kept : TableState) (table : Table) : Type 0 where
   pub alike : Alike kept.table table
   pub names : kept.names ≡ name_count table
   pub local_symbols : kept.local_symbols ≡ local_count table
   pub sizes : (number : ℕ) → number < 64 → size_at kept.sizes number ≡ size_in number table.moves
 
 -- what is kept before and after a change of the table
-abbrev pub Follows : Kept → Kept → (Table → Table) → Type 0
+abbrev pub Follows : TableState → TableState → (Table → Table) → Type 0
 Follows old new change = (table : Table) → Matches old table → Matches new (change table)
 
 -- before the first line each section has size 0
@@ -32,7 +32,7 @@ unfoldable pub no_sizes : List ℕ
 no_sizes = replicate 64 0
 
 -- the size of the section is the greatest location of its counter
-abbrev pub with_size : Kept → Kept
+abbrev pub with_size : TableState → TableState
 with_size kept = record kept {
   sizes = slice_set kept.sizes kept.table.modes.section (max (size_at kept.sizes kept.table.modes.section) (location kept.table));
 }

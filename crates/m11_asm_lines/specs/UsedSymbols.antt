@@ -16,13 +16,13 @@ use Rattle.m11_scan_values.specs.declared.names.Symbol.TheVariants.{Ordinary, Lo
 
 -- names besides those of the registers, names of registers, and names that stand where one without a definition is a reference to another
 -- object: each once, in the order in which they appear
-pub record Gathered : Type 0 where
+pub record UsedNames : Type 0 where
   pub names : List Name
   pub registers : List Name
   pub referred : List Name
 
-abbrev pub none_gathered : Gathered
-none_gathered = record { names = []; registers = []; referred = [] }
+abbrev pub no_used_names : UsedNames
+no_used_names = record { names = []; registers = []; referred = [] }
 
 abbrev pub is_register : Name → Bool
 is_register name = is_defined (Named name) registers
@@ -49,26 +49,26 @@ names_referred [] names = names
 names_referred (symbol_use ∷ symbol_uses) names = names_referred symbol_uses (with_reference symbol_use.symbol symbol_use.context names)
 
 -- what is gathered with a name that a line uses anywhere
-abbrev pub noted : Name → Gathered → Gathered
-noted name gathered = record gathered {
-  names = with_symbol (Ordinary name) gathered.names;
-  registers = with_register (Ordinary name) gathered.registers;
+abbrev pub with_name_used : Name → UsedNames → UsedNames
+with_name_used name used_names = record used_names {
+  names = with_symbol (Ordinary name) used_names.names;
+  registers = with_register (Ordinary name) used_names.registers;
 }
 
 -- what is gathered with a name that is used where one without a definition is a reference
-abbrev pub with_referred : Name → Context → Gathered → Gathered
-with_referred name context gathered = record gathered { referred = with_reference (Ordinary name) context gathered.referred }
+abbrev pub with_referred : Name → Context → UsedNames → UsedNames
+with_referred name context used_names = record used_names { referred = with_reference (Ordinary name) context used_names.referred }
 
 -- what is gathered with further uses of symbols
-abbrev pub with_all : List SymbolUse → Gathered → Gathered
-with_all symbol_uses gathered = record {
-  names = with_uses symbol_uses gathered.names;
-  registers = registers_used symbol_uses gathered.registers;
-  referred = names_referred symbol_uses gathered.referred;
+abbrev pub with_all : List SymbolUse → UsedNames → UsedNames
+with_all symbol_uses used_names = record {
+  names = with_uses symbol_uses used_names.names;
+  registers = registers_used symbol_uses used_names.registers;
+  referred = names_referred symbol_uses used_names.referred;
 }
 
 -- uses of symbols are added, or one of them is a name too many
-abbrev pub Adds : List SymbolUse → Gathered → Gathered → Result (Unit {0}) AsmFault → Type 0
+abbrev pub Adds : List SymbolUse → UsedNames → UsedNames → Result (Unit {0}) AsmFault → Type 0
 Adds symbol_uses old new (Ok _) = new ≡ with_all symbol_uses old
 Adds symbol_uses old new (Err fault) = Refuses fault (most_names < length (with_all symbol_uses old).names) ⊥
 

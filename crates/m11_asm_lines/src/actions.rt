@@ -46,7 +46,7 @@ pub fn action_after_labels(is_own: bool, line: &Line, body: Body) -> Action
 }
 
 /// The fields of an action, by the table in which the labels of its line are defined. An instruction has those of its operands; for an
-/// assignment the first term is that of its expression. They are read once for what the line puts, uses and changes.
+/// assignment the first term is that of its expression. They are read once for what the line emits, uses and changes.
 pub fn action_fields(table: &Table, line: &Line, action: &Action) -> Fields
     requires { IsWithin (length line.now.text) action.now }
     ensures fields { fields_seen result ≡ actions.action_fields table.now line.now.text action.now }

@@ -30,13 +30,13 @@ use m11_base::Name;
 use m11_scan::{ErrorFlags, Line, Token};
 use m11_scan_statements::{Assignment, Span};
 use m11_scan_values::{Symbol, Value, symbol_of};
-use m11_unfold_arguments::{Notes, note_symbols};
+use m11_unfold_arguments::{Remarks, read_symbols};
 use std::alloc::{AllocError, Global};
 
 impl Pass {
     // Applies an assignment, and returns what a listing shows of its value, whether its name takes it or not. The value is found once for
     // both.
-    pub(crate) fn take_assignment(
+    pub(crate) fn apply_assignment(
         &mut self,
         map: &Map<'_>,
         line: &Line,
@@ -203,9 +203,9 @@ fn is_firm_at(alloc: Global, table: &Table, line: &Line, start: usize) -> Result
     requires { start ≤ length line.now.text }
     ensures { IfOk result (λ firm. firm ≡ assignments.all_firm table.now (symbols_at line.now.text start)) }
 {
-    let mut notes = Notes::new(alloc);
-    note_symbols(line, start, &mut notes)?;
-    Ok(are_all_firm(table, notes.symbols()))
+    let mut remarks = Remarks::new(alloc);
+    read_symbols(line, start, &mut remarks)?;
+    Ok(are_all_firm(table, remarks.symbols()))
 }
 
 // A value with an unknown name is unknown.

@@ -44,7 +44,7 @@ impl Pass {
     ///
     /// Errors: `TooManySymbols` where more than 4,096 names besides those of the registers would be defined, `TooManySections` where a 65th
     /// section would be selected, and `NoMemory`.
-    pub fn take_action(
+    pub fn apply_action(
         &mut self,
         map: &Map<'_>,
         line: &Line,
@@ -72,19 +72,19 @@ impl Pass {
     {
         match *action {
             Action::NoAction => Ok(None),
-            Action::Assign(made) => self.take_assignment(map, line, made, fields.terms.first),
+            Action::Assign(made) => self.apply_assignment(map, line, made, fields.terms.first),
             Action::SetCounter(start) => {
-                self.take_counter(line, start)?;
+                self.apply_counter(line, start)?;
                 Ok(None)
             }
             Action::Operate(operator, start) => {
-                self.take_operator(line, start, arguments, operator, fields)
+                self.apply_operator(line, start, arguments, operator, fields)
             }
         }
     }
 
     // Sets the counter by `.=`.
-    fn take_counter(&mut self, line: &Line, start: u8) -> Result<(), AsmFault>
+    fn apply_counter(&mut self, line: &Line, start: u8) -> Result<(), AsmFault>
         requires within { start ≤ length line.now.text }
         requires block { self.old.table.modes.block + 1 < 2 ^ 64 }
         requires section { self.old.table.modes.section < 64 }
@@ -98,11 +98,11 @@ impl Pass {
             (assigning.counter_change (firm_table self.old.table) line.now.text start) before)) }
     {
         let change = counter_change(&self.table, line, usize::from(start));
-        self.take(line, &change)
+        self.apply(line, &change)
     }
 
     // Applies the change of an operator, and returns what a listing shows of the number that it assigns, if it does.
-    fn take_operator(
+    fn apply_operator(
         &mut self,
         line: &Line,
         start: u8,
@@ -129,12 +129,12 @@ impl Pass {
     {
         let start = usize::from(start);
         let change = operator_change(&self.table, line, start, arguments, operator, fields);
-        self.take(line, &change)?;
+        self.apply(line, &change)?;
         Ok(number_item(&change))
     }
 
     // Applies the change of a line that assigns no expression, and whose labels are defined.
-    fn take(&mut self, line: &Line, change: &Change) -> Result<(), AsmFault>
+    fn apply(&mut self, line: &Line, change: &Change) -> Result<(), AsmFault>
         requires block { self.old.table.modes.block + 1 < 2 ^ 64 }
         requires section { self.old.table.modes.section < 64 }
         ensures takes { (map : LineMap)

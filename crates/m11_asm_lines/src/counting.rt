@@ -5,7 +5,7 @@ ghost use Rattle.std.specs.List.{flat_map};
 ghost use Rattle.m11_asm_faults.specs.declared.fault.AsmFault.TheVariants.{NoMemory};
 ghost use Rattle.m11_asm_rules.specs.Limits.{most_names};
 ghost use Rattle.m11_asm_rules.specs.SymbolUses.{label_uses};
-ghost use Rattle.m11_asm_lines.specs.Counting.{Counts, gathered_in, names_counted, with_counted};
+ghost use Rattle.m11_asm_lines.specs.Counting.{Counts, used_names_in, names_counted, with_counted};
 ghost use Rattle.m11_asm_lines.specs.Labels.{FitsUpToLabel};
 
 use crate::used_symbols::UsedSymbols;
@@ -50,7 +50,7 @@ impl Counting {
 
     /// The symbols that lines used: none where these aren't counted.
     pub fn into_used(self, alloc: Global) -> UsedSymbols
-        ensures { result ≡ gathered_in self }
+        ensures { result ≡ used_names_in self }
     {
         match self {
             Counting::SymbolUses(used_symbols) => used_symbols,

@@ -1,4 +1,4 @@
-//! What a listing shows of a line: what it puts, or what it assigns. (MACRO-11 Language Reference Manual, "Listing control directives".)
+//! What a listing shows of a line: what it emits, or what it assigns. (MACRO-11 Language Reference Manual, "Listing control directives".)
 
 ghost use Rattle.std.specs.Prelude.{◌≡◌, ◌∷◌, ◌++◌, [], IfOk};
 ghost use Rattle.std.specs.Option.{option_to_list};

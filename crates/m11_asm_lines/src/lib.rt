@@ -25,12 +25,12 @@ mod symbol_uses;
 
 pub use actions::{Action, action_after_labels, action_fields};
 
-// The whole line: its flags, what it puts, and what a listing shows of it.
+// The whole line: its flags, what it emits, and what a listing shows of it.
 mod items;
 mod lines;
 
 pub use items::{add_content_items, is_shown};
-pub use lines::{line_flags, put_action};
+pub use lines::{emit_action, line_flags};
 
 // The law that a line goes through a pass in these calls.
 mod laws;

@@ -1,4 +1,4 @@
-//! What a line changes and puts, and its flags, once its labels stand. (MACRO-11 Language Reference Manual, "Source program format".)
+//! What a line changes and emits, and its flags, once its labels stand. (MACRO-11 Language Reference Manual, "Source program format".)
 
 ghost use Rattle.std.specs.Prelude.{◌≡◌, ◌≤◌, IfOk, IfSome, IsTrue, length};
 ghost use Rattle.m11_unfold_arguments.specs.Expressions.{IsAlone};
@@ -13,18 +13,18 @@ ghost use Rattle.m11_scan.specs.Views.{bits_of};
 use crate::actions::Action;
 use m11_asm_directives::{assignment_flags, counter_flags};
 use m11_asm_operands::Fields;
-use m11_asm_operators::put_operator;
+use m11_asm_operators::emit_operator;
 use m11_asm_table::{Map, Table};
-use m11_asm_values::Put;
+use m11_asm_values::Emission;
 use m11_scan::{ErrorFlags, Line, Token};
 use m11_scan_statements::{Assignment, Body};
 use m11_unfold_arguments::skip_flags;
 use std::alloc::AllocError;
 
-/// Adds what the action of a line puts at its locations, with the flags of its operator and arguments. The map says what the whole source
+/// Adds what the action of a line emits at its locations, with the flags of its operator and arguments. The map says what the whole source
 /// gives its names. Error: memory may be refused.
-pub fn put_action(
-    put: &mut Put,
+pub fn emit_action(
+    emission: &mut Emission,
     map: &Map<'_>,
     table: &Table,
     line: &Line,
@@ -37,25 +37,25 @@ pub fn put_action(
     requires fields { fields_seen fields.now ≡ action_fields table.now line.now.text action.now }
     requires ends { fields.now.end ≤ length line.now.text }
     requires terms { AreActionTerms line.now.text action.now fields.now.list.items fields.now.terms }
-    ensures { IfOk result (λ _. put.new
-        ≡ followed_by put.old (spec.put_by map.now table.now line.now.text arguments (action_seen action.now))) }
+    ensures { IfOk result (λ _. emission.new
+        ≡ followed_by emission.old (spec.emission_by map.now table.now line.now.text arguments (action_seen action.now))) }
 {
     match *action {
         Action::NoAction => {
-            put.add_flags(ErrorFlags::none());
+            emission.add_flags(ErrorFlags::none());
             Ok(())
         }
         Action::Assign(made) => {
-            put.add_flags(value_flags(map, table, line, made, fields.terms.first));
+            emission.add_flags(value_flags(map, table, line, made, fields.terms.first));
             Ok(())
         }
         Action::SetCounter(start) => {
-            put.add_flags(counter_flags(table, line, usize::from(start)));
+            emission.add_flags(counter_flags(table, line, usize::from(start)));
             Ok(())
         }
         Action::Operate(operator, start) => {
-            put_operator(
-                put,
+            emit_operator(
+                emission,
                 map,
                 table,
                 line,
@@ -84,7 +84,7 @@ fn value_flags(
     assignment_flags(map, table, line, made.name, usize::from(made.value), term)
 }
 
-/// The flags of a line: of itself and its labels, of what is skipped after them before the operator, of what it puts, and those that
+/// The flags of a line: of itself and its labels, of what is skipped after them before the operator, of what it emits, and those that
 /// unfolding found. `own` are those that the line has whatever its body does, and `labels` those of labels that are defined again.
 pub fn line_flags(
     line: &Line,
@@ -92,15 +92,15 @@ pub fn line_flags(
     body: Body,
     own: ErrorFlags,
     labels: ErrorFlags,
-    put: ErrorFlags,
+    emission: ErrorFlags,
     noted: ErrorFlags,
 ) -> ErrorFlags
-    ensures { bits_of result ≡ flags_from line.now.text labels_end body (bits_of own) (bits_of labels) (bits_of put) (bits_of noted) }
+    ensures { bits_of result ≡ flags_from line.now.text labels_end body (bits_of own) (bits_of labels) (bits_of emission) (bits_of noted) }
 {
     let end = match body {
         Body::Operate(name) => usize::from(name.start),
         _ => line.text().len(),
     };
     let found = skip_flags(line, labels_end, end);
-    own.with(labels).with(found.with(put.with(noted)))
+    own.with(labels).with(found.with(emission.with(noted)))
 }

@@ -46,9 +46,9 @@ pub struct Pass {
 impl Model for Pass {
     ghost use Rattle.std.specs.Prelude.{◌≤◌};
     ghost use Rattle.m11_asm_rules.specs.Limits.{most_defined_names, most_local_symbols};
-    ghost use Rattle.m11_asm_lines.specs.Passes.{Kept};
+    ghost use Rattle.m11_asm_lines.specs.Passes.{TableState};
 
-    ghost Value = { Kept };
+    ghost Value = { TableState };
 
     ghost view = { λ p. record { table = p.table; names = p.names; local_symbols = p.local_symbols; sizes = p.sizes } };
 
@@ -225,11 +225,11 @@ impl Pass {
         ensures symbols { self.new.local_symbols ≡ self.old.local_symbols }
     {
         move_counter(&mut self.table, step);
-        self.note_size();
+        self.keep_size();
     }
 
     // Makes the size of the section the greatest location of its counter.
-    fn note_size(&mut self)
+    fn keep_size(&mut self)
         requires { self.old.table.modes.section < 64 }
         ensures { self.new ≡ with_size self.old }
     {

@@ -32,7 +32,7 @@ use m11_base::Name;
 use m11_scan::{Line, Token, read_name};
 use m11_scan_statements::{Assignment, Label, LabelKind, Part, PartKind};
 use m11_scan_values::{Symbol, symbol_of};
-use m11_unfold_arguments::{Notes, note_symbols, single_term};
+use m11_unfold_arguments::{Remarks, read_symbols, single_term};
 
 impl UsedSymbols {
     /// Adds the labels of a line. Errors are those of `add_all`, but `NoMemory` only at a label up to which no name is one too many.
@@ -183,9 +183,9 @@ impl UsedSymbols {
         requires { column ≤ length line.now.text }
         ensures { Adds (in_context context (symbols_at line.now.text column)) self.old self.new result }
     {
-        let mut notes = Notes::new(self.alloc);
-        note_symbols(line, column, &mut notes)?;
-        self.add_all(notes.symbols(), context)
+        let mut remarks = Remarks::new(self.alloc);
+        read_symbols(line, column, &mut remarks)?;
+        self.add_all(remarks.symbols(), context)
     }
 }
 
@@ -213,8 +213,8 @@ impl UsedSymbols {
         ensures { Adds (spec.field_uses line.now.text field) self.old self.new result }
     {
         match field {
-            Field::Formed(form) => self.add_form(line, form, term),
-            Field::Registered(start) | Field::Targeted(start) | Field::Numbered(start) => {
+            Field::Operand(form) => self.add_form(line, form, term),
+            Field::Register(start) | Field::Target(start) | Field::Number(start) => {
                 self.read_by(line, start, term, Context::LocalOnly)
             }
             Field::Missing => Ok(()),
@@ -255,7 +255,11 @@ impl UsedSymbols {
         let column = usize::from(start);
         match directive {
             Directive::Word | Directive::Byte => self.add_list(line, column),
-            Directive::Ascii | Directive::Asciz => self.add_text(line, column, Context::MayBeGlobal),
+            Directive::Ascii | Directive::Asciz => self.add_text(
+                line,
+                column,
+                Context::MayBeGlobal,
+            ),
             Directive::Rad50 => self.add_text(line, column, Context::LocalOnly),
             Directive::Blkb | Directive::Blkw | Directive::End => {
                 self.read(line, start, Context::LocalOnly)

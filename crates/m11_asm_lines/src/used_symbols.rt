@@ -5,7 +5,7 @@ ghost use Rattle.m11_asm_rules.specs.Limits.{most_names};
 ghost use Rattle.m11_asm_rules.specs.SymbolUses.{symbol_use};
 ghost use Rattle.m11_asm_lines.specs.Faults.{Refuses};
 ghost use Rattle.m11_asm_lines.specs.UsedSymbols as spec;
-ghost use Rattle.m11_asm_lines.specs.UsedSymbols.{Adds, in_context, none_gathered, noted, with_all, with_referred};
+ghost use Rattle.m11_asm_lines.specs.UsedSymbols.{Adds, in_context, no_used_names, with_name_used, with_all, with_referred};
 ghost use Rattle.m11_asm_faults.specs.declared.fault.AsmFault.TheVariants.{NoMemory};
 
 use indexmap::IndexSet;
@@ -33,9 +33,9 @@ pub struct UsedSymbols {
 impl Model for UsedSymbols {
     ghost use Rattle.std.specs.Prelude.{◌≤◌, length};
     ghost use Rattle.m11_asm_rules.specs.Limits.{most_names};
-    ghost use Rattle.m11_asm_lines.specs.UsedSymbols.{Gathered};
+    ghost use Rattle.m11_asm_lines.specs.UsedSymbols.{UsedNames};
 
-    ghost Value = { Gathered };
+    ghost Value = { UsedNames };
 
     ghost view = { λ m. record { names = m.names.keys; registers = m.registers.keys; referred = m.referred.keys } };
 
@@ -45,7 +45,7 @@ impl Model for UsedSymbols {
 impl UsedSymbols {
     /// Before the first line.
     pub fn new(alloc: Global) -> UsedSymbols
-        ensures { result ≡ none_gathered }
+        ensures { result ≡ no_used_names }
     {
         UsedSymbols {
             alloc,
@@ -125,24 +125,24 @@ impl UsedSymbols {
 
     fn add_name(&mut self, name: Name, context: Context) -> Result<(), AsmFault>
         ensures adds { Adds (symbol_use context (Symbol.Ordinary name) ∷ []) self.old self.new result }
-        ensures limit_first { IfErr result (λ fault. fault ≡ NoMemory → length (noted name self.old).names ≤ most_names) }
+        ensures limit_first { IfErr result (λ fault. fault ≡ NoMemory → length (with_name_used name self.old).names ≤ most_names) }
     {
-        self.note_name(name)?;
+        self.insert_name(name)?;
         self.names_are_within_the_limit();
-        self.note_reference(name, context)?;
+        self.insert_reference(name, context)?;
         Ok(())
     }
 
     // Adds a name that is used anywhere. The limit is asked before anything grows.
     #[tactic(auto, using(crate::proofs::Gathering::noted_register, crate::proofs::Gathering::noted_other))]
-    fn note_name(&mut self, name: Name) -> Result<(), AsmFault>
-        ensures notes { IfOk result (λ _. self.new ≡ noted name self.old) }
-        ensures refuses { IfErr result (λ fault. Refuses fault (most_names < length (noted name self.old).names) ⊥) }
-        ensures limit_first { IfErr result (λ fault. fault ≡ NoMemory → length (noted name self.old).names ≤ most_names) }
+    fn insert_name(&mut self, name: Name) -> Result<(), AsmFault>
+        ensures inserts { IfOk result (λ _. self.new ≡ with_name_used name self.old) }
+        ensures refuses { IfErr result (λ fault. Refuses fault (most_names < length (with_name_used name self.old).names) ⊥) }
+        ensures limit_first { IfErr result (λ fault. fault ≡ NoMemory → length (with_name_used name self.old).names ≤ most_names) }
     {
         if is_register(name) {
             self.names_are_within_the_limit();
-            self.note_register(name)?;
+            self.insert_register(name)?;
             Ok(())
         } else {
             self.count_name(name)
@@ -150,23 +150,23 @@ impl UsedSymbols {
     }
 
     // Adds a name to the references, where it stands where one without a definition is a reference to another object.
-    fn note_reference(&mut self, name: Name, context: Context) -> Result<(), AllocError>
+    fn insert_reference(&mut self, name: Name, context: Context) -> Result<(), AllocError>
         ensures { IfOk result (λ _. self.new ≡ with_referred name context self.old) }
     {
         match context {
-            Context::MayBeGlobal => self.note_referred(name),
+            Context::MayBeGlobal => self.insert_referred(name),
             Context::LocalOnly => Ok(()),
         }
     }
 
-    fn note_referred(&mut self, name: Name) -> Result<(), AllocError>
+    fn insert_referred(&mut self, name: Name) -> Result<(), AllocError>
         ensures { IfOk result (λ _. self.new ≡ record self.old { referred = spec.with_name name self.old.referred }) }
     {
         self.referred.insert(name)?;
         Ok(())
     }
 
-    fn note_register(&mut self, name: Name) -> Result<(), AllocError>
+    fn insert_register(&mut self, name: Name) -> Result<(), AllocError>
         ensures { IfOk result (λ _. self.new ≡ record self.old { registers = spec.with_name name self.old.registers }) }
     {
         self.registers.insert(name)?;
@@ -175,7 +175,7 @@ impl UsedSymbols {
 
     // Adds a name that is none of a register's.
     fn count_name(&mut self, name: Name) -> Result<(), AsmFault>
-        ensures notes { IfOk result (λ _. self.new ≡ record self.old { names = spec.with_name name self.old.names }) }
+        ensures inserts { IfOk result (λ _. self.new ≡ record self.old { names = spec.with_name name self.old.names }) }
         ensures refuses { IfErr result (λ fault. Refuses fault
             (most_names < length (spec.with_name name self.old.names)) ⊥) }
         ensures limit_first { IfErr result (λ fault. fault ≡ NoMemory

@@ -4,10 +4,10 @@ ghost use Rattle.std.specs.Prelude.{◌≡◌, ◌≤◌, ◌+◌, ◌++◌, len
 ghost use Rattle.arrayvec.specs.ArrayVec.{array_vec_len};
 ghost use Rattle.m11_asm_listing.specs.Columns as spec;
 
-use m11_obj_print::{Line, put};
+use m11_obj_print::{Line, add_bytes};
 
 /// Adds blanks.
-pub(crate) fn put_blanks(line: &mut Line, count: usize)
+pub(crate) fn add_blanks(line: &mut Line, count: usize)
     requires { array_vec_len line.old + count ≤ 175 }
     ensures items { line.new.items ≡ line.old.items ++ spec.blanks count }
     ensures size { array_vec_len line.new ≡ array_vec_len line.old + count }
@@ -18,25 +18,25 @@ pub(crate) fn put_blanks(line: &mut Line, count: usize)
 }
 
 /// Adds a text at the left of a column.
-pub(crate) fn put_left(line: &mut Line, width: usize, text: &[u8])
+pub(crate) fn add_left(line: &mut Line, width: usize, text: &[u8])
     requires fits { length text.now ≤ width }
     requires room { array_vec_len line.old + width ≤ 175 }
     ensures items { line.new.items ≡ line.old.items ++ spec.at_left width text.now }
     ensures size { array_vec_len line.new ≡ array_vec_len line.old + width }
 {
-    put(line, text);
-    put_blanks(line, width - text.len());
+    add_bytes(line, text);
+    add_blanks(line, width - text.len());
 }
 
 /// Adds a text at the right of a column.
-pub(crate) fn put_right(line: &mut Line, width: usize, text: &[u8])
+pub(crate) fn add_right(line: &mut Line, width: usize, text: &[u8])
     requires fits { length text.now ≤ width }
     requires room { array_vec_len line.old + width ≤ 175 }
     ensures items { line.new.items ≡ line.old.items ++ spec.at_right width text.now }
     ensures size { array_vec_len line.new ≡ array_vec_len line.old + width }
 {
-    put_blanks(line, width - text.len());
-    put(line, text);
+    add_blanks(line, width - text.len());
+    add_bytes(line, text);
 }
 
 // A byte as it is printed.
@@ -50,7 +50,7 @@ fn shown(byte: u8) -> u8
 }
 
 /// Adds the text of a source line.
-pub(crate) fn put_printed(line: &mut Line, text: &[u8])
+pub(crate) fn add_printed(line: &mut Line, text: &[u8])
     requires { array_vec_len line.old + length text.now ≤ 175 }
     ensures items { line.new.items ≡ line.old.items ++ spec.printed text.now }
     ensures size { array_vec_len line.new ≡ array_vec_len line.old + length text.now }

@@ -6,7 +6,7 @@ ghost use Rattle.arrayvec.specs.ArrayVec.{array_vec_len};
 ghost use Rattle.m11_asm_listing.specs.Items as spec;
 
 use m11_base::octal6;
-use m11_obj_print::{Line, put};
+use m11_obj_print::{Line, add_bytes};
 
 /// What the number of an item counts from.
 #[derive(Clone, Copy, Debug, PartialEq, Eq)]
@@ -83,14 +83,14 @@ fn column_at(items: &[Item], index: usize) -> [u8; 8]
 }
 
 /// Adds the first three items, each in its column.
-pub(crate) fn put_items(line: &mut Line, items: &[Item])
+pub(crate) fn add_items(line: &mut Line, items: &[Item])
     requires { array_vec_len line.old ≤ 151 }
     ensures items { line.new.items ≡ line.old.items ++ spec.items_column items.now }
     ensures size { array_vec_len line.new ≡ array_vec_len line.old + 24 }
 {
-    put(line, &column_at(items, 0));
-    put(line, &column_at(items, 1));
-    put(line, &column_at(items, 2));
+    add_bytes(line, &column_at(items, 0));
+    add_bytes(line, &column_at(items, 1));
+    add_bytes(line, &column_at(items, 2));
 }
 
 /// The location after items that begin at a location.

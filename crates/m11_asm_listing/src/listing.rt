@@ -4,11 +4,11 @@ ghost use Rattle.std.specs.Prelude.{◌≡◌, ◌≤◌, ◌+◌, ◌++◌, len
 ghost use Rattle.arrayvec.specs.ArrayVec.{array_vec_len};
 ghost use Rattle.m11_asm_listing.specs.Listing as spec;
 
-use crate::columns::{put_blanks, put_left, put_printed, put_right};
-use crate::items::{Item, put_items};
+use crate::columns::{add_blanks, add_left, add_printed, add_right};
+use crate::items::{Item, add_items};
 use itoa::Buffer;
 use m11_base::octal6;
-use m11_obj_print::{Line, ended, put};
+use m11_obj_print::{Line, add_bytes, ended};
 
 // At most four of the flags.
 fn first_flags(flags: &[u8]) -> &[u8]
@@ -19,24 +19,24 @@ fn first_flags(flags: &[u8]) -> &[u8]
 }
 
 // Adds the columns of flags and number.
-fn put_head(line: &mut Line, flags: &[u8], number: u16)
+fn add_head(line: &mut Line, flags: &[u8], number: u16)
     requires { array_vec_len line.old ≤ 100 }
     ensures items { line.new.items ≡ line.old.items ++ spec.head flags.now number }
     ensures size { array_vec_len line.new ≡ array_vec_len line.old + 10 }
 {
-    put_left(line, 4, first_flags(flags));
-    put_right(line, 6, Buffer::new().format(number).as_bytes());
+    add_left(line, 4, first_flags(flags));
+    add_right(line, 6, Buffer::new().format(number).as_bytes());
 }
 
 // Adds the columns of a location and its items.
-fn put_location_and_items(line: &mut Line, location: u16, items: &[Item])
+fn add_location_and_items(line: &mut Line, location: u16, items: &[Item])
     requires { array_vec_len line.old ≤ 100 }
     ensures items { line.new.items ≡ line.old.items ++ spec.location_and_items location items.now }
     ensures size { array_vec_len line.new ≡ array_vec_len line.old + 31 }
 {
-    put(line, b" ");
-    put(line, &octal6(location));
-    put_items(line, items);
+    add_bytes(line, b" ");
+    add_bytes(line, &octal6(location));
+    add_items(line, items);
 }
 
 /// The line of a source line: the first four of its flags, its number, a location, the first three of its items, and its text, which has
@@ -46,10 +46,10 @@ pub fn listed_line(flags: &[u8], number: u16, location: u16, items: &[Item], tex
     ensures { result.items ≡ spec.listed_line flags.now number location items.now text.now }
 {
     let mut line = Line::new();
-    put_head(&mut line, flags, number);
-    put_location_and_items(&mut line, location, items);
-    put(&mut line, b" ");
-    put_printed(&mut line, text);
+    add_head(&mut line, flags, number);
+    add_location_and_items(&mut line, location, items);
+    add_bytes(&mut line, b" ");
+    add_printed(&mut line, text);
     ended(line)
 }
 
@@ -58,7 +58,7 @@ pub fn further_line(location: u16, items: &[Item]) -> Line
     ensures { result.items ≡ spec.further_line location items.now }
 {
     let mut line = Line::new();
-    put_blanks(&mut line, 10);
-    put_location_and_items(&mut line, location, items);
+    add_blanks(&mut line, 10);
+    add_location_and_items(&mut line, location, items);
     ended(line)
 }

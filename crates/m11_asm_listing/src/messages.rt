@@ -3,9 +3,9 @@
 ghost use Rattle.std.specs.Prelude.{◌≡◌, ◌≤◌, length};
 ghost use Rattle.m11_asm_listing.specs.Messages as spec;
 
-use crate::columns::put_printed;
+use crate::columns::add_printed;
 use itoa::Buffer;
-use m11_obj_print::{Line, ended, put};
+use m11_obj_print::{Line, add_bytes, ended};
 
 /// The message of a flagged line: its flags, 14 at most, its number, and its text of at most 132 characters.
 pub fn message_line(flags: &[u8], number: u16, text: &[u8]) -> Line
@@ -14,11 +14,11 @@ pub fn message_line(flags: &[u8], number: u16, text: &[u8]) -> Line
     ensures { result.items ≡ spec.message_line flags.now number text.now }
 {
     let mut line = Line::new();
-    put(&mut line, flags);
-    put(&mut line, b" ");
-    put(&mut line, Buffer::new().format(number).as_bytes());
-    put(&mut line, b": ");
-    put_printed(&mut line, text);
+    add_bytes(&mut line, flags);
+    add_bytes(&mut line, b" ");
+    add_bytes(&mut line, Buffer::new().format(number).as_bytes());
+    add_bytes(&mut line, b": ");
+    add_printed(&mut line, text);
     ended(line)
 }
 
@@ -27,8 +27,8 @@ pub fn count_line(count: u32) -> Line
     ensures { result.items ≡ spec.count_line count }
 {
     let mut line = Line::new();
-    put(&mut line, b"ERRORS DETECTED: ");
-    put(&mut line, Buffer::new().format(count).as_bytes());
-    put(&mut line, b"\n");
+    add_bytes(&mut line, b"ERRORS DETECTED: ");
+    add_bytes(&mut line, Buffer::new().format(count).as_bytes());
+    add_bytes(&mut line, b"\n");
     line
 }

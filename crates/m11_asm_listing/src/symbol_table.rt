@@ -4,11 +4,11 @@ ghost use Rattle.std.specs.Prelude.{◌≡◌, ◌≤◌, ◌+◌, ◌++◌};
 ghost use Rattle.arrayvec.specs.ArrayVec.{array_vec_len};
 ghost use Rattle.m11_asm_listing.specs.SymbolTable as spec;
 
-use crate::columns::{put_blanks, put_right};
+use crate::columns::{add_blanks, add_right};
 use itoa::Buffer;
 use m11_base::{Name, octal6};
 use m11_obj::SectionFlags;
-use m11_obj_print::{Line, ended, put, put_attributes};
+use m11_obj_print::{Line, add_attributes, add_bytes, ended};
 
 /// The value that a name has at the end of the first pass.
 #[derive(Clone, Copy, Debug, PartialEq, Eq)]
@@ -54,7 +54,7 @@ pub fn empty_line() -> Line
     ensures { result.items ≡ spec.empty_line }
 {
     let mut line = Line::new();
-    put(&mut line, b"\n");
+    add_bytes(&mut line, b"\n");
     line
 }
 
@@ -63,7 +63,7 @@ pub fn title_line() -> Line
     ensures { result.items ≡ spec.title_line }
 {
     let mut line = Line::new();
-    put(&mut line, b"SYMBOL TABLE\n");
+    add_bytes(&mut line, b"SYMBOL TABLE\n");
     line
 }
 
@@ -81,7 +81,10 @@ fn value_digits(value: SymbolValue) -> [u8; 6]
     match value {
         SymbolValue::Unknown => *b"******",
         SymbolValue::Absolute(number) => octal6(number),
-        SymbolValue::Relocatable { location, section: _ } => octal6(location),
+        SymbolValue::Relocatable {
+            location,
+            section: _,
+        } => octal6(location),
         SymbolValue::Register(number) => octal6(number),
     }
 }
@@ -105,26 +108,29 @@ fn scope_character(is_global: bool) -> u8
 }
 
 // Adds the number of the section that a value counts from.
-fn put_section_number(line: &mut Line, value: SymbolValue)
+fn add_section_number(line: &mut Line, value: SymbolValue)
     requires { array_vec_len line.old ≤ 100 }
     ensures items { line.new.items ≡ line.old.items ++ spec.section_column value }
     ensures size { array_vec_len line.new ≡ array_vec_len line.old + 3 }
 {
     match value {
-        SymbolValue::Relocatable { location: _, section } => put_number(line, section),
-        SymbolValue::Unknown => put_blanks(line, 3),
-        SymbolValue::Absolute(_) => put_blanks(line, 3),
-        SymbolValue::Register(_) => put_blanks(line, 3),
+        SymbolValue::Relocatable {
+            location: _,
+            section,
+        } => add_number(line, section),
+        SymbolValue::Unknown => add_blanks(line, 3),
+        SymbolValue::Absolute(_) => add_blanks(line, 3),
+        SymbolValue::Register(_) => add_blanks(line, 3),
     }
 }
 
 // Adds the number of a section.
-fn put_number(line: &mut Line, number: u8)
+fn add_number(line: &mut Line, number: u8)
     requires { array_vec_len line.old ≤ 100 }
     ensures items { line.new.items ≡ line.old.items ++ spec.number_column number }
     ensures size { array_vec_len line.new ≡ array_vec_len line.old + 3 }
 {
-    put_right(line, 3, Buffer::new().format(number).as_bytes());
+    add_right(line, 3, Buffer::new().format(number).as_bytes());
 }
 
 /// The line of a name.
@@ -132,13 +138,13 @@ pub fn symbol_line(symbol: &SymbolEntry) -> Line
     ensures { result.items ≡ spec.symbol_line symbol.now }
 {
     let mut line = Line::new();
-    put(&mut line, &symbol.name.characters());
-    put(&mut line, assignment(symbol.is_assigned));
-    put(&mut line, &value_digits(symbol.value));
+    add_bytes(&mut line, &symbol.name.characters());
+    add_bytes(&mut line, assignment(symbol.is_assigned));
+    add_bytes(&mut line, &value_digits(symbol.value));
     let kind = kind_character(symbol.value);
     let scope = scope_character(symbol.is_global);
-    put(&mut line, &[b' ', kind, scope, b' ']);
-    put_section_number(&mut line, symbol.value);
+    add_bytes(&mut line, &[b' ', kind, scope, b' ']);
+    add_section_number(&mut line, symbol.value);
     ended(line)
 }
 
@@ -148,12 +154,12 @@ fn section_columns(section: &SectionEntry) -> Line
     ensures size { array_vec_len result ≡ 18 }
 {
     let mut line = Line::new();
-    put(&mut line, &section.name.characters());
-    put(&mut line, b" ");
-    put(&mut line, &octal6(section.size));
-    put(&mut line, b" ");
-    put_number(&mut line, section.number);
-    put(&mut line, b" ");
+    add_bytes(&mut line, &section.name.characters());
+    add_bytes(&mut line, b" ");
+    add_bytes(&mut line, &octal6(section.size));
+    add_bytes(&mut line, b" ");
+    add_number(&mut line, section.number);
+    add_bytes(&mut line, b" ");
     line
 }
 
@@ -162,6 +168,6 @@ pub fn section_line(section: &SectionEntry) -> Line
     ensures { result.items ≡ spec.section_line section.now }
 {
     let mut line = section_columns(section);
-    put_attributes(&mut line, section.attributes);
+    add_attributes(&mut line, section.attributes);
     ended(line)
 }

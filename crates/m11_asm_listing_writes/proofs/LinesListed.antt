@@ -15,14 +15,14 @@ use Rattle.m11_scan.specs.ErrorFlags.{flags_text}
 use Rattle.m11_scan_statements.specs.Labels.{labels_at}
 use Rattle.m11_asm_passes.specs.Placed.{IsPlaced}
 use Rattle.m11_asm_passes.specs.declared.placed.PlacedLine.{PlacedLine}
-use Rattle.m11_asm_rules.specs.Contents.{Put}
+use Rattle.m11_asm_rules.specs.Contents.{Emission}
 use Rattle.m11_asm_rules.specs.Items.{assigned_items, content_items, is_listed, items, items_of}
 use Rattle.m11_asm_rules.specs.Labels.{labels_stand}
-use Rattle.m11_asm_rules.specs.Lines.{after_line, action, line_put, put_location, stands}
+use Rattle.m11_asm_rules.specs.Lines.{after_line, action, line_emission, put_location, stands}
 use Rattle.m11_asm_rules.specs.Meanings.{Map}
 use Rattle.m11_asm_rules.specs.Tables.{Table, location}
 use Rattle.m11_unfold_rules.specs.Taking.{Live}
-use Rattle.m11_unfold_rules.specs.Unfolding.{Given}
+use Rattle.m11_unfold_rules.specs.Unfolding.{UnfoldedLine}
 use Rattle.m11_base_writes.specs.Outputs.{Output, no_output, optional_output}
 use Rattle.m11_base_writes.proofs.Writing.{gains_nothing}
 use Rattle.m11_asm_listing_writes.specs.Listed.{lines_of, listing_writes}
@@ -35,7 +35,7 @@ absent_by object messages lines true = none_listed object messages lines
 absent_by object messages lines false = gains_nothing assembly (outputs object no_output messages)
 
 pub absent : {T : Type 0} (known : Ghosts T) (listing : Option T) → is_some listing ≡ false
-    → (object messages : Output) (map : Map) (table : Table) (flags number : ℕ) (given : Given)
+    → (object messages : Output) (map : Map) (table : Table) (flags number : ℕ) (given : UnfoldedLine)
     → Gains (outputs object (optional_output known listing) messages) (outputs object (optional_output known listing) messages)
     (listing_writes map table flags number given)
 unfolding listing_writes
@@ -45,8 +45,8 @@ absent known (Some sink) none object messages map table flags number given = abs
 
 -- ---- a line
 
-module _ (map : Map) (table : Table) (given : Given) (placed : PlacedLine) (put : Put) (contents : List PieceContent)
-    (is : IsPlaced map table given placed put) (same : put.contents ≡ contents) (flags number : ℕ) where
+module _ (map : Map) (table : Table) (given : UnfoldedLine) (placed : PlacedLine) (emission : Emission) (contents : List PieceContent)
+    (is : IsPlaced map table given placed emission) (same : emission.contents ≡ contents) (flags number : ℕ) where
   listed_by : is_listed (after_line map table given) given flags ≡ not (flags == 0) || placed.is_shown
   listed_by = ap (λ (b : Bool). not (flags == 0) || b) (sym is.shown_is)
 
@@ -60,7 +60,7 @@ module _ (map : Map) (table : Table) (given : Given) (placed : PlacedLine) (put 
   items_so all are =
       are
       ∙ ap (λ (c : List PieceContent). items_of c ++ option_to_list placed.assigned) (sym same ∙ is.contents_are)
-      ∙ ap (λ (l : List Item). items_of (line_put map (stands table given) given).contents ++ l) is.assigned_is
+      ∙ ap (λ (l : List Item). items_of (line_emission map (stands table given) given).contents ++ l) is.assigned_is
 
   pub shown_so : ((table : Table) (line : Bytes) → location (labels_stand table line) ≡ location table)
       → not (flags == 0) || placed.is_shown ≡ true → (all : List Item)

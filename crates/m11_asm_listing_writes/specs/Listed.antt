@@ -5,7 +5,7 @@ use Rattle.m11_asm_outputs.specs.Outputs.{Write, to_listing}
 use Rattle.m11_base.specs.Devices.{Bytes}
 use Rattle.m11_asm_listing.specs.Listing.{listed_lines}
 use Rattle.m11_scan.specs.ErrorFlags.{flags_text}
-use Rattle.m11_unfold_rules.specs.Unfolding.{Given}
+use Rattle.m11_unfold_rules.specs.Unfolding.{UnfoldedLine}
 use Rattle.m11_asm_rules.specs.Items.{is_listed, items}
 use Rattle.m11_asm_rules.specs.Lines.{after_line, action, put_location, stands}
 use Rattle.m11_asm_rules.specs.Meanings.{Map}
@@ -18,13 +18,13 @@ all_to_listing lines = each to_listing lines
 -- ---- a line of the source, after a table
 
 -- the lines of a source line: its items lie from the location on where it puts them
-abbrev pub lines_of : Map → Table → ℕ → ℕ → Given → List Bytes
+abbrev pub lines_of : Map → Table → ℕ → ℕ → UnfoldedLine → List Bytes
 lines_of map table flags number given =
     listed_lines (flags_text flags) number (location table)
     (put_location (stands table given) (action given.is_own given.live.line.text)) (items map table given) given.live.line.text
 
 -- the levels after it decide whether it is listed, where it isn't flagged
-unfoldable pub listing_writes : Map → Table → ℕ → ℕ → Given → List Write
+unfoldable pub listing_writes : Map → Table → ℕ → ℕ → UnfoldedLine → List Write
 listing_writes map table flags number given =
     if is_listed (after_line map table given) given flags then all_to_listing (lines_of map table flags number given) else []
 

@@ -48,7 +48,11 @@ fn three(items: &[Item]) -> (&[Item], &[Item])
 }
 
 // The lines of further items, three on each.
-fn put_further<T: Sink>(listing: &mut Option<T>, location: u16, items: &[Item]) -> Result<(), AsmFault>
+fn put_further<T: Sink>(
+    listing: &mut Option<T>,
+    location: u16,
+    items: &[Item],
+) -> Result<(), AsmFault>
     ensures { (object messages : Output) → Writes
         (outputs object (optional_output T.Sink listing.old) messages)
         (outputs object (optional_output T.Sink listing.new) messages)

@@ -4,13 +4,13 @@ ghost use Rattle.std.specs.Prelude.{◌≡◌, ◌++◌, ◌==◌, ◌||◌, IfO
 ghost use Rattle.std.specs.Option.{option_to_list};
 ghost use Rattle.m11_asm_outputs.specs.Outputs.{Writes, outputs};
 ghost use Rattle.m11_asm_passes.specs.Placed.{IsPlaced};
-ghost use Rattle.m11_asm_rules.specs.Contents.{Put};
+ghost use Rattle.m11_asm_rules.specs.Contents.{Emission};
 ghost use Rattle.m11_asm_rules.specs.Items.{items_of};
 ghost use Rattle.m11_asm_rules.specs.Meanings.{Map};
 ghost use Rattle.m11_asm_rules.specs.Tables.{Table};
 ghost use Rattle.m11_scan.specs.Views.{bits_of};
 ghost use Rattle.m11_asm_listing_writes.specs.Listed.{listing_writes};
-ghost use Rattle.m11_unfold_rules.specs.Unfolding.{Given};
+ghost use Rattle.m11_unfold_rules.specs.Unfolding.{UnfoldedLine};
 ghost use Rattle.m11_base_writes.specs.Outputs.{Output, optional_output};
 
 use crate::lines::put_listed;
@@ -26,7 +26,7 @@ use m11_scan::ErrorFlags;
 use std::alloc::AllocError;
 
 /// The lines of a placed line, where there is a listing: a flagged line is always listed, any other by the levels after it. The number is
-/// that of the source's line, and the contents are what the line puts. `items` is room for what is shown of them.
+/// that of the source's line, and the contents are what the line emits. `items` is room for what is shown of them.
 ///
 /// Errors: `Write` of the listing, and `NoMemory` before the first line.
 pub fn put_placed<T: Sink>(
@@ -37,8 +37,8 @@ pub fn put_placed<T: Sink>(
     contents: &[PieceContent],
     listing: &mut Option<T>,
 ) -> Result<(), AsmFault>
-    ensures { (map : Map) (table : Table) (given : Given) (put : Put) (object messages : Output)
-        → IsPlaced map table given line.now put → put.contents ≡ contents.now → Writes
+    ensures { (map : Map) (table : Table) (given : UnfoldedLine) (emission : Emission) (object messages : Output)
+        → IsPlaced map table given line.now emission → emission.contents ≡ contents.now → Writes
         (outputs object (optional_output T.Sink listing.old) messages)
         (outputs object (optional_output T.Sink listing.new) messages)
         (listing_writes map table (bits_of flags) number given) result }
@@ -70,7 +70,7 @@ fn is_listed(line: &PlacedLine, flags: ErrorFlags) -> bool
     !flags.is_empty() || line.is_shown
 }
 
-// The items of what a line puts, and of what it assigns.
+// The items of what a line emits, and of what it assigns.
 fn gather(
     items: &mut Vec<Item>,
     contents: &[PieceContent],
@@ -86,7 +86,7 @@ fn gather(
     Ok(())
 }
 
-// Adds the items of what a line puts.
+// Adds the items of what a line emits.
 fn add_contents(items: &mut Vec<Item>, contents: &[PieceContent]) -> Result<(), AllocError>
     ensures { IfOk result (λ _. items.new.items ≡ items.old.items ++ items_of contents.now) }
 {

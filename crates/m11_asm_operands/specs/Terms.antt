@@ -4,7 +4,7 @@ use Rattle.m11_unfold_arguments.specs.Expressions.{IsAlone}
 use Rattle.m11_base.specs.Devices.{Bytes}
 use Rattle.m11_asm_rules.specs.Codes.{others}
 use Rattle.m11_asm_rules.specs.declared.fields.Field.{Field}
-use Rattle.m11_asm_rules.specs.declared.fields.Field.TheVariants.{Formed, Registered, Targeted, Numbered, Missing}
+use Rattle.m11_asm_rules.specs.declared.fields.Field.TheVariants.{Operand, Register, Target, Number, Missing}
 use Rattle.m11_asm_rules.specs.declared.operands.Form.{Form}
 use Rattle.m11_asm_rules.specs.declared.operands.Form.TheVariants.{Absent, InRegister, Indexed, Unindexed, AfterCounter}
 use Rattle.m11_scan.specs.declared.cutting.Token.{Token}
@@ -19,10 +19,10 @@ IsFormTerm line (Unindexed start) term = IsAlone line start term
 IsFormTerm line (AfterCounter kind start) term = IsAlone line start term
 
 abbrev pub IsFieldTerm : Bytes → Field → Token → Type 0
-IsFieldTerm line (Formed form) term = IsFormTerm line form term
-IsFieldTerm line (Registered start) term = IsAlone line start term
-IsFieldTerm line (Targeted start) term = IsAlone line start term
-IsFieldTerm line (Numbered start) term = IsAlone line start term
+IsFieldTerm line (Operand form) term = IsFormTerm line form term
+IsFieldTerm line (Register start) term = IsAlone line start term
+IsFieldTerm line (Target start) term = IsAlone line start term
+IsFieldTerm line (Number start) term = IsAlone line start term
 IsFieldTerm line Missing term = ⊥
 
 -- the one term of the first of some fields

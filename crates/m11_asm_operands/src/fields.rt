@@ -65,7 +65,7 @@ impl FieldTerms {
 
 // A field, as it stands in a line.
 #[derive(Clone, Copy)]
-pub struct FieldRead {
+pub struct FieldAt {
     pub(crate) field: Field,
     // The column after it.
     pub(crate) end: u8,
@@ -133,7 +133,7 @@ fn no_fields(line: &Line, column: usize) -> Fields
     }
 }
 
-fn one_field(field: FieldRead) -> Fields
+fn one_field(field: FieldAt) -> Fields
     ensures fields { fields_seen result ≡ alone (field_seen field) }
     ensures end { result.end ≡ field.end }
     ensures terms { (line : Bytes) → IfSome field.term (λ term. IsFieldTerm line field.field term)
@@ -152,7 +152,7 @@ fn one_field(field: FieldRead) -> Fields
     }
 }
 
-fn two_fields(first: FieldRead, second: FieldRead) -> Fields
+fn two_fields(first: FieldAt, second: FieldAt) -> Fields
     ensures fields { fields_seen result ≡ spec.before (field_seen first) (alone (field_seen second)) }
     ensures end { result.end ≡ second.end }
     ensures terms { (line : Bytes) → IfSome first.term (λ term. IsFieldTerm line first.field term)
@@ -174,7 +174,7 @@ fn two_fields(first: FieldRead, second: FieldRead) -> Fields
 }
 
 // The field that stands after another one: after its comma, or else it is missing.
-fn field_after<N: Names>(line: &Line, end: u8, kind: FieldKind, names: &N) -> FieldRead
+fn field_after<N: Names>(line: &Line, end: u8, kind: FieldKind, names: &N) -> FieldAt
     requires { end ≤ length line.now.text }
     ensures field { alone (field_seen result) ≡ spec.fields_after
         (known_by (N.base names.now) (N.stands_for names.now)) line.now.text end (kind ∷ []) }
@@ -188,24 +188,24 @@ fn field_after<N: Names>(line: &Line, end: u8, kind: FieldKind, names: &N) -> Fi
 }
 
 // A field before which its comma is missing. Nothing stands in it.
-fn missing(kind: FieldKind, end: u8) -> FieldRead
+fn missing(kind: FieldKind, end: u8) -> FieldAt
     ensures field { alone (field_seen result) ≡ spec.missing_fields end (kind ∷ []) }
     ensures end { result.end ≡ end }
     ensures term { result.term ≡ None }
 {
     match kind {
-        FieldKind::Operand => field_read(Field::Formed(Form::Absent), end, ErrorFlags::A),
+        FieldKind::Operand => field_read(Field::Operand(Form::Absent), end, ErrorFlags::A),
         FieldKind::Register | FieldKind::Target => field_read(Field::Missing, end, ErrorFlags::A),
         FieldKind::Number => field_read(Field::Missing, end, ErrorFlags::none()),
     }
 }
 
-fn field_read(field: Field, end: u8, flags: ErrorFlags) -> FieldRead
+fn field_read(field: Field, end: u8, flags: ErrorFlags) -> FieldAt
     ensures field { field_seen result ≡ spec.field_read field end (bits_of flags) }
     ensures end { result.end ≡ end }
     ensures term { result.term ≡ None }
 {
-    FieldRead {
+    FieldAt {
         field,
         end,
         flags,
@@ -215,7 +215,7 @@ fn field_read(field: Field, end: u8, flags: ErrorFlags) -> FieldRead
 
 // The field at a column.
 #[tactic(auto, using(crate::proofs::Terms::registered_term, crate::proofs::Terms::targeted_term, crate::proofs::Terms::numbered_term))]
-fn field_at<N: Names>(line: &Line, start: usize, kind: FieldKind, names: &N) -> FieldRead
+fn field_at<N: Names>(line: &Line, start: usize, kind: FieldKind, names: &N) -> FieldAt
     requires { start ≤ length line.now.text }
     ensures field { field_seen result ≡ spec.field_at
         (known_by (N.base names.now) (N.stands_for names.now)) line.now.text start kind }
@@ -225,14 +225,14 @@ fn field_at<N: Names>(line: &Line, start: usize, kind: FieldKind, names: &N) -> 
     let begin = column_in(line, start);
     match kind {
         FieldKind::Operand => operand(line, start, names),
-        FieldKind::Register => expression(line, begin, Field::Registered(begin), ErrorFlags::A),
-        FieldKind::Target => expression(line, begin, Field::Targeted(begin), ErrorFlags::A),
-        FieldKind::Number => expression(line, begin, Field::Numbered(begin), ErrorFlags::none()),
+        FieldKind::Register => expression(line, begin, Field::Register(begin), ErrorFlags::A),
+        FieldKind::Target => expression(line, begin, Field::Target(begin), ErrorFlags::A),
+        FieldKind::Number => expression(line, begin, Field::Number(begin), ErrorFlags::none()),
     }
 }
 
 // The operand at a column.
-fn operand<N: Names>(line: &Line, start: usize, names: &N) -> FieldRead
+fn operand<N: Names>(line: &Line, start: usize, names: &N) -> FieldAt
     requires { start ≤ length line.now.text }
     ensures field { field_seen result ≡ spec.operand_read (operand.operand_at
         (known_by (N.base names.now) (N.stands_for names.now)) line.now.text start) }
@@ -240,8 +240,8 @@ fn operand<N: Names>(line: &Line, start: usize, names: &N) -> FieldRead
     ensures term { IfSome result.term (λ term. IsFieldTerm line.now.text result.field term) }
 {
     let operand = operand_at(line, start, names);
-    FieldRead {
-        field: Field::Formed(operand.form),
+    FieldAt {
+        field: Field::Operand(operand.form),
         end: operand.end,
         flags: operand.flags,
         term: operand.term,
@@ -249,7 +249,7 @@ fn operand<N: Names>(line: &Line, start: usize, names: &N) -> FieldRead
 }
 
 // A field that is an expression at a column, or with flags where none stands there.
-fn expression(line: &Line, start: u8, field: Field, flags: ErrorFlags) -> FieldRead
+fn expression(line: &Line, start: u8, field: Field, flags: ErrorFlags) -> FieldAt
     requires { start ≤ length line.now.text }
     ensures field { field_seen result
         ≡ spec.expression_read field (bits_of flags) line.now.text start }
@@ -259,14 +259,14 @@ fn expression(line: &Line, start: u8, field: Field, flags: ErrorFlags) -> FieldR
 {
     let expression_end = expression_end_at(line, usize::from(start));
     if stands(line, start, expression_end.term) {
-        FieldRead {
+        FieldAt {
             field,
             end: expression_end.end,
             flags: ErrorFlags::none(),
             term: expression_end.term,
         }
     } else {
-        FieldRead {
+        FieldAt {
             field: Field::Missing,
             end: start,
             flags,
@@ -318,7 +318,7 @@ fn bytes_of(field: Field) -> u16
     ensures most { result ≤ 2 }
 {
     match field {
-        Field::Formed(form) => words_of(form) * 2,
+        Field::Operand(form) => words_of(form) * 2,
         _ => 0,
     }
 }

@@ -13,7 +13,7 @@ mod fields;
 mod operands;
 
 pub use fields::{FieldTerms, Fields, fields_at, instruction_size, words_of};
-pub use operands::{OperandRead, operand_at};
+pub use operands::{OperandAt, operand_at};
 
 // The lists of expressions and of names that directives take.
 mod elements;

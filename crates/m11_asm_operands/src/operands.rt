@@ -19,12 +19,12 @@ use m11_base_instructions::Mode;
 use m11_scan::{ErrorFlags, Line, Sort, Token, next_token, skipped_between};
 use m11_scan_values::Names;
 use m11_unfold_arguments::{
-    ExpressionEnd, expression_end_at, expression_end_from, column_in, value_by,
+    ExpressionEnd, column_in, expression_end_at, expression_end_from, value_by,
 };
 
 /// An operand, as it stands in a line.
 #[derive(Clone, Copy)]
-pub struct OperandRead {
+pub struct OperandAt {
     /// Its form.
     pub form: Form,
     /// The column after it.
@@ -38,7 +38,7 @@ pub struct OperandRead {
 /// The operand at a column of a line. Whether an expression is a register is asked of names: those of the lines before.
 // speed: a call would hand its result on by memory.
 #[inline(always)]
-pub fn operand_at<N: Names>(line: &Line, start: usize, names: &N) -> OperandRead
+pub fn operand_at<N: Names>(line: &Line, start: usize, names: &N) -> OperandAt
     requires { start ≤ length line.now.text }
     ensures read { read_seen result
         ≡ spec.operand_at (known_by (N.base names.now) (N.stands_for names.now)) line.now.text start }
@@ -52,7 +52,7 @@ pub fn operand_at<N: Names>(line: &Line, start: usize, names: &N) -> OperandRead
 }
 
 // The operand that begins with a token.
-fn operand_by<N: Names>(line: &Line, start: usize, token: Token, names: &N) -> OperandRead
+fn operand_by<N: Names>(line: &Line, start: usize, token: Token, names: &N) -> OperandAt
     requires start { start ≤ length line.now.text }
     requires token { IsNext line.now.text start token }
     requires least { start ≤ token.end }
@@ -70,13 +70,13 @@ fn operand_by<N: Names>(line: &Line, start: usize, token: Token, names: &N) -> O
 }
 
 // Nothing stands there.
-fn absent(line: &Line, start: usize) -> OperandRead
+fn absent(line: &Line, start: usize) -> OperandAt
     requires { start ≤ length line.now.text }
     ensures read { read_seen result ≡ spec.read Absent start flag_A }
     ensures within { result.end ≤ length line.now.text }
     ensures term { IfSome result.term (λ term. IsFormTerm line.now.text result.form term) }
 {
-    OperandRead {
+    OperandAt {
         form: Form::Absent,
         end: column_in(line, start),
         flags: ErrorFlags::A,
@@ -85,7 +85,7 @@ fn absent(line: &Line, start: usize) -> OperandRead
 }
 
 // What stands after `@`.
-fn deferred<N: Names>(line: &Line, start: usize, names: &N) -> OperandRead
+fn deferred<N: Names>(line: &Line, start: usize, names: &N) -> OperandAt
     requires { start ≤ length line.now.text }
     ensures read { read_seen result ≡ spec.deferred_by (known_by (N.base names.now) (N.stands_for names.now))
         line.now.text start (tokens_from line.now.text start) }
@@ -107,7 +107,7 @@ fn begun_by<N: Names>(
     start: usize,
     token: Token,
     names: &N,
-) -> OperandRead
+) -> OperandAt
     requires start { start ≤ length line.now.text }
     requires token { IsNext line.now.text start token }
     requires least { start ≤ token.end }
@@ -126,7 +126,7 @@ fn begun_by<N: Names>(
 }
 
 // The expression after `#`.
-fn immediate(line: &Line, is_deferred: bool, start: u8) -> OperandRead
+fn immediate(line: &Line, is_deferred: bool, start: u8) -> OperandAt
     requires { start ≤ length line.now.text }
     ensures read { read_seen result ≡ spec.read (AfterCounter (spec.autoincrement is_deferred) start)
         (ends.expression_end line.now.text start) 0 }
@@ -134,7 +134,7 @@ fn immediate(line: &Line, is_deferred: bool, start: u8) -> OperandRead
     ensures term { IfSome result.term (λ term. IsFormTerm line.now.text result.form term) }
 {
     let expression_end = expression_end_at(line, usize::from(start));
-    OperandRead {
+    OperandAt {
         form: Form::AfterCounter(autoincrement(is_deferred), start),
         end: expression_end.end,
         flags: ErrorFlags::none(),
@@ -149,7 +149,7 @@ fn after_minus<N: Names>(
     start: usize,
     minus: Token,
     names: &N,
-) -> OperandRead
+) -> OperandAt
     requires start { start ≤ length line.now.text }
     requires token { IsNext line.now.text start minus }
     requires least { start ≤ minus.end }
@@ -187,7 +187,7 @@ fn expression<N: Names>(
     start: usize,
     token: Token,
     names: &N,
-) -> OperandRead
+) -> OperandAt
     requires start { start ≤ length line.now.text }
     requires token { IsNext line.now.text start token }
     requires least { start ≤ token.end }
@@ -210,7 +210,7 @@ fn reached<N: Names>(
     start: usize,
     expression_end: ExpressionEnd,
     names: &N,
-) -> OperandRead
+) -> OperandAt
     requires start { start ≤ length line.now.text }
     requires end { expression_end.end ≡ ends.expression_end line.now.text start }
     requires next { MatchOption expression_end.next (tokens_from line.now.text expression_end.end ≡ [])
@@ -229,7 +229,7 @@ fn reached<N: Names>(
             Form::Indexed(indexed(is_deferred), token.end, column_in(line, start)),
             token.end,
         ),
-        _ => OperandRead {
+        _ => OperandAt {
             form: plain(line, is_deferred, start, expression_end.term, names),
             end: expression_end.end,
             flags: ErrorFlags::none(),
@@ -269,7 +269,7 @@ fn is_register_at<N: Names>(line: &Line, start: usize, term: Option<Token>, name
 }
 
 // The register after `(`, and what stands after it.
-fn bracketed(line: &Line, is_deferred: bool, register: u8) -> OperandRead
+fn bracketed(line: &Line, is_deferred: bool, register: u8) -> OperandAt
     requires { register ≤ length line.now.text }
     ensures read { read_seen result ≡ spec.bracketed is_deferred line.now.text register }
     ensures within { result.end ≤ length line.now.text }
@@ -284,7 +284,7 @@ fn bracketed(line: &Line, is_deferred: bool, register: u8) -> OperandRead
             expression_end.term,
             token.end,
         ),
-        _ => OperandRead {
+        _ => OperandAt {
             form: pointed(is_deferred, register),
             end: expression_end.end,
             flags: ErrorFlags::A,
@@ -294,13 +294,7 @@ fn bracketed(line: &Line, is_deferred: bool, register: u8) -> OperandRead
 }
 
 // What stands after `(R)`: `+`, or nothing. Where the register is one term, this is its token.
-fn stepped(
-    line: &Line,
-    is_deferred: bool,
-    register: u8,
-    term: Option<Token>,
-    end: u8,
-) -> OperandRead
+fn stepped(line: &Line, is_deferred: bool, register: u8, term: Option<Token>, end: u8) -> OperandAt
     requires within { end ≤ length line.now.text }
     requires term { IfSome term (λ term. IsAlone line.now.text register term) }
     ensures read { read_seen result
@@ -309,13 +303,13 @@ fn stepped(
     ensures term { IfSome result.term (λ term. IsFormTerm line.now.text result.form term) }
 {
     match next_token(line, usize::from(end)) {
-        Some(token) if is_plus(token.sort) => OperandRead {
+        Some(token) if is_plus(token.sort) => OperandAt {
             form: Form::InRegister(autoincrement(is_deferred), register),
             end: token.end,
             flags: ErrorFlags::none(),
             term,
         },
-        _ => OperandRead {
+        _ => OperandAt {
             form: pointed(is_deferred, register),
             end,
             flags: ErrorFlags::none(),
@@ -325,7 +319,7 @@ fn stepped(
 }
 
 // A form with the register that stands after its `(`: `)` stands next. The term of such a form is that of its register.
-fn closed(line: &Line, form: Form, register: u8) -> OperandRead
+fn closed(line: &Line, form: Form, register: u8) -> OperandAt
     requires within { register ≤ length line.now.text }
     requires form { (term : Option Token) → IfSome term (λ term. IsAlone line.now.text register term)
         → IfSome term (λ term. IsFormTerm line.now.text form term) }
@@ -335,13 +329,13 @@ fn closed(line: &Line, form: Form, register: u8) -> OperandRead
 {
     let expression_end = expression_end_at(line, usize::from(register));
     match expression_end.next {
-        Some(token) if is_close(token.sort) => OperandRead {
+        Some(token) if is_close(token.sort) => OperandAt {
             form,
             end: token.end,
             flags: ErrorFlags::none(),
             term: expression_end.term,
         },
-        _ => OperandRead {
+        _ => OperandAt {
             form,
             end: expression_end.end,
             flags: ErrorFlags::A,

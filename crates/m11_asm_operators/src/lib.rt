@@ -1,4 +1,4 @@
-//! What the operator of a line changes for the lines after it, and what it puts at its location, chosen by its name: an instruction, or one
+//! What the operator of a line changes for the lines after it, and what it emits at its location, chosen by its name: an instruction, or one
 //! of the directives. (MACRO-11 Language Reference Manual, "Operator field" and "General assembler directives"; PDP-11/40 Processor
 //! Handbook, "Instruction set".)
 #![tactic(auto)]
@@ -8,7 +8,7 @@ mod effects;
 
 pub use effects::{instruction_steps, operator_change};
 
-// What it puts, with its flags.
+// What it emits, with its flags.
 mod operators;
 
-pub use operators::put_operator;
+pub use operators::emit_operator;

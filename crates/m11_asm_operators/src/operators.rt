@@ -1,4 +1,4 @@
-//! What operators put at their locations, with their flags. (MACRO-11 Language Reference Manual, "General assembler directives"; PDP-11/40
+//! What operators emit at their locations, with their flags. (MACRO-11 Language Reference Manual, "General assembler directives"; PDP-11/40
 //! Processor Handbook, "Instruction set".)
 
 ghost use Rattle.std.specs.Prelude.{◌≡◌, ◌≤◌, length, IfOk, IsTrue};
@@ -19,28 +19,28 @@ ghost use Rattle.m11_asm_rules.specs.Storage as storage;
 ghost use Rattle.m11_scan.specs.Views.{bits_of};
 
 use m11_asm_data::{
-    block_flags, put_ascii, put_asciz, put_bytes, put_limits, put_rad50, put_words,
+    block_flags, emit_ascii, emit_asciz, emit_bytes, emit_limits, emit_rad50, emit_words,
 };
 use m11_asm_directives::{
     asect_flags, csect_flags, dsabl_flags, enabl_flags, end_flags, globl_flags, ident_flags,
     list_flags, narg, narg_flags, nchr, nchr_flags, number_flags, page_flags, psect_flags,
     radix_flags, sbttl_flags, title_flags,
 };
-use m11_asm_instructions::put_instruction;
+use m11_asm_instructions::emit_instruction;
 use m11_asm_operands::{Fields, is_even};
 use m11_asm_rules::{Directive, Operator};
 use m11_asm_table::{Map, Table};
-use m11_asm_values::{LineContext, Put, gap_flags, location_for};
+use m11_asm_values::{Emission, LineContext, gap_flags, location_for};
 use m11_base_instructions::Op;
 use m11_scan::{ErrorFlags, Line};
 use m11_unfold_arguments::left_over;
 use std::alloc::AllocError;
 
-/// Puts what an operator with these fields puts, whose name ends at a column of its line, with its flags. What has to stand at an even
+/// Puts what an operator with these fields emits, whose name ends at a column of its line, with its flags. What has to stand at an even
 /// location goes on to the next one, with B. `arguments` is the number of actuals of the macro around the line. Error: memory may be
 /// refused.
-pub fn put_operator(
-    put: &mut Put,
+pub fn emit_operator(
+    emission: &mut Emission,
     map: &Map<'_>,
     table: &Table,
     line: &Line,
@@ -54,18 +54,18 @@ pub fn put_operator(
     requires fields { fields_seen fields.now ≡ operator_fields table.now line.now.text start operator }
     requires ends { fields.now.end ≤ length line.now.text }
     requires terms { AreTerms line.now.text fields.now.list.items fields.now.terms }
-    ensures { IfOk result (λ _. put.new ≡ followed_by put.old
-        (lines.operation_put map.now table.now line.now.text arguments operator start)) }
+    ensures { IfOk result (λ _. emission.new ≡ followed_by emission.old
+        (lines.operation_emission map.now table.now line.now.text arguments operator start)) }
 {
     let is_even = is_even(operator);
-    put.add_flags(gap_flags(is_even, table.location()));
+    emission.add_flags(gap_flags(is_even, table.location()));
     let line_context = LineContext::new(map, table, location_for(is_even, table.location()), line);
-    put_at(put, &line_context, start, arguments, operator, fields)
+    emit_at(emission, &line_context, start, arguments, operator, fields)
 }
 
-// Puts what an operator puts at the location of its line.
-fn put_at(
-    put: &mut Put,
+// Puts what an operator emits at the location of its line.
+fn emit_at(
+    emission: &mut Emission,
     line_context: &LineContext,
     start: usize,
     arguments: Option<u16>,
@@ -77,19 +77,19 @@ fn put_at(
     requires fields { fields_seen fields.now ≡ fields_at line_context.now.table line_context.now.location line_context.now.line start operator }
     requires ends { fields.now.end ≤ length line_context.now.line }
     requires terms { AreTerms line_context.now.line fields.now.list.items fields.now.terms }
-    ensures { IfOk result (λ _. put.new ≡ followed_by put.old (effects.operator_put
+    ensures { IfOk result (λ _. emission.new ≡ followed_by emission.old (effects.operator_emission
         line_context.now.map line_context.now.table line_context.now.location line_context.now.line start arguments operator)) }
 {
     match operator {
-        Operator::Instruction(operation) => put_operation(
-            put,
+        Operator::Instruction(operation) => emit_operation(
+            emission,
             line_context,
             start,
             operation,
             fields,
         ),
-        Operator::Directive(directive) => put_directive(
-            put,
+        Operator::Directive(directive) => emit_directive(
+            emission,
             line_context,
             start,
             arguments,
@@ -99,8 +99,8 @@ fn put_at(
 }
 
 // The words of an instruction.
-fn put_operation(
-    put: &mut Put,
+fn emit_operation(
+    emission: &mut Emission,
     line_context: &LineContext,
     start: usize,
     operation: Op,
@@ -112,11 +112,11 @@ fn put_operation(
         ≡ instructions.fields line_context.now.table line_context.now.location line_context.now.line start operation }
     requires ends { fields.now.end ≤ length line_context.now.line }
     requires terms { AreTerms line_context.now.line fields.now.list.items fields.now.terms }
-    ensures { IfOk result (λ _. put.new ≡ followed_by put.old (instructions.words
+    ensures { IfOk result (λ _. emission.new ≡ followed_by emission.old (instructions.words
         line_context.now.map line_context.now.table line_context.now.location line_context.now.line start operation)) }
 {
-    put_instruction(
-        put,
+    emit_instruction(
+        emission,
         line_context,
         operation,
         start,
@@ -127,55 +127,55 @@ fn put_operation(
     )
 }
 
-// What a directive puts.
-fn put_directive(
-    put: &mut Put,
+// What a directive emits.
+fn emit_directive(
+    emission: &mut Emission,
     line_context: &LineContext,
     start: usize,
     arguments: Option<u16>,
     directive: Directive,
 ) -> Result<(), AllocError>
     requires { start ≤ length line_context.now.line }
-    ensures { IfOk result (λ _. put.new ≡ followed_by put.old (effects.directive_put
+    ensures { IfOk result (λ _. emission.new ≡ followed_by emission.old (effects.directive_emission
         line_context.now.map line_context.now.table line_context.now.location line_context.now.line start arguments directive)) }
 {
     let line = line_context.line();
     match directive {
-        Directive::Word => put_words(put, line_context, start),
-        Directive::Byte => put_bytes(put, line_context, start),
-        Directive::Ascii => put_ascii(put, line_context, start),
-        Directive::Asciz => put_asciz(put, line_context, start),
-        Directive::Rad50 => put_rad50(put, line_context, start),
-        Directive::Limit => put_limits(put, line_context, start),
-        Directive::Blkb => put_flags(put, block_flags_at(line_context, start)),
-        Directive::Blkw => put_flags(put, block_flags_at(line_context, start)),
-        Directive::Even => put_flags(put, left_over(line, start)),
-        Directive::Odd => put_flags(put, left_over(line, start)),
-        Directive::Radix => put_flags(put, radix_flags(line, start)),
-        Directive::Asect => put_flags(put, asect_flags(line, start)),
-        Directive::Csect => put_flags(put, csect_flags(line, start)),
-        Directive::Psect => put_flags(put, psect_flags_at(line_context, start)),
-        Directive::Globl => put_flags(put, globl_flags(line, start)),
-        Directive::Weak => put_flags(put, globl_flags(line, start)),
-        Directive::Title => put_flags(put, title_flags(line, start)),
-        Directive::Ident => put_flags(put, ident_flags(line, start)),
-        Directive::Sbttl => put_flags(put, sbttl_flags(line, start)),
-        Directive::Page => put_flags(put, page_flags(line, start)),
-        Directive::List => put_flags(put, list_flags(line, start)),
-        Directive::Nlist => put_flags(put, list_flags(line, start)),
-        Directive::Enabl => put_flags(put, enabl_flags(line, start)),
-        Directive::Dsabl => put_flags(put, dsabl_flags(line, start)),
-        Directive::Narg => put_flags(put, narg_flags_at(line_context, start, arguments)),
-        Directive::Nchr => put_flags(put, nchr_flags_at(line_context, start)),
-        Directive::End => put_flags(put, end_flags_at(line_context, start)),
+        Directive::Word => emit_words(emission, line_context, start),
+        Directive::Byte => emit_bytes(emission, line_context, start),
+        Directive::Ascii => emit_ascii(emission, line_context, start),
+        Directive::Asciz => emit_asciz(emission, line_context, start),
+        Directive::Rad50 => emit_rad50(emission, line_context, start),
+        Directive::Limit => emit_limits(emission, line_context, start),
+        Directive::Blkb => emit_flags(emission, block_flags_at(line_context, start)),
+        Directive::Blkw => emit_flags(emission, block_flags_at(line_context, start)),
+        Directive::Even => emit_flags(emission, left_over(line, start)),
+        Directive::Odd => emit_flags(emission, left_over(line, start)),
+        Directive::Radix => emit_flags(emission, radix_flags(line, start)),
+        Directive::Asect => emit_flags(emission, asect_flags(line, start)),
+        Directive::Csect => emit_flags(emission, csect_flags(line, start)),
+        Directive::Psect => emit_flags(emission, psect_flags_at(line_context, start)),
+        Directive::Globl => emit_flags(emission, globl_flags(line, start)),
+        Directive::Weak => emit_flags(emission, globl_flags(line, start)),
+        Directive::Title => emit_flags(emission, title_flags(line, start)),
+        Directive::Ident => emit_flags(emission, ident_flags(line, start)),
+        Directive::Sbttl => emit_flags(emission, sbttl_flags(line, start)),
+        Directive::Page => emit_flags(emission, page_flags(line, start)),
+        Directive::List => emit_flags(emission, list_flags(line, start)),
+        Directive::Nlist => emit_flags(emission, list_flags(line, start)),
+        Directive::Enabl => emit_flags(emission, enabl_flags(line, start)),
+        Directive::Dsabl => emit_flags(emission, dsabl_flags(line, start)),
+        Directive::Narg => emit_flags(emission, narg_flags_at(line_context, start, arguments)),
+        Directive::Nchr => emit_flags(emission, nchr_flags_at(line_context, start)),
+        Directive::End => emit_flags(emission, end_flags_at(line_context, start)),
     }
 }
 
 // Nothing but flags.
-fn put_flags(put: &mut Put, flags: ErrorFlags) -> Result<(), AllocError>
-    ensures { IfOk result (λ _. put.new ≡ followed_by put.old (nothing (bits_of flags))) }
+fn emit_flags(emission: &mut Emission, flags: ErrorFlags) -> Result<(), AllocError>
+    ensures { IfOk result (λ _. emission.new ≡ followed_by emission.old (nothing (bits_of flags))) }
 {
-    put.add_flags(flags);
+    emission.add_flags(flags);
     Ok(())
 }
 

@@ -9,11 +9,11 @@ use Rattle.m11_scan_lines.specs.Line.{SourceLine}
 use Rattle.m11_scan_lines.specs.declared.fault.LineFault.{LineFault}
 use Rattle.m11_asm_pass_laws.specs.Ends.{EndsAfter, HasEnd, IsOver}
 use Rattle.m11_asm_pass_laws.specs.Ends as ends
-use Rattle.m11_asm_passes.specs.Lines.{Numbered, PassLines, givens}
+use Rattle.m11_asm_passes.specs.Lines.{NumberedLine, PassLines, givens}
 use Rattle.m11_asm_rules.specs.Meanings.{Map, empty_map}
 use Rattle.m11_scan_line_laws.specs.Readings.{Reading}
 use Rattle.m11_asm.specs.Program.{Program, program_of}
-use Rattle.m11_asm.specs.Written.{Ended, flagged_count, program_writes, written}
+use Rattle.m11_asm.specs.Written.{EndOfSource, flagged_count, program_writes, written}
 use Rattle.m11_unfold_rules.specs.Stages.{Stage}
 use Rattle.m11_asm_outcome_laws.proofs.OnePass.{ended_at}
 use Rattle.m11_asm_lines.specs.declared.counting.Counting.{Counting}
@@ -26,16 +26,16 @@ EachEnds = (map : Map) (counting : Counting) (all : List SourceLine) → HasEnd 
 
 -- it ends, or it is refused
 abbrev pub Comes : Map → Counting → Reading → Type 0
-Comes map counting reading = ((lines : List Numbered) × (ended : Ended) × Ends map counting reading lines ended)
-    ⊎ ((lines : List Numbered) × (fault : AsmFault) × Refuses map counting reading lines fault)
+Comes map counting reading = ((lines : List NumberedLine) × (ended : EndOfSource) × Ends map counting reading lines ended)
+    ⊎ ((lines : List NumberedLine) × (fault : AsmFault) × Refuses map counting reading lines fault)
 
 module _ (map_ : Map) (counting : Counting) (reading : Reading) where
-  by_fault : (lines : List Numbered) → Unended map_ counting reading.lines lines → (came : Option LineFault) → reading.fault ≡ came
+  by_fault : (lines : List NumberedLine) → Unended map_ counting reading.lines lines → (came : Option LineFault) → reading.fault ≡ came
       → Comes map_ counting reading
   by_fault lines u None none = inl (lines, ended_at reading.lines false, outcome.Ends.WithoutEnd u none refl)
   by_fault lines u (Some fault) stops = inr (lines, of_lines fault, outcome.Refuses.AtReading fault stops refl u)
 
-  module _ (source : List SourceLine) (lines : List Numbered) (stage : Stage) (e : EndsAfter map_ counting reading.lines source lines stage) where
+  module _ (source : List SourceLine) (lines : List NumberedLine) (stage : Stage) (e : EndsAfter map_ counting reading.lines source lines stage) where
     all_read : e.more ≡ [] → source ≡ reading.lines
     all_read none = sym (append-nil source) ∙ ap (λ (ls : List SourceLine). source ++ ls) (sym none) ∙ e.whole
 
@@ -57,7 +57,7 @@ module _ (map_ : Map) (counting : Counting) (reading : Reading) where
       inr (lines, limit, outcome.Refuses.AtLimit source x.more limit (sym x.whole) x.exceeds refl)
 
 module _ (each : EachEnds) (first second : Reading) where
-  by_second : (lines : List Numbered) (ended : Ended) (program : Program) → Ends empty_map none_used first lines ended
+  by_second : (lines : List NumberedLine) (ended : EndOfSource) (program : Program) → Ends empty_map none_used first lines ended
       → program ≡ program_of (givens lines) → Comes program.map Definitions second
       → (all : Outcome) × HasOutcome first second all
   by_second lines ended program ends is (inl (others, end, ends')) = (

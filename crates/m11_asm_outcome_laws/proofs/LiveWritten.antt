@@ -3,7 +3,7 @@ use Rattle.std.proofs.Common.{◌≡◌, ℕ, List, Option, Result, Ok, Err, inl
 use Rattle.m11_asm.specs.Outcome.{Ends, Refuses}
 use Rattle.m11_asm.specs.Passes.{ReadsFirst, ReadsSecond, pass_of}
 use Rattle.m11_asm.specs.Run.{AsmRuns}
-use Rattle.m11_asm.specs.Written.{Ended, pieces_in, program_writes}
+use Rattle.m11_asm.specs.Written.{EndOfSource, pieces_in, program_writes}
 use Rattle.m11_asm.specs.declared.done.AsmDone.{AsmDone}
 use Rattle.m11_asm_faults.specs.declared.fault.AsmFault.{AsmFault}
 use Rattle.m11_asm_faults.specs.declared.fault.AsmFault.TheVariants as fault
@@ -11,7 +11,7 @@ use Rattle.m11_asm_outputs.specs.Object.{AllFit, object_contents}
 use Rattle.m11_asm_outputs.specs.Outputs.{Gains, Outputs}
 use Rattle.m11_base.specs.Devices.{Bytes}
 use Rattle.m11_base.specs.Feed.{Text}
-use Rattle.m11_asm_passes.specs.Lines.{Numbered}
+use Rattle.m11_asm_passes.specs.Lines.{NumberedLine}
 use Rattle.m11_asm_rules.specs.Meanings.{empty_map}
 use Rattle.m11_scan_line_laws.specs.Readings.{Reading, reading_of}
 use Rattle.m11_asm_outcome_laws.specs.Beginnings.{AreKnown, MayStop}
@@ -28,11 +28,11 @@ module _ (alike : EndAlike) (passes_none : PassesNone) {F : Type 0} (text : F �
   reading = reading_of sources
 
   -- the first pass reads the sources
-  first_ends : (lines : List Numbered) (ended : Ended) (read : Reading) → read ≡ reading → Ends empty_map none_used read lines ended
+  first_ends : (lines : List NumberedLine) (ended : EndOfSource) (read : Reading) → read ≡ reading → Ends empty_map none_used read lines ended
       → Ends empty_map none_used reading lines ended
   first_ends lines ended read same ends = subst (λ (r : Reading). Ends empty_map none_used r lines ended) same ends
 
-  module _ (lines : List Numbered) (ended : Ended) (ends : Ends empty_map none_used reading lines ended) where
+  module _ (lines : List NumberedLine) (ended : EndOfSource) (ends : Ends empty_map none_used reading lines ended) where
     abbrev Second : Result AsmDone AsmFault → Type 0
     Second returned = ReadsSecond (pass_of text faults two later) (program_after lines) old new returned
 
@@ -46,10 +46,10 @@ module _ (alike : EndAlike) (passes_none : PassesNone) {F : Type 0} (text : F �
           lines = lines;
           ended = ended;
           ends = ends;
-          gains = subst (λ (e : Ended). Gains old new (program_writes (program_after lines) lines e)) (sym same.1)
-              (subst (λ (ls : List Numbered). Gains old new (program_writes (program_after lines) ls h.ended)) (sym same.0) h.gains);
+          gains = subst (λ (e : EndOfSource). Gains old new (program_writes (program_after lines) lines e)) (sym same.1)
+              (subst (λ (ls : List NumberedLine). Gains old new (program_writes (program_after lines) ls h.ended)) (sym same.0) h.gains);
           flushed = h.flushed;
-          fit = subst (λ (ls : List Numbered).
+          fit = subst (λ (ls : List NumberedLine).
               AllFit (object_contents (program_after lines).rows (pieces_in (program_after lines).map ls))) (sym same.0) h.fit;
         }
 

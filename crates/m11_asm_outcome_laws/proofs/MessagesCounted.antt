@@ -8,15 +8,15 @@ use Rattle.m11_asm_listing_writes.specs.Listed.{added_lines, all_to_listing, lin
 use Rattle.m11_asm_listing.specs.Messages.{count_line, message_line}
 use Rattle.m11_asm_listing.specs.SymbolTable.{last_lines}
 use Rattle.m11_obj.specs.Records.{Content, EndOfModule}
-use Rattle.m11_asm_passes.specs.Lines.{Numbered, table_at}
+use Rattle.m11_asm_passes.specs.Lines.{NumberedLine, table_at}
 use Rattle.m11_asm_rules.specs.Items.{is_listed}
 use Rattle.m11_asm_rules.specs.Lines.{after_line, pieces}
 use Rattle.m11_asm_rules.specs.Meanings.{Map}
 use Rattle.m11_asm_rules.specs.Tables.{Table}
 use Rattle.m11_scan.specs.ErrorFlags.{flags_text}
 use Rattle.m11_asm.specs.Program.{Program}
-use Rattle.m11_asm.specs.Written.{Ended, added_writes, closing_writes, flagged_count, flagged_in, head_before, is_flagged, last_location, last_writes, flag_E, flags_after, flags_at, line_writes, message_writes, pieces_in, program_writes, written, written_after}
-use Rattle.m11_unfold_rules.specs.Unfolding.{Given}
+use Rattle.m11_asm.specs.Written.{EndOfSource, added_writes, closing_writes, flagged_count, flagged_in, head_before, is_flagged, last_location, last_writes, flag_E, flags_after, flags_at, line_writes, message_writes, pieces_in, program_writes, written, written_after}
+use Rattle.m11_unfold_rules.specs.Unfolding.{UnfoldedLine}
 use Rattle.m11_asm_outcome_laws.specs.Messages.{is_message, messages_in}
 
 abbrev one_if_message : Write → ℕ
@@ -43,7 +43,7 @@ listed_or_not : (lines : List Bytes) (listed : Bool) → messages_in (if listed 
 listed_or_not lines true = of_listing lines
 listed_or_not lines false = refl
 
-of_listed_line : (map : Map) (table : Table) (flags number : ℕ) (given : Given)
+of_listed_line : (map : Map) (table : Table) (flags number : ℕ) (given : UnfoldedLine)
     → messages_in (listing_writes map table flags number given) ≡ 0
 unfolding listing_writes
 of_listed_line map table flags number given =
@@ -58,11 +58,11 @@ of_message : (flags number : ℕ) (text : Bytes) → messages_in (message_writes
 of_message flags number text = flagged_or_not (message_line (flags_text flags) number text) (is_flagged flags)
 
 module _ (program : Program) where
-  of_head : (before : List Numbered) → messages_in (head_before program before) ≡ 0
+  of_head : (before : List NumberedLine) → messages_in (head_before program before) ≡ 0
   of_head [] = of_contents (head_contents program.rows)
   of_head (line ∷ before) = refl
 
-  of_line : (before : List Numbered) (line : Numbered)
+  of_line : (before : List NumberedLine) (line : NumberedLine)
       → messages_in (line_writes program before line) ≡ one_if_flagged (flags_at program before line)
   unfolding line_writes
   of_line before line =
@@ -80,7 +80,7 @@ module _ (program : Program) where
         of_message flags line.number line.given.live.line.text,
       )
 
-  of_lines : (before all : List Numbered)
+  of_lines : (before all : List NumberedLine)
       → messages_in (written_after program before all) ≡ count_by is_flagged (flags_after program before all)
   of_lines before [] = refl
   of_lines before (line ∷ all) =
@@ -97,7 +97,7 @@ module _ (program : Program) where
         sum_by-cons one_if_flagged flags (flags_after program (before ++ line ∷ []) all),
       )
 
-  of_written : (all : List Numbered) → messages_in (written program all) ≡ flagged_in program all
+  of_written : (all : List NumberedLine) → messages_in (written program all) ≡ flagged_in program all
   unfolding written flagged_in
   of_written all = of_lines [] all
 
@@ -108,7 +108,7 @@ module _ (program : Program) where
       of_both (all_to_listing (added_lines flag_E read counter)) (message_writes flag_E read [])
       ∙ omega (arith, of_listing (added_lines flag_E read counter), of_message flag_E read [])
 
-  of_closing : (all : List Numbered) (count : ℕ)
+  of_closing : (all : List NumberedLine) (count : ℕ)
       → messages_in (closing_writes (pieces_in program.map all) program.symbols program.sections count) ≡ 1
   of_closing all count =
       let contents = last_records (pieces_in program.map all) ++ EndOfModule ∷ [] in
@@ -117,7 +117,7 @@ module _ (program : Program) where
       ∙ ap (λ (n : ℕ). messages_in (content_writes contents) + n) (of_both (all_to_listing table) (flushes ++ to_messages (count_line count) ∷ []))
       ∙ omega (arith, of_contents contents, of_listing table)
 
-  pub as_many_messages : (all : List Numbered) (ended : Ended)
+  pub as_many_messages : (all : List NumberedLine) (ended : EndOfSource)
       → messages_in (program_writes program all ended) ≡ flagged_count program all ended.has_end + 1
   as_many_messages all ended =
       let head = head_before program all in

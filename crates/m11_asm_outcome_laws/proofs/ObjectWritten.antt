@@ -4,7 +4,7 @@ use Rattle.std.specs.List.{flat_map}
 use Rattle.std.proofs.lemmas.Grind.{flat_map-append}
 use Rattle.m11_asm.proofs.LinesWritten.{pieces_more}
 use Rattle.m11_asm.specs.Program.{Program}
-use Rattle.m11_asm.specs.Written.{Ended, added_writes, closing_writes, flagged_count, head_before, is_flagged, last_location, last_writes, flag_E, flags_at, line_writes, message_writes, pieces_in, program_writes, written, written_after}
+use Rattle.m11_asm.specs.Written.{EndOfSource, added_writes, closing_writes, flagged_count, head_before, is_flagged, last_location, last_writes, flag_E, flags_at, line_writes, message_writes, pieces_in, program_writes, written, written_after}
 use Rattle.m11_asm_faults.specs.declared.fault.AsmOutput.TheVariants.{Object}
 use Rattle.m11_asm_outputs.proofs.Closing.{all_records, closed-append}
 use Rattle.m11_asm_outputs.specs.Object.{closed_records, content_writes, head_contents, last_records, object_contents, records_closed_by}
@@ -17,13 +17,13 @@ use Rattle.m11_obj.specs.Records.{Content, EndOfModule}
 use Rattle.m11_obj_texts.specs.Fronts.{fronts_of}
 use Rattle.m11_obj_texts.specs.Texts.{text_records}
 use Rattle.m11_obj_texts.specs.declared.pieces.Piece.{Piece}
-use Rattle.m11_asm_passes.specs.Lines.{Numbered, table_at}
+use Rattle.m11_asm_passes.specs.Lines.{NumberedLine, table_at}
 use Rattle.m11_asm_rules.specs.Items.{is_listed}
 use Rattle.m11_asm_rules.specs.Lines.{after_line, pieces}
 use Rattle.m11_asm_rules.specs.Meanings.{Map}
 use Rattle.m11_asm_rules.specs.Tables.{Table}
 use Rattle.m11_scan.specs.ErrorFlags.{flags_text}
-use Rattle.m11_unfold_rules.specs.Unfolding.{Given}
+use Rattle.m11_unfold_rules.specs.Unfolding.{UnfoldedLine}
 use Rattle.m11_base_writes.proofs.Writing.{gained-append}
 use Rattle.m11_base_writes.specs.Writes.{gained}
 use Rattle.m11_asm_outcome_laws.specs.Outputs.{content_block}
@@ -60,7 +60,7 @@ listed_or_not : (lines : List Bytes) (listed : Bool) → gains (if listed then a
 listed_or_not lines true = of_listing lines
 listed_or_not lines false = of_nothing
 
-of_listed_line : (map : Map) (table : Table) (flags number : ℕ) (given : Given)
+of_listed_line : (map : Map) (table : Table) (flags number : ℕ) (given : UnfoldedLine)
     → gains (listing_writes map table flags number given) ≡ []
 unfolding listing_writes
 of_listed_line map table flags number given =
@@ -93,10 +93,10 @@ module _ (program : Program) where
   abbrev head : Bytes
   head = blocks (head_contents program.rows)
 
-  abbrev pieces_at : List Numbered → List Piece
+  abbrev pieces_at : List NumberedLine → List Piece
   pieces_at before = pieces_in program.map before
 
-  of_line : (before : List Numbered) (line : Numbered) → gains (line_writes program before line)
+  of_line : (before : List NumberedLine) (line : NumberedLine) → gains (line_writes program before line)
       ≡ blocks (records_closed_by (pieces_at before) (pieces program.map (table_at program.map before) line.given))
   unfolding line_writes
   of_line before line =
@@ -110,14 +110,14 @@ module _ (program : Program) where
 
   -- ---- what was written after some lines
 
-  abbrev head_after : List Numbered → Bytes
+  abbrev head_after : List NumberedLine → Bytes
   head_after [] = []
   head_after (line ∷ lines) = head
 
-  abbrev so_far : List Numbered → Bytes
+  abbrev so_far : List NumberedLine → Bytes
   so_far lines = head_after lines ++ blocks (closed_records (pieces_at lines))
 
-  head_is_there : (before : List Numbered) (line : Numbered) → head_after (before ++ line ∷ []) ≡ head
+  head_is_there : (before : List NumberedLine) (line : NumberedLine) → head_after (before ++ line ∷ []) ≡ head
   head_is_there [] line = refl
   head_is_there (first ∷ before) line = refl
 
@@ -125,14 +125,14 @@ module _ (program : Program) where
   nothing_closed = ap blocks (ap closed_records (no_pieces program.map) ∙ no_closed_records)
 
   -- the head comes before the first closed text
-  with_head : (before : List Numbered) → so_far before ++ gains (head_before program before)
+  with_head : (before : List NumberedLine) → so_far before ++ gains (head_before program before)
       ≡ head ++ blocks (closed_records (pieces_at before))
   with_head [] =
       ap₂ (λ (s t : Bytes). s ++ t) nothing_closed (of_contents (head_contents program.rows))
       ∙ sym (append-nil head) ∙ ap (λ (t : Bytes). head ++ t) (sym nothing_closed)
   with_head (line ∷ before) = ap (λ (t : Bytes). so_far (line ∷ before) ++ t) of_nothing ∙ append-nil (so_far (line ∷ before))
 
-  line_closes : (before : List Numbered) (line : Numbered)
+  line_closes : (before : List NumberedLine) (line : NumberedLine)
       → blocks (closed_records (pieces_at before)) ++ gains (line_writes program before line)
       ≡ blocks (closed_records (pieces_at (before ++ line ∷ [])))
   line_closes before line =
@@ -142,7 +142,7 @@ module _ (program : Program) where
       ∙ ap blocks (sym (closed-append (pieces_at before) here))
       ∙ ap (λ (ps : List Piece). blocks (closed_records ps)) (sym (pieces_more program.map before line))
 
-  one_more : (before : List Numbered) (line : Numbered)
+  one_more : (before : List NumberedLine) (line : NumberedLine)
       → so_far before ++ gains (head_before program before ++ line_writes program before line) ≡ so_far (before ++ line ∷ [])
   one_more before line =
       let closed = blocks (closed_records (pieces_at before)) in
@@ -153,7 +153,7 @@ module _ (program : Program) where
       ∙ append_assoc head closed own
       ∙ ap₂ (λ (s t : Bytes). s ++ t) (sym (head_is_there before line)) (line_closes before line)
 
-  of_lines : (before lines : List Numbered)
+  of_lines : (before lines : List NumberedLine)
       → so_far before ++ gains (written_after program before lines) ≡ so_far (before ++ lines)
   of_lines before [] =
       ap (λ (t : Bytes). so_far before ++ t) of_nothing ∙ append-nil (so_far before)
@@ -167,14 +167,14 @@ module _ (program : Program) where
       ∙ of_lines (before ++ line ∷ []) lines
       ∙ ap so_far (append_assoc before (line ∷ []) lines)
 
-  of_written : (lines : List Numbered) → gains (written program lines) ≡ so_far lines
+  of_written : (lines : List NumberedLine) → gains (written program lines) ≡ so_far lines
   unfolding written
   of_written lines =
       ap (λ (t : Bytes). t ++ gains (written_after program [] lines)) (sym nothing_closed) ∙ of_lines [] lines
 
   -- ---- the end
 
-  of_added : (ended : Ended) (counter : ℕ) → gains (added_writes ended counter) ≡ []
+  of_added : (ended : EndOfSource) (counter : ℕ) → gains (added_writes ended counter) ≡ []
   of_added ended counter = by_end ended.has_end
     where
       either : gains (all_to_listing (added_lines flag_E ended.read counter) ++ message_writes flag_E ended.read []) ≡ []
@@ -192,7 +192,7 @@ module _ (program : Program) where
   unfolding gained
   of_count count = refl
 
-  of_closing : (lines : List Numbered) (count : ℕ)
+  of_closing : (lines : List NumberedLine) (count : ℕ)
       → gains (closing_writes (pieces_at lines) program.symbols program.sections count)
       ≡ blocks (last_records (pieces_at lines) ++ EndOfModule ∷ [])
   of_closing lines count =
@@ -215,7 +215,7 @@ module _ (program : Program) where
       sym (both_blocks (head_contents program.rows) (text_records ps ++ EndOfModule ∷ []))
       ∙ ap blocks (sym (append_assoc (head_contents program.rows) (text_records ps) (EndOfModule ∷ [])))
 
-  pub object_is_its_blocks : (lines : List Numbered) (ended : Ended)
+  pub object_is_its_blocks : (lines : List NumberedLine) (ended : EndOfSource)
       → gains (program_writes program lines ended) ≡ blocks (object_contents program.rows (pieces_at lines))
   object_is_its_blocks lines ended =
       let first = head_before program lines in

@@ -7,19 +7,19 @@ use Rattle.m11_asm_faults.specs.declared.fault.AsmFault.{AsmFault}
 use Rattle.m11_scan_lines.specs.Line.{SourceLine}
 use Rattle.m11_scan_lines.specs.declared.fault.LineFault.{LineFault}
 use Rattle.m11_asm_pass_laws.specs.Ends.{EndsAfter, ExceedsAfter}
-use Rattle.m11_asm_passes.specs.Lines.{Numbered}
+use Rattle.m11_asm_passes.specs.Lines.{NumberedLine}
 use Rattle.m11_asm_rules.specs.Meanings.{Map}
 use Rattle.m11_scan_line_laws.specs.Readings.{Reading}
-use Rattle.m11_asm.specs.Written.{Ended}
+use Rattle.m11_asm.specs.Written.{EndOfSource}
 use Rattle.m11_unfold_rules.specs.Stages.{Stage}
 use Rattle.m11_asm_lines.specs.declared.counting.Counting.{Counting}
 
 -- ---- the end of a pass over a reading is that of one over its lines
 
-abbrev pub ended_at : List SourceLine → Bool → Ended
+abbrev pub ended_at : List SourceLine → Bool → EndOfSource
 ended_at source has_end = record { read = length source; has_end = has_end }
 
-pub record EndsSo (map : Map) (counting : Counting) (reading : Reading) (lines : List Numbered) (ended : Ended) : Type 0 where
+pub record EndsSo (map : Map) (counting : Counting) (reading : Reading) (lines : List NumberedLine) (ended : EndOfSource) : Type 0 where
   pub source : List SourceLine
   pub stage : Stage
   pub after : EndsAfter map counting reading.lines source lines stage
@@ -33,12 +33,12 @@ pub none_some : (came : Option LineFault) (fault : LineFault) → came ≡ None 
 none_some came fault none some = let both : None ≡ Some fault = sym none ∙ some in cc
 
 module _ (map_ : Map) (counting : Counting) (reading : Reading) where
-  pub unended_after : (lines : List Numbered) (u : Unended map_ counting reading.lines lines)
+  pub unended_after : (lines : List NumberedLine) (u : Unended map_ counting reading.lines lines)
       → EndsAfter map_ counting reading.lines reading.lines lines u.stage
   unended_after lines u =
       record { lines_are = u.live; more = []; whole = append-nil reading.lines; is_over = inr (refl, u.left, u.goes_on) }
 
-  pub ends_so : (lines : List Numbered) (ended : Ended) → Ends map_ counting reading lines ended → EndsSo map_ counting reading lines ended
+  pub ends_so : (lines : List NumberedLine) (ended : EndOfSource) → Ends map_ counting reading lines ended → EndsSo map_ counting reading lines ended
   ends_so lines ended (outcome.Ends.AtEnd source more stage whole live ends is) = record {
     source = source;
     stage = stage;
@@ -55,7 +55,7 @@ module _ (map_ : Map) (counting : Counting) (reading : Reading) where
   }
 
 -- where two passes end after the same lines of a source, at the same stage, they end alike
-pub same_ended : (source other : List SourceLine) (stage after : Stage) (ended end : Ended) → source ≡ other → stage ≡ after
+pub same_ended : (source other : List SourceLine) (stage after : Stage) (ended end : EndOfSource) → source ≡ other → stage ≡ after
     → ended ≡ ended_at source stage.has_ended → end ≡ ended_at other after.has_ended → ended ≡ end
 same_ended source other stage after ended end same alike are are' =
     are ∙ ap (λ (ls : List SourceLine). ended_at ls stage.has_ended) same ∙ ap (λ (s : Stage). ended_at other s.has_ended) alike ∙ sym are'
@@ -63,24 +63,24 @@ same_ended source other stage after ended end same alike are are' =
 -- ---- what is known of passes over lines
 
 abbrev pub EndsOnce : Type 0
-EndsOnce = (map : Map) (counting : Counting) (all source other : List SourceLine) (lines later : List Numbered) (stage after : Stage)
+EndsOnce = (map : Map) (counting : Counting) (all source other : List SourceLine) (lines later : List NumberedLine) (stage after : Stage)
     → EndsAfter map counting all source lines stage → EndsAfter map counting all other later after
     → (source ≡ other) × (lines ≡ later) × (stage ≡ after)
 
 abbrev pub ExceedsOnce : Type 0
-ExceedsOnce = (map : Map) (counting : Counting) (all source other : List SourceLine) (lines later : List Numbered)
+ExceedsOnce = (map : Map) (counting : Counting) (all source other : List SourceLine) (lines later : List NumberedLine)
     (first second : AsmFault) → ExceedsAfter map counting all source lines first → ExceedsAfter map counting all other later second
     → (source ≡ other) × (lines ≡ later) × (first ≡ second)
 
 abbrev pub EndsOrExceeds : Type 0
-EndsOrExceeds = (map : Map) (counting : Counting) (all source other : List SourceLine) (lines later : List Numbered) (stage : Stage)
+EndsOrExceeds = (map : Map) (counting : Counting) (all source other : List SourceLine) (lines later : List NumberedLine) (stage : Stage)
     (fault : AsmFault) → EndsAfter map counting all source lines stage → ExceedsAfter map counting all other later fault → ⊥
 
 -- ---- of passes over a reading
 
 module _ (once : EndsOnce) (limit_once : ExceedsOnce) (either : EndsOrExceeds) (map_ : Map) (counting : Counting) (reading : Reading)
-    (lines later : List Numbered) where
-  pub one_end : (ended end : Ended) → Ends map_ counting reading lines ended → Ends map_ counting reading later end
+    (lines later : List NumberedLine) where
+  pub one_end : (ended end : EndOfSource) → Ends map_ counting reading lines ended → Ends map_ counting reading later end
       → (lines ≡ later) × (ended ≡ end)
   one_end ended end ends ends' =
       let e = ends_so map_ counting reading lines ended ends in
@@ -109,7 +109,7 @@ module _ (once : EndsOnce) (limit_once : ExceedsOnce) (either : EndsOrExceeds) (
       (record { exceeds = exceeds; more = more; whole = sym whole }) (record { exceeds = exceeds'; more = more'; whole = sym whole' }) in
       (same.1, is ∙ same.2 ∙ sym is')
 
-  pub not_both : (ended : Ended) (stopped : AsmFault) → Ends map_ counting reading lines ended → Refuses map_ counting reading later stopped → ⊥
+  pub not_both : (ended : EndOfSource) (stopped : AsmFault) → Ends map_ counting reading lines ended → Refuses map_ counting reading later stopped → ⊥
   not_both ended stopped ends (outcome.Refuses.AtReading fault stops is u) =
       let e = ends_so map_ counting reading lines ended ends in
       let same = once map_ counting reading.lines e.source reading.lines lines later e.stage u.stage e.after

@@ -6,11 +6,11 @@ use Rattle.m11_asm_faults.specs.declared.fault.AsmFault.{AsmFault}
 use Rattle.m11_scan_lines.specs.Line.{SourceLine}
 use Rattle.m11_asm_pass_laws.specs.Ends.{EndsAfter, ExceedsAfter}
 use Rattle.m11_asm_pass_laws.specs.Second.{map_from, moved_after}
-use Rattle.m11_asm_passes.specs.Lines.{Numbered, PassLines, givens}
+use Rattle.m11_asm_passes.specs.Lines.{NumberedLine, PassLines, givens}
 use Rattle.m11_asm_rules.specs.Meanings.{Map, empty_map}
 use Rattle.m11_scan_line_laws.specs.Readings.{Reading}
 use Rattle.m11_asm.specs.Program.{Program, program_of}
-use Rattle.m11_asm.specs.Written.{Ended, flagged_count, program_writes}
+use Rattle.m11_asm.specs.Written.{EndOfSource, flagged_count, program_writes}
 use Rattle.m11_unfold_rules.specs.Stages.{Stage}
 use Rattle.m11_asm_outcome_laws.specs.OneText.{IsDecidedByFirst, Repeats, program_after}
 use Rattle.m11_asm_outcome_laws.proofs.EachPass.{Comes, EachEnds, comes_by}
@@ -22,22 +22,22 @@ use Rattle.m11_asm_lines.specs.Counting.{none_used}
 -- ---- what is known of two passes over the same lines
 
 abbrev pub EndAlike : Type 0
-EndAlike = (one other : Map) (counting others : Counting) (all source read : List SourceLine) (lines later : List Numbered)
+EndAlike = (one other : Map) (counting others : Counting) (all source read : List SourceLine) (lines later : List NumberedLine)
     (stage after : Stage) → EndsAfter one counting all source lines stage → EndsAfter other others all read later after
     → (source ≡ read) × (lines ≡ later) × (stage ≡ after)
 
 abbrev pub PassesNone : Type 0
-PassesNone = (one other : Map) (counting : Counting) (all source read : List SourceLine) (lines later : List Numbered) (stage : Stage)
+PassesNone = (one other : Map) (counting : Counting) (all source read : List SourceLine) (lines later : List NumberedLine) (stage : Stage)
     (fault : AsmFault) → EndsAfter one counting all source lines stage
     → ExceedsAfter other Definitions all read later fault → ⊥
 
 abbrev pub NoneMoves : Type 0
-NoneMoves = (one : Map) (counting others : Counting) (all source read rest : List SourceLine) (lines later before more : List Numbered)
-    (this : Numbered) (stage after : Stage) → EndsAfter one counting all source lines stage
+NoneMoves = (one : Map) (counting others : Counting) (all source read rest : List SourceLine) (lines later before more : List NumberedLine)
+    (this : NumberedLine) (stage after : Stage) → EndsAfter one counting all source lines stage
     → PassLines (map_from lines) others read later after → read ++ rest ≡ all → later ≡ before ++ this ∷ more
     → moved_after (map_from lines) before this ≡ 0
 
-module _ (alike : EndAlike) (passes_none : PassesNone) (reading : Reading) (lines : List Numbered) (ended : Ended)
+module _ (alike : EndAlike) (passes_none : PassesNone) (reading : Reading) (lines : List NumberedLine) (ended : EndOfSource)
     (ends : Ends empty_map none_used reading lines ended) where
   abbrev map_after : Map
   map_after = (program_after lines).map
@@ -45,7 +45,7 @@ module _ (alike : EndAlike) (passes_none : PassesNone) (reading : Reading) (line
   first : EndsSo empty_map none_used reading lines ended
   first = ends_so empty_map none_used reading lines ended ends
 
-  pub never : (others : List Numbered) (fault : AsmFault) → Refuses map_after Definitions reading others fault → ⊥
+  pub never : (others : List NumberedLine) (fault : AsmFault) → Refuses map_after Definitions reading others fault → ⊥
   never others fault (outcome.Refuses.AtReading came stops is u) =
       let same = alike empty_map map_after none_used Definitions reading.lines first.source reading.lines lines others first.stage u.stage first.after
       (unended_after map_after Definitions reading others u) in
@@ -58,7 +58,7 @@ module _ (alike : EndAlike) (passes_none : PassesNone) (reading : Reading) (line
       })
 
   -- it ends after the same lines
-  pub same_end : (others : List Numbered) (end : Ended) → Ends map_after Definitions reading others end → (lines ≡ others) × (ended ≡ end)
+  pub same_end : (others : List NumberedLine) (end : EndOfSource) → Ends map_after Definitions reading others end → (lines ≡ others) × (ended ≡ end)
   same_end others end ends' =
       let second = ends_so map_after Definitions reading others end ends' in
       let same = alike empty_map map_after none_used Definitions reading.lines first.source second.source lines others first.stage second.stage
@@ -68,8 +68,8 @@ module _ (alike : EndAlike) (passes_none : PassesNone) (reading : Reading) (line
   ends_again : Comes map_after Definitions reading → Ends map_after Definitions reading lines ended
   ends_again (inl (others, end, ends')) =
       let same = same_end others end ends' in
-      subst (λ (e : Ended). Ends map_after Definitions reading lines e) (sym same.1)
-      (subst (λ (ls : List Numbered). Ends map_after Definitions reading ls end) (sym same.0) ends')
+      subst (λ (e : EndOfSource). Ends map_after Definitions reading lines e) (sym same.1)
+      (subst (λ (ls : List NumberedLine). Ends map_after Definitions reading ls end) (sym same.0) ends')
   ends_again (inr (others, fault, refuses)) = absurd (never others fault refuses)
 
   module _ (each : EachEnds) (none_moves : NoneMoves) where
@@ -90,14 +90,14 @@ module _ (alike : EndAlike) (passes_none : PassesNone) (reading : Reading) (line
 -- ---- the outcome
 
 module _ (alike : EndAlike) (passes_none : PassesNone) (reading : Reading) where
-  never_under : (lines others : List Numbered) (ended : Ended) (program : Program) (fault : AsmFault)
+  never_under : (lines others : List NumberedLine) (ended : EndOfSource) (program : Program) (fault : AsmFault)
       → Ends empty_map none_used reading lines ended → program ≡ program_of (givens lines)
       → Refuses program.map Definitions reading others fault → ⊥
   never_under lines others ended program fault ends is refuses =
       never alike passes_none reading lines ended ends others fault
       (subst (λ (p : Program). Refuses p.map Definitions reading others fault) is refuses)
 
-  same_under : (lines others : List Numbered) (ended end : Ended) (program : Program) → Ends empty_map none_used reading lines ended
+  same_under : (lines others : List NumberedLine) (ended end : EndOfSource) (program : Program) → Ends empty_map none_used reading lines ended
       → program ≡ program_of (givens lines) → Ends program.map Definitions reading others end
       → (lines ≡ others) × (ended ≡ end)
   same_under lines others ended end program ends is ends' =
@@ -114,9 +114,9 @@ module _ (alike : EndAlike) (passes_none : PassesNone) (reading : Reading) where
         ended,
         ends,
         ap (λ (p : Program). program_writes p others end) is
-            ∙ ap (λ (ls : List Numbered). program_writes (program_after lines) ls end) (sym same.0)
-            ∙ ap (λ (e : Ended). program_writes (program_after lines) lines e) (sym same.1),
+            ∙ ap (λ (ls : List NumberedLine). program_writes (program_after lines) ls end) (sym same.0)
+            ∙ ap (λ (e : EndOfSource). program_writes (program_after lines) lines e) (sym same.1),
         ap (λ (p : Program). flagged_count p others end.has_end) is
-            ∙ ap (λ (ls : List Numbered). flagged_count (program_after lines) ls end.has_end) (sym same.0)
-            ∙ ap (λ (e : Ended). flagged_count (program_after lines) lines e.has_end) (sym same.1),
+            ∙ ap (λ (ls : List NumberedLine). flagged_count (program_after lines) ls end.has_end) (sym same.0)
+            ∙ ap (λ (e : EndOfSource). flagged_count (program_after lines) lines e.has_end) (sym same.1),
       )

@@ -3,7 +3,7 @@ use Rattle.std.proofs.Common.{◌≡◌, ◌∙◌, ℕ, Bool, true, false, if�
 use Rattle.std.specs.List.{concat, cons_option}
 use Rattle.std.proofs.lemmas.List.Folds.{concat-append}
 use Rattle.m11_asm.specs.Program.{Program}
-use Rattle.m11_asm.specs.Written.{Ended, added_writes, closing_writes, flagged_count, head_before, is_flagged, last_location, last_writes, flag_E, flags_at, line_writes, message_writes, pieces_in, program_writes, written, written_after}
+use Rattle.m11_asm.specs.Written.{EndOfSource, added_writes, closing_writes, flagged_count, head_before, is_flagged, last_location, last_writes, flag_E, flags_at, line_writes, message_writes, pieces_in, program_writes, written, written_after}
 use Rattle.m11_asm_faults.specs.declared.fault.AsmOutput.{AsmOutput}
 use Rattle.m11_asm_faults.specs.declared.fault.AsmOutput.TheVariants.{Listing, Messages}
 use Rattle.m11_asm_outputs.specs.Object.{content_writes, head_contents, last_records, records_closed_by}
@@ -13,7 +13,7 @@ use Rattle.m11_asm_listing_writes.specs.Listed.{added_lines, all_to_listing, lin
 use Rattle.m11_asm_listing.specs.Messages.{count_line, message_line}
 use Rattle.m11_asm_listing.specs.SymbolTable.{last_lines}
 use Rattle.m11_obj.specs.Records.{Content, EndOfModule}
-use Rattle.m11_asm_passes.specs.Lines.{Numbered, table_at}
+use Rattle.m11_asm_passes.specs.Lines.{NumberedLine, table_at}
 use Rattle.m11_asm_rules.specs.Items.{is_listed}
 use Rattle.m11_asm_rules.specs.Lines.{after_line, pieces}
 use Rattle.m11_scan.specs.ErrorFlags.{flags_text}
@@ -115,38 +115,38 @@ one_more (Some line) lines = refl
 module _ (program : Program) where
   -- ---- the lines of a source
 
-  head_unlisted : (before : List Numbered) → Makes Listing (head_before program before) []
+  head_unlisted : (before : List NumberedLine) → Makes Listing (head_before program before) []
   head_unlisted [] = contents_unlisted (head_contents program.rows)
   head_unlisted (line ∷ before) = none_made Listing
 
-  head_unsaid : (before : List Numbered) → Makes Messages (head_before program before) []
+  head_unsaid : (before : List NumberedLine) → Makes Messages (head_before program before) []
   head_unsaid [] = contents_unsaid (head_contents program.rows)
   head_unsaid (line ∷ before) = none_made Messages
 
-  abbrev closed : List Numbered → Numbered → List Content
+  abbrev closed : List NumberedLine → NumberedLine → List Content
   closed before line =
       records_closed_by (pieces_in program.map before) (pieces program.map (table_at program.map before) line.given)
 
-  abbrev to_list : List Numbered → Numbered → List Write
+  abbrev to_list : List NumberedLine → NumberedLine → List Write
   to_list before line =
       listing_writes program.map (table_at program.map before) (flags_at program before line) line.number line.given
 
-  abbrev to_say : List Numbered → Numbered → List Write
+  abbrev to_say : List NumberedLine → NumberedLine → List Write
   to_say before line = message_writes (flags_at program before line) line.number line.given.live.line.text
 
-  listed_made : (before : List Numbered) (line : Numbered) → Makes Listing (to_list before line) (listed program before line)
+  listed_made : (before : List NumberedLine) (line : NumberedLine) → Makes Listing (to_list before line) (listed program before line)
   unfolding listing_writes
   listed_made before line =
       if_listed (lines_of program.map (table_at program.map before) (flags_at program before line) line.number line.given)
       (is_listed (after_line program.map (table_at program.map before) line.given) line.given (flags_at program before line))
 
-  listed_unsaid : (before : List Numbered) (line : Numbered) → Makes Messages (to_list before line) []
+  listed_unsaid : (before : List NumberedLine) (line : NumberedLine) → Makes Messages (to_list before line) []
   unfolding listing_writes
   listed_unsaid before line =
       lines_if_unsaid (lines_of program.map (table_at program.map before) (flags_at program before line) line.number line.given)
       (is_listed (after_line program.map (table_at program.map before) line.given) line.given (flags_at program before line))
 
-  line_made : (before : List Numbered) (line : Numbered)
+  line_made : (before : List NumberedLine) (line : NumberedLine)
       → Makes Listing (head_before program before ++ line_writes program before line) (listed program before line)
   unfolding line_writes
   line_made before line =
@@ -158,10 +158,10 @@ module _ (program : Program) where
       (then_skipped Listing (to_list before line) (to_say before line) (listed program before line) (listed_made before line)
       (if_unlisted text (is_flagged (flags_at program before line)))))
 
-  abbrev line_said : List Numbered → Numbered → Option Bytes
+  abbrev line_said : List NumberedLine → NumberedLine → Option Bytes
   line_said before line = message_of (flags_at program before line) line.number line.given.live.line.text
 
-  line_says : (before : List Numbered) (line : Numbered)
+  line_says : (before : List NumberedLine) (line : NumberedLine)
       → Makes Messages (head_before program before ++ line_writes program before line) (lines_if (line_said before line))
   unfolding line_writes
   line_says before line =
@@ -173,7 +173,7 @@ module _ (program : Program) where
       (then_made Messages (to_list before line) (to_say before line) [] said (listed_unsaid before line)
       (if_said text (is_flagged (flags_at program before line)))))
 
-  all_listed : (before lines : List Numbered)
+  all_listed : (before lines : List NumberedLine)
       → Makes Listing (written_after program before lines) (listed_after program before lines)
   all_listed before [] = none_made Listing
   all_listed before (line ∷ lines) =
@@ -181,7 +181,7 @@ module _ (program : Program) where
       (written_after program (before ++ line ∷ []) lines) (listed program before line)
       (listed_after program (before ++ line ∷ []) lines) (line_made before line) (all_listed (before ++ line ∷ []) lines)
 
-  all_said : (before lines : List Numbered)
+  all_said : (before lines : List NumberedLine)
       → Makes Messages (written_after program before lines) (messages_after program before lines)
   all_said before [] = none_made Messages
   all_said before (line ∷ lines) =
@@ -190,11 +190,11 @@ module _ (program : Program) where
       (written_after program (before ++ line ∷ []) lines) (lines_if (line_said before line)) rest (line_says before line)
       (all_said (before ++ line ∷ []) lines) ∙ ap concat (one_more (line_said before line) rest)
 
-  written_listed : (lines : List Numbered) → Makes Listing (written program lines) (listed_after program [] lines)
+  written_listed : (lines : List NumberedLine) → Makes Listing (written program lines) (listed_after program [] lines)
   unfolding written
   written_listed lines = all_listed [] lines
 
-  written_said : (lines : List Numbered) → Makes Messages (written program lines) (messages_after program [] lines)
+  written_said : (lines : List NumberedLine) → Makes Messages (written program lines) (messages_after program [] lines)
   unfolding written
   written_said lines = all_said [] lines
 
@@ -203,7 +203,7 @@ module _ (program : Program) where
   abbrev last_text : ℕ → Bytes
   last_text number = message_line (flags_text flag_E) number []
 
-  added_is_listed : (ended : Ended) (counter : ℕ) → Makes Listing (added_writes ended counter) (added_listed ended counter)
+  added_is_listed : (ended : EndOfSource) (counter : ℕ) → Makes Listing (added_writes ended counter) (added_listed ended counter)
   added_is_listed ended counter =
       let added = added_lines flag_E ended.read counter in
       let message = message_writes flag_E ended.read [] in
@@ -211,7 +211,7 @@ module _ (program : Program) where
       (then_skipped Listing (all_to_listing added) message added (lines_made added)
       (if_unlisted (last_text ended.read) (is_flagged flag_E)))
 
-  added_is_said : (ended : Ended) (counter : ℕ) → Makes Messages (added_writes ended counter) (added_message ended)
+  added_is_said : (ended : EndOfSource) (counter : ℕ) → Makes Messages (added_writes ended counter) (added_message ended)
   added_is_said ended counter =
       let added = added_lines flag_E ended.read counter in
       let message = message_writes flag_E ended.read [] in
@@ -219,7 +219,7 @@ module _ (program : Program) where
       (then_made Messages (all_to_listing added) message [] (last_text ended.read ∷ []) (lines_unsaid added)
       (message_made (last_text ended.read)))
 
-  module _ (lines : List Numbered) (count : ℕ) where
+  module _ (lines : List NumberedLine) (count : ℕ) where
     abbrev ends : List Content
     ends = last_records (pieces_in program.map lines) ++ EndOfModule ∷ []
 
@@ -241,7 +241,7 @@ module _ (program : Program) where
         (then_made Messages (all_to_listing table) (flushes ++ to_messages (count_line count) ∷ []) [] (count_line count ∷ [])
         (lines_unsaid table) (end_made (count_line count)))
 
-  module _ (lines : List Numbered) (ended : Ended) where
+  module _ (lines : List NumberedLine) (ended : EndOfSource) where
     abbrev count : ℕ
     count = flagged_count program lines ended.has_end
 

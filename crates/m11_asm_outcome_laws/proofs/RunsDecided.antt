@@ -5,7 +5,7 @@ use Rattle.m11_asm.specs.Passes as passes
 use Rattle.m11_asm.specs.Passes.{AreWrites, Pass, ReadsFirst, ReadsSecond, StopsAmongWrites, pass_of}
 use Rattle.m11_asm.specs.Program.{Program, program_of}
 use Rattle.m11_asm.specs.Run.{AsmRuns}
-use Rattle.m11_asm.specs.Written.{Ended, flagged_count, head_before, last_writes, line_writes, program_writes, written, written_after}
+use Rattle.m11_asm.specs.Written.{EndOfSource, flagged_count, head_before, last_writes, line_writes, program_writes, written, written_after}
 use Rattle.m11_asm.specs.declared.done.AsmDone.{AsmDone}
 use Rattle.m11_asm_faults.specs.declared.fault.AsmFault.{AsmFault}
 use Rattle.m11_asm_faults.specs.declared.fault.AsmFault.TheVariants as fault
@@ -15,7 +15,7 @@ use Rattle.m11_base.specs.Feed.{Text}
 use Rattle.m11_scan_lines.specs.Line.{SourceLine}
 use Rattle.m11_asm_pass_laws.specs.Beginnings.{BeginWith}
 use Rattle.m11_asm_pass_laws.specs.Ends.{EndsAfter}
-use Rattle.m11_asm_passes.specs.Lines.{Numbered, PassLines, givens}
+use Rattle.m11_asm_passes.specs.Lines.{NumberedLine, PassLines, givens}
 use Rattle.m11_asm_rules.specs.Meanings.{Map, empty_map}
 use Rattle.m11_scan_line_laws.specs.Readings.{Reading, reading_of}
 use Rattle.m11_unfold_rules.specs.Stages.{Stage}
@@ -33,7 +33,7 @@ use Rattle.m11_asm_lines.specs.Counting.{none_used}
 
 -- what is known of passes over the same lines
 abbrev pub BeginAlike : Type 0
-BeginAlike = (one other : Map) (counting others : Counting) (all source read rest : List SourceLine) (lines later : List Numbered)
+BeginAlike = (one other : Map) (counting others : Counting) (all source read rest : List SourceLine) (lines later : List NumberedLine)
     (stage after : Stage) → EndsAfter one counting all source lines stage → PassLines other others read later after
     → read ++ rest ≡ all → BeginWith lines later
 
@@ -42,29 +42,29 @@ BeginAlike = (one other : Map) (counting others : Counting) (all source read res
 abbrev Begins : List Write → List Write → Type 0
 Begins all some = (more : List Write) × (all ≡ some ++ more)
 
-after_both : (program : Program) (before some more : List Numbered) → written_after program before (some ++ more)
+after_both : (program : Program) (before some more : List NumberedLine) → written_after program before (some ++ more)
     ≡ written_after program before some ++ written_after program (before ++ some) more
 after_both program before [] more =
-    ap (λ (ls : List Numbered). written_after program ls more) (sym (append-nil before))
+    ap (λ (ls : List NumberedLine). written_after program ls more) (sym (append-nil before))
 after_both program before (line ∷ some) more =
     let here = head_before program before ++ line_writes program before line in
     ap (λ (ws : List Write). here ++ ws) (after_both program (before ++ line ∷ []) some more)
     ∙ sym (append_assoc here (written_after program (before ++ line ∷ []) some)
     (written_after program ((before ++ line ∷ []) ++ some) more))
-    ∙ ap (λ (ls : List Numbered). written_after program before (line ∷ some) ++ written_after program ls more)
+    ∙ ap (λ (ls : List NumberedLine). written_after program before (line ∷ some) ++ written_after program ls more)
     (append_assoc before (line ∷ []) some)
 
-written_both : (program : Program) (some more : List Numbered)
+written_both : (program : Program) (some more : List NumberedLine)
     → written program (some ++ more) ≡ written program some ++ written_after program some more
 unfolding written
 written_both program some more = after_both program [] some more
 
-written_begins : (program : Program) (lines some : List Numbered) (ended : Ended) → BeginWith lines some
+written_begins : (program : Program) (lines some : List NumberedLine) (ended : EndOfSource) → BeginWith lines some
     → Begins (program_writes program lines ended) (written program some)
 written_begins program lines some ended (more, split) =
     let last = last_writes program lines ended in (
       written_after program some more ++ last,
-      ap (λ (ls : List Numbered). written program ls ++ last) split
+      ap (λ (ls : List NumberedLine). written program ls ++ last) split
           ∙ ap (λ (ws : List Write). ws ++ last) (written_both program some more)
           ∙ append_assoc (written program some) (written_after program some more) last,
     )
@@ -101,7 +101,7 @@ module _ (once : EndsOnce) (limit_once : ExceedsOnce) (either : EndsOrExceeds) (
   abbrev reading : Reading
   reading = reading_of sources
 
-  module _ (lines : List Numbered) (ended : Ended) (ends : Ends empty_map none_used reading lines ended) (old new : Outputs) where
+  module _ (lines : List NumberedLine) (ended : EndOfSource) (ends : Ends empty_map none_used reading lines ended) (old new : Outputs) where
     abbrev program : Program
     program = program_after lines
 
@@ -114,18 +114,18 @@ module _ (once : EndsOnce) (limit_once : ExceedsOnce) (either : EndsOrExceeds) (
     first : EndsSo empty_map none_used reading lines ended
     first = ends_so empty_map none_used reading lines ended ends
 
-    lines_begin : (source more : List SourceLine) (others : List Numbered) (stage : Stage) → reading.lines ≡ source ++ more
+    lines_begin : (source more : List SourceLine) (others : List NumberedLine) (stage : Stage) → reading.lines ≡ source ++ more
         → PassLines program.map Definitions source others stage → Begins all (written program others)
     lines_begin source more others stage whole live =
         written_begins program lines others ended
         (begins empty_map program.map none_used Definitions reading.lines first.source source more lines others first.stage stage
         first.after live (sym whole))
 
-    all_alike : (others : List Numbered) (end : Ended) → Ends program.map Definitions reading others end
+    all_alike : (others : List NumberedLine) (end : EndOfSource) → Ends program.map Definitions reading others end
         → all ≡ program_writes program others end
     all_alike others end ends' =
         let same = same_end alike passes_none reading lines ended ends others end ends' in
-        ap₂ (λ (ls : List Numbered) (e : Ended). program_writes program ls e) same.0 same.1
+        ap₂ (λ (ls : List NumberedLine) (e : EndOfSource). program_writes program ls e) same.0 same.1
 
     writes_begin : (some : List Write) → AreWrites program reading some → Begins all some
     writes_begin _ (passes.AreWrites.SoFar source more others stage whole live) = lines_begin source more others stage whole live
@@ -173,7 +173,7 @@ module _ (once : EndsOnce) (limit_once : ExceedsOnce) (either : EndsOrExceeds) (
           let ends' = subst (λ (r : Reading). Ends program.map Definitions r h.lines h.ended) same h.ends in
           let alike' = same_end alike passes_none reading lines ended ends h.lines h.ended ends' in (
             subst (λ (ws : List Write). Gains old new ws) (sym (all_alike h.lines h.ended ends')) h.gains,
-            h.count ∙ sym (ap₂ (λ (ls : List Numbered) (e : Ended). flagged_count program ls e.has_end) alike'.0 alike'.1),
+            h.count ∙ sym (ap₂ (λ (ls : List NumberedLine) (e : EndOfSource). flagged_count program ls e.has_end) alike'.0 alike'.1),
             h.flushed,
           )
 
@@ -189,7 +189,7 @@ module _ (once : EndsOnce) (limit_once : ExceedsOnce) (either : EndsOrExceeds) (
           (subst (λ (r : Reading). Refuses empty_map none_used r h.2 stopped) here h.3))
 
       -- the lines of the first pass are those of the sources
-      same_lines : (others : List Numbered) → ReadsFirst (pass_of text faults feeds feeds') (Ok others) → others ≡ lines
+      same_lines : (others : List NumberedLine) → ReadsFirst (pass_of text faults feeds feeds') (Ok others) → others ≡ lines
       same_lines others (read, reads, end, ends') =
           let here = same_reading text faults feeds feeds' sources read known reads in
           let same = one_end once limit_once either empty_map none_used reading lines others ended end ends
@@ -197,9 +197,9 @@ module _ (once : EndsOnce) (limit_once : ExceedsOnce) (either : EndsOrExceeds) (
 
   -- ---- sources that are refused
 
-  module _ (refused : AsmFault) (lines : List Numbered) (refuses : Refuses empty_map none_used reading lines refused)
+  module _ (refused : AsmFault) (lines : List NumberedLine) (refuses : Refuses empty_map none_used reading lines refused)
       (feeds feeds' : List F) (known : AreKnown text feeds sources) where
-    never_first : (others : List Numbered) → ReadsFirst (pass_of text faults feeds feeds') (Ok others) → ⊥
+    never_first : (others : List NumberedLine) → ReadsFirst (pass_of text faults feeds feeds') (Ok others) → ⊥
     never_first others (read, reads, end, ends') =
         let here = same_reading text faults feeds feeds' sources read known reads in
         not_both once limit_once either empty_map none_used reading others lines end refused
@@ -227,12 +227,12 @@ module _ (once : EndsOnce) (limit_once : ExceedsOnce) (either : EndsOrExceeds) (
     abbrev Runs : Result AsmDone AsmFault → Type 0
     Runs returned = AsmRuns (pass_of text faults one again) (pass_of text faults two later) old new returned
 
-    module _ (lines : List Numbered) (ended : Ended) (ends : Ends empty_map none_used reading lines ended) where
-      told : (others : List Numbered) (returned : Result AsmDone AsmFault) → others ≡ lines
+    module _ (lines : List NumberedLine) (ended : EndOfSource) (ends : Ends empty_map none_used reading lines ended) where
+      told : (others : List NumberedLine) (returned : Result AsmDone AsmFault) → others ≡ lines
           → ReadsSecond (pass_of text faults two later) (program_of (givens others)) old new returned
           → ReadsSecond (pass_of text faults two later) (program_after lines) old new returned
       told others returned same h = subst
-          (λ (ls : List Numbered). ReadsSecond (pass_of text faults two later) (program_of (givens ls)) old new returned) same h
+          (λ (ls : List NumberedLine). ReadsSecond (pass_of text faults two later) (program_of (givens ls)) old new returned) same h
 
       by_lines : (returned : Result AsmDone AsmFault) → Runs returned
           → IsDecided (Assembled (program_writes (program_after lines) lines ended)
@@ -245,7 +245,7 @@ module _ (once : EndsOnce) (limit_once : ExceedsOnce) (either : EndsOrExceeds) (
           second_stops lines ended ends old new two later known' stopped
           (told others (Err stopped) (same_lines lines ended ends old new one again known others reads) reads')
 
-    by_refusal : (refused : AsmFault) (writes : List Write) (lines : List Numbered) → Refuses empty_map none_used reading lines refused
+    by_refusal : (refused : AsmFault) (writes : List Write) (lines : List NumberedLine) → Refuses empty_map none_used reading lines refused
         → (returned : Result AsmDone AsmFault) → Runs returned → IsDecided (Refused refused writes) old new returned
     by_refusal refused writes lines refuses (Ok done) (others, reads, reads') =
         never_first refused lines refuses one again known others reads

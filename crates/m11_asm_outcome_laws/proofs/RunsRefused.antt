@@ -7,7 +7,7 @@ use Rattle.m11_asm.specs.Run.{AsmRuns}
 use Rattle.m11_asm_faults.specs.declared.fault.AsmFault.{AsmFault}
 use Rattle.m11_asm_faults.specs.declared.fault.AsmFault.TheVariants as fault
 use Rattle.m11_asm_outputs.specs.Outputs.{Gains, Outputs, Write, assembly}
-use Rattle.m11_asm_passes.specs.Lines.{Numbered, givens}
+use Rattle.m11_asm_passes.specs.Lines.{NumberedLine, givens}
 use Rattle.m11_asm_rules.specs.Meanings.{empty_map}
 use Rattle.m11_scan_line_laws.specs.Readings.{Reading}
 use Rattle.m11_asm.specs.Program.{Program, program_of}
@@ -21,12 +21,12 @@ use Rattle.m11_asm_lines.specs.Counting.{none_used}
 -- the passes of a run say this where a fault of the sources ends them
 abbrev FirstRefuses : {F : Type 0} → Pass F → AsmFault → Type 0
 FirstRefuses first stopped =
-    (reading : Reading) × Reads first reading × (lines : List Numbered) × Refuses empty_map none_used reading lines stopped
+    (reading : Reading) × Reads first reading × (lines : List NumberedLine) × Refuses empty_map none_used reading lines stopped
 
 abbrev SecondRefuses : {F : Type 0} → Pass F → Program → Outputs → Outputs → AsmFault → Type 0
 SecondRefuses second program old new stopped =
     (reading : Reading) × Reads second reading
-    × (lines : List Numbered) × Refuses program.map Definitions reading lines stopped × WritesLines program lines old new
+    × (lines : List NumberedLine) × Refuses program.map Definitions reading lines stopped × WritesLines program lines old new
 
 first_refuses : {F : Type 0} (first : Pass F) (stopped : AsmFault) → IsOfSources stopped → ReadsFirst first (Err stopped)
     → FirstRefuses first stopped
@@ -57,7 +57,7 @@ module _ {F : Type 0} (first second : Pass F) (old new : Outputs) (stopped : Asm
     subst (λ (o : Outputs). Gains old o []) (sym untouched) (gains_nothing assembly old),
   )
 
-  by_second : (lines : List Numbered) → ReadsFirst first (Ok lines) → SecondRefuses second (program_of (givens lines)) old new stopped
+  by_second : (lines : List NumberedLine) → ReadsFirst first (Ok lines) → SecondRefuses second (program_of (givens lines)) old new stopped
       → (writes : List Write) × IsRefused first second stopped writes × Gains old new writes
   by_second lines (one, reads, ended, ends) (other, reads', others, refuses, gains) =
       let program : Program = program_of (givens lines) in (

@@ -3,13 +3,13 @@ use Rattle.std.proofs.Common.{◌≡◌, ◌∙◌, true, false, List, [], ◌++
 use Rattle.m11_asm.specs.Outcome as outcome
 use Rattle.m11_asm.specs.Outcome.{Ends, HasOutcome, Outcome, Refuses, Unended}
 use Rattle.m11_asm.specs.Program.{Program, program_of}
-use Rattle.m11_asm.specs.Written.{Ended}
+use Rattle.m11_asm.specs.Written.{EndOfSource}
 use Rattle.m11_asm_faults.specs.declared.fault.AsmFault.{AsmFault}
 use Rattle.m11_scan_lines.specs.Line.{SourceLine}
 use Rattle.m11_asm_outcome_laws.specs.WholeSources.{IsOfWholeSources, IsProgramOf}
 use Rattle.m11_asm_pass_laws.specs.Ends.{EndsAfter}
 use Rattle.m11_asm_source_laws.specs.WholeSources.{AreAllLines}
-use Rattle.m11_asm_passes.specs.Lines.{Numbered, PassLines, givens}
+use Rattle.m11_asm_passes.specs.Lines.{NumberedLine, PassLines, givens}
 use Rattle.m11_asm_passes.specs.Reaching as reaching
 use Rattle.m11_asm_passes.specs.Reaching.{Exceeds}
 use Rattle.m11_asm_rules.specs.Meanings.{Map, empty_map}
@@ -23,34 +23,34 @@ use Rattle.m11_asm_lines.specs.Counting.{none_used}
 
 -- the two parts of the law of passes
 abbrev pub SoFar : Type 0
-SoFar = (map : Map) (counting : Counting) (source more : List SourceLine) (lines : List Numbered) (stage : Stage)
+SoFar = (map : Map) (counting : Counting) (source more : List SourceLine) (lines : List NumberedLine) (stage : Stage)
     → PassLines map counting source lines stage → AreLines map (source ++ more) (givens lines) (with_more more stage)
 
 abbrev pub AllLines : Type 0
-AllLines = (map : Map) (counting : Counting) (all source : List SourceLine) (lines : List Numbered) (stage : Stage)
+AllLines = (map : Map) (counting : Counting) (all source : List SourceLine) (lines : List NumberedLine) (stage : Stage)
     (end : EndsAfter map counting all source lines stage) → AreAllLines map all (givens lines) (with_more end.more stage)
 
 -- the lines of a pass that ends
-record IsWhole (map : Map) (reading : Reading) (lines : List Numbered) (ended : Ended) : Type 0 where
+record IsWhole (map : Map) (reading : Reading) (lines : List NumberedLine) (ended : EndOfSource) : Type 0 where
   stage : Stage
   all : AreAllLines map reading.lines (givens lines) stage
   has_end : ended.has_end ≡ stage.has_ended
   read : stage.has_ended ≡ false → ended.read ≡ length reading.lines
 
 -- those of a pass that is refused
-record IsFirst (map : Map) (reading : Reading) (lines : List Numbered) : Type 0 where
+record IsFirst (map : Map) (reading : Reading) (lines : List NumberedLine) : Type 0 where
   stage : Stage
   first : AreLines map reading.lines (givens lines) stage
 
 module _ (so_far : SoFar) (all_lines : AllLines) where
-  module _ (map : Map) (counting : Counting) (reading : Reading) (lines : List Numbered) where
-    whole : (ended : Ended) → Ends map counting reading lines ended → IsWhole map reading lines ended
+  module _ (map : Map) (counting : Counting) (reading : Reading) (lines : List NumberedLine) where
+    whole : (ended : EndOfSource) → Ends map counting reading lines ended → IsWhole map reading lines ended
     whole ended (outcome.Ends.AtEnd source more stage parts passes came is) =
         let end : EndsAfter map counting reading.lines source lines stage
         = record { lines_are = passes; more = more; whole = sym parts; is_over = inl came } in record {
           stage = with_more more stage;
           all = all_lines map counting reading.lines source lines stage end;
-          has_end = ap (λ (e : Ended). e.has_end) is ∙ sym came;
+          has_end = ap (λ (e : EndOfSource). e.has_end) is ∙ sym came;
           read = λ goes. absurd (let bad : true ≡ false = sym came ∙ goes in cc);
         }
     whole ended (outcome.Ends.WithoutEnd unended none is) =
@@ -62,8 +62,8 @@ module _ (so_far : SoFar) (all_lines : AllLines) where
         } in record {
           stage = with_more [] unended.stage;
           all = all_lines map counting reading.lines reading.lines lines unended.stage end;
-          has_end = ap (λ (e : Ended). e.has_end) is ∙ sym unended.goes_on;
-          read = λ goes. ap (λ (e : Ended). e.read) is;
+          has_end = ap (λ (e : EndOfSource). e.has_end) is ∙ sym unended.goes_on;
+          read = λ goes. ap (λ (e : EndOfSource). e.read) is;
         }
 
     first_lines : (source more : List SourceLine) (stage : Stage) → reading.lines ≡ source ++ more
@@ -86,7 +86,7 @@ module _ (so_far : SoFar) (all_lines : AllLines) where
         first_lines reading.lines [] unended.stage (sym (append-nil reading.lines)) unended.live
     refused stopped (outcome.Refuses.AtLimit source more limit parts exceeds is) = exceeded source more limit parts exceeds
 
-  programmed : (reading : Reading) (lines : List Numbered) (ended : Ended) (program : Program)
+  programmed : (reading : Reading) (lines : List NumberedLine) (ended : EndOfSource) (program : Program)
       → Ends empty_map none_used reading lines ended → program ≡ program_of (givens lines) → IsProgramOf reading program
   programmed reading lines ended program ends is =
       let these : IsWhole empty_map reading lines ended = whole empty_map none_used reading lines ended ends in

@@ -2,13 +2,13 @@
 -- may end a run early, is this project's own.)
 use Rattle.std.specs.Prelude.{◌⊎◌, List, Result, Ok, Err}
 use Rattle.m11_asm.specs.Outcome.{Ends, Refuses}
-use Rattle.m11_asm.specs.Written.{Ended, pieces_in, program_writes}
+use Rattle.m11_asm.specs.Written.{EndOfSource, pieces_in, program_writes}
 use Rattle.m11_asm.specs.declared.done.AsmDone.{AsmDone}
 use Rattle.m11_asm_faults.specs.declared.fault.AsmFault.{AsmFault}
 use Rattle.m11_asm_outputs.specs.Object.{AllFit, object_contents}
 use Rattle.m11_asm_outputs.specs.Outputs.{AreFlushed, Gains, Outputs}
 use Rattle.m11_base.specs.Devices.{Bytes}
-use Rattle.m11_asm_passes.specs.Lines.{Numbered}
+use Rattle.m11_asm_passes.specs.Lines.{NumberedLine}
 use Rattle.m11_asm_rules.specs.Meanings.{empty_map}
 use Rattle.m11_scan_line_laws.specs.Readings.{reading_of}
 use Rattle.m11_asm_outcome_laws.specs.Beginnings.{MayStop}
@@ -18,8 +18,8 @@ use Rattle.m11_asm_lines.specs.Counting.{none_used}
 -- all that the live lines of the sources write was written, object and listing hold nothing of it back, and each record of the object fits
 -- its block
 pub record WritesLive (sources : List Bytes) (old new : Outputs) : Type 0 where
-  pub lines : List Numbered
-  pub ended : Ended
+  pub lines : List NumberedLine
+  pub ended : EndOfSource
   pub ends : Ends empty_map none_used (reading_of sources) lines ended
   pub gains : Gains old new (program_writes (program_after lines) lines ended)
   pub flushed : AreFlushed new
@@ -27,7 +27,7 @@ pub record WritesLive (sources : List Bytes) (old new : Outputs) : Type 0 where
 
 -- this is the first refusal of the sources
 abbrev pub AreRefused : List Bytes → AsmFault → Type 0
-AreRefused sources stopped = (lines : List Numbered) × Refuses empty_map none_used (reading_of sources) lines stopped
+AreRefused sources stopped = (lines : List NumberedLine) × Refuses empty_map none_used (reading_of sources) lines stopped
 
 -- a run that is Ok wrote what the live lines write; another was stopped by a device or for want of memory, or the sources are refused
 abbrev pub ComesTo : List Bytes → Outputs → Outputs → Result AsmDone AsmFault → Type 0

@@ -9,12 +9,12 @@ use Rattle.m11_asm_listing_writes.specs.Listed.{added_lines, lines_of}
 use Rattle.m11_asm_listing.specs.Messages.{count_line, message_line}
 use Rattle.m11_asm_listing.specs.SymbolTable.{last_lines}
 use Rattle.m11_obj.specs.Records.{Content, record_data}
-use Rattle.m11_asm_passes.specs.Lines.{Numbered, table_at}
+use Rattle.m11_asm_passes.specs.Lines.{NumberedLine, table_at}
 use Rattle.m11_asm_rules.specs.Items.{is_listed}
 use Rattle.m11_asm_rules.specs.Lines.{after_line}
 use Rattle.m11_scan.specs.ErrorFlags.{flags_text}
 use Rattle.m11_asm.specs.Program.{Program}
-use Rattle.m11_asm.specs.Written.{Ended, flagged_count, is_flagged, last_location, flag_E, flags_at}
+use Rattle.m11_asm.specs.Written.{EndOfSource, flagged_count, is_flagged, last_location, flag_E, flags_at}
 
 -- ---- the object
 
@@ -25,21 +25,21 @@ content_block content = block (record_data content)
 -- ---- the listing
 
 -- the lines of a line of the source, where it is listed: one with its items, and one for each that finds no place there
-abbrev pub listed : Program → List Numbered → Numbered → List Bytes
+abbrev pub listed : Program → List NumberedLine → NumberedLine → List Bytes
 listed program before line =
     if is_listed (after_line program.map (table_at program.map before) line.given) line.given (flags_at program before line)
     then lines_of program.map (table_at program.map before) (flags_at program before line) line.number line.given else []
 
-abbrev pub listed_after : Program → List Numbered → List Numbered → List Bytes
+abbrev pub listed_after : Program → List NumberedLine → List NumberedLine → List Bytes
 listed_after program before [] = []
 listed_after program before (line ∷ lines) = listed program before line ++ listed_after program (before ++ line ∷ []) lines
 
 -- the empty line, flagged E, where there is no `.END`
-abbrev pub added_listed : Ended → ℕ → List Bytes
+abbrev pub added_listed : EndOfSource → ℕ → List Bytes
 added_listed ended counter = if ended.has_end then [] else added_lines flag_E ended.read counter
 
 -- the lines of each listed line, that which is added, and the symbol table with the count of flagged lines
-abbrev pub listing_lines : Program → List Numbered → Ended → List Bytes
+abbrev pub listing_lines : Program → List NumberedLine → EndOfSource → List Bytes
 listing_lines program lines ended = listed_after program [] lines
     ++ (added_listed ended (last_location program lines)
     ++ last_lines program.symbols program.sections (flagged_count program lines ended.has_end))
@@ -50,17 +50,17 @@ listing_lines program lines ended = listed_after program [] lines
 abbrev pub message_of : ℕ → ℕ → Bytes → Option Bytes
 message_of flags number text = if is_flagged flags then Some (message_line (flags_text flags) number text) else None
 
-abbrev pub messages_after : Program → List Numbered → List Numbered → List Bytes
+abbrev pub messages_after : Program → List NumberedLine → List NumberedLine → List Bytes
 messages_after program before [] = []
 messages_after program before (line ∷ lines) =
     cons_option (message_of (flags_at program before line) line.number line.given.live.line.text)
     (messages_after program (before ++ line ∷ []) lines)
 
 -- the message of the added line
-abbrev pub added_message : Ended → List Bytes
+abbrev pub added_message : EndOfSource → List Bytes
 added_message ended = if ended.has_end then [] else message_line (flags_text flag_E) ended.read [] ∷ []
 
 -- one for each flagged line, that of the line which is added, and the count
-abbrev pub message_lines : Program → List Numbered → Ended → List Bytes
+abbrev pub message_lines : Program → List NumberedLine → EndOfSource → List Bytes
 message_lines program lines ended = messages_after program [] lines
     ++ (added_message ended ++ count_line (flagged_count program lines ended.has_end) ∷ [])

@@ -3,27 +3,27 @@
 use Rattle.std.specs.Prelude.{◌≡◌, ◌⊎◌, ℕ, false, List, [], length}
 use Rattle.m11_asm.specs.Outcome.{Assembled, Outcome, Refused}
 use Rattle.m11_asm.specs.Program.{Program, program_of}
-use Rattle.m11_asm.specs.Written.{Ended, flagged_count, program_writes, written}
+use Rattle.m11_asm.specs.Written.{EndOfSource, flagged_count, program_writes, written}
 use Rattle.m11_asm_outputs.specs.Outputs.{Write}
 use Rattle.m11_asm_source_laws.specs.WholeSources.{AreAllLines}
-use Rattle.m11_asm_passes.specs.Lines.{Numbered, givens}
+use Rattle.m11_asm_passes.specs.Lines.{NumberedLine, givens}
 use Rattle.m11_asm_rules.specs.Meanings.{empty_map}
 use Rattle.m11_asm_rules.specs.Unfolded.{AreLines}
 use Rattle.m11_scan_line_laws.specs.Readings.{Reading}
 use Rattle.m11_unfold_rules.specs.Stages.{Stage}
-use Rattle.m11_unfold_rules.specs.Unfolding.{Given}
+use Rattle.m11_unfold_rules.specs.Unfolding.{UnfoldedLine}
 
 -- a program is what all live lines of a reading give
 pub record IsProgramOf (reading : Reading) (program : Program) : Type 0 where
-  pub gives : List Given
+  pub gives : List UnfoldedLine
   pub stage : Stage
   pub all : AreAllLines empty_map reading.lines gives stage
   pub is : program ≡ program_of gives
 
 -- all live lines of a reading are written, under the map of a program
 pub record WritesAllLines (program : Program) (reading : Reading) (writes : List Write) (flagged : ℕ) : Type 0 where
-  pub lines : List Numbered
-  pub ended : Ended
+  pub lines : List NumberedLine
+  pub ended : EndOfSource
   pub stage : Stage
   pub all : AreAllLines program.map reading.lines (givens lines) stage
   -- whether `.END` became live; if not, all lines were read
@@ -34,7 +34,7 @@ pub record WritesAllLines (program : Program) (reading : Reading) (writes : List
 
 -- the first live lines of a reading are written
 pub record WritesFirstLines (program : Program) (reading : Reading) (writes : List Write) : Type 0 where
-  pub lines : List Numbered
+  pub lines : List NumberedLine
   pub stage : Stage
   pub first : AreLines program.map reading.lines (givens lines) stage
   pub are : writes ≡ written program lines

@@ -12,11 +12,11 @@ ghost use Rattle.m11_asm_outcome_laws.specs.Messages.{messages_in};
 ghost use Rattle.m11_asm_outcome_laws.specs.OneText.{IsDecidedByFirst, Repeats, program_after};
 ghost use Rattle.m11_asm_outcome_laws.specs.Runs.{IsOfSources, IsRefused};
 ghost use Rattle.m11_asm_outcome_laws.specs.Sources.{AssembleTo};
-ghost use Rattle.m11_asm_passes.specs.Lines.{Numbered};
+ghost use Rattle.m11_asm_passes.specs.Lines.{NumberedLine};
 ghost use Rattle.m11_asm_rules.specs.Meanings.{empty_map};
 ghost use Rattle.m11_scan_line_laws.specs.Readings.{Reading};
 ghost use Rattle.m11_asm.specs.Program.{Program};
-ghost use Rattle.m11_asm.specs.Written.{Ended, flagged_count, program_writes};
+ghost use Rattle.m11_asm.specs.Written.{EndOfSource, flagged_count, program_writes};
 ghost use Rattle.m11_asm_lines.specs.declared.counting.Counting.TheVariants.{Definitions};
 ghost use Rattle.m11_asm_lines.specs.Counting.{none_used};
 
@@ -55,9 +55,9 @@ pub fn two_sources_after_a_line_feed_are_one_text()
 /// Where both passes read the same text, and the first one is not refused, the second one is not refused either: it has the same live lines
 /// up to the same end, and none of their labels has moved. So the first pass alone decides the outcome, and a refusal has written nothing.
 pub fn the_same_text_has_no_moved_label_and_no_second_refusal()
-    ensures repeats { (reading : Reading) (lines : List Numbered) (ended : Ended) → Ends empty_map none_used reading lines ended
+    ensures repeats { (reading : Reading) (lines : List NumberedLine) (ended : EndOfSource) → Ends empty_map none_used reading lines ended
         → Repeats reading lines ended }
-    ensures refuses { (reading : Reading) (lines others : List Numbered) (ended : Ended) (fault : AsmFault)
+    ensures refuses { (reading : Reading) (lines others : List NumberedLine) (ended : EndOfSource) (fault : AsmFault)
         → Ends empty_map none_used reading lines ended
         → Refuses (program_after lines).map Definitions reading others fault → ⊥ }
     ensures outcome { (reading : Reading) (outcome : Outcome) → HasOutcome reading reading outcome → IsDecidedByFirst reading outcome }
@@ -78,7 +78,7 @@ pub fn runs_write_their_outcome<F>()
 
 /// The messages of an assembly are one for each flagged line, that which is added without `.END` among them, and the count of flagged lines.
 pub fn there_is_a_message_for_each_flagged_line()
-    ensures { (program : Program) (lines : List Numbered) (ended : Ended)
+    ensures { (program : Program) (lines : List NumberedLine) (ended : EndOfSource)
         → messages_in (program_writes program lines ended) ≡ flagged_count program lines ended.has_end + 1 }
 {}
 

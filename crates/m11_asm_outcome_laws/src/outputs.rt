@@ -3,12 +3,12 @@
 ghost use Rattle.std.specs.Prelude.{◌≡◌, List};
 ghost use Rattle.std.specs.List.{concat, flat_map};
 ghost use Rattle.m11_asm.specs.Program.{Program};
-ghost use Rattle.m11_asm.specs.Written.{Ended, pieces_in, program_writes};
+ghost use Rattle.m11_asm.specs.Written.{EndOfSource, pieces_in, program_writes};
 ghost use Rattle.m11_asm_faults.specs.declared.fault.AsmOutput.TheVariants.{Listing, Messages, Object};
 ghost use Rattle.m11_asm_outputs.specs.Object.{object_contents};
 ghost use Rattle.m11_asm_outputs.specs.Outputs.{assembly};
 ghost use Rattle.m11_asm_outcome_laws.specs.Outputs.{content_block, listing_lines, message_lines};
-ghost use Rattle.m11_asm_passes.specs.Lines.{Numbered};
+ghost use Rattle.m11_asm_passes.specs.Lines.{NumberedLine};
 ghost use Rattle.m11_base_writes.specs.Writes.{gained};
 
 /// The object is a block for each of its contents: the records of the directory and its end; the texts into which the pieces of
@@ -16,7 +16,7 @@ ghost use Rattle.m11_base_writes.specs.Writes.{gained};
 /// which lines the pieces came from.
 #[tactic(auto, using(crate::proofs::ObjectWritten::object_is_its_blocks))]
 pub fn the_object_is_the_blocks_of_its_contents()
-    ensures { (program : Program) (lines : List Numbered) (ended : Ended)
+    ensures { (program : Program) (lines : List NumberedLine) (ended : EndOfSource)
         → gained assembly Object (program_writes program lines ended)
         ≡ flat_map content_block (object_contents program.rows (pieces_in program.map lines)) }
 {}
@@ -25,7 +25,7 @@ pub fn the_object_is_the_blocks_of_its_contents()
 /// then the symbol table; nothing else.
 #[tactic(auto, using(crate::proofs::OutputLines::listing_is_its_lines))]
 pub fn the_listing_is_its_lines()
-    ensures { (program : Program) (lines : List Numbered) (ended : Ended)
+    ensures { (program : Program) (lines : List NumberedLine) (ended : EndOfSource)
         → gained assembly Listing (program_writes program lines ended)
         ≡ concat (listing_lines program lines ended) }
 {}
@@ -34,7 +34,7 @@ pub fn the_listing_is_its_lines()
 /// count of flagged lines; nothing else.
 #[tactic(auto, using(crate::proofs::OutputLines::messages_are_their_lines))]
 pub fn the_messages_are_their_lines()
-    ensures { (program : Program) (lines : List Numbered) (ended : Ended)
+    ensures { (program : Program) (lines : List NumberedLine) (ended : EndOfSource)
         → gained assembly Messages (program_writes program lines ended)
         ≡ concat (message_lines program lines ended) }
 {}

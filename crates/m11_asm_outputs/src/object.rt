@@ -79,7 +79,7 @@ fn put_row<S: Sink>(
         → WaitsAfter (before ++ row.now ∷ []) waiting.new }
     ensures fit { (before : List DirectoryRow) → WaitsAfter before waiting.old → AllFit (records_filled_by before (row.now ∷ [])) }
 {
-    let full = waiting.take(row);
+    let full = waiting.accept(row);
     put_if_full(alloc, object, &full)
 }
 
@@ -128,7 +128,7 @@ pub fn open_text() -> OpenText
     OpenText::new()
 }
 
-/// Takes what a line puts from a location of a section on, and writes the texts that it closes: a text is closed once a
+/// Takes what a line emits from a location of a section on, and writes the texts that it closes: a text is closed once a
 /// content comes that it can't hold too. What isn't closed stays in the open text until more comes, or the end.
 ///
 /// Faults: `Write` of the object, and `NoMemory` before a record. After a fault the open text is of no use.
@@ -188,7 +188,7 @@ fn put_piece<S: Sink>(
     ensures fit { (before : List Piece) → IsOpenAfter before text.old → OnOk result (AllFit (records_closed_by before (piece.now ∷ []))) }
 {
     // most pieces close no text
-    if text.take_within(piece) {
+    if text.accept_within(piece) {
         return Ok(());
     }
     put_closing(alloc, object, text, piece)
@@ -211,7 +211,7 @@ fn put_closing<S: Sink>(
         → IsOpenAfter (before ++ piece.now ∷ []) text.new }
     ensures fit { (before : List Piece) → IsOpenAfter before text.old → OnOk result (AllFit (records_closed_by before (piece.now ∷ []))) }
 {
-    let closed = text.take(piece);
+    let closed = text.accept(piece);
     put_if_closed(alloc, object, &closed)
 }
 

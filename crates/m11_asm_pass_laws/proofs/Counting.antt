@@ -3,10 +3,10 @@ use Rattle.std.proofs.Common.{◌≡◌, ◌≤◌, ◌<◌, ◌+◌, Bool, true
 use Rattle.std.specs.Prelude.{if◌then◌else◌, nat_le}
 use Rattle.std.proofs.lemmas.Bool.Decides.{nat_tests}
 use Rattle.std.proofs.lemmas.List.{length-append}
-use Rattle.m11_unfold_bodies.specs.Left.{Left, Line, End}
+use Rattle.m11_unfold_bodies.specs.Left.{RemainingItem, Line, End}
 use Rattle.m11_scan_lines.specs.Line.{SourceLine}
 use Rattle.m11_asm_lines.specs.declared.counting.Counting.{Counting}
-use Rattle.m11_asm_passes.specs.Lines.{Numbered, PassLines, acted, numbered, table_at, with_line}
+use Rattle.m11_asm_passes.specs.Lines.{NumberedLine, PassLines, acted, numbered, table_at, with_line}
 use Rattle.m11_asm_passes.specs.Lines as lines
 use Rattle.m11_asm_passes.specs.Refusals.{given_by}
 use Rattle.m11_asm_rules.specs.Meanings.{Map}
@@ -24,7 +24,7 @@ pub has_room : (is_full : Bool) (other : Option UnfoldFault) → (if is_full the
 has_room true other none = absurd (cc)
 has_room false other none = refl
 
-below_from : (left : List Left) (stage after : Stage) (live : Live) → fault_from left stage ≡ None
+below_from : (left : List RemainingItem) (stage after : Stage) (live : Live) → fault_from left stage ≡ None
     → move_from left stage ≡ Gives live after → stage.taken < most_lines
 below_from [] stage after live fits moves = absurd (cc)
 below_from (End mark ∷ left) stage after live fits moves = absurd (cc)
@@ -33,7 +33,7 @@ below_from (Line line ∷ left) stage after live fits moves =
     = has_room (nat_le most_lines stage.taken) (taking_fault stage.opening stage line.text) fits in
     grind (arith, nat_tests, room)
 
-below_by : (has_ended : Bool) (left : List Left) (stage after : Stage) (live : Live)
+below_by : (has_ended : Bool) (left : List RemainingItem) (stage after : Stage) (live : Live)
     → (if has_ended then None else fault_from left stage) ≡ None
     → (if has_ended then NothingLeft else move_from left stage) ≡ Gives live after → stage.taken < most_lines
 below_by true left stage after live fits moves = absurd (cc)
@@ -47,11 +47,11 @@ giving_below stage after live fits moves = below_by stage.has_ended stage.left s
 
 module _ (map_ : Map) (counting : Counting) where
   -- a live line more
-  one_more : (all : List Numbered) (one : Numbered) → length (all ++ one ∷ []) ≡ length all + 1
+  one_more : (all : List NumberedLine) (one : NumberedLine) → length (all ++ one ∷ []) ≡ length all + 1
   one_more all one = length-append all (one ∷ [])
 
   -- each of them was taken
-  pub were_taken : (source : List SourceLine) (all : List Numbered) (stage : Stage) → PassLines map_ counting source all stage
+  pub were_taken : (source : List SourceLine) (all : List NumberedLine) (stage : Stage) → PassLines map_ counting source all stage
       → length all ≤ stage.taken
   were_taken _ _ _ lines.PassLines.Begins = omega arith
   were_taken _ all _ (lines.PassLines.Reading source _ stage line before none goes) = were_taken source all stage before
@@ -67,7 +67,7 @@ module _ (map_ : Map) (counting : Counting) where
       let more = one_more all (numbered (length source) one) in
       omega (arith, first, next, same, more)
 
-  pub at_most : (source : List SourceLine) (all : List Numbered) (stage : Stage) → PassLines map_ counting source all stage
+  pub at_most : (source : List SourceLine) (all : List NumberedLine) (stage : Stage) → PassLines map_ counting source all stage
       → length all ≤ most_lines
   at_most _ _ _ lines.PassLines.Begins = omega arith
   at_most _ all _ (lines.PassLines.Reading source _ stage line before none goes) = at_most source all stage before

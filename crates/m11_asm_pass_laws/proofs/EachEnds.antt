@@ -5,7 +5,7 @@ use Rattle.m11_asm_faults.specs.declared.fault.AsmFault.{AsmFault}
 use Rattle.m11_unfold_bodies.specs.Left.{depth}
 use Rattle.m11_scan_lines.specs.Line.{SourceLine}
 use Rattle.m11_asm_lines.specs.declared.counting.Counting.{Counting}
-use Rattle.m11_asm_passes.specs.Lines.{Numbered, PassLines, acted, counting_at, numbered, table_at, with_line}
+use Rattle.m11_asm_passes.specs.Lines.{NumberedLine, PassLines, acted, counting_at, numbered, table_at, with_line}
 use Rattle.m11_asm_passes.specs.Lines as lines
 use Rattle.m11_asm_passes.specs.Reaching as reaching
 use Rattle.m11_asm_passes.specs.Refusals.{given_by, line_fault}
@@ -26,10 +26,10 @@ module _ (map_ : Map) (counting : Counting) (all : List SourceLine) where
 
   -- from where there is so little to do
   abbrev Ends : ℕ → Type 0
-  Ends most = (source more : List SourceLine) (placed : List Numbered) (stage : Stage) → PassLines map_ counting source placed stage
+  Ends most = (source more : List SourceLine) (placed : List NumberedLine) (stage : Stage) → PassLines map_ counting source placed stage
       → source ++ more ≡ all → work more stage < most → HasEnd map_ counting all
 
-  module _ (most : ℕ) (further : Ends most) (source more : List SourceLine) (placed : List Numbered) (stage : Stage)
+  module _ (most : ℕ) (further : Ends most) (source more : List SourceLine) (placed : List NumberedLine) (stage : Stage)
       (passes : PassLines map_ counting source placed stage) (whole : source ++ more ≡ all) (small : work more stage < suc most) where
     by_limit : (live : Live) (after : Stage) → next_fault stage ≡ None → move stage ≡ Gives live after → (fault : Option AsmFault)
         → line_fault map_ (table_at map_ placed) (counting_at map_ counting placed) live after ≡ fault → HasEnd map_ counting all

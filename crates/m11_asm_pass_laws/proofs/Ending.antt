@@ -4,7 +4,7 @@ use Rattle.m11_asm_faults.specs.Faults.{of_unfolding}
 use Rattle.m11_asm_faults.specs.declared.fault.AsmFault.{AsmFault}
 use Rattle.m11_scan_lines.specs.Line.{SourceLine}
 use Rattle.m11_asm_lines.specs.declared.counting.Counting.{Counting}
-use Rattle.m11_asm_passes.specs.Lines.{Numbered, counting_at, table_at}
+use Rattle.m11_asm_passes.specs.Lines.{NumberedLine, counting_at, table_at}
 use Rattle.m11_asm_passes.specs.Reaching.{Exceeds}
 use Rattle.m11_asm_passes.specs.Reaching as reaching
 use Rattle.m11_asm_passes.specs.Refusals.{line_fault}
@@ -23,13 +23,13 @@ record IsQuiet (stage : Stage) : Type 0 where
   rests : move stage ≡ NothingLeft
 
 -- the fault of what comes next
-data NextFails (map_ : Map) (counting : Counting) (lines : List Numbered) (stage : Stage) (fault : AsmFault) : Type 0 where
+data NextFails (map_ : Map) (counting : Counting) (lines : List NumberedLine) (stage : Stage) (fault : AsmFault) : Type 0 where
   Before : (inner : UnfoldFault) → next_fault stage ≡ Some inner → fault ≡ of_unfolding inner → NextFails map_ counting lines stage fault
   Within : (live : Live) (after : Stage) → next_fault stage ≡ None → move stage ≡ Gives live after
       → line_fault map_ (table_at map_ lines) (counting_at map_ counting lines) live after ≡ Some fault → NextFails map_ counting lines stage fault
 
 -- a pass over all lines that goes no further after some of them, since what comes next fails
-record StopsAfter (map_ : Map) (counting : Counting) (all source : List SourceLine) (lines : List Numbered) (fault : AsmFault) : Type 0 where
+record StopsAfter (map_ : Map) (counting : Counting) (all source : List SourceLine) (lines : List NumberedLine) (fault : AsmFault) : Type 0 where
   more : List SourceLine
   stage : Stage
   fails : NextFails map_ counting lines stage fault
@@ -37,7 +37,7 @@ record StopsAfter (map_ : Map) (counting : Counting) (all source : List SourceLi
   stops : step map_ counting (at source more lines stage) ≡ None
 
 -- what comes next fails in one way
-one_fault : (map_ : Map) (counting : Counting) (lines : List Numbered) (stage : Stage) (fault other : AsmFault)
+one_fault : (map_ : Map) (counting : Counting) (lines : List NumberedLine) (stage : Stage) (fault other : AsmFault)
     → NextFails map_ counting lines stage fault → NextFails map_ counting lines stage other → fault ≡ other
 one_fault map_ counting lines stage fault other (Before inner fails is) (Before inner' fails' is') =
     let both : Some inner ≡ Some inner' = sym fails ∙ fails' in
@@ -57,7 +57,7 @@ one_fault map_ counting lines stage fault other (Within live after fits moves re
     let faults : Some fault ≡ Some other = sym here ∙ refused' in cc
 
 -- and in none where no limit is passed and nothing is taken
-none_fails : (map_ : Map) (counting : Counting) (lines : List Numbered) (stage : Stage) (fault : AsmFault) → IsQuiet stage
+none_fails : (map_ : Map) (counting : Counting) (lines : List NumberedLine) (stage : Stage) (fault : AsmFault) → IsQuiet stage
     → NextFails map_ counting lines stage fault → ⊥
 none_fails map_ counting lines stage fault quiet (Before inner fails is) =
     let both : None ≡ Some inner = sym quiet.fits ∙ fails in cc
@@ -74,7 +74,7 @@ module _ (map_ : Map) (counting : Counting) where
   over_stops here (inr (all, none, goes)) = read_stops map_ counting here all none goes
 
   -- where a pass is at its end, and where it passes a limit
-  module _ (all source : List SourceLine) (lines : List Numbered) where
+  module _ (all source : List SourceLine) (lines : List NumberedLine) where
     abbrev end_of : (stage : Stage) → EndsAfter map_ counting all source lines stage → At
     end_of stage end = at source end.more lines stage
 
@@ -106,7 +106,7 @@ module _ (map_ : Map) (counting : Counting) where
 
   -- ---- the laws
 
-  pub one_end_of_all : (all source other : List SourceLine) (lines later : List Numbered) (stage after : Stage)
+  pub one_end_of_all : (all source other : List SourceLine) (lines later : List NumberedLine) (stage after : Stage)
       → EndsAfter map_ counting all source lines stage → EndsAfter map_ counting all other later after
       → (source ≡ other) × (lines ≡ later) × (stage ≡ after)
   one_end_of_all all source other lines later stage after end end' =
@@ -118,7 +118,7 @@ module _ (map_ : Map) (counting : Counting) where
         ap (λ (a : At). a.stage) same,
       )
 
-  same_limit : (all source other : List SourceLine) (lines later : List Numbered) (fault fault' : AsmFault)
+  same_limit : (all source other : List SourceLine) (lines later : List NumberedLine) (fault fault' : AsmFault)
       → StopsAfter map_ counting all source lines fault → StopsAfter map_ counting all other later fault'
       → (source ≡ other) × (lines ≡ later) × (fault ≡ fault')
   same_limit all source other lines later fault fault' first second =
@@ -133,13 +133,13 @@ module _ (map_ : Map) (counting : Counting) where
         one_fault map_ counting later second.stage fault fault' fails second.fails,
       )
 
-  pub one_limit : (all source other : List SourceLine) (lines later : List Numbered) (fault fault' : AsmFault)
+  pub one_limit : (all source other : List SourceLine) (lines later : List NumberedLine) (fault fault' : AsmFault)
       → ExceedsAfter map_ counting all source lines fault → ExceedsAfter map_ counting all other later fault'
       → (source ≡ other) × (lines ≡ later) × (fault ≡ fault')
   one_limit all source other lines later fault fault' exceeds exceeds' =
       same_limit all source other lines later fault fault' (stands all source lines fault exceeds) (stands all other later fault' exceeds')
 
-  not_both : (all source other : List SourceLine) (lines later : List Numbered) (stage : Stage) (fault : AsmFault)
+  not_both : (all source other : List SourceLine) (lines later : List NumberedLine) (stage : Stage) (fault : AsmFault)
       → EndsAfter map_ counting all source lines stage → StopsAfter map_ counting all other later fault → ⊥
   not_both all source other lines later stage fault end second =
       let here : At = end_of all source lines stage end in
@@ -151,7 +151,7 @@ module _ (map_ : Map) (counting : Counting) where
       = subst (λ (a : At). IsQuiet a.stage) same (is_quiet end.more stage end.is_over) in
       none_fails map_ counting later second.stage fault quiet second.fails
 
-  pub end_or_limit : (all source other : List SourceLine) (lines later : List Numbered) (stage : Stage) (fault : AsmFault)
+  pub end_or_limit : (all source other : List SourceLine) (lines later : List NumberedLine) (stage : Stage) (fault : AsmFault)
       → EndsAfter map_ counting all source lines stage → ExceedsAfter map_ counting all other later fault → ⊥
   end_or_limit all source other lines later stage fault end exceeds =
       not_both all source other lines later stage fault end (stands all other later fault exceeds)

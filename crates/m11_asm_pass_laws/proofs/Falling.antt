@@ -4,7 +4,7 @@ use Rattle.std.proofs.Common.{◌≡◌, ◌≤◌, ◌<◌, ℕ, ◌+◌, ◌-�
 use Rattle.std.specs.Prelude.{if◌then◌else◌, nat_le}
 use Rattle.std.proofs.lemmas.Bool.Decides.{nat_tests}
 use Rattle.m11_unfold_arguments.specs.Actuals.{actuals_from}
-use Rattle.m11_unfold_arguments.specs.Expressions.{Known}
+use Rattle.m11_unfold_arguments.specs.Expressions.{KnownSymbols}
 use Rattle.m11_unfold_arguments.specs.Filling.{filled}
 use Rattle.m11_unfold_arguments.specs.Immediate as immediate
 use Rattle.m11_unfold_arguments.specs.declared.directives.Directive.{Directive}
@@ -12,9 +12,9 @@ use Rattle.m11_unfold_arguments.specs.declared.directives.Directive.TheVariants 
 use Rattle.m11_base.specs.Devices.{Bytes}
 use Rattle.m11_base.specs.Rad50.{Name}
 use Rattle.m11_unfold_bodies.proofs.Stacks.{marks-rounds}
-use Rattle.m11_unfold_bodies.specs.Bodies.{HalfTaken, depth_after, size_of}
+use Rattle.m11_unfold_bodies.specs.Bodies.{PartialBody, depth_after, size_of}
 use Rattle.m11_unfold_bodies.specs.Conditions.{OpenConditions, has_none}
-use Rattle.m11_unfold_bodies.specs.Left.{Left, Line, End, after_mark, depth, expanded, is_expanding, marks}
+use Rattle.m11_unfold_bodies.specs.Left.{RemainingItem, Line, End, after_mark, depth, expanded, is_expanding, marks}
 use Rattle.m11_unfold_bodies.specs.declared.mark.Mark.{Mark}
 use Rattle.m11_scan_lines.specs.Line.{SourceLine}
 use Rattle.m11_asm_passes.proofs.Counting.{act_takes, used_takes}
@@ -38,7 +38,7 @@ opened_depth arguments bytes formals rounds body stage =
     = marks-rounds formals body rounds (End mark ∷ stage.left) in
     rw ends omega arith
 
-into_depth : (purpose : Purpose) (taken : HalfTaken) (text : Bytes) (nested : Option ℕ) (stage : Stage)
+into_depth : (purpose : Purpose) (taken : PartialBody) (text : Bytes) (nested : Option ℕ) (stage : Stage)
     → depth (into_body purpose taken text nested stage).left ≤ depth stage.left + 1
 into_depth (Defines name formals) taken text None stage = omega arith
 into_depth (Repeats formals rounds) taken text None stage =
@@ -52,7 +52,7 @@ statement_depth text true (Some column) stage = omega arith
 statement_depth text true None stage = omega arith
 statement_depth text false column stage = omega arith
 
-same_ends : (left : List Left) → marks (after_mark left) ≡ marks left
+same_ends : (left : List RemainingItem) → marks (after_mark left) ≡ marks left
 same_ends [] = refl
 same_ends (Line line ∷ left) = same_ends left
 same_ends (End mark ∷ left) = refl
@@ -62,7 +62,7 @@ choice_depth : (choice : Bool) (one other : Acted) (most : ℕ) → depth one.af
 choice_depth true one other most first second = first
 choice_depth false one other most first second = second
 
-directive_depth : (known : Known) (text : Bytes) (column : ℕ) (stage : Stage) (of : Directive)
+directive_depth : (known : KnownSymbols) (text : Bytes) (column : ℕ) (stage : Stage) (of : Directive)
     → depth (acted_by known text stage (OwnDirective of column)).after.left ≤ depth stage.left + 1
 directive_depth known text column stage word.If = choice_depth (has_room stage) _ _ (depth stage.left + 1) (omega arith) (omega arith)
 directive_depth known text column stage word.Iff =
@@ -87,7 +87,7 @@ directive_depth known text column stage word.Narg = omega arith
 directive_depth known text column stage word.Nchr = omega arith
 directive_depth known text column stage word.End = omega arith
 
-operation_depth : (known : Known) (text : Bytes) (stage : Stage) (of : Operation)
+operation_depth : (known : KnownSymbols) (text : Bytes) (stage : Stage) (of : Operation)
     → depth (acted_by known text stage of).after.left ≤ depth stage.left + 1
 operation_depth known text stage Foreign = omega arith
 operation_depth known text stage (Calls macro column) =
@@ -98,7 +98,7 @@ operation_depth known text stage (Calls macro column) =
 operation_depth known text stage (OwnDirective of column) = directive_depth known text column stage of
 
 -- an operator leaves at most one more to do
-pub acts_falling : (known : Known) (stage : Stage) (text : Bytes) → work_left (act known stage text).after ≤ work_left stage + 1
+pub acts_falling : (known : KnownSymbols) (stage : Stage) (text : Bytes) → work_left (act known stage text).after ≤ work_left stage + 1
 acts_falling known stage text =
     let deeper = operation_depth known text stage (operation stage.conditions stage.macros text) in
     let same = act_takes known stage text in
@@ -114,12 +114,12 @@ Falls work NothingLeft = Unit {0}
 Falls work (Passes after) = work_left after < work
 Falls work (Gives live after) = work_left after + 1 < work
 
-live_falls : (skipped : Option OpenConditions) (line : SourceLine) (left : List Left) (stage : Stage) → stage.taken < most_lines
+live_falls : (skipped : Option OpenConditions) (line : SourceLine) (left : List RemainingItem) (stage : Stage) → stage.taken < most_lines
     → Falls (2 * (most_lines - stage.taken) + depth left) (live_or_skipped skipped line (one_taken left stage))
 live_falls (Some conditions) line left stage room = omega (arith, room)
 live_falls None line left stage room = omega (arith, room)
 
-line_falls : (opening : Option Opening) (line : SourceLine) (left : List Left) (stage : Stage) → stage.taken < most_lines
+line_falls : (opening : Option Opening) (line : SourceLine) (left : List RemainingItem) (stage : Stage) → stage.taken < most_lines
     → Falls (2 * (most_lines - stage.taken) + depth left) (line_taken opening line (one_taken left stage))
 line_falls (Some opening) line left stage room =
     let nested = depth_after (nesting line.text) opening.taken.depth in
@@ -128,7 +128,7 @@ line_falls (Some opening) line left stage room =
     omega (arith, same, deeper, room)
 line_falls None line left stage room = live_falls (skipped stage.conditions line.text) line left stage room
 
-left_falls : (left : List Left) (stage : Stage) → fault_from left stage ≡ None
+left_falls : (left : List RemainingItem) (stage : Stage) → fault_from left stage ≡ None
     → Falls (2 * (most_lines - stage.taken) + depth left) (move_from left stage)
 left_falls [] stage fits = tt
 left_falls (End mark ∷ left) stage fits = omega arith
@@ -160,7 +160,7 @@ line_takes : (opening : Option Opening) (line : SourceLine) (stage : Stage) → 
 line_takes (Some opening) line stage rests = cc
 line_takes None line stage rests = live_takes (skipped stage.conditions line.text) line stage rests
 
-none_from : (left : List Left) (stage : Stage) → move_from left stage ≡ NothingLeft → left ≡ []
+none_from : (left : List RemainingItem) (stage : Stage) → move_from left stage ≡ NothingLeft → left ≡ []
 none_from [] stage rests = refl
 none_from (End mark ∷ left) stage rests = absurd (cc)
 none_from (Line line ∷ left) stage rests = absurd (line_takes stage.opening line (one_taken left stage) rests)

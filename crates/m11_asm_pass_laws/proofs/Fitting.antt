@@ -9,7 +9,7 @@ use Rattle.m11_base.specs.Rad50.{Name}
 use Rattle.m11_asm_lines.specs.Counting.{names_counted, with_counted}
 use Rattle.m11_asm_lines.specs.declared.counting.Counting.{Counting}
 use Rattle.m11_asm_lines.specs.declared.counting.Counting.TheVariants.{Definitions}
-use Rattle.m11_asm_passes.specs.Lines.{Numbered, givens, table_at}
+use Rattle.m11_asm_passes.specs.Lines.{NumberedLine, givens, table_at}
 use Rattle.m11_asm_passes.specs.Refusals.{act_refused, given_by, labels_fault, line_fault, uses_of_labels, of_limit, placing_fault}
 use Rattle.m11_asm_rules.specs.Definitions.{firm_parts}
 use Rattle.m11_asm_rules.specs.Limits.{LimitFault, TooManySymbols, TooManySections, has_too_many, is_local, is_local_definition, limit_fault, local_count, most_defined_names, most_local_symbols, most_names, most_sections, name_count, names_defined, with_defined}
@@ -21,7 +21,7 @@ use Rattle.m11_asm_rules.specs.declared.definitions.Definition.{Definition}
 use Rattle.m11_unfold_rules.specs.Acting.{act_fault}
 use Rattle.m11_unfold_rules.specs.Stages.{Stage}
 use Rattle.m11_unfold_rules.specs.Taking.{Live}
-use Rattle.m11_unfold_rules.specs.Unfolding.{Given}
+use Rattle.m11_unfold_rules.specs.Unfolding.{UnfoldedLine}
 use Rattle.m11_asm_pass_laws.proofs.KnownAlike.{PlaceAlike, after_both, given_alike, stands_alike}
 
 -- ---- the parts of a fault
@@ -102,14 +102,14 @@ too_many_alike first second same = sym (too_many_firm first) ∙ ap has_too_many
 
 -- ---- the same line, where the names that are defined count alone
 
-module _ (alike : PlaceAlike) (one other : Map) (before : List Numbered) (live : Live) (stage : Stage) where
+module _ (alike : PlaceAlike) (one other : Map) (before : List NumberedLine) (live : Live) (stage : Stage) where
   abbrev table : Table
   table = table_at one before
 
   abbrev later : Table
   later = table_at other before
 
-  abbrev given : Given
+  abbrev given : UnfoldedLine
   given = given_by table live stage
 
   same_stands : firm_table (stands table given) ≡ firm_table (stands later given)

@@ -5,14 +5,14 @@ use Rattle.std.specs.Prelude.{◌⊎◌}
 use Rattle.m11_asm_faults.specs.declared.fault.AsmFault.{AsmFault}
 use Rattle.m11_scan_lines.specs.Line.{SourceLine}
 use Rattle.m11_asm_lines.specs.declared.counting.Counting.{Counting}
-use Rattle.m11_asm_passes.specs.Lines.{Numbered, PassLines, acted, counting_at, numbered, table_at}
+use Rattle.m11_asm_passes.specs.Lines.{NumberedLine, PassLines, acted, counting_at, numbered, table_at}
 use Rattle.m11_asm_passes.specs.Refusals.{given_by, line_fault}
 use Rattle.m11_asm_rules.specs.Meanings.{Map}
 use Rattle.m11_unfold_rules.specs.Acting.{act}
 use Rattle.m11_unfold_rules.specs.Limits.{next_fault}
 use Rattle.m11_unfold_rules.specs.Stages.{Stage}
 use Rattle.m11_unfold_rules.specs.Taking.{Gives, Live, Move, Passes, NothingLeft, move}
-use Rattle.m11_unfold_rules.specs.Unfolding.{Given}
+use Rattle.m11_unfold_rules.specs.Unfolding.{UnfoldedLine}
 use Rattle.m11_unfold_rules.specs.declared.fault.UnfoldFault.{UnfoldFault}
 use Rattle.m11_asm_pass_laws.specs.Beginnings.{BeginWith}
 use Rattle.m11_asm_pass_laws.specs.Ends.{EndsAfter, IsOver}
@@ -80,7 +80,7 @@ module _ (map : Map) (counting : Counting) where
 module _ (alike : PlaceAlike) (one other : Map) where
   placed_alike : (live : Live) (after : Stage) (here : At) → placed_at one live after here ≡ placed_at other live after here
   placed_alike live after here =
-      ap (λ (g : Given). at here.source here.more (here.lines ++ numbered (length here.source) g ∷ [])
+      ap (λ (g : UnfoldedLine). at here.source here.more (here.lines ++ numbered (length here.source) g ∷ [])
       (act g.known after live.line.text).after) (given_alike alike one other here.lines live after)
 
   moved_alike : (by : Move) (here : At) → freely_by one by here ≡ freely_by other by here
@@ -134,7 +134,7 @@ module _ (map : Map) where
   follows here there (inr on) = inr (grown_by (freely map) grows_freely there here on)
 
 pub go_on : PlaceAlike → (one other : Map) (counting others : Counting) (all source more read rest : List SourceLine)
-    (first second : List Numbered) (stage after : Stage) → PassLines one counting source first stage
+    (first second : List NumberedLine) (stage after : Stage) → PassLines one counting source first stage
     → PassLines other others read second after → source ++ more ≡ all → read ++ rest ≡ all
     → BeginWith second first ⊎ BeginWith first second
 go_on alike one other counting others all source more read rest first second stage after passes passes' whole whole' =
@@ -146,7 +146,7 @@ go_on alike one other counting others all source more read rest first second sta
 
 -- ---- a pass at its end went through each state of any other pass over the same lines
 
-module _ (alike : PlaceAlike) (one other : Map) (counting others : Counting) (all source : List SourceLine) (lines : List Numbered)
+module _ (alike : PlaceAlike) (one other : Map) (counting others : Counting) (all source : List SourceLine) (lines : List NumberedLine)
     (stage : Stage) (end : EndsAfter one counting all source lines stage) where
   abbrev last : At
   last = at source end.more lines stage
@@ -156,7 +156,7 @@ module _ (alike : PlaceAlike) (one other : Map) (counting others : Counting) (al
       on_the_way At (step one counting) (freely one) (is_freer one counting) (begin all) last here (over_freely one last end.is_over)
       (reached one counting all source end.more lines stage end.lines_are end.whole) leads
 
-  module _ (read rest : List SourceLine) (later : List Numbered) (after : Stage) (passes : PassLines other others read later after)
+  module _ (read rest : List SourceLine) (later : List NumberedLine) (after : Stage) (passes : PassLines other others read later after)
       (whole : read ++ rest ≡ all) where
     abbrev here : At
     here = at read rest later after
@@ -168,7 +168,7 @@ module _ (alike : PlaceAlike) (one other : Map) (counting others : Counting) (al
     pub begins_with : BeginWith lines later
     begins_with = grown one counting here last came_by
 
-  pub ends_alike : (read : List SourceLine) (later : List Numbered) (after : Stage) → EndsAfter other others all read later after
+  pub ends_alike : (read : List SourceLine) (later : List NumberedLine) (after : Stage) → EndsAfter other others all read later after
       → (source ≡ read) × (lines ≡ later) × (stage ≡ after)
   ends_alike read later after ends =
       let there : At = at read ends.more later after in

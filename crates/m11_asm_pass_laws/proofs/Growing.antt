@@ -4,7 +4,7 @@ use Rattle.std.specs.Prelude.{◌⊎◌}
 use Rattle.m11_asm_faults.specs.declared.fault.AsmFault.{AsmFault}
 use Rattle.m11_scan_lines.specs.Line.{SourceLine}
 use Rattle.m11_asm_lines.specs.declared.counting.Counting.{Counting}
-use Rattle.m11_asm_passes.specs.Lines.{Numbered, PassLines, counting_at, numbered, table_at}
+use Rattle.m11_asm_passes.specs.Lines.{NumberedLine, PassLines, counting_at, numbered, table_at}
 use Rattle.m11_asm_passes.specs.Refusals.{given_by, line_fault}
 use Rattle.m11_asm_rules.specs.Meanings.{Map}
 use Rattle.m11_unfold_rules.specs.Limits.{next_fault}
@@ -28,9 +28,9 @@ grows_read false (line ∷ more) here = ([], sym (append-nil here.lines))
 
 -- and so do any number of steps
 module _ (go : At → Option At) (grows : (here : At) → Grows here (go here)) where
-  further : (first middle last : List Numbered) → BeginWith middle first → BeginWith last middle → BeginWith last first
+  further : (first middle last : List NumberedLine) → BeginWith middle first → BeginWith last middle → BeginWith last first
   further first middle last (more, whole) (others, whole') =
-      (more ++ others, whole' ∙ ap (λ (ls : List Numbered). ls ++ others) whole ∙ append_assoc first more others)
+      (more ++ others, whole' ∙ ap (λ (ls : List NumberedLine). ls ++ others) whole ∙ append_assoc first more others)
 
   pub grown_by : (before after : At) → Onward At go before after → BeginWith after.lines before.lines
   grown_by before _ onward.Onward.Stays = ([], sym (append-nil before.lines))
@@ -61,7 +61,7 @@ module _ (map_ : Map) (counting : Counting) where
   pub grown : (before after : At) → LeadsTo map_ counting before after → BeginWith after.lines before.lines
   grown before after leads = grown_by (step map_ counting) grows_by before after leads
 
-  pub goes_on : (all source other more rest : List SourceLine) (first second : List Numbered) (stage after : Stage)
+  pub goes_on : (all source other more rest : List SourceLine) (first second : List NumberedLine) (stage after : Stage)
       → PassLines map_ counting source first stage → PassLines map_ counting other second after → source ++ more ≡ all → other ++ rest ≡ all
       → BeginWith second first ⊎ BeginWith first second
   goes_on all source other more rest first second stage after lines lines' whole whole' =

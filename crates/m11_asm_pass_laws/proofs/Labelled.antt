@@ -22,7 +22,7 @@ use Rattle.m11_scan_statements.specs.declared.labels.Label.{Label}
 use Rattle.m11_scan_statements.specs.declared.labels.LabelKind.{LabelKind}
 use Rattle.m11_scan_statements.specs.declared.labels.LabelKind.TheVariants as kind
 use Rattle.m11_asm_table.proofs.Defined.{is_some_last}
-use Rattle.m11_unfold_rules.specs.Unfolding.{Given}
+use Rattle.m11_unfold_rules.specs.Unfolding.{UnfoldedLine}
 
 -- ---- keys
 
@@ -166,11 +166,11 @@ module _ (key : Key) (label : Definition) (is_label : is_some label.label ≡ tr
 
   -- ---- lines
 
-  line_stays : (map : Map) (table : Table) (given : Given) → Stands table → Stands (after_line map table given)
+  line_stays : (map : Map) (table : Table) (given : UnfoldedLine) → Stands table → Stands (after_line map table given)
   line_stays map table given stood =
       change_stays map given.live.line.text (line_change (firm_table (stands table given)) given) (stands table given)
       (labels_stay given.live.line.text table (labels_at given.live.line.text) stood)
 
-  pub lines_stay : (map : Map) (table : Table) (lines : List Given) → Stands table → Stands (after_lines map table lines)
+  pub lines_stay : (map : Map) (table : Table) (lines : List UnfoldedLine) → Stands table → Stands (after_lines map table lines)
   lines_stay map table [] stood = stood
   lines_stay map table (given ∷ lines) stood = lines_stay map (after_line map table given) lines (line_stays map table given stood)

@@ -1,4 +1,4 @@
--- Maps that say the same place a line alike: what it puts and changes, its flags, and the limit that it passes.
+-- Maps that say the same place a line alike: what it emits and changes, its flags, and the limit that it passes.
 use Rattle.std.proofs.Common.{◌≡◌, ◌∙◌, ℕ, Bool, if◌then◌else◌, List, [], ◌∷◌, ◌++◌, Option, Some, None, refl, ap}
 use Rattle.std.proofs.Math.Path.{fun_ext}
 use Rattle.std.specs.Int.RustNames.{bit_or}
@@ -24,7 +24,7 @@ use Rattle.m11_scan_statements.specs.declared.spans.Span.{Span}
 use Rattle.m11_unfold_rules.specs.Acting.{act_fault}
 use Rattle.m11_unfold_rules.specs.Stages.{Stage}
 use Rattle.m11_unfold_rules.specs.Taking.{Live}
-use Rattle.m11_unfold_rules.specs.Unfolding.{Given}
+use Rattle.m11_unfold_rules.specs.Unfolding.{UnfoldedLine}
 use Rattle.m11_scan_values.specs.Quantities.{Quantity}
 use Rattle.m11_scan_values.specs.declared.names.Symbol.{Symbol}
 use Rattle.m11_scan_values.specs.declared.names.Symbol.TheVariants.{Ordinary, Local, Counter}
@@ -33,17 +33,17 @@ use Rattle.m11_asm_rules.specs.Assigning as assigning
 use Rattle.m11_asm_rules.specs.Assignments.{all_firm, assigned, standing_of}
 use Rattle.m11_asm_rules.specs.Changes.{Assigns, Change, Numbers, becomes_global, changed}
 use Rattle.m11_asm_rules.specs.Codes.{LineContext}
-use Rattle.m11_asm_rules.specs.Contents.{Put, byte, element_value, fixed_byte, followed_by, further, nothing, pieces_from, put, with_flags, word}
+use Rattle.m11_asm_rules.specs.Contents.{Emission, byte, element_value, fixed_byte, followed_by, further, nothing, pieces_from, emission, with_flags, word}
 use Rattle.m11_asm_rules.specs.Counts as counts
 use Rattle.m11_asm_rules.specs.Definitions.{has_key, is_defined, is_labelled, last_definition}
-use Rattle.m11_asm_rules.specs.Effects.{directive_put, operator_put}
+use Rattle.m11_asm_rules.specs.Effects.{directive_emission, operator_emission}
 use Rattle.m11_asm_rules.specs.Elements.{elements_at}
 use Rattle.m11_asm_rules.specs.Exports as exports
 use Rattle.m11_asm_rules.specs.Instructions.{assembled, fields, line_context}
 use Rattle.m11_asm_rules.specs.Items.{assigned_items, action_items, items, items_of, value_items}
 use Rattle.m11_asm_rules.specs.Labels.{global_if, label_name, labels_flags, with_definition, with_doubly_defined, with_label}
 use Rattle.m11_asm_rules.specs.Limits.{limit_fault}
-use Rattle.m11_asm_rules.specs.Lines.{Assign, Action, Operate, NoAction, SetCounter as SetsLocation, after_line, action, known_end, flags, line_change, line_put, pieces, put_by, put_location, stands}
+use Rattle.m11_asm_rules.specs.Lines.{Assign, Action, Operate, NoAction, SetCounter as SetsLocation, after_line, action, known_end, flags, line_change, line_emission, pieces, emission_by, put_location, stands}
 use Rattle.m11_asm_rules.specs.Meanings.{Map, defined_or, known_at, flag_D, map_of, meaning_of, quantity_of, stands_for, undefined}
 use Rattle.m11_asm_rules.specs.SymbolUses.{symbol_uses}
 use Rattle.m11_asm_rules.specs.Operators.{is_even}
@@ -111,7 +111,7 @@ module _ (one other : Map) (same : MapsAgree one other) where
   pub assigned_same : (table : Table) (key : Key) (line : Bytes) (start : ℕ)
       → assigned one table key line start ≡ assigned other table key line start
   assigned_same table key line start =
-      let of : expressions.Known → Definition = λ known. record {
+      let of : expressions.KnownSymbols → Definition = λ known. record {
         key = key;
         standing = standing_of (value_at known line start);
         is_firm = all_firm table (symbols_at line start);
@@ -126,7 +126,7 @@ module _ (one other : Map) (same : MapsAgree one other) where
       (assigned_same table (Named name) line start)
   changed_same line change table = refl
 
-  pub after_line_same : (table : Table) (given : Given) → after_line one table given ≡ after_line other table given
+  pub after_line_same : (table : Table) (given : UnfoldedLine) → after_line one table given ≡ after_line other table given
   after_line_same table given =
       changed_same given.live.line.text (line_change (firm_table (stands table given)) given) (stands table given)
 
@@ -155,19 +155,19 @@ module _ (one other : Map) (same : MapsAgree one other) where
   assignment_same : (table : Table) (line : Bytes) (name : Span) (start : ℕ)
       → assigning.assignment_flags one table line name start ≡ assigning.assignment_flags other table line name start
   assignment_same table line name start =
-      let with_value : ℕ → expressions.Known → ℕ = λ flags known.
+      let with_value : ℕ → expressions.KnownSymbols → ℕ = λ flags known.
       bit_or flags (bit_or (value_at known line start).flags (assigning.after_expression line start)) in
       ap (λ (n : ℕ). with_value n (known_at one LocalOnly table (location table))) (target_same table (assigning.target line name))
       ∙ ap (with_value (assigning.target_flags other table (assigning.target line name))) (known_same LocalOnly table (location table))
 
-  -- ---- what is put
+  -- ---- what is emitted
 
   module _ (table : Table) (line : Bytes) where
     words_same : (starts : List ℕ) (here : ℕ)
         → storage.words_from one table line here starts ≡ storage.words_from other table line here starts
     words_same [] here = refl
     words_same (start ∷ starts) here =
-        ap (λ (k : expressions.Known). followed_by (word table false here (element_value k line start))
+        ap (λ (k : expressions.KnownSymbols). followed_by (word table false here (element_value k line start))
         (storage.words_from one table line (further here 2) starts)) (known_same MayBeGlobal table here)
         ∙ ap (followed_by (word table false here (element_value (known_at other MayBeGlobal table here) line start)))
         (words_same starts (further here 2))
@@ -176,7 +176,7 @@ module _ (one other : Map) (same : MapsAgree one other) where
         → storage.bytes_from one table line here starts ≡ storage.bytes_from other table line here starts
     bytes_same [] here = refl
     bytes_same (start ∷ starts) here =
-        ap (λ (k : expressions.Known). followed_by (byte table here (element_value k line start))
+        ap (λ (k : expressions.KnownSymbols). followed_by (byte table here (element_value k line start))
         (storage.bytes_from one table line (further here 1) starts)) (known_same MayBeGlobal table here)
         ∙ ap (followed_by (byte table here (element_value (known_at other MayBeGlobal table here) line start)))
         (bytes_same starts (further here 1))
@@ -185,13 +185,13 @@ module _ (one other : Map) (same : MapsAgree one other) where
         → strings.part_bytes one table here line part of ≡ strings.part_bytes other table here line part of
     part_same here part Text = refl
     part_same here part Expression =
-        ap (λ (k : expressions.Known). byte table here (value_at k line part.inside.start)) (known_same MayBeGlobal table here)
+        ap (λ (k : expressions.KnownSymbols). byte table here (value_at k line part.inside.start)) (known_same MayBeGlobal table here)
 
     parts_same : (parts : List Part) (here : ℕ)
         → strings.parts_bytes one table here line parts ≡ strings.parts_bytes other table here line parts
     parts_same [] here = refl
     parts_same (part ∷ parts) here =
-        ap (λ (p : Put). followed_by p (strings.parts_bytes one table (further here (strings.part_size line part part.kind)) line parts))
+        ap (λ (p : Emission). followed_by p (strings.parts_bytes one table (further here (strings.part_size line part part.kind)) line parts))
         (part_same here part part.kind)
         ∙ ap (followed_by (strings.part_bytes other table here line part part.kind))
         (parts_same parts (further here (strings.part_size line part part.kind)))
@@ -202,16 +202,16 @@ module _ (one other : Map) (same : MapsAgree one other) where
         (parts_same (strings.parts_at line start).list here)
 
     directive_same : (here start : ℕ) (arguments : Option ℕ) (of : Directive)
-        → directive_put one table here line start arguments of ≡ directive_put other table here line start arguments of
+        → directive_emission one table here line start arguments of ≡ directive_emission other table here line start arguments of
     directive_same here start arguments directive.Word =
         ap (with_flags (storage.end_flags line start (elements_at line start).end)) (words_same (elements_at line start).columns here)
     directive_same here start arguments directive.Byte =
         ap (with_flags (storage.end_flags line start (elements_at line start).end)) (bytes_same (elements_at line start).columns here)
     directive_same here start arguments directive.Ascii = ascii_same here start
     directive_same here start arguments directive.Asciz =
-        ap (λ (p : Put). followed_by p (put (fixed_byte 0 ∷ []) 0)) (ascii_same here start)
+        ap (λ (p : Emission). followed_by p (emission (fixed_byte 0 ∷ []) 0)) (ascii_same here start)
     directive_same here start arguments directive.Rad50 =
-        ap (λ (k : expressions.Known). strings.rad50_words (strings.text_flags line start (strings.parts_at line start))
+        ap (λ (k : expressions.KnownSymbols). strings.rad50_words (strings.text_flags line start (strings.parts_at line start))
         (strings.parts_codes k line (strings.parts_at line start).list)) (known_same LocalOnly table here)
     directive_same here start arguments directive.Narg =
         ap (λ (n : ℕ). nothing (bit_or (counts.narg_flags arguments line start) n))
@@ -219,7 +219,7 @@ module _ (one other : Map) (same : MapsAgree one other) where
     directive_same here start arguments directive.Nchr =
         ap (λ (n : ℕ). nothing (bit_or (counts.nchr_flags line start) n)) (number_same table (counts.nchr line start))
     directive_same here start arguments directive.End =
-        ap (λ (k : expressions.Known). nothing (bit_or
+        ap (λ (k : expressions.KnownSymbols). nothing (bit_or
         (exports.expression_flags (if has_expression line start then Some (value_at k line start) else None))
         (bit_or (skip_flags line start (expression_end line start)) (left_over line (expression_end line start)))))
         (known_same LocalOnly table (location table))
@@ -227,18 +227,18 @@ module _ (one other : Map) (same : MapsAgree one other) where
 
     line_context_same : (here : ℕ) → line_context one table here line ≡ line_context other table here line
     line_context_same here =
-        let at : expressions.Known → expressions.Known → LineContext = λ known refers.
+        let at : expressions.KnownSymbols → expressions.KnownSymbols → LineContext = λ known refers.
         record { table = table; location = here; known = known; refers = refers; line = line } in
-        ap (λ (k : expressions.Known). at k (known_at one MayBeGlobal table here)) (known_same LocalOnly table here)
+        ap (λ (k : expressions.KnownSymbols). at k (known_at one MayBeGlobal table here)) (known_same LocalOnly table here)
         ∙ ap (at (known_at other LocalOnly table here)) (known_same MayBeGlobal table here)
 
     operator_same : (here start : ℕ) (arguments : Option ℕ) (operator : Operator)
-        → operator_put one table here line start arguments operator ≡ operator_put other table here line start arguments operator
+        → operator_emission one table here line start arguments operator ≡ operator_emission other table here line start arguments operator
     operator_same here start arguments (operators.Instruction operation) =
         ap (λ (s : LineContext). assembled s start operation (fields table here line start operation)) (line_context_same here)
     operator_same here start arguments (operators.Directive of) = directive_same here start arguments of
 
-    pub put_same : (arguments : Option ℕ) (action : Action) → put_by one table line arguments action ≡ put_by other table line arguments action
+    pub put_same : (arguments : Option ℕ) (action : Action) → emission_by one table line arguments action ≡ emission_by other table line arguments action
     put_same arguments NoAction = refl
     put_same arguments (Assign name is_global start) = ap nothing (assignment_same table line name start)
     put_same arguments (SetsLocation start) = refl
@@ -246,8 +246,8 @@ module _ (one other : Map) (same : MapsAgree one other) where
         ap (with_flags (gap_flags (is_even operator) (location table)))
         (operator_same (location_for (is_even operator) (location table)) start arguments operator)
 
-  pub line_put_same : (table : Table) (given : Given) → line_put one table given ≡ line_put other table given
-  unfolding line_put
+  pub line_put_same : (table : Table) (given : UnfoldedLine) → line_emission one table given ≡ line_emission other table given
+  unfolding line_emission
   line_put_same table given = put_same table given.live.line.text given.arguments (action given.is_own given.live.line.text)
 
   -- ---- what a listing shows
@@ -256,33 +256,33 @@ module _ (one other : Map) (same : MapsAgree one other) where
       → action_items one table line change of ≡ action_items other table line change of
   action_items_same table line change NoAction = refl
   action_items_same table line change (Assign name is_global start) =
-      ap (λ (k : expressions.Known). value_items (value_at k line start)) (known_same LocalOnly table (location table))
+      ap (λ (k : expressions.KnownSymbols). value_items (value_at k line start)) (known_same LocalOnly table (location table))
   action_items_same table line change (SetsLocation start) = refl
   action_items_same table line change (Operate operator start) = refl
 
-  pub items_same : (table : Table) (given : Given) → items one table given ≡ items other table given
+  pub items_same : (table : Table) (given : UnfoldedLine) → items one table given ≡ items other table given
   items_same table given =
-      ap (λ (p : Put). items_of p.contents ++ assigned_items one table given) (line_put_same (stands table given) given)
-      ∙ ap (λ (l : List Item). items_of (line_put other (stands table given) given).contents ++ l)
+      ap (λ (p : Emission). items_of p.contents ++ assigned_items one table given) (line_put_same (stands table given) given)
+      ∙ ap (λ (l : List Item). items_of (line_emission other (stands table given) given).contents ++ l)
       (action_items_same (stands table given) given.live.line.text (line_change (firm_table (stands table given)) given)
       (action given.is_own given.live.line.text))
 
   -- ---- pieces
 
-  pub pieces_same : (table : Table) (given : Given) → pieces one table given ≡ pieces other table given
+  pub pieces_same : (table : Table) (given : UnfoldedLine) → pieces one table given ≡ pieces other table given
   pieces_same table given =
-      ap (λ (p : Put). pieces_from (section_name (stands table given))
+      ap (λ (p : Emission). pieces_from (section_name (stands table given))
       (put_location (stands table given) (action given.is_own given.live.line.text)) p.contents)
       (line_put_same (stands table given) given)
 
   -- ---- flags
 
-  pub flags_same : (table : Table) (given : Given) → flags one table given ≡ flags other table given
+  pub flags_same : (table : Table) (given : UnfoldedLine) → flags one table given ≡ flags other table given
   flags_same table given =
       let text = given.live.line.text in
-      ap (λ (p : Put). bit_or
+      ap (λ (p : Emission). bit_or
       (bit_or (label_flags given.live.line) (labels_flags text table (labels_at text)))
-      (bit_or (skip_flags text (labels_end text) (known_end text (body_of text))) (bit_or p.flags given.notes.flags)))
+      (bit_or (skip_flags text (labels_end text) (known_end text (body_of text))) (bit_or p.flags given.remarks.flags)))
       (line_put_same (stands table given) given)
 
   moved_key_same : (table : Table) (key : Key) → moved_key one table key ≡ moved_key other table key
@@ -309,7 +309,7 @@ module _ (one other : Map) (same : MapsAgree one other) where
       (moved_kind_same table (label_name line named) named.kind)
       ∙ ap (bit_or (moved_kind other table (label_name line named) named.kind)) (moved_same line (with_label line table named) labels)
 
-  pub all_flags_same : (table : Table) (given : Given) → all_flags one table given ≡ all_flags other table given
+  pub all_flags_same : (table : Table) (given : UnfoldedLine) → all_flags one table given ≡ all_flags other table given
   all_flags_same table given =
       ap (λ (n : ℕ). bit_or n (moved_flags one given.live.line.text table (labels_at given.live.line.text))) (flags_same table given)
       ∙ ap (bit_or (flags other table given)) (moved_same given.live.line.text table (labels_at given.live.line.text))

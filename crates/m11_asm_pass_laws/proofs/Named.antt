@@ -19,7 +19,7 @@ use Rattle.m11_asm_rules.specs.declared.definitions.Key.TheVariants.{Named}
 use Rattle.m11_asm_rules.specs.declared.meanings.Context.TheVariants.{LocalOnly}
 use Rattle.m11_asm_rules.specs.declared.operators.Operator.TheVariants as operators
 use Rattle.m11_scan_statements.specs.Labels.{labels_at}
-use Rattle.m11_unfold_rules.specs.Unfolding.{Given}
+use Rattle.m11_unfold_rules.specs.Unfolding.{UnfoldedLine}
 use Rattle.m11_scan_values.specs.declared.names.Symbol.{Symbol}
 use Rattle.m11_scan_values.specs.declared.names.Symbol.TheVariants.{Ordinary, Local, Counter}
 use Rattle.m11_asm_pass_laws.proofs.KnownAlike.{PlaceAlike, after_both, stands_alike}
@@ -110,7 +110,7 @@ all_stay [] others names there = tt
 all_stay (symbol_use ∷ some) others names there =
     (one_stays symbol_use.symbol others names there.0, all_stay some others names there.1)
 
-lines_keep : (map : Map) (table : Table) (lines : List Given) (some : List SymbolUse) (names : List Name) → AreThere some names
+lines_keep : (map : Map) (table : Table) (lines : List UnfoldedLine) (some : List SymbolUse) (names : List Name) → AreThere some names
     → AreThere some (names_after map table lines names)
 lines_keep map table [] some names there = there
 lines_keep map table (given ∷ lines) some names there =
@@ -132,12 +132,12 @@ used_symbols (symbol_use ∷ some) names = (
 
 -- ---- lines whose names are all there
 
-abbrev pub AllThere : Map → Table → List Given → List Name → Type 0
+abbrev pub AllThere : Map → Table → List UnfoldedLine → List Name → Type 0
 AllThere map table [] names = Unit {0}
 AllThere map table (given ∷ lines) names =
     AreThere (symbol_uses table given) names × AllThere map (after_line map table given) lines names
 
-pub lines_there : (map : Map) (table : Table) (lines : List Given) (names : List Name)
+pub lines_there : (map : Map) (table : Table) (lines : List UnfoldedLine) (names : List Name)
     → AllThere map table lines (names_after map table lines names)
 lines_there map table [] names = tt
 lines_there map table (given ∷ lines) names = (
@@ -146,14 +146,14 @@ lines_there map table (given ∷ lines) names = (
   lines_there map (after_line map table given) lines (with_uses (symbol_uses table given) names),
 )
 
-pub lines_add_none : (map : Map) (table : Table) (lines : List Given) (names : List Name) → AllThere map table lines names
+pub lines_add_none : (map : Map) (table : Table) (lines : List UnfoldedLine) (names : List Name) → AllThere map table lines names
     → names_after map table lines names ≡ names
 lines_add_none map table [] names there = refl
 lines_add_none map table (given ∷ lines) names there =
     ap (names_after map (after_line map table given) lines) (adds_none (symbol_uses table given) names there.0)
     ∙ lines_add_none map (after_line map table given) lines names there.1
 
-pub lines_before : (map : Map) (table : Table) (first second : List Given) (names : List Name)
+pub lines_before : (map : Map) (table : Table) (first second : List UnfoldedLine) (names : List Name)
     → AllThere map table (first ++ second) names → AllThere map table first names
 lines_before map table [] second names there = tt
 lines_before map table (given ∷ first) second names there =
@@ -172,15 +172,15 @@ actions_alike line arguments (Operate (operators.Instruction operation) start) f
     (fields_at (known_at empty_map LocalOnly t (location_for true (location t))) line start operation).list) same
 
 module _ (alike : PlaceAlike) (one other : Map) where
-  uses_alike : (done : List Given) (given : Given)
+  uses_alike : (done : List UnfoldedLine) (given : UnfoldedLine)
       → symbol_uses (table_after one done) given ≡ symbol_uses (table_after other done) given
   uses_alike done given =
       ap (λ (l : List SymbolUse). flat_map (label_uses given.live.line.text) (labels_at given.live.line.text)
-      ++ map (symbol_use LocalOnly) given.notes.symbols ++ l)
+      ++ map (symbol_use LocalOnly) given.remarks.symbols ++ l)
       (actions_alike given.live.line.text given.arguments (action given.is_own given.live.line.text) (stands (table_after one done) given)
       (stands (table_after other done) given) (stands_alike alike one other done given))
 
-  there_after : (names : List Name) (lines done : List Given) (first second : Table) → first ≡ table_after one done
+  there_after : (names : List Name) (lines done : List UnfoldedLine) (first second : Table) → first ≡ table_after one done
       → second ≡ table_after other done → AllThere one first lines names → AllThere other second lines names
   there_after names [] done first second is is' there = tt
   there_after names (given ∷ lines) done first second is is' there = (
@@ -191,6 +191,6 @@ module _ (alike : PlaceAlike) (one other : Map) where
         (ap (λ (t : Table). after_line other t given) is' ∙ sym (after_both other done (given ∷ []) first_table)) there.1,
   )
 
-  pub there_alike : (names : List Name) (lines : List Given) → AllThere one first_table lines names
+  pub there_alike : (names : List Name) (lines : List UnfoldedLine) → AllThere one first_table lines names
       → AllThere other first_table lines names
   there_alike names lines there = there_after names lines [] first_table first_table refl refl there

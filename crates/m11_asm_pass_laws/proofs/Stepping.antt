@@ -2,17 +2,17 @@
 use Rattle.std.proofs.Common.{◌≡◌, ◌∙◌, Bool, true, false, List, [], ◌∷◌, ◌++◌, length, append_assoc, Option, Some, None, refl, sym, ap, subst}
 use Rattle.std.specs.Prelude.{if◌then◌else◌}
 use Rattle.m11_asm_faults.specs.declared.fault.AsmFault.{AsmFault}
-use Rattle.m11_unfold_bodies.specs.Left.{Left}
+use Rattle.m11_unfold_bodies.specs.Left.{RemainingItem}
 use Rattle.m11_scan_lines.specs.Line.{SourceLine}
 use Rattle.m11_asm_lines.specs.declared.counting.Counting.{Counting}
-use Rattle.m11_asm_passes.specs.Lines.{Numbered, PassLines, acted, counting_at, numbered, table_at, with_line}
+use Rattle.m11_asm_passes.specs.Lines.{NumberedLine, PassLines, acted, counting_at, numbered, table_at, with_line}
 use Rattle.m11_asm_passes.specs.Lines as lines
 use Rattle.m11_asm_passes.specs.Refusals.{given_by, line_fault}
 use Rattle.m11_asm_rules.specs.Meanings.{Map}
 use Rattle.m11_unfold_rules.specs.Limits.{fault_from, next_fault}
 use Rattle.m11_unfold_rules.specs.Stages.{Stage, start}
 use Rattle.m11_unfold_rules.specs.Taking.{Gives, Live, Move, Passes, NothingLeft, move, move_from}
-use Rattle.m11_unfold_rules.specs.Unfolding.{Given, Leads}
+use Rattle.m11_unfold_rules.specs.Unfolding.{UnfoldedLine, Leads}
 use Rattle.m11_unfold_rules.specs.Unfolding as steps
 use Rattle.m11_unfold_rules.specs.declared.fault.UnfoldFault.{UnfoldFault}
 use Rattle.m11_asm_pass_laws.proofs.Onward.{Onward}
@@ -22,10 +22,10 @@ use Rattle.m11_asm_pass_laws.proofs.Onward as onward
 pub record At : Type 0 where
   pub source : List SourceLine
   pub more : List SourceLine
-  pub lines : List Numbered
+  pub lines : List NumberedLine
   pub stage : Stage
 
-abbrev pub at : List SourceLine → List SourceLine → List Numbered → Stage → At
+abbrev pub at : List SourceLine → List SourceLine → List NumberedLine → Stage → At
 at source more all stage = record { source = source; more = more; lines = all; stage = stage }
 
 -- before the first line is read
@@ -42,11 +42,11 @@ ended_rests stage ended = ap (λ (b : Bool). if b then NothingLeft else move_fro
 
 pub none_fits : (stage : Stage) → stage.left ≡ [] → stage.has_ended ≡ false → next_fault stage ≡ None
 none_fits stage none goes =
-    ap (λ (b : Bool). if b then None else fault_from stage.left stage) goes ∙ ap (λ (l : List Left). fault_from l stage) none
+    ap (λ (b : Bool). if b then None else fault_from stage.left stage) goes ∙ ap (λ (l : List RemainingItem). fault_from l stage) none
 
 pub none_rests : (stage : Stage) → stage.left ≡ [] → stage.has_ended ≡ false → move stage ≡ NothingLeft
 none_rests stage none goes =
-    ap (λ (b : Bool). if b then NothingLeft else move_from stage.left stage) goes ∙ ap (λ (l : List Left). move_from l stage) none
+    ap (λ (b : Bool). if b then NothingLeft else move_from stage.left stage) goes ∙ ap (λ (l : List RemainingItem). move_from l stage) none
 
 -- one line more of the source, until `.END` came
 abbrev pub reads : Bool → List SourceLine → At → Option At
@@ -115,7 +115,7 @@ module _ (map_ : Map) (counting : Counting) where
       moved here NothingLeft (none_fits here.stage none goes) (none_rests here.stage none goes)
       ∙ ap (λ (b : Bool). reads b here.more here) goes ∙ ap (λ (ls : List SourceLine). reads false ls here) all
 
-  line_read : (source more : List SourceLine) (all : List Numbered) (stage : Stage) (line : SourceLine) → stage.left ≡ []
+  line_read : (source more : List SourceLine) (all : List NumberedLine) (stage : Stage) (line : SourceLine) → stage.left ≡ []
       → stage.has_ended ≡ false
       → step (at source (line ∷ more) all stage) ≡ Some (at (source ++ line ∷ []) more all (with_line line stage))
   line_read source more all stage line none goes =
@@ -123,7 +123,7 @@ module _ (map_ : Map) (counting : Counting) where
       moved here NothingLeft (none_fits stage none goes) (none_rests stage none goes)
       ∙ ap (λ (b : Bool). reads b (line ∷ more) here) goes
 
-  line_placed : (source more : List SourceLine) (all : List Numbered) (stage after : Stage) (live : Live) → next_fault stage ≡ None
+  line_placed : (source more : List SourceLine) (all : List NumberedLine) (stage after : Stage) (live : Live) → next_fault stage ≡ None
       → move stage ≡ Gives live after → line_fault map_ (table_at map_ all) (counting_at map_ counting all) live after ≡ None
       → step (at source more all stage) ≡ Some (at source more
       (all ++ numbered (length source) (given_by (table_at map_ all) live after) ∷ []) (acted (table_at map_ all) live after))
@@ -133,12 +133,12 @@ module _ (map_ : Map) (counting : Counting) where
 
   -- ---- a pass over some of the lines goes by these steps
 
-  not_empty : (done : List Given) (one : Given) → done ++ one ∷ [] ≡ [] → ⊥
+  not_empty : (done : List UnfoldedLine) (one : UnfoldedLine) → done ++ one ∷ [] ≡ [] → ⊥
   not_empty [] one none = cc
   not_empty (first ∷ done) one none = cc
 
   -- moves that give no line
-  passed_on : (before : At) (source more : List SourceLine) (all : List Numbered) (stage after : Stage) (done : List Given)
+  passed_on : (before : At) (source more : List SourceLine) (all : List NumberedLine) (stage after : Stage) (done : List UnfoldedLine)
       → Leads stage done after → done ≡ [] → LeadsTo before (at source more all stage) → LeadsTo before (at source more all after)
   passed_on before source more all stage _ _ steps.Leads.Stays none leads = leads
   passed_on before source more all stage after done (steps.Leads.Passing _ middle _ first fits moves) none leads =
@@ -148,7 +148,7 @@ module _ (map_ : Map) (counting : Counting) where
   passed_on before source more all stage _ _ (steps.Leads.Giving done middle after live known first fits moves acts) none leads =
       absurd (not_empty done (steps.given known live after) none)
 
-  pub reached : (all source more : List SourceLine) (placed : List Numbered) (stage : Stage) → PassLines map_ counting source placed stage
+  pub reached : (all source more : List SourceLine) (placed : List NumberedLine) (stage : Stage) → PassLines map_ counting source placed stage
       → source ++ more ≡ all → LeadsTo (begin all) (at source more placed stage)
   reached all _ more _ _ lines.PassLines.Begins whole =
       let P : List SourceLine → Type 0 = λ ls. LeadsTo (begin ls) (at [] more [] (start [])) in

@@ -10,7 +10,7 @@ use Rattle.m11_base.proofs.SameNames.{same_name_itself}
 use Rattle.m11_base.specs.Rad50.{Name, is_same_name}
 use Rattle.m11_scan_lines.specs.Line.{SourceLine}
 use Rattle.m11_asm_lines.specs.declared.counting.Counting.{Counting}
-use Rattle.m11_asm_passes.specs.Lines.{Numbered, PassLines, givens}
+use Rattle.m11_asm_passes.specs.Lines.{NumberedLine, PassLines, givens}
 use Rattle.m11_asm_passes.specs.Lines as lines
 use Rattle.m11_asm_rules.specs.Definitions.{firm_part, firm_standing, is_defined, last_definition}
 use Rattle.m11_asm_rules.specs.Equation.{Solves, is_label_or_firm, label_or_value, label_or_value_of}
@@ -32,7 +32,7 @@ use Rattle.m11_scan_statements.specs.declared.labels.Label.{Label}
 use Rattle.m11_scan_statements.specs.declared.labels.LabelKind.{LabelKind}
 use Rattle.m11_scan_statements.specs.declared.labels.LabelKind.TheVariants as kind
 use Rattle.m11_unfold_rules.specs.Stages.{Stage}
-use Rattle.m11_unfold_rules.specs.Unfolding.{Given}
+use Rattle.m11_unfold_rules.specs.Unfolding.{UnfoldedLine}
 use Rattle.m11_asm_pass_laws.proofs.Freely.{begins_with}
 use Rattle.m11_asm_pass_laws.proofs.Labelled.{StandsIn, change_stays, labels_stay, lines_stay, stands_now}
 use Rattle.m11_asm_pass_laws.proofs.KnownAlike.{PlaceAlike, after_both}
@@ -130,7 +130,7 @@ module _ (map : Map) (final : Table)
 
 -- ---- a line among others
 
-line_unmoved : (map : Map) (before more : List Given) (one : Given) → Solves map (before ++ one ∷ more)
+line_unmoved : (map : Map) (before more : List UnfoldedLine) (one : UnfoldedLine) → Solves map (before ++ one ∷ more)
     → moved_flags map one.live.line.text (table_after map before) (labels_at one.live.line.text) ≡ 0
 line_unmoved map before more one solves =
     let table : Table = table_after map before in
@@ -141,7 +141,7 @@ line_unmoved map before more one solves =
     ∙ lines_stay key label is_label map (after_line map table one) more
     (change_stays key label is_label map one.live.line.text (line_change (firm_table (stands table one)) one) (stands table one) stood))
 
-pub none_moved : (map : Map) (before more : List Numbered) (one : Numbered) → Solves map (givens (before ++ one ∷ more))
+pub none_moved : (map : Map) (before more : List NumberedLine) (one : NumberedLine) → Solves map (givens (before ++ one ∷ more))
     → moved_after map before one ≡ 0
 none_moved map before more one solves =
     let same : givens (before ++ one ∷ more) ≡ givens before ++ one.given ∷ givens more
@@ -152,16 +152,16 @@ none_moved map before more one solves =
 
 -- the map of a source solves it
 abbrev pub MapSolves : Type 0
-MapSolves = (lines : List Given) → Solves (program_map lines) lines
+MapSolves = (lines : List UnfoldedLine) → Solves (program_map lines) lines
 
 pub none_moves : PlaceAlike → MapSolves → (one : Map) (counting others : Counting) (all source read rest : List SourceLine)
-    (lines later before more : List Numbered) (this : Numbered) (stage after : Stage) → EndsAfter one counting all source lines stage
+    (lines later before more : List NumberedLine) (this : NumberedLine) (stage after : Stage) → EndsAfter one counting all source lines stage
     → PassLines (map_from lines) others read later after → read ++ rest ≡ all → later ≡ before ++ this ∷ more
     → moved_after (map_from lines) before this ≡ 0
 none_moves alike solves one counting others all source read rest lines later before more this stage after ends passes whole parts =
     let begins : BeginWith lines later
     = begins_with alike one (map_from lines) counting others all source lines stage ends read rest later after passes whole in
     let same : lines ≡ before ++ this ∷ (more ++ begins.0)
-    = begins.1 ∙ ap (λ (ls : List Numbered). ls ++ begins.0) parts ∙ append_assoc before (this ∷ more) begins.0 in
+    = begins.1 ∙ ap (λ (ls : List NumberedLine). ls ++ begins.0) parts ∙ append_assoc before (this ∷ more) begins.0 in
     none_moved (map_from lines) before (more ++ begins.0) this
-    (subst (λ (ls : List Numbered). Solves (map_from lines) (givens ls)) same (solves (givens lines)))
+    (subst (λ (ls : List NumberedLine). Solves (map_from lines) (givens ls)) same (solves (givens lines)))

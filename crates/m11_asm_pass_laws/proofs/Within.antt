@@ -6,7 +6,7 @@ use Rattle.m11_base.specs.Rad50.{Name}
 use Rattle.m11_scan_lines.specs.Line.{SourceLine}
 use Rattle.m11_asm_lines.specs.declared.counting.Counting.{Counting}
 use Rattle.m11_asm_lines.specs.declared.counting.Counting.TheVariants.{Definitions}
-use Rattle.m11_asm_passes.specs.Lines.{Numbered, PassLines, counting_after, counting_at, givens, table_at}
+use Rattle.m11_asm_passes.specs.Lines.{NumberedLine, PassLines, counting_after, counting_at, givens, table_at}
 use Rattle.m11_asm_passes.specs.Lines as lines
 use Rattle.m11_asm_passes.specs.Reaching.{Exceeds}
 use Rattle.m11_asm_passes.specs.Reaching as reaching
@@ -18,7 +18,7 @@ use Rattle.m11_asm_rules.specs.Tables.{Table, first_table}
 use Rattle.m11_unfold_rules.specs.Limits.{next_fault}
 use Rattle.m11_unfold_rules.specs.Stages.{Stage}
 use Rattle.m11_unfold_rules.specs.Taking.{Gives, Live, move}
-use Rattle.m11_unfold_rules.specs.Unfolding.{Given}
+use Rattle.m11_unfold_rules.specs.Unfolding.{UnfoldedLine}
 use Rattle.m11_unfold_rules.specs.declared.fault.UnfoldFault.{UnfoldFault}
 use Rattle.m11_asm_pass_laws.specs.Beginnings.{BeginWith}
 use Rattle.m11_asm_pass_laws.specs.Ends.{EndsAfter, ExceedsAfter, IsOver}
@@ -31,19 +31,19 @@ use Rattle.m11_asm_pass_laws.proofs.KnownAlike.{PlaceAlike}
 
 -- ---- the names that lines mention are among those that all lines mention
 
-module _ (alike : PlaceAlike) (one other : Map) (names : List Name) (all : List Numbered) where
+module _ (alike : PlaceAlike) (one other : Map) (names : List Name) (all : List NumberedLine) where
   abbrev full : List Name
   full = names_after one first_table (givens all) names
 
-  there : (before further : List Numbered) → all ≡ before ++ further → AllThere other first_table (givens before) full
+  there : (before further : List NumberedLine) → all ≡ before ++ further → AllThere other first_table (givens before) full
   there before further whole =
-      let P : List Given → Type 0 = λ ls. AllThere one first_table ls full in
+      let P : List UnfoldedLine → Type 0 = λ ls. AllThere one first_table ls full in
       there_alike alike one other full (givens before)
       (lines_before one first_table (givens before) (givens further) full
       (subst P (ap givens whole ∙ map-append lines.given_in before further) (lines_there one first_table (givens all) names)))
 
   -- lines of them add none
-  add_none : (before : List Numbered) → BeginWith all before → names_after other first_table (givens before) full ≡ full
+  add_none : (before : List NumberedLine) → BeginWith all before → names_after other first_table (givens before) full ≡ full
   add_none before begins = lines_add_none other first_table (givens before) full (there before begins.0 begins.1)
 
 -- ---- limits
@@ -58,12 +58,12 @@ places_fit map counting (Some fault) live after here next goes = absurd (cc)
 places_fit map counting None live after here next goes = refl
 
 -- where the names that are defined count, no line changes which do
-none_counted : (map : Map) (table : Table) (all : List Given) → counting_after map table all Definitions ≡ Definitions
+none_counted : (map : Map) (table : Table) (all : List UnfoldedLine) → counting_after map table all Definitions ≡ Definitions
 none_counted map table [] = refl
 none_counted map table (given ∷ all) = none_counted map (after_line map table given) all
 
 module _ (alike : PlaceAlike) (one other : Map) (counting : Counting) (all source read rest : List SourceLine)
-    (lines later : List Numbered) (stage : Stage) (end : EndsAfter one counting all source lines stage) (whole : read ++ rest ≡ all) where
+    (lines later : List NumberedLine) (stage : Stage) (end : EndsAfter one counting all source lines stage) (whole : read ++ rest ≡ all) where
   abbrev last : At
   last = at source end.more lines stage
 
@@ -113,14 +113,14 @@ module _ (alike : PlaceAlike) (one other : Map) (counting : Counting) (all sourc
       let both : None ≡ Some fault = sym (fits_there stage' after live passes fits_so moves) ∙ exceeds in
       cc
 
-pub no_limit : PlaceAlike → (one other : Map) (counting : Counting) (all source read : List SourceLine) (lines later : List Numbered)
+pub no_limit : PlaceAlike → (one other : Map) (counting : Counting) (all source read : List SourceLine) (lines later : List NumberedLine)
     (stage : Stage) (fault : AsmFault) → EndsAfter one counting all source lines stage
     → ExceedsAfter other Definitions all read later fault → ⊥
 no_limit alike one other counting all source read lines later stage fault ends exceeds =
     none_within alike one other counting all source read exceeds.more lines later stage ends exceeds.whole fault exceeds.exceeds
 
 pub no_name : PlaceAlike → (one other : Map) (counting : Counting) (names : List Name) (all source read rest : List SourceLine)
-    (lines later : List Numbered) (stage after : Stage) → EndsAfter one counting all source lines stage
+    (lines later : List NumberedLine) (stage after : Stage) → EndsAfter one counting all source lines stage
     → PassLines other Definitions read later after → read ++ rest ≡ all
     → names_after other first_table (givens later) (names_after one first_table (givens lines) names)
     ≡ names_after one first_table (givens lines) names

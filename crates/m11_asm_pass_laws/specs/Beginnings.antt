@@ -1,7 +1,7 @@
 -- Lines of one pass that begin with those of another. (This project's own.)
 use Rattle.std.specs.Prelude.{◌≡◌, List, ◌++◌}
-use Rattle.m11_asm_passes.specs.Lines.{Numbered}
+use Rattle.m11_asm_passes.specs.Lines.{NumberedLine}
 
 -- these lines begin with those
-abbrev pub BeginWith : List Numbered → List Numbered → Type 0
-BeginWith lines first = (further : List Numbered) × (lines ≡ first ++ further)
+abbrev pub BeginWith : List NumberedLine → List NumberedLine → Type 0
+BeginWith lines first = (further : List NumberedLine) × (lines ≡ first ++ further)

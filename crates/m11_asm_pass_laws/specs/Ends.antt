@@ -3,7 +3,7 @@ use Rattle.std.specs.Prelude.{◌≡◌, ◌⊎◌, true, false, List, [], ◌++
 use Rattle.m11_asm_faults.specs.declared.fault.AsmFault.{AsmFault}
 use Rattle.m11_scan_lines.specs.Line.{SourceLine}
 use Rattle.m11_asm_lines.specs.declared.counting.Counting.{Counting}
-use Rattle.m11_asm_passes.specs.Lines.{Numbered, PassLines}
+use Rattle.m11_asm_passes.specs.Lines.{NumberedLine, PassLines}
 use Rattle.m11_asm_passes.specs.Reaching.{Exceeds}
 use Rattle.m11_asm_rules.specs.Meanings.{Map}
 use Rattle.m11_unfold_rules.specs.Stages.{Stage}
@@ -13,21 +13,21 @@ abbrev pub IsOver : List SourceLine → Stage → Type 0
 IsOver more stage = (stage.has_ended ≡ true) ⊎ ((more ≡ []) × (stage.left ≡ []) × (stage.has_ended ≡ false))
 
 -- a pass over all these lines is at its end after the lines of a source, which they begin with
-pub record EndsAfter (map : Map) (counting : Counting) (all source : List SourceLine) (lines : List Numbered) (stage : Stage) : Type 0 where
+pub record EndsAfter (map : Map) (counting : Counting) (all source : List SourceLine) (lines : List NumberedLine) (stage : Stage) : Type 0 where
   pub lines_are : PassLines map counting source lines stage
   pub more : List SourceLine
   pub whole : source ++ more ≡ all
   pub is_over : IsOver more stage
 
 -- a pass over all these lines passes a limit after the lines of a source, which they begin with
-pub record ExceedsAfter (map : Map) (counting : Counting) (all source : List SourceLine) (lines : List Numbered) (fault : AsmFault) : Type 0 where
+pub record ExceedsAfter (map : Map) (counting : Counting) (all source : List SourceLine) (lines : List NumberedLine) (fault : AsmFault) : Type 0 where
   pub exceeds : Exceeds map counting source lines fault
   pub more : List SourceLine
   pub whole : source ++ more ≡ all
 
 -- a pass over all these lines reaches its end, or passes a limit
 pub data HasEnd (map : Map) (counting : Counting) (all : List SourceLine) : Type 0 where
-  AtEnd : (source : List SourceLine) (lines : List Numbered) (stage : Stage) → EndsAfter map counting all source lines stage
+  AtEnd : (source : List SourceLine) (lines : List NumberedLine) (stage : Stage) → EndsAfter map counting all source lines stage
       → HasEnd map counting all
-  AtLimit : (source : List SourceLine) (lines : List Numbered) (fault : AsmFault) → ExceedsAfter map counting all source lines fault
+  AtLimit : (source : List SourceLine) (lines : List NumberedLine) (fault : AsmFault) → ExceedsAfter map counting all source lines fault
       → HasEnd map counting all

@@ -6,7 +6,7 @@ ghost use Rattle.m11_scan_lines.specs.Line.{SourceLine};
 ghost use Rattle.m11_asm_pass_laws.specs.Beginnings.{BeginWith};
 ghost use Rattle.m11_asm_pass_laws.specs.Ends.{EndsAfter, ExceedsAfter, HasEnd};
 ghost use Rattle.m11_asm_lines.specs.declared.counting.Counting.{Counting};
-ghost use Rattle.m11_asm_passes.specs.Lines.{Numbered, PassLines};
+ghost use Rattle.m11_asm_passes.specs.Lines.{NumberedLine, PassLines};
 ghost use Rattle.m11_asm_rules.specs.Meanings.{Map};
 ghost use Rattle.m11_unfold_rules.specs.Limits.{most_lines};
 ghost use Rattle.m11_unfold_rules.specs.Stages.{Stage};
@@ -14,14 +14,14 @@ ghost use Rattle.m11_unfold_rules.specs.Stages.{Stage};
 /// A pass over a source has at most 200,000 live lines: each of them was taken, and no more lines are taken.
 #[tactic(auto, using(crate::proofs::Counting::at_most))]
 pub fn a_source_has_at_most_200000_live_lines()
-    ensures { (map : Map) (counting : Counting) (source : List SourceLine) (lines : List Numbered) (stage : Stage)
+    ensures { (map : Map) (counting : Counting) (source : List SourceLine) (lines : List NumberedLine) (stage : Stage)
         → PassLines map counting source lines stage → length lines ≤ most_lines }
 {}
 
 /// Two passes over beginnings of one source, under one map and where the same names count, go on from each other: the live lines of one
 /// of them begin with those of the other.
 pub fn one_pass_goes_on_from_the_other()
-    ensures { (map : Map) (counting : Counting) (all source other more rest : List SourceLine) (lines later : List Numbered)
+    ensures { (map : Map) (counting : Counting) (all source other more rest : List SourceLine) (lines later : List NumberedLine)
         (stage after : Stage) → PassLines map counting source lines stage → PassLines map counting other later after
         → source ++ more ≡ all → other ++ rest ≡ all → BeginWith later lines ⊎ BeginWith lines later }
 {}
@@ -30,13 +30,13 @@ pub fn one_pass_goes_on_from_the_other()
 /// same lines, have the same live lines, and stand at the same stage. Where two pass a limit, it is the same limit, after the same lines.
 /// Where one is at its end, none passes a limit.
 pub fn a_pass_has_one_end()
-    ensures ends { (map : Map) (counting : Counting) (all source other : List SourceLine) (lines later : List Numbered)
+    ensures ends { (map : Map) (counting : Counting) (all source other : List SourceLine) (lines later : List NumberedLine)
         (stage after : Stage) → EndsAfter map counting all source lines stage → EndsAfter map counting all other later after
         → (source ≡ other) × (lines ≡ later) × (stage ≡ after) }
-    ensures exceeds { (map : Map) (counting : Counting) (all source other : List SourceLine) (lines later : List Numbered)
+    ensures exceeds { (map : Map) (counting : Counting) (all source other : List SourceLine) (lines later : List NumberedLine)
         (first second : AsmFault) → ExceedsAfter map counting all source lines first → ExceedsAfter map counting all other later second
         → (source ≡ other) × (lines ≡ later) × (first ≡ second) }
-    ensures either { (map : Map) (counting : Counting) (all source other : List SourceLine) (lines later : List Numbered) (stage : Stage)
+    ensures either { (map : Map) (counting : Counting) (all source other : List SourceLine) (lines later : List NumberedLine) (stage : Stage)
         (fault : AsmFault) → EndsAfter map counting all source lines stage → ExceedsAfter map counting all other later fault → ⊥ }
 {}
 

@@ -7,14 +7,14 @@ ghost use Rattle.m11_scan_lines.specs.Line.{SourceLine};
 ghost use Rattle.m11_scan_statements.specs.declared.labels.Label.{Label};
 ghost use Rattle.m11_unfold_rules.specs.Stages.{Stage};
 ghost use Rattle.m11_unfold_rules.specs.Taking.{Live};
-ghost use Rattle.m11_unfold_rules.specs.Unfolding.{Given};
-ghost use Rattle.m11_asm_rules.specs.Lines.{after_line, flags, line_put, pieces};
+ghost use Rattle.m11_unfold_rules.specs.Unfolding.{UnfoldedLine};
+ghost use Rattle.m11_asm_rules.specs.Lines.{after_line, flags, line_emission, pieces};
 ghost use Rattle.m11_asm_rules.specs.Meanings.{Map, map_of};
 ghost use Rattle.m11_asm_rules.specs.Tables.{Table};
 ghost use Rattle.m11_asm_table.specs.Alike.{Alike};
 ghost use Rattle.m11_asm_lines.specs.Moved.{moved_flags};
 ghost use Rattle.m11_asm_lines.specs.declared.counting.Counting.{Counting};
-ghost use Rattle.m11_asm_passes.specs.Lines.{Numbered, PassLines, counting_at, table_at};
+ghost use Rattle.m11_asm_passes.specs.Lines.{NumberedLine, PassLines, counting_at, table_at};
 ghost use Rattle.m11_asm_passes.specs.Placed.{all_flags};
 ghost use Rattle.m11_asm_passes.specs.Reaching.{Exceeds};
 ghost use Rattle.m11_asm_passes.specs.Refusals.{line_fault};
@@ -25,23 +25,23 @@ pub fn tables_alike_give_maps_that_agree()
     ensures { (one other : Table) → Alike one other → MapsAgree (map_of one) (map_of other) }
 {}
 
-/// Under maps that agree each line puts and changes the same after any table, and has the same pieces, the same flags and the
+/// Under maps that agree each line emits and changes the same after any table, and has the same pieces, the same flags and the
 /// same fault; after any lines the table is the same, and the names that count are.
 pub fn maps_that_agree_place_lines_alike()
-    ensures puts { (one other : Map) → MapsAgree one other → (table : Table) (given : Given)
-        → line_put one table given ≡ line_put other table given }
-    ensures changes { (one other : Map) → MapsAgree one other → (table : Table) (given : Given)
+    ensures puts { (one other : Map) → MapsAgree one other → (table : Table) (given : UnfoldedLine)
+        → line_emission one table given ≡ line_emission other table given }
+    ensures changes { (one other : Map) → MapsAgree one other → (table : Table) (given : UnfoldedLine)
         → after_line one table given ≡ after_line other table given }
-    ensures pieces { (one other : Map) → MapsAgree one other → (table : Table) (given : Given)
+    ensures pieces { (one other : Map) → MapsAgree one other → (table : Table) (given : UnfoldedLine)
         → pieces one table given ≡ pieces other table given }
-    ensures flags { (one other : Map) → MapsAgree one other → (table : Table) (given : Given)
+    ensures flags { (one other : Map) → MapsAgree one other → (table : Table) (given : UnfoldedLine)
         → flags one table given ≡ flags other table given }
     ensures moves { (one other : Map) → MapsAgree one other → (line : Bytes) (table : Table) (labels : List Label)
         → moved_flags one line table labels ≡ moved_flags other line table labels }
-    ensures all_flags { (one other : Map) → MapsAgree one other → (table : Table) (given : Given)
+    ensures all_flags { (one other : Map) → MapsAgree one other → (table : Table) (given : UnfoldedLine)
         → all_flags one table given ≡ all_flags other table given }
-    ensures tables { (one other : Map) → MapsAgree one other → (lines : List Numbered) → table_at one lines ≡ table_at other lines }
-    ensures names { (one other : Map) → MapsAgree one other → (counting : Counting) (lines : List Numbered)
+    ensures tables { (one other : Map) → MapsAgree one other → (lines : List NumberedLine) → table_at one lines ≡ table_at other lines }
+    ensures names { (one other : Map) → MapsAgree one other → (counting : Counting) (lines : List NumberedLine)
         → counting_at one counting lines ≡ counting_at other counting lines }
     ensures faults { (one other : Map) → MapsAgree one other → (table : Table) (counting : Counting) (live : Live) (stage : Stage)
         → line_fault one table counting live stage ≡ line_fault other table counting live stage }
@@ -50,9 +50,9 @@ pub fn maps_that_agree_place_lines_alike()
 /// Under maps that agree a source has the same live lines, and passes the same limits.
 pub fn maps_that_agree_have_the_same_live_lines()
     ensures lines { (one other : Map) → MapsAgree one other
-        → (counting : Counting) (source : List SourceLine) (lines : List Numbered) (stage : Stage)
+        → (counting : Counting) (source : List SourceLine) (lines : List NumberedLine) (stage : Stage)
         → PassLines one counting source lines stage → PassLines other counting source lines stage }
     ensures limits { (one other : Map) → MapsAgree one other
-        → (counting : Counting) (source : List SourceLine) (lines : List Numbered) (fault : AsmFault)
+        → (counting : Counting) (source : List SourceLine) (lines : List NumberedLine) (fault : AsmFault)
         → Exceeds one counting source lines fault → Exceeds other counting source lines fault }
 {}

@@ -10,7 +10,7 @@ ghost use Rattle.m11_asm_pass_laws.specs.Ends.{EndsAfter, ExceedsAfter};
 ghost use Rattle.m11_asm_pass_laws.specs.Second.{map_from, moved_after};
 ghost use Rattle.m11_asm_lines.specs.declared.counting.Counting.{Counting};
 ghost use Rattle.m11_asm_lines.specs.declared.counting.Counting.TheVariants.{Definitions};
-ghost use Rattle.m11_asm_passes.specs.Lines.{Numbered, PassLines, givens};
+ghost use Rattle.m11_asm_passes.specs.Lines.{NumberedLine, PassLines, givens};
 ghost use Rattle.m11_asm_rules.specs.Limits.{names_after};
 ghost use Rattle.m11_asm_rules.specs.Meanings.{Map};
 ghost use Rattle.m11_asm_rules.specs.Tables.{first_table};
@@ -19,18 +19,18 @@ ghost use Rattle.m11_unfold_rules.specs.Stages.{Stage};
 use m11_asm_rules::{placements_are_the_same_under_every_map, the_map_of_a_source_solves_it};
 
 /// Any two passes read the same lines alike, whatever their maps are and whichever names count in them: no map decides what a live line is,
-/// what is known there, and what unfolding notes of it. Of two passes over beginnings of one source, the live lines of one begin with
+/// what is known there, and what unfolding remarks on it. Of two passes over beginnings of one source, the live lines of one begin with
 /// those of the other. Where one is at its end, its lines begin with those of the other; and where both are, they have read the same lines,
 /// have the same live lines, and stand at the same stage.
 pub fn the_same_lines_are_read_alike()
     ensures goes_on { (one other : Map) (counting others : Counting) (all source more read rest : List SourceLine)
-        (lines later : List Numbered) (stage after : Stage) → PassLines one counting source lines stage
+        (lines later : List NumberedLine) (stage after : Stage) → PassLines one counting source lines stage
         → PassLines other others read later after → source ++ more ≡ all → read ++ rest ≡ all
         → BeginWith later lines ⊎ BeginWith lines later }
-    ensures begins { (one other : Map) (counting others : Counting) (all source read rest : List SourceLine) (lines later : List Numbered)
+    ensures begins { (one other : Map) (counting others : Counting) (all source read rest : List SourceLine) (lines later : List NumberedLine)
         (stage after : Stage) → EndsAfter one counting all source lines stage → PassLines other others read later after
         → read ++ rest ≡ all → BeginWith lines later }
-    ensures ends { (one other : Map) (counting others : Counting) (all source read : List SourceLine) (lines later : List Numbered)
+    ensures ends { (one other : Map) (counting others : Counting) (all source read : List SourceLine) (lines later : List NumberedLine)
         (stage after : Stage) → EndsAfter one counting all source lines stage → EndsAfter other others all read later after
         → (source ≡ read) × (lines ≡ later) × (stage ≡ after) }
 {
@@ -42,7 +42,7 @@ pub fn the_same_lines_are_read_alike()
 /// key of a label another definition.
 pub fn no_label_has_moved_in_a_second_pass_over_the_same_lines()
     ensures { (one : Map) (counting others : Counting) (all source read rest : List SourceLine)
-        (lines later before more : List Numbered) (this : Numbered) (stage after : Stage)
+        (lines later before more : List NumberedLine) (this : NumberedLine) (stage after : Stage)
         → EndsAfter one counting all source lines stage → PassLines (map_from lines) others read later after
         → read ++ rest ≡ all → later ≡ before ++ this ∷ more → moved_after (map_from lines) before this ≡ 0 }
 {
@@ -53,11 +53,11 @@ pub fn no_label_has_moved_in_a_second_pass_over_the_same_lines()
 /// A second pass over the lines that a first one read to its end passes no limit, whatever its map is: it has the same names, local symbols
 /// and sections. Its lines use no name that those of the first one didn't.
 pub fn a_second_pass_over_the_same_lines_passes_no_limit()
-    ensures limits { (one other : Map) (counting : Counting) (all source read : List SourceLine) (lines later : List Numbered)
+    ensures limits { (one other : Map) (counting : Counting) (all source read : List SourceLine) (lines later : List NumberedLine)
         (stage : Stage) (fault : AsmFault) → EndsAfter one counting all source lines stage
         → ExceedsAfter other Definitions all read later fault → ⊥ }
     ensures names { (one other : Map) (counting : Counting) (names : List Name) (all source read rest : List SourceLine)
-        (lines later : List Numbered) (stage after : Stage) → EndsAfter one counting all source lines stage
+        (lines later : List NumberedLine) (stage after : Stage) → EndsAfter one counting all source lines stage
         → PassLines other Definitions read later after → read ++ rest ≡ all
         → names_after other first_table (givens later) (names_after one first_table (givens lines) names)
         ≡ names_after one first_table (givens lines) names }

@@ -3,8 +3,8 @@ use Rattle.std.proofs.Common.{◌≡◌, ◌∙◌, ◌<◌, ◌≤◌, ℕ, ◌
 use Rattle.std.specs.Prelude.{false, true}
 use Rattle.std.specs.Int.RustNames.{bit_or}
 use Rattle.std.specs.Option.{option_to_list}
-use Rattle.m11_unfold_arguments.specs.Notes.{Notes}
-use Rattle.m11_unfold_arguments.specs.Expressions.{Known, known_by, value_at}
+use Rattle.m11_unfold_arguments.specs.Remarks.{Remarks}
+use Rattle.m11_unfold_arguments.specs.Expressions.{KnownSymbols, known_by, value_at}
 use Rattle.m11_asm_faults.specs.declared.fault.AsmFault.{AsmFault}
 use Rattle.m11_asm_faults.specs.declared.fault.AsmFault.TheVariants.{TooManySymbols, TooManySections, NoMemory}
 use Rattle.m11_base.specs.Devices.{Bytes}
@@ -13,19 +13,19 @@ use Rattle.m11_scan_statements.specs.Labels.{labels_at, labels_end}
 use Rattle.m11_scan_statements.specs.Statements.{body_of, label_flags}
 use Rattle.m11_scan_statements.specs.declared.bodies.Body.{Body}
 use Rattle.m11_scan_statements.specs.declared.statements.Statement.{Statement}
-use Rattle.m11_unfold.specs.Unfolder.{Acts, Unfolding}
+use Rattle.m11_unfold.specs.Unfolder.{Acts, UnfolderState}
 use Rattle.m11_unfold.specs.declared.steps.Act.{Act as Acting}
 use Rattle.m11_unfold_rules.specs.Stages.{Stage, start}
 use Rattle.m11_unfold_rules.specs.Taking.{Live}
-use Rattle.m11_unfold_rules.specs.Unfolding.{Given}
+use Rattle.m11_unfold_rules.specs.Unfolding.{UnfoldedLine}
 use Rattle.m11_unfold_rules.specs.declared.fault.UnfoldFault.{UnfoldFault}
 use Rattle.m11_asm_rules.specs.Alignment.{location_for}
 use Rattle.m11_asm_rules.specs.Changes.{Change, changed}
-use Rattle.m11_asm_rules.specs.Contents.{Put}
+use Rattle.m11_asm_rules.specs.Contents.{Emission}
 use Rattle.m11_asm_rules.specs.Labels.{labels_flags, labels_stand}
 use Rattle.m11_asm_rules.specs.Limits.{has_too_many, most_defined_names, most_local_symbols, most_names, most_sections}
 use Rattle.m11_asm_rules.specs.Items.{assigned_items, action_items, is_shown, value_items}
-use Rattle.m11_asm_rules.specs.Lines.{Action, NoAction, Assign, SetCounter, Operate, after_line, action, line_change, line_put, put_by, put_location, stands}
+use Rattle.m11_asm_rules.specs.Lines.{Action, NoAction, Assign, SetCounter, Operate, after_line, action, line_change, line_emission, emission_by, put_location, stands}
 use Rattle.m11_asm_rules.specs.Meanings.{Map, empty_map, known_at, stands_for}
 use Rattle.m11_asm_rules.specs.declared.meanings.Context.TheVariants.{LocalOnly}
 use Rattle.m11_asm_rules.specs.Operators.{is_even}
@@ -39,12 +39,12 @@ use Rattle.m11_asm_lines.specs.Lines.{flags_from}
 use Rattle.m11_asm_lines.specs.Counting.{names_counted, with_counted}
 use Rattle.m11_asm_lines.specs.declared.counting.Counting.{Counting}
 use Rattle.m11_asm_lines.specs.Moved.{moved_flags}
-use Rattle.m11_asm_lines.specs.Passes.{Follows, Kept, Matches}
+use Rattle.m11_asm_lines.specs.Passes.{Follows, TableState, Matches}
 use Rattle.m11_asm_lines.specs.declared.actions.Action as code
 use Rattle.m11_asm_table.specs.Alike as tables
 use Rattle.m11_asm_table.specs.Alike.{Alike}
-use Rattle.m11_asm_table.specs.Asking.{FirmAsked, firm_asked}
-use Rattle.m11_asm_passes.proofs.Placing.{Act, IsActOf, all_so, change_is, action_so, defined_refused, line_fits, matches_so, uses_refused, notes_so, puts, sections_refused, stage_so}
+use Rattle.m11_asm_table.specs.Asking.{FirmContext, firm_asked}
+use Rattle.m11_asm_passes.proofs.Placing.{Act, IsActOf, all_so, change_is, action_so, defined_refused, line_fits, matches_so, uses_refused, remarks_so, puts, sections_refused, stage_so}
 use Rattle.m11_asm_passes.proofs.Settling.{change_modest, changed_moves, labels_blocks}
 use Rattle.m11_asm_passes.proofs.Turning.{first_sound}
 use Rattle.m11_asm_passes.specs.Begun.{Begins, Finishes, States}
@@ -56,40 +56,40 @@ use Rattle.m11_asm_passes.specs.Lines as lines
 use Rattle.m11_asm_passes.specs.Operated.{change_after, uses_after}
 use Rattle.m11_asm_passes.specs.Placed.{live_in}
 use Rattle.m11_asm_passes.specs.Refusals.{given_by, line_fault}
-use Rattle.m11_asm_passes.specs.States.{Going, GoesOnUntil, PassStands}
-use Rattle.m11_asm_passes.specs.Turns.{LeavesAfter, Places, Said, SaysLive, SaysPlaced}
-use Rattle.m11_asm_passes.specs.declared.begun.Begun.{Begun}
+use Rattle.m11_asm_passes.specs.States.{PassState, GoesOnUntil, PassStands}
+use Rattle.m11_asm_passes.specs.Turns.{LeavesAfter, Places, LineFact, SaysLive, SaysPlaced}
+use Rattle.m11_asm_passes.specs.declared.begun.LabelledLine.{LabelledLine}
 use Rattle.m11_asm_listing.specs.declared.items.Item.{Item}
 use Rattle.m11_asm_passes.specs.declared.placed.LiveLine.{LiveLine}
 use Rattle.m11_asm_passes.specs.declared.placed.PlacedLine.{PlacedLine}
 
 -- ---- a new pass
 
-module _ (unfolder : Unfolding) (kept : Kept) (counting before : Counting)
+module _ (unfolder : UnfolderState) (kept : TableState) (counting before : Counting)
     (is_fresh : unfolder ≡ record { stage = start []; has_statement = false; fault = None })
     (matches : Matches kept first_table) (same : counting ≡ before) where
   pub new_sound : (fault : Option AsmFault) → fault ≡ None
       → IsSoundUntil fault unfolder.stage.taken kept.table × GoesOnUntil fault unfolder.fault
   new_sound fault none =
-      let S : Unfolding → Type 0 = λ u. HasRoom u.stage.taken 0 0 kept.table in
-      let G : Unfolding → Type 0 = λ u. u.fault ≡ None in
+      let S : UnfolderState → Type 0 = λ u. HasRoom u.stage.taken 0 0 kept.table in
+      let G : UnfolderState → Type 0 = λ u. u.fault ≡ None in
       let P : Option AsmFault → Type 0 = λ f. IsSoundUntil f unfolder.stage.taken kept.table × GoesOnUntil f unfolder.fault in
       subst P (sym none) (subst S (sym is_fresh) (first_sound kept matches), subst G (sym is_fresh) refl)
 
-  pub new_stands : (put : Put) (map_ : Map)
-      → PassStands map_ before [] [] (record { unfolder = unfolder; kept = kept; counting = counting; put = put })
-  new_stands put map_ =
-      let L : Unfolding → Type 0 = λ u. PassLines map_ before [] [] u.stage in
+  pub new_stands : (emission : Emission) (map_ : Map)
+      → PassStands map_ before [] [] (record { unfolder = unfolder; kept = kept; counting = counting; emission = emission })
+  new_stands emission map_ =
+      let L : UnfolderState → Type 0 = λ u. PassLines map_ before [] [] u.stage in
       record { lines_are = subst L (sym is_fresh) lines.PassLines.Begins; matches = matches; counting = same }
 
 -- ---- what unfolding is told
 
-pub acts_told : (names : FirmAsked) (table : Table) (at : ℕ) (text : Bytes) (before after : Stage) (result : Result Acting UnfoldFault)
+pub acts_told : (names : FirmContext) (table : Table) (at : ℕ) (text : Bytes) (before after : Stage) (result : Result Acting UnfoldFault)
     → names ≡ firm_asked table at → at ≡ location table
     → Acts (known_by names.table.modes.radix (stands_for empty_map LocalOnly (firm_table names.table) names.location)) text before after result
     → Acts (known_after_labels table) text before after result
 acts_told names table at text before after result is there acts =
-    let P : FirmAsked → Type 0 = λ n.
+    let P : FirmContext → Type 0 = λ n.
     Acts (known_by n.table.modes.radix (stands_for empty_map LocalOnly (firm_table n.table) n.location)) text before after result in
     let Q : ℕ → Type 0 = λ p.
     Acts (known_by table.modes.radix (stands_for empty_map LocalOnly (firm_table table) p)) text before after result in
@@ -107,14 +107,14 @@ action_items_alike : (map_ : Map) (one other : Table) → Alike one other → (l
     → action_items map_ one line change of ≡ action_items map_ other line change of
 action_items_alike map_ one other alike line change NoAction = refl
 action_items_alike map_ one other alike line change (Assign name is_global start) =
-    ap (λ (k : Known). value_items (value_at k line start))
+    ap (λ (k : KnownSymbols). value_items (value_at k line start))
     (alike_known one other alike map_ LocalOnly (location one) ∙ ap (known_at map_ LocalOnly other) (alike_location one other alike))
 action_items_alike map_ one other alike line change (SetCounter start) = refl
 action_items_alike map_ one other alike line change (Operate operator start) = refl
 
 -- ---- one line
 
-module _ (map_ : Map) (live : Live) (old middle : Going) (does : code.Action) (begun : Begun)
+module _ (map_ : Map) (live : Live) (old middle : PassState) (does : code.Action) (begun : LabelledLine)
     (begins : Begins map_ live old middle does begun) where
   abbrev text : Bytes
   text = live.line.text
@@ -122,7 +122,7 @@ module _ (map_ : Map) (live : Live) (old middle : Going) (does : code.Action) (b
   abbrev before : Stage
   before = old.unfolder.stage
 
-  abbrev stood : Kept
+  abbrev stood : TableState
   stood = middle.kept
 
   abbrev named : Counting
@@ -132,38 +132,38 @@ module _ (map_ : Map) (live : Live) (old middle : Going) (does : code.Action) (b
   of = action_seen does
 
   abbrev done : Act
-  done = record { is_own = begun.act.is_own; notes = begun.act.notes; arguments = begun.act.arguments }
+  done = record { is_own = begun.act.is_own; remarks = begun.act.remarks; arguments = begun.act.arguments }
 
   acts : IsActOf (known_after_labels stood.table) text before middle.unfolder.stage done
   acts = record {
     fits = begins.acts.0;
     stage_is = begins.acts.1;
     own_is = begins.acts.2;
-    notes_are = begins.acts.3;
+    remarks_are = begins.acts.3;
     arguments_are = begins.acts.4;
   }
 
   -- mentions pass a limit
   pub use_fails : (fault : AsmFault)
-      → Refuses fault (most_names < length (names_counted (with_counted (uses_after stood.table text done.notes done.arguments of) named))) ⊥
+      → Refuses fault (most_names < length (names_counted (with_counted (uses_after stood.table text done.remarks done.arguments of) named))) ⊥
       → (table : Table) → Matches old.kept table → Fails (line_fault map_ table old.counting live before) fault
   use_fails TooManySymbols many table matches =
       let here = begins.labels table matches in
       let P : Action → Type 0 = λ d.
-      most_names < length (names_counted (with_counted (uses_after stood.table text done.notes done.arguments d) named)) in
+      most_names < length (names_counted (with_counted (uses_after stood.table text done.remarks done.arguments d) named)) in
       let Q : Counting → Type 0 = λ g. most_names < length
-      (names_counted (with_counted (uses_after stood.table text done.notes done.arguments (action done.is_own text)) g)) in
+      (names_counted (with_counted (uses_after stood.table text done.remarks done.arguments (action done.is_own text)) g)) in
       uses_refused map_ table live before middle.unfolder.stage done stood old.counting here.matches acts here.fits
       (subst Q begins.named (subst P begins.action_is many))
   use_fails NoMemory many table matches = tt
   use_fails other many table matches = absurd many
 
-  module _ (all : Counting) (all_are : all ≡ with_counted (uses_after stood.table text done.notes done.arguments of) named)
+  module _ (all : Counting) (all_are : all ≡ with_counted (uses_after stood.table text done.remarks done.arguments of) named)
       (few : length (names_counted all) ≤ most_names) (defined : stood.names ≤ most_defined_names)
       (symbols : stood.local_symbols ≤ most_local_symbols) (within : length stood.table.sections ≤ most_sections) where
-    all_told : all ≡ with_counted (uses_after stood.table text done.notes done.arguments (action done.is_own text)) named
+    all_told : all ≡ with_counted (uses_after stood.table text done.remarks done.arguments (action done.is_own text)) named
     all_told =
-        all_are ∙ ap (λ (d : Action). with_counted (uses_after stood.table text done.notes done.arguments d) named) begins.action_is
+        all_are ∙ ap (λ (d : Action). with_counted (uses_after stood.table text done.remarks done.arguments d) named) begins.action_is
 
     -- a name that the line defines is one too many, or its section is
     change_fails : (fault : AsmFault)
@@ -186,7 +186,7 @@ module _ (map_ : Map) (live : Live) (old middle : Going) (does : code.Action) (b
     change_fails other many table matches = absurd (many (labels_stand table text) (begins.labels table matches).matches)
 
     -- the pass stands after the line
-    leaves : (new : Going) → new.unfolder ≡ middle.unfolder → new.counting ≡ all
+    leaves : (new : PassState) → new.unfolder ≡ middle.unfolder → new.counting ≡ all
         → Follows stood new.kept (λ t. changed map_ text (change_after stood.table text done.arguments of) t)
         → new.kept.names ≤ most_defined_names → new.kept.local_symbols ≤ most_local_symbols
         → length new.kept.table.sections ≤ most_sections → (item : Option Item)
@@ -195,7 +195,7 @@ module _ (map_ : Map) (live : Live) (old middle : Going) (does : code.Action) (b
         × (option_to_list item ≡ assigned_items map_ table (given_by table live before))
     leaves new unfolder_is counting_is follows names fewer sections item shows table matches =
         let here = begins.labels table matches in
-        let line : Given = given_by table live before in
+        let line : UnfoldedLine = given_by table live before in
         let F : Action → Type 0 = λ d. Follows stood new.kept
         (λ t. changed map_ text (change_after stood.table text done.arguments d) t) in
         let follows_so = subst F begins.action_is follows in
@@ -207,7 +207,7 @@ module _ (map_ : Map) (live : Live) (old middle : Going) (does : code.Action) (b
           record {
             fits = line_fits map_ table live before middle.unfolder.stage done stood old.counting here.matches acts here.fits named
                 begins.named all all_told few new.kept follows_so names fewer sections;
-            stage_is = ap (λ (u : Unfolding). u.stage) unfolder_is
+            stage_is = ap (λ (u : UnfolderState). u.stage) unfolder_is
                 ∙ stage_so map_ table live before middle.unfolder.stage done stood old.counting here.matches acts;
             matches = matches_so map_ table live before middle.unfolder.stage done stood old.counting here.matches acts here.fits named
                 begins.named all all_told few new.kept follows_so;
@@ -223,7 +223,7 @@ module _ (map_ : Map) (live : Live) (old middle : Going) (does : code.Action) (b
         )
 
     -- what the line changes is done, or a name or its section is one too many
-    pub finishes : (new : Going) → new.unfolder ≡ middle.unfolder → new.counting ≡ all → (result : Result (Option Item) AsmFault)
+    pub finishes : (new : PassState) → new.unfolder ≡ middle.unfolder → new.counting ≡ all → (result : Result (Option Item) AsmFault)
         → IfOk result (λ _. Follows stood new.kept (λ t. changed map_ text (change_after stood.table text done.arguments of) t))
         → IfOk result (λ _. new.kept.local_symbols ≡ stood.local_symbols)
         → IfOk result (λ _. new.kept.names ≤ most_defined_names)
@@ -241,52 +241,52 @@ module _ (map_ : Map) (live : Live) (old middle : Going) (does : code.Action) (b
   -- ---- the line is placed
 
   pub placed_so : (statement : Statement) → States live statement
-      → (new : Going) (placed : PlacedLine) → live_in placed.live ≡ live → placed.live.action ≡ does
-      → new.put ≡ put_by map_ stood.table text done.arguments of
+      → (new : PassState) (placed : PlacedLine) → live_in placed.live ≡ live → placed.live.action ≡ does
+      → new.emission ≡ emission_by map_ stood.table text done.arguments of
       → placed.section ≡ section_name stood.table → placed.location ≡ put_location stood.table of → placed.counter ≡ location stood.table
       → placed.is_shown ≡ is_shown new.kept.table.modes placed.live.is_expanded
       → bits_of placed.flags ≡ bit_or (flags_from text statement.labels_end statement.body
-      (bits_of statement.label_flags) (bits_of begun.found.doubly_defined) new.put.flags done.notes.flags)
+      (bits_of statement.label_flags) (bits_of begun.found.doubly_defined) new.emission.flags done.remarks.flags)
       (bits_of begun.found.moved)
       → Finishes map_ live before old new (Ok placed.assigned)
-      → Places map_ live before old new (SaysPlaced map_ placed new.put) (Ok tt)
+      → Places map_ live before old new (SaysPlaced map_ placed new.emission) (Ok tt)
   placed_so statement states new placed same action_so_far put_is section_is location_is counter_is shown_is flags_are finishes_so table
       matches =
       let here = begins.labels table matches in
-      let line : Given = given_by table live before in
+      let line : UnfoldedLine = given_by table live before in
       let finished = finishes_so table matches in
       let own = action_so map_ table live before middle.unfolder.stage done stood old.counting here.matches acts in
-      let put_so : new.put ≡ line_put map_ (stands table line) line
-      = puts map_ table live before middle.unfolder.stage done stood old.counting here.matches acts new.put
-      (put_is ∙ ap (λ (d : Action). put_by map_ stood.table text done.arguments d) begins.action_is) in
-      let notes : done.notes ≡ line.notes
-      = notes_so map_ table live before middle.unfolder.stage done stood old.counting here.matches acts in
+      let put_so : new.emission ≡ line_emission map_ (stands table line) line
+      = puts map_ table live before middle.unfolder.stage done stood old.counting here.matches acts new.emission
+      (put_is ∙ ap (λ (d : Action). emission_by map_ stood.table text done.arguments d) begins.action_is) in
+      let remarks : done.remarks ≡ line.remarks
+      = remarks_so map_ table live before middle.unfolder.stage done stood old.counting here.matches acts in
       record {
         leaves = finished.0;
         is_said = record {
           is_live = record { live_is = same; action_is = ap action_seen action_so_far ∙ begins.action_is ∙ own };
           flags_are = flags_are
               ∙ ap (λ (n : ℕ). bit_or (flags_from text n statement.body (bits_of statement.label_flags)
-              (bits_of begun.found.doubly_defined) new.put.flags done.notes.flags) (bits_of begun.found.moved))
+              (bits_of begun.found.doubly_defined) new.emission.flags done.remarks.flags) (bits_of begun.found.moved))
               states.labels_end_is
               ∙ ap (λ (b : Body). bit_or (flags_from text (labels_end text) b (bits_of statement.label_flags)
-              (bits_of begun.found.doubly_defined) new.put.flags done.notes.flags) (bits_of begun.found.moved)) states.body_is
+              (bits_of begun.found.doubly_defined) new.emission.flags done.remarks.flags) (bits_of begun.found.moved)) states.body_is
               ∙ ap (λ (n : ℕ). bit_or (flags_from text (labels_end text) (body_of text) n
-              (bits_of begun.found.doubly_defined) new.put.flags done.notes.flags) (bits_of begun.found.moved))
+              (bits_of begun.found.doubly_defined) new.emission.flags done.remarks.flags) (bits_of begun.found.moved))
               states.flags_are
               ∙ ap (λ (n : ℕ). bit_or (flags_from text (labels_end text) (body_of text) (label_flags live.line)
-              (bits_of begun.found.doubly_defined) new.put.flags done.notes.flags) n) here.moved
+              (bits_of begun.found.doubly_defined) new.emission.flags done.remarks.flags) n) here.moved
               ∙ ap (λ (n : ℕ). bit_or n (moved_flags map_ text table (labels_at text)))
               (ap (λ (n : ℕ). flags_from text (labels_end text) (body_of text) (label_flags live.line)
-              n new.put.flags done.notes.flags) here.doubly_defined
-              ∙ ap (λ (p : Put). flags_from text (labels_end text) (body_of text) (label_flags live.line)
-              (labels_flags text table (labels_at text)) p.flags done.notes.flags) put_so
-              ∙ ap (λ (n : Notes). flags_from text (labels_end text) (body_of text) (label_flags live.line)
-              (labels_flags text table (labels_at text)) (line_put map_ (stands table line) line).flags n.flags) notes);
+              n new.emission.flags done.remarks.flags) here.doubly_defined
+              ∙ ap (λ (p : Emission). flags_from text (labels_end text) (body_of text) (label_flags live.line)
+              (labels_flags text table (labels_at text)) p.flags done.remarks.flags) put_so
+              ∙ ap (λ (n : Remarks). flags_from text (labels_end text) (body_of text) (label_flags live.line)
+              (labels_flags text table (labels_at text)) (line_emission map_ (stands table line) line).flags n.flags) remarks);
           section_is = section_is ∙ alike_section stood.table (labels_stand table text) here.matches.alike;
           location_is = location_is ∙ put_location_alike stood.table (labels_stand table text) here.matches.alike of
               ∙ ap (put_location (labels_stand table text)) (begins.action_is ∙ own);
-          contents_are = ap (λ (p : Put). p.contents) put_so;
+          contents_are = ap (λ (p : Emission). p.contents) put_so;
           counter_is = counter_is ∙ alike_location stood.table (labels_stand table text) here.matches.alike;
           assigned_is = finished.1;
           shown_is = shown_is
@@ -297,7 +297,7 @@ module _ (map_ : Map) (live : Live) (old middle : Going) (does : code.Action) (b
 
   -- ---- the line is defined
 
-  pub defined_so : (new : Going) (line : LiveLine) (item : Option Item) → live_in line ≡ live → line.action ≡ does
+  pub defined_so : (new : PassState) (line : LiveLine) (item : Option Item) → live_in line ≡ live → line.action ≡ does
       → Finishes map_ live before old new (Ok item)
       → Places map_ live before old new (SaysLive line) (Ok tt)
   defined_so new line item same action_so_far finishes_so table matches =
@@ -308,10 +308,10 @@ module _ (map_ : Map) (live : Live) (old middle : Going) (does : code.Action) (b
         is_said = record { live_is = same; action_is = ap action_seen action_so_far ∙ begins.action_is ∙ own };
       }
 
--- what the line puts makes no difference
-pub begins_still : (map_ : Map) (live : Live) (old middle : Going) (does : code.Action) (begun : Begun) (put : Put)
-    → Begins map_ live old middle does begun → Begins map_ live old (record middle { put = put }) does begun
-begins_still map_ live old middle does begun put begins = record {
+-- what the line emits makes no difference
+pub begins_still : (map_ : Map) (live : Live) (old middle : PassState) (does : code.Action) (begun : LabelledLine) (emission : Emission)
+    → Begins map_ live old middle does begun → Begins map_ live old (record middle { emission = emission }) does begun
+begins_still map_ live old middle does begun emission begins = record {
   labels = begins.labels;
   named = begins.named;
   acts = begins.acts;
@@ -321,7 +321,7 @@ begins_still map_ live old middle does begun put begins = record {
 
 -- ---- a refusal that is handed on
 
-pub places_fails : (map_ : Map) (live : Live) (stage : Stage) (old new : Going) (fault : AsmFault) (said : Said)
+pub places_fails : (map_ : Map) (live : Live) (stage : Stage) (old new : PassState) (fault : AsmFault) (said : LineFact)
     (result : Result (Unit {0}) AsmFault)
     → ((table : Table) → Matches old.kept table → Fails (line_fault map_ table old.counting live stage) fault)
     → IsErrAnd result (λ f. f ≡ fault) → Places map_ live stage old new said result
@@ -330,7 +330,7 @@ places_fails map_ live stage old new fault said (Err other) fails is = λ table 
     let P : AsmFault → Type 0 = λ f. Fails (line_fault map_ table old.counting live stage) f in
     subst P (sym is) (fails table matches)
 
-pub finish_fails : (map_ : Map) (live : Live) (stage : Stage) (old new : Going) (fault : AsmFault)
+pub finish_fails : (map_ : Map) (live : Live) (stage : Stage) (old new : PassState) (fault : AsmFault)
     (result : Result (Option Item) AsmFault)
     → ((table : Table) → Matches old.kept table → Fails (line_fault map_ table old.counting live stage) fault)
     → IsErrAnd result (λ f. f ≡ fault) → Finishes map_ live stage old new result

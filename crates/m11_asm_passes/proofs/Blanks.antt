@@ -18,13 +18,13 @@ use Rattle.m11_scan_statements.specs.declared.labels.Label.{Label}
 use Rattle.m11_unfold_rules.specs.Acting.{Acted, Foreign, act, act_fault, acted_by, fault_by, foreign, operation, operation_in}
 use Rattle.m11_unfold_rules.specs.Stages.{Stage}
 use Rattle.m11_unfold_rules.specs.Taking.{Live}
-use Rattle.m11_unfold_rules.specs.Unfolding.{Given}
+use Rattle.m11_unfold_rules.specs.Unfolding.{UnfoldedLine}
 use Rattle.m11_asm_rules.specs.Changes.{Change, Keeps, changed}
-use Rattle.m11_asm_rules.specs.Contents.{Put, nothing}
+use Rattle.m11_asm_rules.specs.Contents.{Emission, nothing}
 use Rattle.m11_asm_rules.specs.Items.{action_items, is_shown}
 use Rattle.m11_asm_rules.specs.Labels.{labels_flags, with_labels}
 use Rattle.m11_asm_rules.specs.Limits.{has_too_many, limit_fault, most_defined_names, most_local_symbols, most_names, most_sections}
-use Rattle.m11_asm_rules.specs.Lines.{NoAction, after_line, change_of, action, action_of, known_end, line_change, line_put, put_by, put_location, stands}
+use Rattle.m11_asm_rules.specs.Lines.{NoAction, after_line, change_of, action, action_of, known_end, line_change, line_emission, emission_by, put_location, stands}
 use Rattle.m11_asm_rules.specs.Meanings.{Map}
 use Rattle.m11_asm_rules.specs.declared.meanings.Context.TheVariants.{LocalOnly}
 use Rattle.m11_asm_rules.specs.SymbolUses.{SymbolUse, action_uses, label_uses, symbol_use, symbol_uses}
@@ -38,27 +38,27 @@ use Rattle.m11_asm_lines.specs.Counting.{names_counted, with_counted}
 use Rattle.m11_asm_lines.specs.declared.counting.Counting.{Counting}
 use Rattle.m11_asm_lines.specs.declared.counting.Counting.TheVariants.{SymbolUses, Definitions}
 use Rattle.m11_asm_lines.specs.Moved.{moved_flags}
-use Rattle.m11_asm_lines.specs.Passes.{Kept, Matches}
+use Rattle.m11_asm_lines.specs.Passes.{TableState, Matches}
 use Rattle.m11_asm_lines.specs.declared.actions.Action.TheVariants as code
 use Rattle.m11_asm_passes.proofs.Placing.{fits_limits, within}
 use Rattle.m11_asm_passes.specs.Blank.{IsBlank}
 use Rattle.m11_asm_passes.specs.Lines.{acted}
 use Rattle.m11_asm_passes.specs.Placed.{IsLive, IsPlaced, all_flags, live_in}
 use Rattle.m11_asm_passes.specs.Refusals.{given_by, labels_fault, line_fault, of_limit}
-use Rattle.m11_asm_passes.specs.States.{Going}
-use Rattle.m11_asm_passes.specs.Turns.{LeavesAfter, Places, Said}
+use Rattle.m11_asm_passes.specs.States.{PassState}
+use Rattle.m11_asm_passes.specs.Turns.{LeavesAfter, Places, LineFact}
 use Rattle.m11_asm_passes.specs.declared.placed.LiveLine.{LiveLine}
 use Rattle.m11_asm_passes.specs.declared.placed.PlacedLine.{PlacedLine}
 
 counts_none : (counting : Counting) → with_counted [] counting ≡ counting
-counts_none (SymbolUses gathered) = refl
+counts_none (SymbolUses used_names) = refl
 counts_none Definitions = refl
 
 module _ (live : Live) (stage : Stage) (blank : IsBlank live.line.text) (table : Table) where
   abbrev text : Bytes
   text = live.line.text
 
-  abbrev line : Given
+  abbrev line : UnfoldedLine
   line = given_by table live stage
 
   -- ---- what it does
@@ -85,16 +85,16 @@ module _ (live : Live) (stage : Stage) (blank : IsBlank live.line.text) (table :
   after_so : (map_ : Map) → after_line map_ table line ≡ table
   after_so map_ = ap (λ (c : Change). changed map_ text c (stands table line)) change_so ∙ stands_so
 
-  put_so : (map_ : Map) → line_put map_ (stands table line) line ≡ nothing 0
-  unfolding line_put
-  put_so map_ = ap (put_by map_ (stands table line) text line.arguments) action_so
+  put_so : (map_ : Map) → line_emission map_ (stands table line) line ≡ nothing 0
+  unfolding line_emission
+  put_so map_ = ap (emission_by map_ (stands table line) text line.arguments) action_so
 
   uses_so : symbol_uses table line ≡ []
   uses_so =
       ap (λ (ls : List Label). flat_map (label_uses text) ls
-      ++ map (symbol_use LocalOnly) line.notes.symbols ++ action_uses (stands table line) text line.arguments (action line.is_own text))
+      ++ map (symbol_use LocalOnly) line.remarks.symbols ++ action_uses (stands table line) text line.arguments (action line.is_own text))
       blank.unlabelled
-      ∙ ap (λ (a : Acted). map (symbol_use LocalOnly) a.notes.symbols
+      ∙ ap (λ (a : Acted). map (symbol_use LocalOnly) a.remarks.symbols
       ++ action_uses (stands table line) text line.arguments (action line.is_own text)) acts_so
       ∙ ap (action_uses (stands table line) text line.arguments) action_so
 
@@ -131,12 +131,12 @@ module _ (live : Live) (stage : Stage) (blank : IsBlank live.line.text) (table :
 
   flags_so : (map_ : Map) → all_flags map_ table line ≡ bit_or (label_flags live.line) (rest_flags text 0)
   flags_so map_ =
-      ap (λ (p : Put). bit_or (bit_or (bit_or (label_flags live.line) (labels_flags text table (labels_at text)))
+      ap (λ (p : Emission). bit_or (bit_or (bit_or (label_flags live.line) (labels_flags text table (labels_at text)))
       (bit_or (skip_flags text (labels_end text) (known_end text (body_of text)))
-      (bit_or p.flags line.notes.flags))) (moved_flags map_ text table (labels_at text))) (put_so map_)
+      (bit_or p.flags line.remarks.flags))) (moved_flags map_ text table (labels_at text))) (put_so map_)
       ∙ ap (λ (a : Acted). bit_or (bit_or (bit_or (label_flags live.line) (labels_flags text table (labels_at text)))
       (bit_or (skip_flags text (labels_end text) (known_end text (body_of text)))
-      (bit_or 0 a.notes.flags))) (moved_flags map_ text table (labels_at text))) acts_so
+      (bit_or 0 a.remarks.flags))) (moved_flags map_ text table (labels_at text))) acts_so
       ∙ ap (λ (b : Body). bit_or (bit_or (bit_or (label_flags live.line) (labels_flags text table (labels_at text)))
       (bit_or (skip_flags text (labels_end text) (known_end text b))
       (bit_or 0 0))) (moved_flags map_ text table (labels_at text))) blank.bodiless
@@ -152,13 +152,13 @@ module _ (live : Live) (stage : Stage) (blank : IsBlank live.line.text) (table :
   pub live_so : (here : LiveLine) → live_in here ≡ live → here.action ≡ code.NoAction → IsLive line here
   live_so here same rests = record { live_is = same; action_is = ap action_seen rests ∙ sym action_so }
 
-  pub placed_so : (map_ : Map) (pass : Kept) (placed : PlacedLine) (put : Put) → Matches pass table → live_in placed.live ≡ live
-      → placed.live.action ≡ code.NoAction → put ≡ nothing 0
+  pub placed_so : (map_ : Map) (pass : TableState) (placed : PlacedLine) (emission : Emission) → Matches pass table → live_in placed.live ≡ live
+      → placed.live.action ≡ code.NoAction → emission ≡ nothing 0
       → bits_of placed.flags ≡ bit_or (label_flags live.line) (rest_flags text 0)
       → placed.section ≡ section_name pass.table → placed.location ≡ location pass.table → placed.counter ≡ location pass.table
       → placed.assigned ≡ None → placed.is_shown ≡ is_shown pass.table.modes live.is_expanded
-      → IsPlaced map_ table line placed put
-  placed_so map_ pass placed put matches same rests put_is flags_are section_is location_is counter_is assigned_is shown_is =
+      → IsPlaced map_ table line placed emission
+  placed_so map_ pass placed emission matches same rests put_is flags_are section_is location_is counter_is assigned_is shown_is =
       let there : location pass.table ≡ location (stands table line)
       = alike_location pass.table table matches.alike ∙ ap location (sym stands_so) in
       record {
@@ -166,7 +166,7 @@ module _ (live : Live) (stage : Stage) (blank : IsBlank live.line.text) (table :
         flags_are = flags_are ∙ sym (flags_so map_);
         section_is = section_is ∙ alike_section pass.table table matches.alike ∙ ap section_name (sym stands_so);
         location_is = location_is ∙ there ∙ ap (put_location (stands table line)) (sym action_so);
-        contents_are = ap (λ (p : Put). p.contents) (put_is ∙ sym (put_so map_));
+        contents_are = ap (λ (p : Emission). p.contents) (put_is ∙ sym (put_so map_));
         counter_is = counter_is ∙ there;
         assigned_is = ap (λ (item : Option Item). option_to_list item) assigned_is
             ∙ sym (ap (action_items map_ (stands table line) text (line_change (firm_table (stands table line)) line)) action_so);
@@ -176,12 +176,12 @@ module _ (live : Live) (stage : Stage) (blank : IsBlank live.line.text) (table :
 
 -- ---- the pass after it
 
-module _ (live : Live) (old : Going) (blank : IsBlank live.line.text) (defined : old.kept.names ≤ most_defined_names)
+module _ (live : Live) (old : PassState) (blank : IsBlank live.line.text) (defined : old.kept.names ≤ most_defined_names)
     (symbols : old.kept.local_symbols ≤ most_local_symbols) (sections : length old.kept.table.sections ≤ most_sections)
     (names : length (names_counted old.counting) ≤ most_names) where
-  leaves : (map_ : Map) (table : Table) (put : Put) → Matches old.kept table
-      → LeavesAfter map_ table live old.unfolder.stage old (record old { put = put })
-  leaves map_ table put matches =
+  leaves : (map_ : Map) (table : Table) (emission : Emission) → Matches old.kept table
+      → LeavesAfter map_ table live old.unfolder.stage old (record old { emission = emission })
+  leaves map_ table emission matches =
       let S : List Section → Type 0 = λ l. length l ≤ most_sections in
       let T : Table → Type 0 = λ t. Matches old.kept t in
       record {
@@ -192,8 +192,8 @@ module _ (live : Live) (old : Going) (blank : IsBlank live.line.text) (defined :
         counting = counting_so live old.unfolder.stage blank table old.counting;
       }
 
-  pub blank_places : (map_ : Map) (put : Put) (said : Said)
+  pub blank_places : (map_ : Map) (emission : Emission) (said : LineFact)
       → ((table : Table) → Matches old.kept table → said table (given_by table live old.unfolder.stage))
-      → Places map_ live old.unfolder.stage old (record old { put = put }) said (Ok tt)
-  blank_places map_ put said says table matches =
-      record { leaves = leaves map_ table put matches; is_said = says table matches }
+      → Places map_ live old.unfolder.stage old (record old { emission = emission }) said (Ok tt)
+  blank_places map_ emission said says table matches =
+      record { leaves = leaves map_ table emission matches; is_said = says table matches }

@@ -2,8 +2,8 @@
 use Rattle.std.proofs.Common.{◌≡◌, ◌∙◌, ◌<◌, ◌≤◌, ℕ, ◌||◌, Bool, true, false, if◌then◌else◌, List, ◌++◌, length, map, append_assoc, Option, Some, None, refl, sym, ap, subst, arith}
 use Rattle.std.proofs.lemmas.Bool.Decides.{nat_tests}
 use Rattle.std.specs.Prelude.{nat_lt}
-use Rattle.m11_unfold_arguments.specs.Expressions.{Known}
-use Rattle.m11_unfold_arguments.specs.Notes.{Notes}
+use Rattle.m11_unfold_arguments.specs.Expressions.{KnownSymbols}
+use Rattle.m11_unfold_arguments.specs.Remarks.{Remarks}
 use Rattle.m11_asm_faults.specs.Faults.{of_unfolding}
 use Rattle.m11_asm_faults.specs.declared.fault.AsmFault.TheVariants.{TooManySymbols, TooManySections}
 use Rattle.m11_base.specs.Devices.{Bytes}
@@ -11,18 +11,18 @@ use Rattle.m11_base.specs.Rad50.{Name}
 use Rattle.m11_unfold_rules.specs.Acting.{act, act_fault}
 use Rattle.m11_unfold_rules.specs.Stages.{Stage}
 use Rattle.m11_unfold_rules.specs.Taking.{Live}
-use Rattle.m11_unfold_rules.specs.Unfolding.{Given}
+use Rattle.m11_unfold_rules.specs.Unfolding.{UnfoldedLine}
 use Rattle.m11_unfold_rules.specs.declared.fault.UnfoldFault.{UnfoldFault}
 use Rattle.m11_unfold_bodies.specs.Left.{argument_count}
 use Rattle.m11_asm_rules.specs.Assignments.{assigned, with_assigned}
 use Rattle.m11_asm_rules.specs.Changes.{Change, Keeps, Counts, Selects, Assigns, Numbers, Exports, Sets, becomes_global, changed, numbered}
 use Rattle.m11_asm_rules.specs.Definitions.{is_labelled}
-use Rattle.m11_asm_rules.specs.Contents.{Put}
+use Rattle.m11_asm_rules.specs.Contents.{Emission}
 use Rattle.m11_asm_rules.specs.Labels.{global_if, labels_stand, with_definition, with_doubly_defined}
 use Rattle.m11_asm_rules.specs.declared.definitions.Key.TheVariants.{Named}
 use Rattle.m11_asm_rules.specs.Limits as limits
 use Rattle.m11_asm_rules.specs.Limits.{has_too_many, limit_fault, most_defined_names, most_local_symbols, most_names, most_sections}
-use Rattle.m11_asm_rules.specs.Lines.{after_line, action, line_change, line_put, put_by, stands}
+use Rattle.m11_asm_rules.specs.Lines.{after_line, action, line_change, line_emission, emission_by, stands}
 use Rattle.m11_asm_rules.specs.Meanings.{Map, empty_map, firm_known}
 use Rattle.m11_asm_rules.specs.declared.meanings.Context.TheVariants.{LocalOnly}
 use Rattle.m11_asm_rules.specs.SymbolUses.{SymbolUse, action_uses, symbol_use, symbol_uses}
@@ -38,7 +38,7 @@ use Rattle.m11_asm_lines.specs.Lines.{uses_by}
 use Rattle.m11_asm_lines.specs.Counting.{names_counted, with_counted}
 use Rattle.m11_asm_lines.specs.declared.counting.Counting.{Counting}
 use Rattle.m11_asm_lines.specs.declared.counting.Counting.TheVariants.{SymbolUses, Definitions}
-use Rattle.m11_asm_lines.specs.Passes.{Follows, Kept, Matches}
+use Rattle.m11_asm_lines.specs.Passes.{Follows, TableState, Matches}
 use Rattle.m11_asm_table.specs.Alike.{Alike}
 use Rattle.m11_asm_passes.specs.Lines.{acted}
 use Rattle.m11_asm_passes.specs.Operated.{change_after, uses_after}
@@ -135,68 +135,68 @@ selects_only map_ line (Sets modes) table few many = refl
 
 counted_joined : (first second : List SymbolUse) (counting : Counting)
     → with_counted (first ++ second) counting ≡ with_counted second (with_counted first counting)
-counted_joined first second (SymbolUses gathered) = ap SymbolUses (all_joined first second gathered)
+counted_joined first second (SymbolUses used_names) = ap SymbolUses (all_joined first second used_names)
 counted_joined first second Definitions = refl
 
-used_then : (table : Table) (given : Given) (counting : Counting)
+used_then : (table : Table) (given : UnfoldedLine) (counting : Counting)
     → with_counted (symbol_uses table given) counting
-    ≡ with_counted (map (symbol_use LocalOnly) given.notes.symbols ++ uses_by (stands table given) given)
+    ≡ with_counted (map (symbol_use LocalOnly) given.remarks.symbols ++ uses_by (stands table given) given)
     (with_counted (uses_of_labels given.live.line.text) counting)
 used_then table given counting =
     ap (λ (ms : List SymbolUse). with_counted ms counting)
-    (append_assoc (uses_of_labels given.live.line.text) (map (symbol_use LocalOnly) given.notes.symbols)
+    (append_assoc (uses_of_labels given.live.line.text) (map (symbol_use LocalOnly) given.remarks.symbols)
     (uses_by (stands table given) given))
     ∙ counted_joined (uses_of_labels given.live.line.text)
-    (map (symbol_use LocalOnly) given.notes.symbols ++ uses_by (stands table given) given) counting
+    (map (symbol_use LocalOnly) given.remarks.symbols ++ uses_by (stands table given) given) counting
 
 -- ---- one line, by the table before it
 
 -- what the operator of a line did, as unfolding gave it
 pub record Act : Type 0 where
   pub is_own : Bool
-  pub notes : Notes
+  pub remarks : Remarks
   pub arguments : Option ℕ
 
-pub record IsActOf (known : Known) (text : Bytes) (before after : Stage) (done : Act) : Type 0 where
+pub record IsActOf (known : KnownSymbols) (text : Bytes) (before after : Stage) (done : Act) : Type 0 where
   pub fits : act_fault before text ≡ None
   pub stage_is : after ≡ (act known before text).after
   pub own_is : done.is_own ≡ (act known before text).is_own
-  pub notes_are : done.notes ≡ (act known before text).notes
+  pub remarks_are : done.remarks ≡ (act known before text).remarks
   pub arguments_are : done.arguments ≡ argument_count before.left
 
-module _ (map_ : Map) (table : Table) (live : Live) (before after : Stage) (done : Act) (stood : Kept) (counting : Counting)
+module _ (map_ : Map) (table : Table) (live : Live) (before after : Stage) (done : Act) (stood : TableState) (counting : Counting)
     (stand : Matches stood (labels_stand table live.line.text))
     (acts : IsActOf (known_after_labels stood.table) live.line.text before after done) where
   abbrev text : Bytes
   text = live.line.text
 
-  abbrev line : Given
+  abbrev line : UnfoldedLine
   line = given_by table live before
 
   known_so : known_after_labels stood.table ≡ line.known
   known_so = told_alike stood.table (labels_stand table text) stand.alike
 
   own_so : done.is_own ≡ line.is_own
-  own_so = acts.own_is ∙ ap (λ (k : Known). (act k before text).is_own) known_so
+  own_so = acts.own_is ∙ ap (λ (k : KnownSymbols). (act k before text).is_own) known_so
 
-  pub notes_so : done.notes ≡ line.notes
-  notes_so = acts.notes_are ∙ ap (λ (k : Known). (act k before text).notes) known_so
+  pub remarks_so : done.remarks ≡ line.remarks
+  remarks_so = acts.remarks_are ∙ ap (λ (k : KnownSymbols). (act k before text).remarks) known_so
 
   pub stage_so : after ≡ acted table live before
-  stage_so = acts.stage_is ∙ ap (λ (k : Known). (act k before text).after) known_so
+  stage_so = acts.stage_is ∙ ap (λ (k : KnownSymbols). (act k before text).after) known_so
 
   pub action_so : action done.is_own text ≡ action line.is_own text
   action_so = ap (λ (b : Bool). action b text) own_so
 
-  put_so : put_by map_ stood.table text done.arguments (action done.is_own text) ≡ line_put map_ (stands table line) line
+  put_so : emission_by map_ stood.table text done.arguments (action done.is_own text) ≡ line_emission map_ (stands table line) line
   put_so =
-      ap (λ (b : Bool). put_by map_ stood.table text done.arguments (action b text)) own_so
-      ∙ ap (λ (n : Option ℕ). put_by map_ stood.table text n (action line.is_own text)) acts.arguments_are
+      ap (λ (b : Bool). emission_by map_ stood.table text done.arguments (action b text)) own_so
+      ∙ ap (λ (n : Option ℕ). emission_by map_ stood.table text n (action line.is_own text)) acts.arguments_are
       ∙ line_written stood map_ table line stand
 
-  pub puts : (put : Put) → put ≡ put_by map_ stood.table text done.arguments (action done.is_own text)
-      → put ≡ line_put map_ (stands table line) line
-  puts put e = e ∙ put_so
+  pub puts : (emission : Emission) → emission ≡ emission_by map_ stood.table text done.arguments (action done.is_own text)
+      → emission ≡ line_emission map_ (stands table line) line
+  puts emission e = e ∙ put_so
 
   operator_uses_so : action_uses stood.table text done.arguments (action done.is_own text) ≡ uses_by (stands table line) line
   operator_uses_so =
@@ -204,13 +204,13 @@ module _ (map_ : Map) (table : Table) (live : Live) (before after : Stage) (done
       ∙ ap (λ (n : Option ℕ). action_uses stood.table text n (action line.is_own text)) acts.arguments_are
       ∙ line_used stood table line stand
 
-  uses_so : uses_after stood.table text done.notes done.arguments (action done.is_own text)
-      ≡ map (symbol_use LocalOnly) line.notes.symbols ++ uses_by (stands table line) line
+  uses_so : uses_after stood.table text done.remarks done.arguments (action done.is_own text)
+      ≡ map (symbol_use LocalOnly) line.remarks.symbols ++ uses_by (stands table line) line
   uses_so =
-      ap (λ (n : Notes). map (symbol_use LocalOnly) n.symbols ++ action_uses stood.table text done.arguments (action done.is_own text)) notes_so
-      ∙ ap (λ (ms : List SymbolUse). map (symbol_use LocalOnly) line.notes.symbols ++ ms) operator_uses_so
+      ap (λ (n : Remarks). map (symbol_use LocalOnly) n.symbols ++ action_uses stood.table text done.arguments (action done.is_own text)) remarks_so
+      ∙ ap (λ (ms : List SymbolUse). map (symbol_use LocalOnly) line.remarks.symbols ++ ms) operator_uses_so
 
-  pub counting_so : with_counted (uses_after stood.table text done.notes done.arguments (action done.is_own text))
+  pub counting_so : with_counted (uses_after stood.table text done.remarks done.arguments (action done.is_own text))
       (with_counted (uses_of_labels text) counting) ≡ with_counted (symbol_uses table line) counting
   counting_so =
       ap (λ (ms : List SymbolUse). with_counted ms (with_counted (uses_of_labels text) counting)) uses_so
@@ -231,7 +231,7 @@ module _ (map_ : Map) (table : Table) (live : Live) (before after : Stage) (done
     acting_refused fault refused = rw (fits, refused) refl
 
     -- what is mentioned passes a limit
-    pub uses_refused : most_names < length (names_counted (with_counted (uses_after stood.table text done.notes done.arguments
+    pub uses_refused : most_names < length (names_counted (with_counted (uses_after stood.table text done.remarks done.arguments
         (action done.is_own text)) (with_counted (uses_of_labels text) counting)))
         → line_fault map_ table counting live before ≡ Some TooManySymbols
     uses_refused many =
@@ -243,12 +243,12 @@ module _ (map_ : Map) (table : Table) (live : Live) (before after : Stage) (done
     -- ---- what is mentioned stays within its limit
 
     module _ (named : Counting) (named_are : named ≡ with_counted (uses_of_labels text) counting) (after_all : Counting)
-        (all_are : after_all ≡ with_counted (uses_after stood.table text done.notes done.arguments (action done.is_own text)) named)
+        (all_are : after_all ≡ with_counted (uses_after stood.table text done.remarks done.arguments (action done.is_own text)) named)
       where
         pub all_so : after_all ≡ with_counted (symbol_uses table line) counting
         all_so =
             all_are
-            ∙ ap (with_counted (uses_after stood.table text done.notes done.arguments (action done.is_own text))) named_are
+            ∙ ap (with_counted (uses_after stood.table text done.remarks done.arguments (action done.is_own text))) named_are
             ∙ counting_so
 
         -- ---- what changes
@@ -285,7 +285,7 @@ module _ (map_ : Map) (table : Table) (live : Live) (before after : Stage) (done
               (sections_past (names_counted (with_counted (symbol_uses table line) counting)) (after_line map_ table line) few_used
               (same ∙ few_told stood (labels_stand table text) stand names symbols) past)
 
-          module _ (new : Kept)
+          module _ (new : TableState)
               (follows : Follows stood new
               (λ t. changed map_ text (change_after stood.table text done.arguments (action done.is_own text)) t)) where
             pub matches_so : Matches new (after_line map_ table line)

@@ -9,7 +9,7 @@ use Rattle.m11_scan_lines.specs.Line.{SourceLine}
 use Rattle.m11_unfold.specs.Unfolder.{Comes, Stops}
 use Rattle.m11_unfold_rules.specs.Stages.{Stage}
 use Rattle.m11_unfold_rules.specs.Taking.{Live}
-use Rattle.m11_unfold_rules.specs.Unfolding.{Given}
+use Rattle.m11_unfold_rules.specs.Unfolding.{UnfoldedLine}
 use Rattle.m11_unfold_rules.specs.declared.fault.UnfoldFault.{UnfoldFault}
 use Rattle.m11_unfold_rules.specs.declared.fault.UnfoldFault.TheVariants as limit
 use Rattle.m11_asm_rules.specs.Lines.{after_line}
@@ -19,17 +19,17 @@ use Rattle.m11_asm_rules.specs.Placements.{after_lines, table_after}
 use Rattle.m11_asm_rules.specs.Tables.{Table, first_table}
 use Rattle.m11_asm_lines.specs.Counting.{with_counted}
 use Rattle.m11_asm_lines.specs.declared.counting.Counting.{Counting}
-use Rattle.m11_asm_lines.specs.Passes.{Kept, Matches}
+use Rattle.m11_asm_lines.specs.Passes.{TableState, Matches}
 use Rattle.m11_asm_passes.proofs.Faults.{IsOfPass, line_fault_is_of_pass}
 use Rattle.m11_asm_passes.specs.Faults.{Fails}
-use Rattle.m11_asm_passes.specs.Lines.{Numbered, PassLines, acted, counting_after, counting_at, givens, numbered, table_at, with_line}
+use Rattle.m11_asm_passes.specs.Lines.{NumberedLine, PassLines, acted, counting_after, counting_at, givens, numbered, table_at, with_line}
 use Rattle.m11_asm_passes.specs.Lines as lines
 use Rattle.m11_asm_passes.specs.Placed.{live_in}
 use Rattle.m11_asm_passes.specs.Reaching.{Exceeds, PlacesLine, Reaches, Refused}
 use Rattle.m11_asm_passes.specs.Reaching as reaching
 use Rattle.m11_asm_passes.specs.Refusals.{given_by, line_fault}
-use Rattle.m11_asm_passes.specs.States.{Going, PassStands, fed}
-use Rattle.m11_asm_passes.specs.Turns.{FailsAt, IsUnplaced, PlacesAfter, PlacesNext, Said, SaysLive, SaysPlaced, Turns}
+use Rattle.m11_asm_passes.specs.States.{PassState, PassStands, fed}
+use Rattle.m11_asm_passes.specs.Turns.{FailsAt, IsUnplaced, PlacesAfter, PlacesNext, LineFact, SaysLive, SaysPlaced, Turns}
 use Rattle.m11_asm_passes.specs.Turns as turning
 use Rattle.m11_asm_passes.specs.declared.placed.LiveLine.{LiveLine}
 use Rattle.m11_asm_passes.specs.declared.placed.PlacedLine.{PlacedLine}
@@ -38,15 +38,15 @@ use Rattle.m11_asm_passes.specs.declared.turns.Turn.TheVariants.{NeedLine, End, 
 
 -- ---- one line more
 
-givens_more : (all : List Numbered) (one : Numbered) → givens (all ++ one ∷ []) ≡ givens all ++ one.given ∷ []
+givens_more : (all : List NumberedLine) (one : NumberedLine) → givens (all ++ one ∷ []) ≡ givens all ++ one.given ∷ []
 givens_more all one = map-append lines.given_in all (one ∷ [])
 
-tables_more : (map_ : Map) (table : Table) (all : List Given) (one : Given)
+tables_more : (map_ : Map) (table : Table) (all : List UnfoldedLine) (one : UnfoldedLine)
     → after_lines map_ table (all ++ one ∷ []) ≡ after_line map_ (after_lines map_ table all) one
 tables_more map_ table [] one = refl
 tables_more map_ table (given ∷ all) one = tables_more map_ (after_line map_ table given) all one
 
-counting_more : (map_ : Map) (table : Table) (all : List Given) (one : Given) (before : Counting)
+counting_more : (map_ : Map) (table : Table) (all : List UnfoldedLine) (one : UnfoldedLine) (before : Counting)
     → counting_after map_ table (all ++ one ∷ []) before
     ≡ with_counted (symbol_uses (after_lines map_ table all) one) (counting_after map_ table all before)
 counting_more map_ table [] one before = refl
@@ -54,31 +54,31 @@ counting_more map_ table (given ∷ all) one before =
     counting_more map_ (after_line map_ table given) all one (with_counted (symbol_uses table given) before)
 
 module _ (map_ : Map) (before : Counting) where
-  table_more : (all : List Numbered) (one : Numbered) → table_at map_ (all ++ one ∷ []) ≡ after_line map_ (table_at map_ all) one.given
+  table_more : (all : List NumberedLine) (one : NumberedLine) → table_at map_ (all ++ one ∷ []) ≡ after_line map_ (table_at map_ all) one.given
   table_more all one =
       ap (table_after map_) (givens_more all one) ∙ tables_more map_ first_table (givens all) one.given
 
-  all_more : (all : List Numbered) (one : Numbered)
+  all_more : (all : List NumberedLine) (one : NumberedLine)
       → counting_at map_ before (all ++ one ∷ [])
       ≡ with_counted (symbol_uses (table_at map_ all) one.given) (counting_at map_ before all)
   all_more all one =
-      ap (λ (gs : List Given). counting_after map_ first_table gs before) (givens_more all one)
+      ap (λ (gs : List UnfoldedLine). counting_after map_ first_table gs before) (givens_more all one)
       ∙ counting_more map_ first_table (givens all) one.given before
 
-  pub feeds : (source : List SourceLine) (all : List Numbered) (line : SourceLine) (going : Going)
-      → PassStands map_ before source all going → going.unfolder.stage.left ≡ [] → going.unfolder.stage.has_ended ≡ false
-      → PassStands map_ before (source ++ line ∷ []) all (fed line going)
-  feeds source all line going stands none goes = record {
-    lines_are = lines.PassLines.Reading source all going.unfolder.stage line stands.lines_are none goes;
+  pub feeds : (source : List SourceLine) (all : List NumberedLine) (line : SourceLine) (pass_state : PassState)
+      → PassStands map_ before source all pass_state → pass_state.unfolder.stage.left ≡ [] → pass_state.unfolder.stage.has_ended ≡ false
+      → PassStands map_ before (source ++ line ∷ []) all (fed line pass_state)
+  feeds source all line pass_state stands none goes = record {
+    lines_are = lines.PassLines.Reading source all pass_state.unfolder.stage line stands.lines_are none goes;
     matches = stands.matches;
     counting = stands.counting;
   }
 
-  module _ (source : List SourceLine) (all : List Numbered) (old : Going) (stands : PassStands map_ before source all old) where
-    rests : (new : Going) → IsUnplaced old new → PassLines map_ before source all new.unfolder.stage
+  module _ (source : List SourceLine) (all : List NumberedLine) (old : PassState) (stands : PassStands map_ before source all old) where
+    rests : (new : PassState) → IsUnplaced old new → PassLines map_ before source all new.unfolder.stage
         → PassStands map_ before source all new
     rests new unplaced lines_are =
-        let P : Kept → Type 0 = λ k. Matches k (table_at map_ all) in
+        let P : TableState → Type 0 = λ k. Matches k (table_at map_ all) in
         record {
           lines_are = lines_are;
           matches = subst P (sym unplaced.kept) stands.matches;
@@ -117,7 +117,7 @@ module _ (map_ : Map) (before : Counting) where
       fails_so TooMuchSource fails = of_line TooMuchSource fails
       fails_so other fails = exceeds other fails
 
-    places : (new : Going) (live : Live) (said : Said) → PlacesNext map_ old new live said → PlacesLine map_ before source all new live said
+    places : (new : PassState) (live : Live) (said : LineFact) → PlacesNext map_ old new live said → PlacesLine map_ before source all new live said
     places new live said next =
         let one = given_by (table_at map_ all) live next.stage in
         let here : PlacesAfter map_ (table_at map_ all) live next.stage old new said = next.places (table_at map_ all) stands.matches in
@@ -151,7 +151,7 @@ module _ (map_ : Map) (before : Counting) where
     refused fault (turning.FailsAt.AtLine live stage comes fails) =
         fails_so live stage comes fault (fails (table_at map_ all) stands.matches)
 
-    turned : (new : Going) (live : Live) (said : Said) (result : Result Turn AsmFault) → Turns map_ old new live said result
+    turned : (new : PassState) (live : Live) (said : LineFact) (result : Result Turn AsmFault) → Turns map_ old new live said result
         → Reaches map_ before source all new live said result
     turned new live said (Ok NeedLine) (stepped, unplaced) =
         (rests new unplaced (passing new.unfolder.stage stepped.0), stepped.1, stepped.2)
@@ -159,20 +159,20 @@ module _ (map_ : Map) (before : Counting) where
     turned new live said (Ok Line) next = places new live said next
     turned new live said (Err fault) fails = refused fault fails
 
-turns : (map_ : Map) (before : Counting) (source : List SourceLine) (all : List Numbered) (old new : Going)
-    (live : Live) (said : Said) (result : Result Turn AsmFault) → PassStands map_ before source all old
+turns : (map_ : Map) (before : Counting) (source : List SourceLine) (all : List NumberedLine) (old new : PassState)
+    (live : Live) (said : LineFact) (result : Result Turn AsmFault) → PassStands map_ before source all old
     → Turns map_ old new live said result → Reaches map_ before source all new live said result
 turns map_ before source all old new live said result stands turned_so =
     turned map_ before source all old stands new live said result turned_so
 
-pub next_turns : (map_ : Map) (before : Counting) (source : List SourceLine) (all : List Numbered) (old new : Going)
+pub next_turns : (map_ : Map) (before : Counting) (source : List SourceLine) (all : List NumberedLine) (old new : PassState)
     (placed : PlacedLine) (result : Result Turn AsmFault) → PassStands map_ before source all old
-    → Turns map_ old new (live_in placed.live) (SaysPlaced map_ placed new.put) result
-    → Reaches map_ before source all new (live_in placed.live) (SaysPlaced map_ placed new.put) result
+    → Turns map_ old new (live_in placed.live) (SaysPlaced map_ placed new.emission) result
+    → Reaches map_ before source all new (live_in placed.live) (SaysPlaced map_ placed new.emission) result
 next_turns map_ before source all old new placed result stands turned_so =
-    turns map_ before source all old new (live_in placed.live) (SaysPlaced map_ placed new.put) result stands turned_so
+    turns map_ before source all old new (live_in placed.live) (SaysPlaced map_ placed new.emission) result stands turned_so
 
-pub define_turns : (before : Counting) (source : List SourceLine) (all : List Numbered) (old new : Going)
+pub define_turns : (before : Counting) (source : List SourceLine) (all : List NumberedLine) (old new : PassState)
     (live : LiveLine) (result : Result Turn AsmFault) → PassStands empty_map before source all old
     → Turns empty_map old new (live_in live) (SaysLive live) result
     → Reaches empty_map before source all new (live_in live) (SaysLive live) result

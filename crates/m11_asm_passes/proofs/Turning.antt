@@ -19,21 +19,21 @@ use Rattle.m11_asm_lines.proofs.Gathering.{added_then, failed_first}
 use Rattle.m11_asm_lines.proofs.Refusals.{handed_on}
 use Rattle.m11_asm_lines.specs.Faults.{Refuses}
 use Rattle.m11_asm_lines.specs.Counting.{with_counted}
-use Rattle.m11_asm_lines.specs.UsedSymbols.{Gathered, with_all}
+use Rattle.m11_asm_lines.specs.UsedSymbols.{UsedNames, with_all}
 use Rattle.m11_asm_lines.specs.declared.counting.Counting.{Counting}
-use Rattle.m11_asm_lines.specs.Passes.{Kept, Matches}
+use Rattle.m11_asm_lines.specs.Passes.{TableState, Matches}
 use Rattle.m11_asm_passes.proofs.Counting.{leads_takes}
 use Rattle.m11_asm_passes.specs.Bounds.{HasRoom}
 use Rattle.m11_asm_passes.specs.Faults.{Fails}
 use Rattle.m11_asm_passes.specs.Refusals.{given_by, line_fault}
-use Rattle.m11_asm_passes.specs.States.{Going}
-use Rattle.m11_asm_passes.specs.Turns.{FailsAt, Places, PlacesAfter, PlacesNext, Said, Turns}
+use Rattle.m11_asm_passes.specs.States.{PassState}
+use Rattle.m11_asm_passes.specs.Turns.{FailsAt, Places, PlacesAfter, PlacesNext, LineFact, Turns}
 use Rattle.m11_asm_passes.specs.Turns as turning
 use Rattle.m11_asm_passes.specs.declared.turns.Turn.{Turn}
 
 -- ---- mentions
 
-module _ {A : Type 0} (first second : List SymbolUse) (old : Gathered) (fault : AsmFault) (result : Result A AsmFault)
+module _ {A : Type 0} (first second : List SymbolUse) (old : UsedNames) (fault : AsmFault) (result : Result A AsmFault)
     (is : IsErrAnd result (λ f. f ≡ fault)) where
   abbrev Past : AsmFault → Type 0
   Past f = Refuses f (most_names < length (with_all (first ++ second) old).names) ⊥
@@ -41,7 +41,7 @@ module _ {A : Type 0} (first second : List SymbolUse) (old : Gathered) (fault : 
   pub first_refused : Refuses fault (most_names < length (with_all first old).names) ⊥ → IfErr result Past
   first_refused refuses = handed_on Past fault result (failed_first first second old old fault (Err fault) refuses refl) is
 
-  pub second_refused : (middle : Gathered) → middle ≡ with_all first old
+  pub second_refused : (middle : UsedNames) → middle ≡ with_all first old
       → Refuses fault (most_names < length (with_all second middle).names) ⊥ → IfErr result Past
   second_refused middle e refuses =
       handed_on Past fault result (added_then first second old middle middle (Err fault) e refuses) is
@@ -72,7 +72,7 @@ sound_more table before after more room =
       section = room.section;
     }
 
-pub first_sound : (kept : Kept) → Matches kept first_table → HasRoom 0 0 0 kept.table
+pub first_sound : (kept : TableState) → Matches kept first_table → HasRoom 0 0 0 kept.table
 first_sound kept matches =
     let B : Modes → Type 0 = λ s. s.block + 0 ≤ 67 * 0 in
     let L : Modes → Type 0 = λ s. s.listed + 0 ≤ 0 in
@@ -108,7 +108,7 @@ taken_ends before after line next is stepped =
 
 -- ---- turns
 
-module _ (map_ : Map) (old new : Going) (said : Said) where
+module _ (map_ : Map) (old new : PassState) (said : LineFact) where
   pub unfolding_fails : (fault : UnfoldFault) (live : Live) (result : Result Turn AsmFault) → Stops old.unfolder.stage fault
       → IsErrAnd result (λ f. f ≡ of_unfolding fault) → Turns map_ old new live said result
   unfolding_fails fault live (Ok turn) stops is = absurd is
@@ -123,7 +123,7 @@ module _ (map_ : Map) (old new : Going) (said : Said) where
       let P : AsmFault → Type 0 = λ f. FailsAt map_ old f in
       subst P (sym is) (turning.FailsAt.AtLine live stage comes fails)
 
-  pub line_places : (middle : Going) (live here : Live) (stage : Stage) → here ≡ live
+  pub line_places : (middle : PassState) (live here : Live) (stage : Stage) → here ≡ live
       → middle.kept ≡ old.kept → middle.counting ≡ old.counting
       → Comes old.unfolder.stage live stage → Places map_ live stage middle new said (Ok tt) → PlacesNext map_ old new here said
   line_places middle live here stage same kept counting comes places =
@@ -132,7 +132,7 @@ module _ (map_ : Map) (old new : Going) (said : Said) where
         stage = stage;
         comes = comes;
         places = λ table matches.
-            let K : Kept → Type 0 = λ k. Matches k table in
+            let K : TableState → Type 0 = λ k. Matches k table in
             let after : PlacesAfter map_ table live stage middle new said = places table (subst K (sym kept) matches) in
             record {
               leaves = record {

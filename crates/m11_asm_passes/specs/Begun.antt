@@ -23,9 +23,9 @@ use Rattle.m11_asm_lines.specs.declared.actions.Action.{Action}
 use Rattle.m11_asm_passes.specs.Faults.{Fails}
 use Rattle.m11_asm_passes.specs.Labelled.{Labels}
 use Rattle.m11_asm_passes.specs.Refusals.{given_by, line_fault, uses_of_labels}
-use Rattle.m11_asm_passes.specs.States.{Going}
+use Rattle.m11_asm_passes.specs.States.{PassState}
 use Rattle.m11_asm_passes.specs.Turns.{LeavesAfter}
-use Rattle.m11_asm_passes.specs.declared.begun.Begun.{Begun}
+use Rattle.m11_asm_passes.specs.declared.begun.LabelledLine.{LabelledLine}
 
 -- what is known of a statement without its labels
 pub record States (live : Live) (statement : Statement) : Type 0 where
@@ -34,7 +34,7 @@ pub record States (live : Live) (statement : Statement) : Type 0 where
   pub flags_are : bits_of statement.label_flags ≡ label_flags live.line
 
 -- the pass goes from before the line to where its labels stand and unfolding has done its operator
-pub record Begins (map : Map) (live : Live) (old new : Going) (does : Action) (begun : Begun) : Type 0 where
+pub record Begins (map : Map) (live : Live) (old new : PassState) (does : Action) (begun : LabelledLine) : Type 0 where
   pub labels : Labels map old.counting live.line.text old.kept new.kept begun.found
   pub named : new.counting ≡ with_counted (uses_of_labels live.line.text) old.counting
   pub acts : Acts (known_after_labels new.kept.table) live.line.text old.unfolder.stage new.unfolder.stage (Ok begun.act)
@@ -42,7 +42,7 @@ pub record Begins (map : Map) (live : Live) (old new : Going) (does : Action) (b
   pub fields_are : fields_seen begun.fields ≡ action_fields new.kept.table live.line.text does
 
 -- the pass goes from where the labels stand to the end of the line, with what a listing shows of what it assigns; or the line passes a limit
-abbrev pub Finishes : Map → Live → Stage → Going → Going → Result (Option Item) AsmFault → Type 0
+abbrev pub Finishes : Map → Live → Stage → PassState → PassState → Result (Option Item) AsmFault → Type 0
 Finishes map live stage old new (Ok item) = (table : Table) → Matches old.kept table
     → LeavesAfter map table live stage old new × (option_to_list item ≡ assigned_items map table (given_by table live stage))
 Finishes map live stage old new (Err fault) =

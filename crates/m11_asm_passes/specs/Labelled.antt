@@ -13,19 +13,19 @@ use Rattle.m11_asm_rules.specs.Tables.{Table}
 use Rattle.m11_asm_lines.specs.Labels.{FitsUpToLabel}
 use Rattle.m11_asm_lines.specs.Counting.{names_counted, with_counted}
 use Rattle.m11_asm_lines.specs.Moved.{moved_flags}
-use Rattle.m11_asm_lines.specs.Passes.{Kept, Matches}
+use Rattle.m11_asm_lines.specs.Passes.{TableState, Matches}
 use Rattle.m11_asm_lines.specs.declared.counting.Counting.{Counting}
 use Rattle.m11_asm_lines.specs.declared.labels.LabelFlags.{LabelFlags}
 use Rattle.m11_asm_passes.specs.Refusals.{labels_fault, uses_of_labels}
 
-pub record LabelsStand (map : Map) (counting : Counting) (line : Bytes) (table : Table) (new : Kept) (flags : LabelFlags) : Type 0 where
+pub record LabelsStand (map : Map) (counting : Counting) (line : Bytes) (table : Table) (new : TableState) (flags : LabelFlags) : Type 0 where
   pub fits : labels_fault counting table line ≡ None
   pub matches : Matches new (labels_stand table line)
   pub doubly_defined : bits_of flags.doubly_defined ≡ labels_flags line table (labels_at line)
   pub moved : bits_of flags.moved ≡ moved_flags map line table (labels_at line)
 
 -- whatever the lines before it are
-abbrev pub Labels : Map → Counting → Bytes → Kept → Kept → LabelFlags → Type 0
+abbrev pub Labels : Map → Counting → Bytes → TableState → TableState → LabelFlags → Type 0
 Labels map counting line old new flags =
     (table : Table) → Matches old table → LabelsStand map counting line table new flags
 

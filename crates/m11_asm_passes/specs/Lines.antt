@@ -8,7 +8,7 @@ use Rattle.m11_unfold_rules.specs.Acting.{act}
 use Rattle.m11_unfold_rules.specs.Limits.{next_fault}
 use Rattle.m11_unfold_rules.specs.Stages.{Stage, start}
 use Rattle.m11_unfold_rules.specs.Taking.{Gives, Live, move}
-use Rattle.m11_unfold_rules.specs.Unfolding.{Given, Leads}
+use Rattle.m11_unfold_rules.specs.Unfolding.{UnfoldedLine, Leads}
 use Rattle.m11_asm_rules.specs.Lines.{after_line}
 use Rattle.m11_asm_rules.specs.Meanings.{Map}
 use Rattle.m11_asm_rules.specs.SymbolUses.{symbol_uses}
@@ -19,29 +19,29 @@ use Rattle.m11_asm_lines.specs.declared.counting.Counting.{Counting}
 use Rattle.m11_asm_passes.specs.Refusals.{given_by, line_fault}
 
 -- a live line, and the number of lines of the source that were read when it became live
-pub record Numbered : Type 0 where
+pub record NumberedLine : Type 0 where
   pub number : ℕ
-  pub given : Given
+  pub given : UnfoldedLine
 
-abbrev pub numbered : ℕ → Given → Numbered
+abbrev pub numbered : ℕ → UnfoldedLine → NumberedLine
 numbered number given = record { number = number; given = given }
 
-abbrev pub given_in : Numbered → Given
+abbrev pub given_in : NumberedLine → UnfoldedLine
 given_in line = line.given
 
-abbrev pub givens : List Numbered → List Given
+abbrev pub givens : List NumberedLine → List UnfoldedLine
 givens lines = map given_in lines
 
 -- the table after some lines, and which names count after them
-abbrev pub table_at : Map → List Numbered → Table
+abbrev pub table_at : Map → List NumberedLine → Table
 table_at map lines = table_after map (givens lines)
 
-abbrev pub counting_after : Map → Table → List Given → Counting → Counting
+abbrev pub counting_after : Map → Table → List UnfoldedLine → Counting → Counting
 counting_after map table [] counting = counting
 counting_after map table (given ∷ lines) counting =
     counting_after map (after_line map table given) lines (with_counted (symbol_uses table given) counting)
 
-abbrev pub counting_at : Map → Counting → List Numbered → Counting
+abbrev pub counting_at : Map → Counting → List NumberedLine → Counting
 counting_at map counting lines = counting_after map first_table (givens lines) counting
 
 -- one more line of the source is there to be taken
@@ -57,17 +57,17 @@ abbrev pub Passed : Stage → Stage → Type 0
 Passed before after = Leads before [] after
 
 -- the live lines of a source, under a map and by which names count in a reading, up to a stage of its unfolding
-pub data PassLines (map : Map) (counting : Counting) : List SourceLine → List Numbered → Stage → Type 0 where
+pub data PassLines (map : Map) (counting : Counting) : List SourceLine → List NumberedLine → Stage → Type 0 where
   Begins : PassLines map counting [] [] (start [])
   -- the next line of the source is read where nothing is left to take, and `.END` didn't come
-  Reading : (source : List SourceLine) (lines : List Numbered) (stage : Stage) (line : SourceLine)
+  Reading : (source : List SourceLine) (lines : List NumberedLine) (stage : Stage) (line : SourceLine)
       → PassLines map counting source lines stage → stage.left ≡ [] → stage.has_ended ≡ false
       → PassLines map counting (source ++ line ∷ []) lines (with_line line stage)
   -- something is taken, and no line becomes live
-  Passing : (source : List SourceLine) (lines : List Numbered) (before after : Stage)
+  Passing : (source : List SourceLine) (lines : List NumberedLine) (before after : Stage)
       → PassLines map counting source lines before → Passed before after → PassLines map counting source lines after
   -- a line becomes live, and is placed
-  Placing : (source : List SourceLine) (lines : List Numbered) (before after : Stage) (live : Live)
+  Placing : (source : List SourceLine) (lines : List NumberedLine) (before after : Stage) (live : Live)
       → PassLines map counting source lines before → next_fault before ≡ None → move before ≡ Gives live after
       → line_fault map (table_at map lines) (counting_at map counting lines) live after ≡ None
       → PassLines map counting source

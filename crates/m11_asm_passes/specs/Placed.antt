@@ -5,10 +5,10 @@ use Rattle.std.specs.Option.{option_to_list}
 use Rattle.m11_scan.specs.Views.{bits_of}
 use Rattle.m11_scan_statements.specs.Labels.{labels_at}
 use Rattle.m11_unfold_rules.specs.Taking.{Live}
-use Rattle.m11_unfold_rules.specs.Unfolding.{Given}
-use Rattle.m11_asm_rules.specs.Contents.{Put}
+use Rattle.m11_unfold_rules.specs.Unfolding.{UnfoldedLine}
+use Rattle.m11_asm_rules.specs.Contents.{Emission}
 use Rattle.m11_asm_rules.specs.Items.{assigned_items, is_shown}
-use Rattle.m11_asm_rules.specs.Lines.{after_line, action, flags, line_put, put_location, stands}
+use Rattle.m11_asm_rules.specs.Lines.{after_line, action, flags, line_emission, put_location, stands}
 use Rattle.m11_asm_rules.specs.Meanings.{Map}
 use Rattle.m11_asm_rules.specs.Tables.{Table, location, section_name}
 use Rattle.m11_asm_lines.specs.Actions.{action_seen}
@@ -20,22 +20,22 @@ abbrev pub live_in : LiveLine → Live
 live_in live = record { line = live.line; is_expanded = live.is_expanded }
 
 -- a live line is this one, with what stands after its labels
-pub record IsLive (given : Given) (live : LiveLine) : Type 0 where
+pub record IsLive (given : UnfoldedLine) (live : LiveLine) : Type 0 where
   pub live_is : live_in live ≡ given.live
   pub action_is : action_seen live.action ≡ action given.is_own given.live.line.text
 
 -- the flags of a line, and P where a label of it has another location than the map says
-abbrev pub all_flags : Map → Table → Given → ℕ
+abbrev pub all_flags : Map → Table → UnfoldedLine → ℕ
 all_flags map table given =
     bit_or (flags map table given) (moved_flags map given.live.line.text table (labels_at given.live.line.text))
 
 -- a placed line is this one after a table, and has put this
-pub record IsPlaced (map : Map) (table : Table) (given : Given) (placed : PlacedLine) (put : Put) : Type 0 where
+pub record IsPlaced (map : Map) (table : Table) (given : UnfoldedLine) (placed : PlacedLine) (emission : Emission) : Type 0 where
   pub is_live : IsLive given placed.live
   pub flags_are : bits_of placed.flags ≡ all_flags map table given
   pub section_is : placed.section ≡ section_name (stands table given)
   pub location_is : placed.location ≡ put_location (stands table given) (action given.is_own given.live.line.text)
-  pub contents_are : put.contents ≡ (line_put map (stands table given) given).contents
+  pub contents_are : emission.contents ≡ (line_emission map (stands table given) given).contents
   -- what a listing shows of it
   pub counter_is : placed.counter ≡ location (stands table given)
   pub assigned_is : option_to_list placed.assigned ≡ assigned_items map table given

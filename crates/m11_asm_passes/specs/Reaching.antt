@@ -10,15 +10,15 @@ use Rattle.m11_unfold_rules.specs.Taking.{Gives, Live, move}
 use Rattle.m11_unfold_rules.specs.declared.fault.UnfoldFault.{UnfoldFault}
 use Rattle.m11_asm_rules.specs.Meanings.{Map}
 use Rattle.m11_asm_lines.specs.declared.counting.Counting.{Counting}
-use Rattle.m11_asm_passes.specs.Lines.{Numbered, PassLines, counting_at, numbered, table_at}
+use Rattle.m11_asm_passes.specs.Lines.{NumberedLine, PassLines, counting_at, numbered, table_at}
 use Rattle.m11_asm_passes.specs.Refusals.{given_by, line_fault}
-use Rattle.m11_asm_passes.specs.States.{Going, PassStands}
-use Rattle.m11_asm_passes.specs.Turns.{Said}
+use Rattle.m11_asm_passes.specs.States.{PassState, PassStands}
+use Rattle.m11_asm_passes.specs.Turns.{LineFact}
 use Rattle.m11_asm_passes.specs.declared.turns.Turn.{Turn}
 use Rattle.m11_asm_passes.specs.declared.turns.Turn.TheVariants.{NeedLine, End, Line}
 
 -- after these live lines of a source its unfolding passes a limit before the next one, or the next one passes a limit
-pub data Exceeds (map : Map) (counting : Counting) (source : List SourceLine) (lines : List Numbered) (fault : AsmFault) : Type 0 where
+pub data Exceeds (map : Map) (counting : Counting) (source : List SourceLine) (lines : List NumberedLine) (fault : AsmFault) : Type 0 where
   BeforeLine : (stage : Stage) (inner : UnfoldFault) → PassLines map counting source lines stage → next_fault stage ≡ Some inner
       → fault ≡ of_unfolding inner → Exceeds map counting source lines fault
   AtLine : (stage after : Stage) (live : Live) → PassLines map counting source lines stage → next_fault stage ≡ None
@@ -26,7 +26,7 @@ pub data Exceeds (map : Map) (counting : Counting) (source : List SourceLine) (l
       → Exceeds map counting source lines fault
 
 -- want of memory, or such a limit. A pass reads and writes nothing itself, and counts no lines of its source
-abbrev pub Refused : Map → Counting → List SourceLine → List Numbered → AsmFault → Type 0
+abbrev pub Refused : Map → Counting → List SourceLine → List NumberedLine → AsmFault → Type 0
 Refused map counting source lines NoMemory = Unit {0}
 Refused map counting source lines Read = ⊥
 Refused map counting source lines (Write output) = ⊥
@@ -34,14 +34,14 @@ Refused map counting source lines TooMuchSource = ⊥
 Refused map counting source lines fault = Exceeds map counting source lines fault
 
 -- the next live line of a source is placed, and this is said of it
-pub record PlacesLine (map : Map) (before : Counting) (source : List SourceLine) (lines : List Numbered) (new : Going)
-    (live : Live) (said : Said) : Type 0 where
+pub record PlacesLine (map : Map) (before : Counting) (source : List SourceLine) (lines : List NumberedLine) (new : PassState)
+    (live : Live) (said : LineFact) : Type 0 where
   pub stage : Stage
   pub stands : PassStands map before source
       (lines ++ numbered (length source) (given_by (table_at map lines) live stage) ∷ []) new
   pub is_said : said (table_at map lines) (given_by (table_at map lines) live stage)
 
-abbrev pub Reaches : Map → Counting → List SourceLine → List Numbered → Going → Live → Said → Result Turn AsmFault → Type 0
+abbrev pub Reaches : Map → Counting → List SourceLine → List NumberedLine → PassState → Live → LineFact → Result Turn AsmFault → Type 0
 Reaches map before source lines new live said (Ok NeedLine) =
     PassStands map before source lines new × (new.unfolder.stage.left ≡ []) × (new.unfolder.stage.has_ended ≡ false)
 Reaches map before source lines new live said (Ok End) = PassStands map before source lines new × (new.unfolder.stage.has_ended ≡ true)

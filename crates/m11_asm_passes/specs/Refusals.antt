@@ -12,7 +12,7 @@ use Rattle.m11_scan_statements.specs.Labels.{labels_at}
 use Rattle.m11_unfold_rules.specs.Acting.{act_fault}
 use Rattle.m11_unfold_rules.specs.Stages.{Stage}
 use Rattle.m11_unfold_rules.specs.Taking.{Live}
-use Rattle.m11_unfold_rules.specs.Unfolding.{Given, given}
+use Rattle.m11_unfold_rules.specs.Unfolding.{UnfoldedLine, given}
 use Rattle.m11_unfold_rules.specs.declared.fault.UnfoldFault.{UnfoldFault}
 use Rattle.m11_asm_rules.specs.Labels.{labels_stand}
 use Rattle.m11_asm_rules.specs.Limits as limits
@@ -47,10 +47,10 @@ labels_fault counting table line =
 -- ---- a line
 
 -- a live line, which knows what the table before it says with the labels of the line defined
-abbrev pub given_by : Table → Live → Stage → Given
+abbrev pub given_by : Table → Live → Stage → UnfoldedLine
 given_by table live stage = given (known_after_labels (labels_stand table live.line.text)) live stage
 
-abbrev pub placing_fault : Map → Table → Counting → Given → Option AsmFault
+abbrev pub placing_fault : Map → Table → Counting → UnfoldedLine → Option AsmFault
 placing_fault map table counting given =
     of_limit (limit_fault (names_counted (with_counted (symbol_uses table given) counting)) (after_line map table given))
 

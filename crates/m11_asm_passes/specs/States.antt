@@ -2,37 +2,37 @@
 use Rattle.std.specs.Prelude.{◌≡◌, false, List, Option, Some, None}
 use Rattle.m11_asm_faults.specs.declared.fault.AsmFault.{AsmFault}
 use Rattle.m11_scan_lines.specs.Line.{SourceLine}
-use Rattle.m11_unfold.specs.Unfolder.{Unfolding}
+use Rattle.m11_unfold.specs.Unfolder.{UnfolderState}
 use Rattle.m11_unfold_rules.specs.declared.fault.UnfoldFault.{UnfoldFault}
-use Rattle.m11_asm_rules.specs.Contents.{Put}
+use Rattle.m11_asm_rules.specs.Contents.{Emission}
 use Rattle.m11_asm_rules.specs.Meanings.{Map}
 use Rattle.m11_asm_lines.specs.declared.counting.Counting.{Counting}
-use Rattle.m11_asm_lines.specs.Passes.{Kept, Matches}
-use Rattle.m11_asm_passes.specs.Lines.{Numbered, PassLines, counting_at, table_at, with_line}
+use Rattle.m11_asm_lines.specs.Passes.{TableState, Matches}
+use Rattle.m11_asm_passes.specs.Lines.{NumberedLine, PassLines, counting_at, table_at, with_line}
 use Rattle.m11_asm_passes.specs.declared.state.State.{State}
 
--- the unfolding, what counts of the table, the names that count, and what the last line put
-pub record Going : Type 0 where
-  pub unfolder : Unfolding
-  pub kept : Kept
+-- the unfolding, what counts of the table, the names that count, and what the last line emitted
+pub record PassState : Type 0 where
+  pub unfolder : UnfolderState
+  pub kept : TableState
   pub counting : Counting
-  pub put : Put
+  pub emission : Emission
 
 -- what a pass keeps, and the fault that ended it, if one did
-pub record PassState : Type 0 where
-  pub going : Going
+pub record SourcePassState : Type 0 where
+  pub pass_state : PassState
   pub fault : Option AsmFault
 
-abbrev pub going_of : State → Going
-going_of state = record { unfolder = state.unfolder; kept = state.pass; counting = state.counting; put = state.put }
+abbrev pub pass_state_of : State → PassState
+pass_state_of state = record { unfolder = state.unfolder; kept = state.pass; counting = state.counting; emission = state.emission }
 
 -- what a pass keeps when a line of the source was fed
-abbrev pub fed : SourceLine → Going → Going
-fed line going = record going {
+abbrev pub fed : SourceLine → PassState → PassState
+fed line pass_state = record pass_state {
   unfolder = record {
-    stage = with_line line going.unfolder.stage;
+    stage = with_line line pass_state.unfolder.stage;
     has_statement = false;
-    fault = going.unfolder.fault;
+    fault = pass_state.unfolder.fault;
   };
 }
 
@@ -42,7 +42,7 @@ GoesOnUntil None fault = fault ≡ None
 GoesOnUntil (Some stopped) fault = Unit {0}
 
 -- a pass under a map, of which it is given which names count before its first line, stands after the live lines of a source
-pub record PassStands (map : Map) (before : Counting) (source : List SourceLine) (lines : List Numbered) (going : Going) : Type 0 where
-  pub lines_are : PassLines map before source lines going.unfolder.stage
-  pub matches : Matches going.kept (table_at map lines)
-  pub counting : going.counting ≡ counting_at map before lines
+pub record PassStands (map : Map) (before : Counting) (source : List SourceLine) (lines : List NumberedLine) (pass_state : PassState) : Type 0 where
+  pub lines_are : PassLines map before source lines pass_state.unfolder.stage
+  pub matches : Matches pass_state.kept (table_at map lines)
+  pub counting : pass_state.counting ≡ counting_at map before lines

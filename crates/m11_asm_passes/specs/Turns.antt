@@ -7,9 +7,9 @@ use Rattle.m11_unfold.specs.declared.steps.Step.TheVariants as step
 use Rattle.m11_unfold_rules.specs.Limits.{most_lines}
 use Rattle.m11_unfold_rules.specs.Stages.{Stage}
 use Rattle.m11_unfold_rules.specs.Taking.{Live}
-use Rattle.m11_unfold_rules.specs.Unfolding.{Given}
+use Rattle.m11_unfold_rules.specs.Unfolding.{UnfoldedLine}
 use Rattle.m11_unfold_rules.specs.declared.fault.UnfoldFault.{UnfoldFault}
-use Rattle.m11_asm_rules.specs.Contents.{Put}
+use Rattle.m11_asm_rules.specs.Contents.{Emission}
 use Rattle.m11_asm_rules.specs.Lines.{after_line}
 use Rattle.m11_asm_rules.specs.Meanings.{Map}
 use Rattle.m11_asm_rules.specs.SymbolUses.{symbol_uses}
@@ -20,61 +20,61 @@ use Rattle.m11_asm_passes.specs.Faults.{Fails}
 use Rattle.m11_asm_passes.specs.Lines.{acted}
 use Rattle.m11_asm_passes.specs.Placed.{IsLive, IsPlaced}
 use Rattle.m11_asm_passes.specs.Refusals.{given_by, line_fault}
-use Rattle.m11_asm_passes.specs.States.{Going}
+use Rattle.m11_asm_passes.specs.States.{PassState}
 use Rattle.m11_asm_passes.specs.declared.placed.LiveLine.{LiveLine}
 use Rattle.m11_asm_passes.specs.declared.placed.PlacedLine.{PlacedLine}
 use Rattle.m11_asm_passes.specs.declared.turns.Turn.{Turn}
 use Rattle.m11_asm_passes.specs.declared.turns.Turn.TheVariants.{NeedLine, End, Line}
 
 -- a line that became live, up to a stage, passes no limit, and the pass stands after it
-pub record LeavesAfter (map : Map) (table : Table) (live : Live) (stage : Stage) (old new : Going) : Type 0 where
+pub record LeavesAfter (map : Map) (table : Table) (live : Live) (stage : Stage) (old new : PassState) : Type 0 where
   pub fits : line_fault map table old.counting live stage ≡ None
   pub stage_is : new.unfolder.stage ≡ acted table live stage
   pub matches : Matches new.kept (after_line map table (given_by table live stage))
   pub counting : new.counting ≡ with_counted (symbol_uses table (given_by table live stage)) old.counting
 
 -- what a call says of a line, by the table before it: that it is placed so, or what stands after its labels alone
-abbrev pub Said : Type 1
-Said = Table → Given → Type 0
+abbrev pub LineFact : Type 1
+LineFact = Table → UnfoldedLine → Type 0
 
-abbrev pub SaysPlaced : Map → PlacedLine → Put → Said
-SaysPlaced map placed put = λ table given. IsPlaced map table given placed put
+abbrev pub SaysPlaced : Map → PlacedLine → Emission → LineFact
+SaysPlaced map placed emission = λ table given. IsPlaced map table given placed emission
 
-abbrev pub SaysLive : LiveLine → Said
+abbrev pub SaysLive : LiveLine → LineFact
 SaysLive live = λ table given. IsLive given live
 
 -- a line is placed after a table, and this is said of it
-pub record PlacesAfter (map : Map) (table : Table) (live : Live) (stage : Stage) (old new : Going) (said : Said) : Type 0 where
+pub record PlacesAfter (map : Map) (table : Table) (live : Live) (stage : Stage) (old new : PassState) (said : LineFact) : Type 0 where
   pub leaves : LeavesAfter map table live stage old new
   pub is_said : said table (given_by table live stage)
 
 -- whatever table it is of which the pass keeps what counts; or the line passes a limit
-abbrev pub Places : Map → Live → Stage → Going → Going → Said → Result (Unit {0}) AsmFault → Type 0
+abbrev pub Places : Map → Live → Stage → PassState → PassState → LineFact → Result (Unit {0}) AsmFault → Type 0
 Places map live stage old new said (Ok _) =
     (table : Table) → Matches old.kept table → PlacesAfter map table live stage old new said
 Places map live stage old new said (Err fault) =
     (table : Table) → Matches old.kept table → Fails (line_fault map table old.counting live stage) fault
 
 -- nothing is placed
-pub record IsUnplaced (old new : Going) : Type 0 where
+pub record IsUnplaced (old new : PassState) : Type 0 where
   pub kept : new.kept ≡ old.kept
   pub counting : new.counting ≡ old.counting
 
 -- a line becomes live, and is placed
-pub record PlacesNext (map : Map) (old new : Going) (live : Live) (said : Said) : Type 0 where
+pub record PlacesNext (map : Map) (old new : PassState) (live : Live) (said : LineFact) : Type 0 where
   pub stage : Stage
   pub comes : Comes old.unfolder.stage live stage
   pub places : Places map live stage old new said (Ok tt)
 
 -- a limit is passed before a line becomes live, or at one that becomes live
-pub data FailsAt (map : Map) (old : Going) (fault : AsmFault) : Type 0 where
+pub data FailsAt (map : Map) (old : PassState) (fault : AsmFault) : Type 0 where
   BeforeLine : (inner : UnfoldFault) → fault ≡ of_unfolding inner → Stops old.unfolder.stage inner → FailsAt map old fault
   AtLine : (live : Live) (stage : Stage) → Comes old.unfolder.stage live stage
       → ((table : Table) → Matches old.kept table → Fails (line_fault map table old.counting live stage) fault)
       → FailsAt map old fault
 
 -- a turn leads from one live line to the next, which stands where the call puts it, or to the end of what is left
-abbrev pub Turns : Map → Going → Going → Live → Said → Result Turn AsmFault → Type 0
+abbrev pub Turns : Map → PassState → PassState → Live → LineFact → Result Turn AsmFault → Type 0
 Turns map old new live said (Ok NeedLine) =
     Steps old.unfolder.stage new.unfolder.stage live.line (Ok step.NeedLine) × IsUnplaced old new
 Turns map old new live said (Ok End) = Steps old.unfolder.stage new.unfolder.stage live.line (Ok step.End) × IsUnplaced old new

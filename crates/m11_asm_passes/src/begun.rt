@@ -14,7 +14,7 @@ ghost use Rattle.m11_asm_passes.specs.Bounds.{HasRoom};
 ghost use Rattle.m11_asm_passes.specs.Faults.{Fails};
 ghost use Rattle.m11_asm_passes.specs.Placed.{live_in};
 ghost use Rattle.m11_asm_passes.specs.Refusals.{line_fault};
-ghost use Rattle.m11_asm_passes.specs.States.{going_of};
+ghost use Rattle.m11_asm_passes.specs.States.{pass_state_of};
 
 use crate::labelling::define_labels;
 use crate::placed::LiveLine;
@@ -31,7 +31,7 @@ use m11_unfold_rules::UnfoldFault;
 
 // What was found of a line whose labels are defined, and whose operator unfolding has done.
 #[derive(Drop)]
-pub struct Begun {
+pub struct LabelledLine {
     // The flags of its labels.
     pub(crate) found: LabelFlags,
     pub(crate) act: Act,
@@ -46,7 +46,7 @@ impl State {
         map: &Map<'_>,
         live: &mut LiveLine,
         statement: &Statement,
-    ) -> Result<Begun, AsmFault>
+    ) -> Result<LabelledLine, AsmFault>
         requires unlabelled { statement.now.labels_end ≡ 0 → labels_at live.old.line.text ≡ [] }
         requires single { IfSome statement.now.only_label (λ label. labels_at live.old.line.text ≡ label ∷ []) }
         requires states { States (live_in live.old) statement.now }
@@ -54,7 +54,7 @@ impl State {
         requires free { self.old.unfolder.has_statement ≡ false }
         requires room { HasRoom self.old.unfolder.stage.taken 67 1 self.old.pass.table }
         ensures same { live_in live.new ≡ live_in live.old }
-        ensures begins { IfOk result (λ begun. Begins map.now (live_in live.new) (going_of self.old) (going_of self.new) live.new.action begun) }
+        ensures begins { IfOk result (λ begun. Begins map.now (live_in live.new) (pass_state_of self.old) (pass_state_of self.new) live.new.action begun) }
         ensures fails { IfErr result (λ fault. (table : LineTable) → Matches self.old.pass table
             → Fails (line_fault map.now table self.old.counting (live_in live.old) self.old.unfolder.stage) fault) }
         ensures within { IfOk result (λ _. IsWithin (length live.old.line.text) live.new.action) }
@@ -78,7 +78,7 @@ impl State {
         let operator = operator_in(statement.body);
         let act = act_on(&mut self.unfolder, line, operator, &self.pass)?;
         live.action = action_after_labels(act.is_own, &live.line, statement.body);
-        Ok(Begun {
+        Ok(LabelledLine {
             found,
             act,
             fields: action_fields(self.pass.table(), &live.line, &live.action),

@@ -15,7 +15,7 @@ ghost use Rattle.m11_asm_passes.specs.Refusals.{given_by};
 use crate::operating::{counter, is_shown, section_name};
 use crate::placed::PlacedLine;
 use m11_asm_lines::{Action, Pass};
-use m11_asm_values::Put;
+use m11_asm_values::Emission;
 use m11_scan_statements::{Body, Statement};
 use m11_unfold_arguments::rest_flags;
 
@@ -28,10 +28,10 @@ pub(crate) fn is_blank(statement: &Statement) -> bool
     statement.labels_end == 0 && matches!(statement.body, Body::Nothing)
 }
 
-// Places a line that says nothing. It puts nothing, in place of what the line before it put.
+// Places a line that says nothing. It emits nothing, in place of what the line before it emitted.
 pub(crate) fn place_blank(
     pass: &Pass,
-    put: &mut Put,
+    emission: &mut Emission,
     statement: &Statement,
     placed: &mut PlacedLine,
 )
@@ -39,9 +39,9 @@ pub(crate) fn place_blank(
     requires states { States (live_in placed.old.live) statement.now }
     ensures same { live_in placed.new.live ≡ live_in placed.old.live }
     ensures placed { (whole : Map) (table : Table) (stage : Stage) → Matches pass.now table
-        → IsPlaced whole table (given_by table (live_in placed.old.live) stage) placed.new put.new }
+        → IsPlaced whole table (given_by table (live_in placed.old.live) stage) placed.new emission.new }
 {
-    put.clear();
+    emission.clear();
     placed.live.action = Action::NoAction;
     placed.flags = statement.label_flags.with(rest_flags(&placed.live.line, 0));
     placed.section = section_name(pass);

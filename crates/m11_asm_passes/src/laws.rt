@@ -5,9 +5,9 @@ ghost use Rattle.m11_asm_faults.specs.declared.fault.AsmFault.{AsmFault};
 ghost use Rattle.m11_scan_lines.specs.Line.{SourceLine};
 ghost use Rattle.m11_asm_rules.specs.Meanings.{Map, empty_map};
 ghost use Rattle.m11_asm_lines.specs.declared.counting.Counting.{Counting};
-ghost use Rattle.m11_asm_passes.specs.Lines.{Numbered};
+ghost use Rattle.m11_asm_passes.specs.Lines.{NumberedLine};
 ghost use Rattle.m11_asm_passes.specs.Reaching.{Reaches};
-ghost use Rattle.m11_asm_passes.specs.States.{Going, PassStands, fed};
+ghost use Rattle.m11_asm_passes.specs.States.{PassState, PassStands, fed};
 ghost use Rattle.m11_asm_passes.specs.Placed.{live_in};
 ghost use Rattle.m11_asm_passes.specs.Turns.{SaysLive, SaysPlaced, Turns};
 ghost use Rattle.m11_asm_passes.specs.declared.placed.LiveLine.{LiveLine};
@@ -19,14 +19,14 @@ ghost use Rattle.m11_asm_passes.specs.declared.turns.Turn.{Turn};
 /// of the first limit that the source passes.
 #[tactic(auto, using(crate::proofs::Standing::feeds, crate::proofs::Standing::next_turns, crate::proofs::Standing::define_turns))]
 pub fn the_calls_place_the_lines_of_a_source()
-    ensures feeds { (map : Map) (before : Counting) (source : List SourceLine) (lines : List Numbered) (line : SourceLine) (going : Going)
-        → PassStands map before source lines going → going.unfolder.stage.left ≡ [] → going.unfolder.stage.has_ended ≡ false
-        → PassStands map before (source ++ line ∷ []) lines (fed line going) }
-    ensures turns { (map : Map) (before : Counting) (source : List SourceLine) (lines : List Numbered) (old new : Going)
+    ensures feeds { (map : Map) (before : Counting) (source : List SourceLine) (lines : List NumberedLine) (line : SourceLine) (pass_state : PassState)
+        → PassStands map before source lines pass_state → pass_state.unfolder.stage.left ≡ [] → pass_state.unfolder.stage.has_ended ≡ false
+        → PassStands map before (source ++ line ∷ []) lines (fed line pass_state) }
+    ensures turns { (map : Map) (before : Counting) (source : List SourceLine) (lines : List NumberedLine) (old new : PassState)
         (placed : PlacedLine) (result : Result Turn AsmFault) → PassStands map before source lines old
-        → Turns map old new (live_in placed.live) (SaysPlaced map placed new.put) result
-        → Reaches map before source lines new (live_in placed.live) (SaysPlaced map placed new.put) result }
-    ensures defines { (before : Counting) (source : List SourceLine) (lines : List Numbered) (old new : Going)
+        → Turns map old new (live_in placed.live) (SaysPlaced map placed new.emission) result
+        → Reaches map before source lines new (live_in placed.live) (SaysPlaced map placed new.emission) result }
+    ensures defines { (before : Counting) (source : List SourceLine) (lines : List NumberedLine) (old new : PassState)
         (live : LiveLine) (result : Result Turn AsmFault) → PassStands empty_map before source lines old
         → Turns empty_map old new (live_in live) (SaysLive live) result
         → Reaches empty_map before source lines new (live_in live) (SaysLive live) result }

@@ -1,4 +1,4 @@
-//! One pass over a source, a line after the other: each line that becomes live has its labels defined, and what it changes, puts and
+//! One pass over a source, a line after the other: each line that becomes live has its labels defined, and what it changes, emits and
 //! uses is found, within the limits of a pass. (MACRO-11 Language Reference Manual, "Source program format", "Symbols and expressions"
 //! and "Macro directives".)
 #![tactic(auto)]

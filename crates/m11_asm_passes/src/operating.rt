@@ -9,7 +9,7 @@ ghost use Rattle.m11_asm_instructions.specs.Reading.{operator_fields};
 ghost use Rattle.m11_asm_rules.specs.Effects.{operator_change};
 ghost use Rattle.m11_asm_rules.specs.Items.{action_items, is_shown, number_items};
 ghost use Rattle.m11_asm_rules.specs.Limits.{most_defined_names, most_names, most_sections};
-ghost use Rattle.m11_asm_rules.specs.Lines.{put_by, put_location};
+ghost use Rattle.m11_asm_rules.specs.Lines.{emission_by, put_location};
 ghost use Rattle.m11_asm_rules.specs.Tables.{Table as LineTable, firm_table, location, section_name};
 ghost use Rattle.m11_asm_lines.specs.Counting.{names_counted, with_counted};
 ghost use Rattle.m11_asm_lines.specs.Actions.{AreActionTerms, IsWithin, action_fields, action_seen, is_listed};
@@ -22,19 +22,19 @@ ghost use Rattle.m11_asm_lines.specs.Faults.{Overfills, Refuses};
 ghost use Rattle.m11_asm_passes.specs.Operated.{change_after, uses_after};
 
 use m11_asm_faults::AsmFault;
-use m11_asm_lines::{Action, Counting, Pass, UsedSymbols, put_action};
+use m11_asm_lines::{Action, Counting, Pass, UsedSymbols, emit_action};
 use m11_asm_listing::Item;
 use m11_asm_operands::{Fields, is_even};
 use m11_asm_rules::{Context, Operator};
 use m11_asm_table::Map;
-use m11_asm_values::{Put, location_for};
+use m11_asm_values::{Emission, location_for};
 use m11_base::Name;
 use m11_scan::Line;
-use m11_unfold_arguments::Notes;
+use m11_unfold_arguments::Remarks;
 
-// Puts what a line puts, in place of what the line before it put.
-pub(crate) fn put_line(
-    put: &mut Put,
+// Puts what a line emits, in place of what the line before it emitted.
+pub(crate) fn emit_line(
+    emission: &mut Emission,
     map: &Map<'_>,
     pass: &Pass,
     line: &Line,
@@ -47,19 +47,19 @@ pub(crate) fn put_line(
     requires fields { fields_seen fields.now ≡ action_fields pass.now.table line.now.text action.now }
     requires ends { fields.now.end ≤ length line.now.text }
     requires terms { AreActionTerms line.now.text action.now fields.now.list.items fields.now.terms }
-    ensures puts { IfOk result (λ _. put.new ≡ put_by map.now pass.now.table line.now.text arguments (action_seen action.now)) }
+    ensures puts { IfOk result (λ _. emission.new ≡ emission_by map.now pass.now.table line.now.text arguments (action_seen action.now)) }
     ensures refuses { IfErr result (λ fault. Refuses fault ⊥ ⊥) }
 {
-    put.clear();
-    put_action(put, map, pass.table(), line, arguments, action, fields)?;
+    emission.clear();
+    emit_action(emission, map, pass.table(), line, arguments, action, fields)?;
     Ok(())
 }
 
 // Adds the symbols that unfolding read.
-fn use_read(used_symbols: &mut UsedSymbols, notes: &Notes) -> Result<(), AsmFault>
-    ensures { Adds (map (symbol_use LocalOnly) notes.now.symbols) used_symbols.old used_symbols.new result }
+fn use_read(used_symbols: &mut UsedSymbols, remarks: &Remarks) -> Result<(), AsmFault>
+    ensures { Adds (map (symbol_use LocalOnly) remarks.now.symbols) used_symbols.old used_symbols.new result }
 {
-    match notes.symbols() {
+    match remarks.symbols() {
         // most lines have none
         [] => Ok(()),
         symbols => used_symbols.add_all(symbols, Context::LocalOnly),
@@ -72,7 +72,7 @@ fn use_read(used_symbols: &mut UsedSymbols, notes: &Notes) -> Result<(), AsmFaul
 fn use_line(
     used_symbols: &mut UsedSymbols,
     line: &Line,
-    notes: &Notes,
+    remarks: &Remarks,
     arguments: Option<u16>,
     action: &Action,
     fields: &Fields,
@@ -80,12 +80,12 @@ fn use_line(
     requires within { IsWithin (length line.now.text) action.now }
     requires terms { AreActionTerms line.now.text action.now fields.now.list.items fields.now.terms }
     ensures symbol_uses { (table : LineTable) → fields_seen fields.now ≡ action_fields table line.now.text action.now → IfOk result
-        (λ _. used_symbols.new ≡ with_all (uses_after table line.now.text notes.now arguments (action_seen action.now)) used_symbols.old) }
+        (λ _. used_symbols.new ≡ with_all (uses_after table line.now.text remarks.now arguments (action_seen action.now)) used_symbols.old) }
     ensures refuses { (table : LineTable) → fields_seen fields.now ≡ action_fields table line.now.text action.now → IfErr result
         (λ fault. Refuses fault (most_names < length
-        (with_all (uses_after table line.now.text notes.now arguments (action_seen action.now)) used_symbols.old).names) ⊥) }
+        (with_all (uses_after table line.now.text remarks.now arguments (action_seen action.now)) used_symbols.old).names) ⊥) }
 {
-    use_read(used_symbols, notes)?;
+    use_read(used_symbols, remarks)?;
     used_symbols.add_action(line, arguments, action, fields)?;
     Ok(())
 }
@@ -95,7 +95,7 @@ fn use_line(
 pub(crate) fn count_line(
     counting: &mut Counting,
     line: &Line,
-    notes: &Notes,
+    remarks: &Remarks,
     arguments: Option<u16>,
     action: &Action,
     fields: &Fields,
@@ -103,14 +103,14 @@ pub(crate) fn count_line(
     requires within { IsWithin (length line.now.text) action.now }
     requires terms { AreActionTerms line.now.text action.now fields.now.list.items fields.now.terms }
     ensures counts { (table : LineTable) → fields_seen fields.now ≡ action_fields table line.now.text action.now → IfOk result
-        (λ _. counting.new ≡ with_counted (uses_after table line.now.text notes.now arguments (action_seen action.now)) counting.old) }
+        (λ _. counting.new ≡ with_counted (uses_after table line.now.text remarks.now arguments (action_seen action.now)) counting.old) }
     ensures refuses { (table : LineTable) → fields_seen fields.now ≡ action_fields table line.now.text action.now → IfErr result
         (λ fault. Refuses fault (most_names < length (names_counted
-        (with_counted (uses_after table line.now.text notes.now arguments (action_seen action.now)) counting.old))) ⊥) }
+        (with_counted (uses_after table line.now.text remarks.now arguments (action_seen action.now)) counting.old))) ⊥) }
 {
     match counting {
         Counting::SymbolUses(used_symbols) => {
-            use_line(used_symbols, line, notes, arguments, action, fields)
+            use_line(used_symbols, line, remarks, arguments, action, fields)
         }
         Counting::Definitions => Ok(()),
     }
@@ -235,7 +235,7 @@ fn change_any(
         → Overfills fault (changed map.now line.now.text
         (change_after pass.old.table line.now.text arguments (action_seen action.now)) before)) }
 {
-    let item = pass.take_action(map, line, arguments, action, fields)?;
+    let item = pass.apply_action(map, line, arguments, action, fields)?;
     pass.counts_are_within_the_limits();
     Ok(item)
 }
@@ -262,7 +262,7 @@ pub(crate) fn is_shown(pass: &Pass, is_expanded: bool) -> bool
     m11_asm_lines::is_shown(&pass.table().modes(), is_expanded)
 }
 
-// The location at which the operator of a line puts.
+// The location at which the operator of a line emits.
 pub(crate) fn put_location(pass: &Pass, action: &Action) -> u16
     ensures { result ≡ put_location pass.now.table (action_seen action.now) }
 {

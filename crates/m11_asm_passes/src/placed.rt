@@ -33,7 +33,7 @@ impl LiveLine {
     }
 }
 
-/// A live line as a pass places it. What it puts is kept by the pass.
+/// A live line as a pass places it. What it emits is kept by the pass.
 #[derive(Drop)]
 pub struct PlacedLine {
     /// The line, and what stands after its labels.
@@ -42,7 +42,7 @@ pub struct PlacedLine {
     pub flags: ErrorFlags,
     /// The section that it stands in.
     pub section: Name,
-    /// The location in that section where it puts what it puts.
+    /// The location in that section where it emits what it emits.
     pub location: u16,
     /// Where the counter of that section stands before it.
     pub counter: u16,

@@ -3,7 +3,7 @@
 ghost use Rattle.std.specs.Prelude.{◌≡◌, ◌<◌, [], None, Some, Err, IfOk};
 ghost use Rattle.std.specs.Result.{result_err};
 ghost use Rattle.m11_scan_lines.specs.Line.{no_line};
-ghost use Rattle.m11_asm_lines.specs.Counting.{gathered_in};
+ghost use Rattle.m11_asm_lines.specs.Counting.{used_names_in};
 ghost use Rattle.m11_asm_lines.specs.Passes.{size_at};
 ghost use Rattle.m11_unfold.specs.Unfolder.{needs_line};
 ghost use Rattle.m11_unfold_rules.specs.Stages.{start};
@@ -37,11 +37,11 @@ pub struct SourcePass {
 
 impl Model for SourcePass {
     ghost use Rattle.m11_asm_passes.specs.Bounds.{IsSoundUntil};
-    ghost use Rattle.m11_asm_passes.specs.States.{GoesOnUntil, PassState, going_of};
+    ghost use Rattle.m11_asm_passes.specs.States.{GoesOnUntil, SourcePassState, pass_state_of};
 
-    ghost Value = { PassState };
+    ghost Value = { SourcePassState };
 
-    ghost view = { λ p. record { going = going_of p.state; fault = p.fault } };
+    ghost view = { λ p. record { pass_state = pass_state_of p.state; fault = p.fault } };
 
     ghost invariant = { λ p. IsSoundUntil p.fault p.state.unfolder.stage.taken p.state.pass.table
         × GoesOnUntil p.fault p.state.unfolder.fault };
@@ -50,8 +50,8 @@ impl Model for SourcePass {
 impl SourcePass {
     /// Before the first line, with the names that count so far beside those that the table defines. Error: memory may be refused.
     pub fn new(alloc: Global, counting: Counting) -> Result<SourcePass, AllocError>
-        ensures stands { IfOk result (λ pass. (map : Meanings) → PassStands map counting [] [] pass.going) }
-        ensures begins { IfOk result (λ pass. pass.going.unfolder.stage ≡ start []) }
+        ensures stands { IfOk result (λ pass. (map : Meanings) → PassStands map counting [] [] pass.pass_state) }
+        ensures begins { IfOk result (λ pass. pass.pass_state.unfolder.stage ≡ start []) }
         ensures goes_on { IfOk result (λ pass. pass.fault ≡ None) }
     {
         Ok(SourcePass {
@@ -63,8 +63,8 @@ impl SourcePass {
 
     /// The next line of the source, where nothing is left to take: at the start, and after `NeedLine`.
     pub fn feed(&mut self, line: &Line)
-        requires { self.old.going.unfolder.stage.left ≡ [] }
-        ensures { self.new ≡ record { going = fed line.now self.old.going; fault = self.old.fault } }
+        requires { self.old.pass_state.unfolder.stage.left ≡ [] }
+        ensures { self.new ≡ record { pass_state = fed line.now self.old.pass_state; fault = self.old.fault } }
     {
         self.state.unfolder.feed(line);
     }
@@ -81,12 +81,12 @@ impl SourcePass {
     /// Errors: `Unfold` where a limit of unfolding is passed, `TooManySymbols`, `TooManySections`, the first one in the order of the lines,
     /// and within a line in that of labels, operator and arguments; and `NoMemory`.
     pub fn next(&mut self, map: &Map<'_>, placed: &mut PlacedLine) -> Result<Turn, AsmFault>
-        ensures turns { self.old.fault ≡ None → Turns map.now self.old.going self.new.going (live_in placed.new.live)
-            (SaysPlaced map.now placed.new self.new.going.put) result }
+        ensures turns { self.old.fault ≡ None → Turns map.now self.old.pass_state self.new.pass_state (live_in placed.new.live)
+            (SaysPlaced map.now placed.new self.new.pass_state.emission) result }
         ensures again { (fault : AsmFault) → self.old.fault ≡ Some fault → result ≡ Err fault }
         ensures fault { self.new.fault ≡ result_err result }
-        ensures empty { IsEmpty self.new.going.unfolder.stage result }
-        ensures next { self.old.fault ≡ None → IsNext self.old.going.unfolder.stage.taken self.new.going.unfolder.stage result }
+        ensures empty { IsEmpty self.new.pass_state.unfolder.stage result }
+        ensures next { self.old.fault ≡ None → IsNext self.old.pass_state.unfolder.stage.taken self.new.pass_state.unfolder.stage result }
     {
         self.fault.check()?;
         let turn = self.state.next(map, placed);
@@ -94,14 +94,14 @@ impl SourcePass {
     }
 
     /// What comes next in a first pass, where the whole source has given its names nothing. A line that becomes live stands in `live`, and
-    /// what it puts is not asked for. Errors as those of `next`.
+    /// what it emits is not asked for. Errors as those of `next`.
     pub fn define(&mut self, live: &mut LiveLine) -> Result<Turn, AsmFault>
-        ensures turns { self.old.fault ≡ None → Turns empty_map self.old.going self.new.going (live_in live.new)
+        ensures turns { self.old.fault ≡ None → Turns empty_map self.old.pass_state self.new.pass_state (live_in live.new)
             (SaysLive live.new) result }
         ensures again { (fault : AsmFault) → self.old.fault ≡ Some fault → result ≡ Err fault }
         ensures fault { self.new.fault ≡ result_err result }
-        ensures empty { IsEmpty self.new.going.unfolder.stage result }
-        ensures next { self.old.fault ≡ None → IsNext self.old.going.unfolder.stage.taken self.new.going.unfolder.stage result }
+        ensures empty { IsEmpty self.new.pass_state.unfolder.stage result }
+        ensures next { self.old.fault ≡ None → IsNext self.old.pass_state.unfolder.stage.taken self.new.pass_state.unfolder.stage result }
     {
         self.fault.check()?;
         let turn = self.state.define_next(live);
@@ -110,14 +110,14 @@ impl SourcePass {
 
     /// Whether nothing is left to take and `.END` isn't live, so that `next` and `define` would say `NeedLine`.
     pub fn needs_line(&self) -> bool
-        ensures { result ≡ needs_line self.now.going.unfolder.stage }
+        ensures { result ≡ needs_line self.now.pass_state.unfolder.stage }
     {
         self.state.unfolder.needs_line()
     }
 
     /// What the lines so far leave for the next one.
     pub fn table(&self) -> &Table
-        ensures { result.now ≡ self.now.going.kept.table }
+        ensures { result.now ≡ self.now.pass_state.kept.table }
     {
         self.state.pass.table()
     }
@@ -125,24 +125,24 @@ impl SourcePass {
     /// The size of the section of a number, 63 at most, in bytes.
     pub fn size(&self, number: usize) -> u16
         requires { number < 64 }
-        ensures { result ≡ size_at self.now.going.kept.sizes number }
+        ensures { result ≡ size_at self.now.pass_state.kept.sizes number }
     {
         self.state.pass.size(number)
     }
 
     /// What the pass leaves: its table with the sizes of sections, and the names that its lines use, none where they don't count.
     pub fn end(self) -> (Pass, UsedSymbols)
-        ensures pass { result.0 ≡ self.going.kept }
-        ensures used_symbols { result.1 ≡ gathered_in self.going.counting }
+        ensures pass { result.0 ≡ self.pass_state.kept }
+        ensures used_symbols { result.1 ≡ used_names_in self.pass_state.counting }
     {
         let state = self.state;
         (state.pass, state.counting.into_used(self.alloc))
     }
 
-    /// What the last placed line puts.
+    /// What the last placed line emits.
     pub fn contents(&self) -> &[PieceContent]
-        ensures { result.now ≡ self.now.going.put.contents }
+        ensures { result.now ≡ self.now.pass_state.emission.contents }
     {
-        self.state.put.contents()
+        self.state.emission.contents()
     }
 }

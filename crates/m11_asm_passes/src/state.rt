@@ -16,13 +16,13 @@ ghost use Rattle.m11_unfold_rules.specs.Stages.{start};
 ghost use Rattle.m11_asm_passes.specs.Begun.{Begins, Finishes};
 ghost use Rattle.m11_asm_passes.specs.Bounds.{HasRoom};
 ghost use Rattle.m11_asm_passes.specs.Placed.{live_in};
-ghost use Rattle.m11_asm_passes.specs.States.{Going, going_of};
+ghost use Rattle.m11_asm_passes.specs.States.{PassState, pass_state_of};
 ghost use Rattle.m11_asm_passes.specs.Turns.{IsEmpty, IsNext, Places, SaysLive, SaysPlaced, Turns};
 
-use crate::begun::Begun;
+use crate::begun::LabelledLine;
 use crate::blank::{is_blank, place_blank};
 use crate::operating::{
-    change_line, count_line, counter, is_shown, put_line, put_location, section_name,
+    change_line, count_line, counter, emit_line, is_shown, put_location, section_name,
 };
 use crate::placed::{LiveLine, PlacedLine};
 use crate::turns::Turn;
@@ -30,7 +30,7 @@ use m11_asm_faults::AsmFault;
 use m11_asm_lines::{Action, Counting, Pass, line_flags};
 use m11_asm_listing::Item;
 use m11_asm_table::Map;
-use m11_asm_values::Put;
+use m11_asm_values::Emission;
 use m11_scan::{ErrorFlags, Line};
 use m11_scan_statements::{Statement, statement};
 use m11_unfold::{Step, Unfolder};
@@ -43,8 +43,8 @@ pub struct State {
     pub(crate) pass: Pass,
     // Which names count beside those that the table defines.
     pub(crate) counting: Counting,
-    // What the last line put.
-    pub(crate) put: Put,
+    // What the last line emitted.
+    pub(crate) emission: Emission,
 }
 
 impl State {
@@ -59,7 +59,7 @@ impl State {
                 unfolder: Unfolder::new(alloc),
                 pass,
                 counting,
-                put: Put::new(alloc),
+                emission: Emission::new(alloc),
             }),
             Err(error) => {
                 // proof: a value of several maps that goes in place takes minutes to prove
@@ -73,8 +73,8 @@ impl State {
     pub(crate) fn next(&mut self, map: &Map<'_>, placed: &mut PlacedLine) -> Result<Turn, AsmFault>
         requires goes_on { self.old.unfolder.fault ≡ None }
         requires sound { HasRoom self.old.unfolder.stage.taken 0 0 self.old.pass.table }
-        ensures turns { Turns map.now (going_of self.old) (going_of self.new) (live_in placed.new.live)
-            (SaysPlaced map.now placed.new self.new.put) result }
+        ensures turns { Turns map.now (pass_state_of self.old) (pass_state_of self.new) (live_in placed.new.live)
+            (SaysPlaced map.now placed.new self.new.emission) result }
         ensures empty { IsEmpty self.new.unfolder.stage result }
         ensures next { IsNext self.old.unfolder.stage.taken self.new.unfolder.stage result }
         ensures goes_on { IfOk result (λ _. self.new.unfolder.fault ≡ None) }
@@ -91,11 +91,11 @@ impl State {
         }
     }
 
-    // What comes next, where nothing is put: a line that becomes live stands in `live`.
+    // What comes next, where nothing is emitted: a line that becomes live stands in `live`.
     pub(crate) fn define_next(&mut self, live: &mut LiveLine) -> Result<Turn, AsmFault>
         requires goes_on { self.old.unfolder.fault ≡ None }
         requires sound { HasRoom self.old.unfolder.stage.taken 0 0 self.old.pass.table }
-        ensures turns { Turns empty_map (going_of self.old) (going_of self.new) (live_in live.new) (SaysLive live.new) result }
+        ensures turns { Turns empty_map (pass_state_of self.old) (pass_state_of self.new) (live_in live.new) (SaysLive live.new) result }
         ensures empty { IsEmpty self.new.unfolder.stage result }
         ensures next { IsNext self.old.unfolder.stage.taken self.new.unfolder.stage result }
         ensures goes_on { IfOk result (λ _. self.new.unfolder.fault ≡ None) }
@@ -118,8 +118,8 @@ impl State {
         requires free { self.old.unfolder.has_statement ≡ false }
         requires room { HasRoom self.old.unfolder.stage.taken 67 1 self.old.pass.table }
         ensures same { live_in placed.new.live ≡ live_in placed.old.live }
-        ensures places { Places map.now (live_in placed.old.live) self.old.unfolder.stage (going_of self.old) (going_of self.new)
-            (SaysPlaced map.now placed.new self.new.put) result }
+        ensures places { Places map.now (live_in placed.old.live) self.old.unfolder.stage (pass_state_of self.old) (pass_state_of self.new)
+            (SaysPlaced map.now placed.new self.new.emission) result }
         ensures taken { IfOk result (λ _. self.new.unfolder.stage.taken ≡ self.old.unfolder.stage.taken) }
         ensures goes_on { IfOk result (λ _. self.new.unfolder.fault ≡ None) }
         ensures sound { IfOk result (λ _. HasRoom self.new.unfolder.stage.taken 0 0 self.new.pass.table) }
@@ -127,15 +127,15 @@ impl State {
         self.counts_are_within_the_limits();
         let statement = statement(&placed.live.line);
         if is_blank(&statement) {
-            place_blank(&self.pass, &mut self.put, &statement, placed);
+            place_blank(&self.pass, &mut self.emission, &statement, placed);
             return Ok(());
         }
         let begun = self.begin(map, &mut placed.live, &statement)?;
         placed.section = section_name(&self.pass);
         placed.location = put_location(&self.pass, &placed.live.action);
         placed.counter = counter(&self.pass);
-        put_line(
-            &mut self.put,
+        emit_line(
+            &mut self.emission,
             map,
             &self.pass,
             &placed.live.line,
@@ -143,8 +143,8 @@ impl State {
             &placed.live.action,
             &begun.fields,
         )?;
-        placed.flags = all_flags(&placed.live.line, &statement, &begun, &self.put);
-        placed.assigned = self.finish(map, &placed.live, &begun)?;
+        placed.flags = all_flags(&placed.live.line, &statement, &begun, &self.emission);
+        placed.assigned = self.apply(map, &placed.live, &begun)?;
         placed.is_shown = is_shown(&self.pass, placed.live.is_expanded);
         Ok(())
     }
@@ -155,7 +155,7 @@ impl State {
         requires free { self.old.unfolder.has_statement ≡ false }
         requires room { HasRoom self.old.unfolder.stage.taken 67 1 self.old.pass.table }
         ensures same { live_in live.new ≡ live_in live.old }
-        ensures places { Places empty_map (live_in live.old) self.old.unfolder.stage (going_of self.old) (going_of self.new)
+        ensures places { Places empty_map (live_in live.old) self.old.unfolder.stage (pass_state_of self.old) (pass_state_of self.new)
             (SaysLive live.new) result }
         ensures taken { IfOk result (λ _. self.new.unfolder.stage.taken ≡ self.old.unfolder.stage.taken) }
         ensures goes_on { IfOk result (λ _. self.new.unfolder.fault ≡ None) }
@@ -169,27 +169,27 @@ impl State {
         }
         let map = Map::none();
         let begun = self.begin(&map, live, &statement)?;
-        self.finish(&map, live, &begun)?;
+        self.apply(&map, live, &begun)?;
         Ok(())
     }
 
     // Adds the symbols that a line uses whose labels are defined, where they count, applies its action, and returns what a listing shows of
     // an assignment. It is put into both callers: the call, and the move of what it returns, took a sixth of its instructions.
     #[inline(always)]
-    fn finish(
+    fn apply(
         &mut self,
         map: &Map<'_>,
         live: &LiveLine,
-        begun: &Begun,
+        begun: &LabelledLine,
     ) -> Result<Option<Item>, AsmFault>
         requires within { IsWithin (length live.now.line.text) live.now.action }
         requires fields { fields_seen begun.now.fields ≡ action_fields self.old.pass.table live.now.line.text live.now.action }
         requires terms { AreActionTerms live.now.line.text live.now.action begun.now.fields.list.items begun.now.fields.terms }
         requires room { HasRoom self.old.unfolder.stage.taken 1 1 self.old.pass.table }
-        ensures finishes { (old : Going) → Begins map.now (live_in live.now) old (going_of self.old) live.now.action begun.now
-            → Finishes map.now (live_in live.now) old.unfolder.stage old (going_of self.new) result }
+        ensures finishes { (old : PassState) → Begins map.now (live_in live.now) old (pass_state_of self.old) live.now.action begun.now
+            → Finishes map.now (live_in live.now) old.unfolder.stage old (pass_state_of self.new) result }
         ensures unfolder { self.new.unfolder ≡ self.old.unfolder }
-        ensures put { self.new.put ≡ self.old.put }
+        ensures emission { self.new.emission ≡ self.old.emission }
         ensures sound { IfOk result (λ _. HasRoom self.new.unfolder.stage.taken 0 0 self.new.pass.table) }
     {
         let line = &live.line;
@@ -197,7 +197,7 @@ impl State {
         count_line(
             &mut self.counting,
             line,
-            &begun.act.notes,
+            &begun.act.remarks,
             arguments,
             &live.action,
             &begun.fields,
@@ -229,9 +229,14 @@ impl State {
 }
 
 // The flags of a line: those that the line's definition has, and P where a label of it has moved.
-fn all_flags(line: &Line, statement: &Statement, begun: &Begun, put: &Put) -> ErrorFlags
+fn all_flags(
+    line: &Line,
+    statement: &Statement,
+    begun: &LabelledLine,
+    emission: &Emission,
+) -> ErrorFlags
     ensures { bits_of result ≡ bit_or (flags_from line.now.text statement.now.labels_end statement.now.body
-        (bits_of statement.now.label_flags) (bits_of begun.now.found.doubly_defined) put.now.flags begun.now.act.notes.flags)
+        (bits_of statement.now.label_flags) (bits_of begun.now.found.doubly_defined) emission.now.flags begun.now.act.remarks.flags)
         (bits_of begun.now.found.moved) }
 {
     let flags = line_flags(
@@ -240,8 +245,8 @@ fn all_flags(line: &Line, statement: &Statement, begun: &Begun, put: &Put) -> Er
         statement.body,
         statement.label_flags,
         begun.found.doubly_defined,
-        put.flags(),
-        begun.act.notes.flags(),
+        emission.flags(),
+        begun.act.remarks.flags(),
     );
     flags.with(begun.found.moved)
 }

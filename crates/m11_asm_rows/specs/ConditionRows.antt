@@ -26,7 +26,7 @@ pub record ConditionRow : Type 0 where
 abbrev pub verdict_of : Acted → Verdict
 verdict_of acted = record {
   holds = not (is_skipping acted.after.conditions);
-  flags = flags_text acted.notes.flags;
+  flags = flags_text acted.remarks.flags;
 }
 
 -- the operator of a line, by what the lines before it and its own labels say

@@ -1,4 +1,4 @@
--- Directives with what they put, worked by hand. (MACRO-11 Language Reference Manual, "General assembler directives".)
+-- Directives with what they emit, worked by hand. (MACRO-11 Language Reference Manual, "General assembler directives".)
 use Rattle.std.specs.Prelude.{List, [], ◌∷◌, codes}
 use Rattle.m11_obj_texts.specs.declared.pieces.RelocationKind.TheVariants.{Internal}
 use Rattle.m11_asm_rows.specs.Worked.{Row, byte, moved_word, row, word}

@@ -11,13 +11,13 @@ use Rattle.m11_asm_rules.specs.Meanings.{Map}
 use Rattle.m11_asm_rules.specs.Placements.{program_map}
 use Rattle.m11_asm_rules.specs.Tables.{Table, first_table}
 use Rattle.m11_asm_rows.specs.Worked.{plain, reported}
-use Rattle.m11_unfold_rules.specs.Unfolding.{Given}
+use Rattle.m11_unfold_rules.specs.Unfolding.{UnfoldedLine}
 
-abbrev pub items_from : Map → Table → List Given → List (List Item)
+abbrev pub items_from : Map → Table → List UnfoldedLine → List (List Item)
 items_from known table [] = []
 items_from known table (given ∷ lines) = items known table given ∷ items_from known (after_line known table given) lines
 
-abbrev pub items_of : List Given → List (List Item)
+abbrev pub items_of : List UnfoldedLine → List (List Item)
 items_of lines = items_from (program_map lines) first_table lines
 
 abbrev pub source : List Bytes
@@ -46,16 +46,16 @@ worked_items =
 
 -- ---- which lines stand in a listing
 
-abbrev pub expanded : Bytes → Given
+abbrev pub expanded : Bytes → UnfoldedLine
 expanded text = record (plain text) { live = record { line = line_of text; is_expanded = true } }
 
-abbrev pub listed_from : Map → Table → List Given → List ℕ → List Bool
+abbrev pub listed_from : Map → Table → List UnfoldedLine → List ℕ → List Bool
 listed_from known table [] flags = []
 listed_from known table (given ∷ lines) [] = []
 listed_from known table (given ∷ lines) (flags ∷ others) =
     is_listed (after_line known table given) given flags ∷ listed_from known (after_line known table given) lines others
 
-abbrev pub listed_of : List Given → List Bool
+abbrev pub listed_of : List UnfoldedLine → List Bool
 listed_of lines = listed_from (program_map lines) first_table lines (reported lines)
 
 abbrev pub found_listed : List (List Bool)

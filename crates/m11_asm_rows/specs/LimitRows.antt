@@ -12,7 +12,7 @@ use Rattle.m11_asm_lines.specs.Counting.{none_used}
 use Rattle.m11_asm_lines.specs.declared.counting.Counting.{Counting}
 use Rattle.m11_asm_lines.specs.declared.counting.Counting.TheVariants.{Definitions}
 use Rattle.m11_asm_rows.specs.Worked.{plain}
-use Rattle.m11_unfold_rules.specs.Unfolding.{Given}
+use Rattle.m11_unfold_rules.specs.Unfolding.{UnfoldedLine}
 
 -- a section whose name no other number gives
 abbrev pub section_line : ℕ → Bytes
@@ -24,7 +24,7 @@ sections zero = []
 sections (suc number) = section_line number ∷ sections number
 
 -- a line after others, each of which passes no limit
-abbrev pub fault_after : Map → Counting → List Given → Given → Option AsmFault
+abbrev pub fault_after : Map → Counting → List UnfoldedLine → UnfoldedLine → Option AsmFault
 fault_after map counting lines line = placing_fault map (table_after map lines) (counting_after map first_table lines counting) line
 
 -- the fault of a line after others in the first pass, and in the second

@@ -9,7 +9,7 @@ use Rattle.m11_asm_directory.specs.References.{references}
 use Rattle.m11_asm.specs.Facts.{facts_of}
 use Rattle.m11_asm_rows.specs.RelocationRows.{named}
 use Rattle.m11_asm_rows.specs.Worked.{plain}
-use Rattle.m11_unfold_rules.specs.Unfolding.{Given}
+use Rattle.m11_unfold_rules.specs.Unfolding.{UnfoldedLine}
 use Rattle.m11_scan_values.specs.Quantities.{Quantity}
 use Rattle.m11_scan_values.specs.declared.names.Symbol.{Symbol}
 use Rattle.m11_scan_values.specs.declared.names.Symbol.TheVariants.{Ordinary, Local, Counter}
@@ -34,7 +34,7 @@ pub record SourceRow : Type 0 where
 abbrev pub number_of : Quantity → ℕ
 number_of value = value.number
 
-abbrev pub gives_of : List Given → Gives
+abbrev pub gives_of : List UnfoldedLine → Gives
 gives_of lines = record {
   title = (facts_of lines).title;
   identification = (facts_of lines).identification;

@@ -1,7 +1,7 @@
--- Sources of a few lines, with what they put at their locations. (MACRO-11 Language Reference Manual, "Source program format".)
+-- Sources of a few lines, with what they emit at their locations. (MACRO-11 Language Reference Manual, "Source program format".)
 use Rattle.std.specs.Prelude.{ℕ, false, List, [], map, None}
 use Rattle.std.specs.List.{flat_map}
-use Rattle.m11_unfold_arguments.specs.Notes.{no_notes}
+use Rattle.m11_unfold_arguments.specs.Remarks.{no_remarks}
 use Rattle.m11_base.specs.Names.{blank_name}
 use Rattle.m11_base.specs.Devices.{Bytes}
 use Rattle.m11_scan_lines.specs.Line.{line_of}
@@ -10,21 +10,21 @@ use Rattle.m11_obj_texts.specs.declared.pieces.PieceContent.TheVariants.{Byte, W
 use Rattle.m11_obj_texts.specs.declared.pieces.RelocationKind.{RelocationKind}
 use Rattle.m11_asm_rules.specs.Contents.{fixed_byte, fixed_word, piece}
 use Rattle.m11_asm_rules.specs.Meanings.{firm_known}
-use Rattle.m11_asm_rules.specs.Placements.{Placed, placement, program_map}
+use Rattle.m11_asm_rules.specs.Placements.{LinePlacement, placement, program_map}
 use Rattle.m11_asm_rules.specs.Tables.{first_table}
 use Rattle.m11_asm.specs.Program.{program_of}
 use Rattle.m11_asm.specs.Written.{flags_after}
-use Rattle.m11_asm_passes.specs.Lines.{Numbered, numbered}
+use Rattle.m11_asm_passes.specs.Lines.{NumberedLine, numbered}
 use Rattle.m11_scan.specs.ErrorFlags.{flags_text}
-use Rattle.m11_unfold_rules.specs.Unfolding.{Given}
+use Rattle.m11_unfold_rules.specs.Unfolding.{UnfoldedLine}
 
 -- a line of the source itself that unfolding leaves alone
-abbrev pub plain : Bytes → Given
+abbrev pub plain : Bytes → UnfoldedLine
 plain text = record {
   live = record { line = line_of text; is_expanded = false };
   known = firm_known first_table 0;
   is_own = false;
-  notes = no_notes;
+  remarks = no_remarks;
   arguments = None;
 }
 
@@ -33,19 +33,19 @@ pub record Shown : Type 0 where
   pub flags : List Bytes
   pub pieces : List Piece
 
-abbrev pub pieces_of : List Placed → List Piece
+abbrev pub pieces_of : List LinePlacement → List Piece
 pieces_of lines = flat_map (λ line. line.pieces) lines
 
 -- what number a line has decides none of its flags
-abbrev pub unnumbered : Given → Numbered
+abbrev pub unnumbered : UnfoldedLine → NumberedLine
 unnumbered given = numbered 0 given
 
 -- the flags that an assembly reports of each line
-abbrev pub reported : List Given → List ℕ
+abbrev pub reported : List UnfoldedLine → List ℕ
 reported lines = flags_after (program_of lines) [] (map unnumbered lines)
 
 -- what the second pass of a source gives, under the map of the first
-abbrev pub assembled : List Given → Shown
+abbrev pub assembled : List UnfoldedLine → Shown
 assembled lines = record {
   flags = map flags_text (reported lines);
   pieces = pieces_of (placement (program_map lines) lines);

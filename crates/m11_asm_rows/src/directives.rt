@@ -25,7 +25,7 @@ pub fn modes_are_as_worked()
     ensures { map found mode_rows ≡ map expected mode_rows }
 {}
 
-/// What a listing shows of assignments, of what is put, and of lines that show nothing.
+/// What a listing shows of assignments, of what is emitted, and of lines that show nothing.
 pub fn items_are_as_worked()
     ensures { found_items ≡ worked_items }
 {}

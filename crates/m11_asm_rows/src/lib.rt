@@ -1,4 +1,4 @@
-//! Lines of sources worked by hand: what they put and their flags, what conditions find, what a listing shows, titles, names and limits;
+//! Lines of sources worked by hand: what they emit and their flags, what conditions find, what a listing shows, titles, names and limits;
 //! the definitions of m11_asm_rules give just that. Each law is the contract of a function that does nothing; no other crate names them.
 #![tactic(auto)]
 
@@ -7,12 +7,12 @@ mod conditions;
 
 pub use conditions::conditions_are_as_worked;
 
-// What instructions and directives put, their flags, and what a listing shows.
+// What instructions and directives emit, their flags, and what a listing shows.
 mod directives;
 mod instructions;
 
 pub use directives::{
-    items_are_as_worked, listings_are_as_worked, modes_are_as_worked, locations_are_as_worked,
+    items_are_as_worked, listings_are_as_worked, locations_are_as_worked, modes_are_as_worked,
     texts_are_as_worked, words_are_as_worked,
 };
 pub use instructions::{

@@ -3,7 +3,7 @@ use Rattle.std.proofs.Common.{◌≡◌, ◌∙◌, ◌≢◌, ℕ, ◌+◌, ◌
 use Rattle.std.specs.Prelude.{◌==◌, if◌then◌else◌}
 use Rattle.std.proofs.Math.Nat.{mod-add-mod}
 use Rattle.std.proofs.lemmas.Bool.Decides.{nat_tests}
-use Rattle.m11_asm_rules.specs.Locations.{Move, Moved, Steps, Goes, has_set, in_section, last_set, location_after, location_in, moves_in, sizes_since}
+use Rattle.m11_asm_rules.specs.Locations.{Move, SectionMove, Steps, Goes, has_set, in_section, last_set, location_after, location_in, moves_in, sizes_since}
 
 -- ---- one section
 
@@ -62,7 +62,7 @@ is_itself section = grind (arith, nat_tests)
 is_no_other : (section other : ℕ) → other ≢ section → (other == section) ≡ false
 is_no_other section other differs = grind (arith, nat_tests)
 
-moves_here : (section : ℕ) (moves : List Moved) (move : Move)
+moves_here : (section : ℕ) (moves : List SectionMove) (move : Move)
     → moves_in section (moves ++ in_section section move ∷ []) ≡ moves_in section moves ++ move ∷ []
 moves_here section [] move = rw (is_itself section) refl
 moves_here section (first ∷ moves) move =
@@ -74,19 +74,19 @@ moves_here section (first ∷ moves) move =
     by_first true first before move = refl
     by_first false first before move = refl
 
-moves_there : (section other : ℕ) → other ≢ section → (moves : List Moved) (move : Move)
+moves_there : (section other : ℕ) → other ≢ section → (moves : List SectionMove) (move : Move)
     → moves_in section (moves ++ in_section other move ∷ []) ≡ moves_in section moves
 moves_there section other differs [] move = rw (is_no_other section other differs) refl
 moves_there section other differs (first ∷ moves) move = rw (moves_there section other differs moves move) refl
 
-pub steps_on : (section size : ℕ) (moves : List Moved)
+pub steps_on : (section size : ℕ) (moves : List SectionMove)
     → location_in section (moves ++ in_section section (Steps size) ∷ []) ≡ (location_in section moves + size) % 65536
 steps_on section size moves = rw (moves_here section moves (Steps size)) (steps_in_section (moves_in section moves) size)
 
-pub goes_there : (section location : ℕ) (moves : List Moved)
+pub goes_there : (section location : ℕ) (moves : List SectionMove)
     → location_in section (moves ++ in_section section (Goes location) ∷ []) ≡ location % 65536
 goes_there section location moves = rw (moves_here section moves (Goes location)) (goes_in_section (moves_in section moves) location)
 
-pub stays_there : (section other : ℕ) (move : Move) (moves : List Moved) → other ≢ section
+pub stays_there : (section other : ℕ) (move : Move) (moves : List SectionMove) → other ≢ section
     → location_in section (moves ++ in_section other move ∷ []) ≡ location_in section moves
 stays_there section other move moves differs = ap location_after (moves_there section other differs moves move)

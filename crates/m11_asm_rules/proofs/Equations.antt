@@ -1,7 +1,7 @@
 -- The map of a source solves its equation, and every map that solves it has its labels and firm values.
 use Rattle.std.proofs.Common.{◌≡◌, ◌∙◌, Bool, true, false, List, Option, Some, None, refl, sym, ap}
 use Rattle.std.specs.Prelude.{if◌then◌else◌}
-use Rattle.m11_unfold_rules.specs.Unfolding.{Given}
+use Rattle.m11_unfold_rules.specs.Unfolding.{UnfoldedLine}
 use Rattle.m11_asm_rules.proofs.FirmLines.{tables_alike}
 use Rattle.m11_asm_rules.proofs.FirmNames.{firm_option, last_firm}
 use Rattle.m11_asm_rules.specs.Definitions.{Definition, Key, Standing, firm_parts, firm_standing, last_definition}
@@ -31,15 +31,15 @@ by_firm : (key : Key) (definitions : List Definition)
     → label_or_value_of key (firm_parts definitions) ≡ label_or_value_of key definitions
 by_firm key definitions = ap label_or_value (last_firm key definitions) ∙ kept (last_definition key definitions)
 
-meanings_alike : (one other : Map) (lines : List Given) (key : Key)
+meanings_alike : (one other : Map) (lines : List UnfoldedLine) (key : Key)
     → label_or_value_of key (table_after one lines).definitions ≡ label_or_value_of key (table_after other lines).definitions
 meanings_alike one other lines key =
     sym (by_firm key (table_after one lines).definitions)
     ∙ ap (λ (t : Table). label_or_value_of key t.definitions) (tables_alike one other lines)
     ∙ by_firm key (table_after other lines).definitions
 
-pub solves : (lines : List Given) → Solves (program_map lines) lines
+pub solves : (lines : List UnfoldedLine) → Solves (program_map lines) lines
 solves lines key = meanings_alike empty_map (program_map lines) lines key
 
-pub only_solution : (map : Map) (lines : List Given) → Solves map lines → AreAlike map (program_map lines)
+pub only_solution : (map : Map) (lines : List UnfoldedLine) → Solves map lines → AreAlike map (program_map lines)
 only_solution map lines solution key = solution key ∙ meanings_alike map empty_map lines key

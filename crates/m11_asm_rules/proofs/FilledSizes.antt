@@ -1,6 +1,6 @@
--- What each operator puts has as many bytes as its counter goes on by.
+-- What each operator emits has as many bytes as its counter goes on by.
 use Rattle.std.proofs.Common.{◌≡◌, ◌∙◌, ℕ, suc, ◌+◌, ◌*◌, ◌/◌, Bool, true, false, List, [], ◌∷◌, ◌++◌, length, map, refl, ap, arith}
-use Rattle.m11_unfold_arguments.specs.Expressions.{Known}
+use Rattle.m11_unfold_arguments.specs.Expressions.{KnownSymbols}
 use Rattle.m11_base.specs.Devices.{Bytes}
 use Rattle.m11_obj_texts.specs.declared.pieces.PieceContent.{PieceContent}
 use Rattle.m11_scan_statements.specs.declared.parts.Part.{Part}
@@ -17,7 +17,7 @@ use Rattle.m11_asm_rules.specs.Storage as storage
 use Rattle.m11_asm_rules.specs.Strings as strings
 use Rattle.m11_asm_rules.specs.Tables.{Table, firm_table}
 
--- ---- one thing put after another
+-- ---- one thing emitted after another
 
 pub sizes_add : (first next : List PieceContent) → contents_size (first ++ next) ≡ contents_size first + contents_size next
 sizes_add [] next = omega arith
@@ -80,12 +80,12 @@ length_joined (code ∷ first) next =
     let rest : length (first ++ next) ≡ length first + length next = length_joined first next in
     omega (arith, rest)
 
-part_counts : (known : Known) (line : Bytes) (part : Part) (kind : PartKind)
+part_counts : (known : KnownSymbols) (line : Bytes) (part : Part) (kind : PartKind)
     → length (strings.part_codes known line part kind).codes ≡ strings.part_size line part kind
 part_counts known line part Text = length_map strings.character_code (strings.part_text line part)
 part_counts known line part Expression = refl
 
-pub parts_count : (known : Known) (line : Bytes) (parts : List Part)
+pub parts_count : (known : KnownSymbols) (line : Bytes) (parts : List Part)
     → length (strings.parts_codes known line parts).codes ≡ strings.parts_size line parts
 parts_count known line [] = refl
 parts_count known line (part ∷ parts) =

@@ -1,6 +1,6 @@
 -- Any two maps leave the same firm part of the table, after each line.
 use Rattle.std.proofs.Common.{◌≡◌, ◌∙◌, List, [], ◌∷◌, refl, sym, ap}
-use Rattle.m11_unfold_rules.specs.Unfolding.{Given}
+use Rattle.m11_unfold_rules.specs.Unfolding.{UnfoldedLine}
 use Rattle.m11_asm_rules.proofs.FirmChanges.{change_alike}
 use Rattle.m11_asm_rules.proofs.FirmLabels.{labels_firm}
 use Rattle.m11_asm_rules.specs.Changes.{changed}
@@ -10,31 +10,31 @@ use Rattle.m11_asm_rules.specs.Meanings.{Map}
 use Rattle.m11_asm_rules.specs.Placements.{after_lines, table_after}
 use Rattle.m11_asm_rules.specs.Tables.{Table, first_table, firm_table}
 
-pub stands_alike : (given : Given) (first second : Table) → firm_table first ≡ firm_table second
+pub stands_alike : (given : UnfoldedLine) (first second : Table) → firm_table first ≡ firm_table second
     → firm_table (stands first given) ≡ firm_table (stands second given)
 stands_alike given first second same =
     labels_firm first given.live.line.text
     ∙ ap (λ (t : Table). labels_stand t given.live.line.text) same
     ∙ sym (labels_firm second given.live.line.text)
 
-operator_alike : (one other : Map) (given : Given) (first second : Table) → firm_table first ≡ firm_table second
+operator_alike : (one other : Map) (given : UnfoldedLine) (first second : Table) → firm_table first ≡ firm_table second
     → firm_table (after_operator one first given) ≡ firm_table (after_operator other second given)
 operator_alike one other given first second same =
     ap (λ (t : Table). firm_table (changed one given.live.line.text (line_change t given) first)) same
     ∙ change_alike one other given.live.line.text (line_change (firm_table second) given) first second same
 
-pub line_alike : (one other : Map) (given : Given) (first second : Table) → firm_table first ≡ firm_table second
+pub line_alike : (one other : Map) (given : UnfoldedLine) (first second : Table) → firm_table first ≡ firm_table second
     → firm_table (after_line one first given) ≡ firm_table (after_line other second given)
 line_alike one other given first second same =
     operator_alike one other given (stands first given) (stands second given) (stands_alike given first second same)
 
-pub lines_alike : (one other : Map) (lines : List Given) (first second : Table) → firm_table first ≡ firm_table second
+pub lines_alike : (one other : Map) (lines : List UnfoldedLine) (first second : Table) → firm_table first ≡ firm_table second
     → firm_table (after_lines one first lines) ≡ firm_table (after_lines other second lines)
 lines_alike one other [] first second same = same
 lines_alike one other (given ∷ lines) first second same =
     lines_alike one other lines (after_line one first given) (after_line other second given)
     (line_alike one other given first second same)
 
-pub tables_alike : (one other : Map) (lines : List Given)
+pub tables_alike : (one other : Map) (lines : List UnfoldedLine)
     → firm_table (table_after one lines) ≡ firm_table (table_after other lines)
 tables_alike one other lines = lines_alike one other lines first_table first_table refl

@@ -8,12 +8,12 @@ use Rattle.m11_scan_statements.specs.declared.labels.LabelKind.{LabelKind}
 use Rattle.m11_scan_statements.specs.declared.labels.LabelKind.TheVariants as label
 use Rattle.m11_asm_rules.specs.Definitions.{Key, Named, Numbered, is_defined}
 use Rattle.m11_asm_rules.specs.Labels.{global_if, label_name, labelled, labels_stand, with_block, with_definition, with_doubly_defined, with_key, with_kind, with_label, with_labels, with_name}
-use Rattle.m11_asm_rules.specs.Locations.{Moved, location_in}
+use Rattle.m11_asm_rules.specs.Locations.{SectionMove, location_in}
 use Rattle.m11_asm_rules.specs.Tables.{Table, location}
 
 -- what moved the counters of sections, and the section that lines go into
 abbrev pub Standing : Type 0
-Standing = List Moved × ℕ
+Standing = List SectionMove × ℕ
 
 abbrev pub standing : Table → Standing
 standing table = (table.moves, table.modes.section)

@@ -1,19 +1,19 @@
--- What a line puts fills what its counter goes on by.
+-- What a line emits fills what its counter goes on by.
 use Rattle.std.proofs.Common.{◌≡◌, ◌∙◌, ℕ, ◌+◌, ◌*◌, ◌/◌, [], ◌∷◌, length, Option, refl, sym, ap, inl, inr}
-use Rattle.m11_unfold_arguments.specs.Expressions.{Known}
+use Rattle.m11_unfold_arguments.specs.Expressions.{KnownSymbols}
 use Rattle.m11_base.specs.Devices.{Bytes}
 use Rattle.m11_base_instructions.specs.declared.instruction.Op.{Op}
-use Rattle.m11_unfold_rules.specs.Unfolding.{Given}
+use Rattle.m11_unfold_rules.specs.Unfolding.{UnfoldedLine}
 use Rattle.m11_asm_rules.proofs.FilledSizes.{bytes_fill, forms_fill, packed_fill, parts_count, parts_fill, sizes_add, table_twice, words_fill}
 use Rattle.m11_asm_rules.specs.Alignment.{gap, location_for}
 use Rattle.m11_asm_rules.specs.Changes.{Change, Counts}
 use Rattle.m11_asm_rules.specs.Contents.{contents_size, fixed_byte, further}
-use Rattle.m11_asm_rules.specs.Effects.{change_by, directive_change, directive_put, operator_put}
+use Rattle.m11_asm_rules.specs.Effects.{change_by, directive_change, directive_emission, operator_emission}
 use Rattle.m11_asm_rules.specs.Elements.{elements_at}
 use Rattle.m11_asm_rules.specs.Fields.{fields_at, forms_of}
 use Rattle.m11_asm_rules.specs.Filling.{Fills, gap_before}
 use Rattle.m11_asm_rules.specs.Instructions as instructions
-use Rattle.m11_asm_rules.specs.Lines.{Action, NoAction, Assign, SetCounter, Operate, change_of, action, line_change, line_put, put_by}
+use Rattle.m11_asm_rules.specs.Lines.{Action, NoAction, Assign, SetCounter, Operate, change_of, action, line_change, line_emission, emission_by}
 use Rattle.m11_asm_rules.specs.Meanings.{LocalOnly, Map, empty_map, known_at}
 use Rattle.m11_asm_rules.specs.declared.operators.Directive.{Directive}
 use Rattle.m11_asm_rules.specs.declared.operators.Operator.{Operator}
@@ -25,14 +25,14 @@ use Rattle.m11_asm_rules.specs.Locations.{Steps}
 use Rattle.m11_asm_rules.specs.Strings as strings
 use Rattle.m11_asm_rules.specs.Tables.{Table, firm_table, location}
 
--- the step of an operator that puts something
+-- the step of an operator that emits something
 abbrev step : ℕ → ℕ → Change
 step gap size = Counts (Steps (gap + size))
 
 same_step : (gap one other : ℕ) → one ≡ other → step gap one ≡ step gap other
 same_step gap one other same = ap (λ (n : ℕ). step gap n) same
 
--- ---- directives: each that puts something
+-- ---- directives: each that emits something
 
 rad50_fills : (map : Map) (table : Table) (here : ℕ) (line : Bytes) (start : ℕ)
     → strings.rad50_size line start ≡ contents_size (strings.rad50 map table here line start).contents
@@ -49,27 +49,27 @@ asciz_fills map table here line start =
 
 directive_fills : (map : Map) (firm table : Table) (passed here : ℕ) (line : Bytes) (start : ℕ) (arguments : Option ℕ)
     (directive : Directive)
-    → Fills passed (directive_put map table here line start arguments directive).contents
+    → Fills passed (directive_emission map table here line start arguments directive).contents
     (directive_change firm passed here line start arguments directive)
 directive_fills map firm table passed here line start arguments word.Word =
     inr (same_step passed (length (elements_at line start).columns * 2)
-    (contents_size (directive_put map table here line start arguments word.Word).contents)
+    (contents_size (directive_emission map table here line start arguments word.Word).contents)
     (sym (words_fill map table line here (elements_at line start).columns)))
 directive_fills map firm table passed here line start arguments word.Byte =
     inr (same_step passed (length (elements_at line start).columns)
-    (contents_size (directive_put map table here line start arguments word.Byte).contents)
+    (contents_size (directive_emission map table here line start arguments word.Byte).contents)
     (sym (bytes_fill map table line here (elements_at line start).columns)))
 directive_fills map firm table passed here line start arguments word.Ascii =
     inr (same_step passed (strings.ascii_size line start)
-    (contents_size (directive_put map table here line start arguments word.Ascii).contents)
+    (contents_size (directive_emission map table here line start arguments word.Ascii).contents)
     (sym (parts_fill map table here line (strings.parts_at line start).list)))
 directive_fills map firm table passed here line start arguments word.Asciz =
     inr (same_step passed (strings.asciz_size line start)
-    (contents_size (directive_put map table here line start arguments word.Asciz).contents)
+    (contents_size (directive_emission map table here line start arguments word.Asciz).contents)
     (asciz_fills map table here line start))
 directive_fills map firm table passed here line start arguments word.Rad50 =
     inr (same_step passed (strings.rad50_size line start)
-    (contents_size (directive_put map table here line start arguments word.Rad50).contents)
+    (contents_size (directive_emission map table here line start arguments word.Rad50).contents)
     (rad50_fills map table here line start))
 directive_fills map firm table passed here line start arguments word.Blkb = inl refl
 directive_fills map firm table passed here line start arguments word.Blkw = inl refl
@@ -96,7 +96,7 @@ directive_fills map firm table passed here line start arguments word.End = inl r
 
 -- ---- instructions
 
-abbrev size_in : Known → Bytes → ℕ → Op → ℕ
+abbrev size_in : KnownSymbols → Bytes → ℕ → Op → ℕ
 size_in firm line start operation = instruction_size (forms_of (fields_at firm line start operation).list)
 
 -- the fields are the same by the firm table alone
@@ -115,7 +115,7 @@ instruction_fills map table here line start operation =
 
 operator_fills : (map : Map) (table : Table) (passed here : ℕ) (line : Bytes) (start : ℕ) (arguments : Option ℕ)
     (operator : Operator)
-    → Fills passed (operator_put map table here line start arguments operator).contents
+    → Fills passed (operator_emission map table here line start arguments operator).contents
     (change_by (firm_table table) passed here line start arguments operator)
 operator_fills map table passed here line start arguments (operators.Instruction operation) =
     inr (same_step passed (instructions.size (firm_table table) here line start operation)
@@ -125,7 +125,7 @@ operator_fills map table passed here line start arguments (operators.Directive d
     directive_fills map (firm_table table) table passed here line start arguments directive
 
 action_fills : (map : Map) (table : Table) (line : Bytes) (arguments : Option ℕ) (does : Action)
-    → Fills (gap_before table does) (put_by map table line arguments does).contents
+    → Fills (gap_before table does) (emission_by map table line arguments does).contents
     (change_of (firm_table table) line arguments does)
 action_fills map table line arguments NoAction = inl refl
 action_fills map table line arguments (Assign name is_global start) = inl refl
@@ -134,9 +134,9 @@ action_fills map table line arguments (Operate operator start) =
     operator_fills map table (gap (is_even operator) (location table)) (location_for (is_even operator) (location table)) line start
     arguments operator
 
-pub lines_fill : (map : Map) (table : Table) (given : Given)
-    → Fills (gap_before table (action given.is_own given.live.line.text)) (line_put map table given).contents
+pub lines_fill : (map : Map) (table : Table) (given : UnfoldedLine)
+    → Fills (gap_before table (action given.is_own given.live.line.text)) (line_emission map table given).contents
     (line_change (firm_table table) given)
-unfolding line_put line_change
+unfolding line_emission line_change
 lines_fill map table given =
     action_fills map table given.live.line.text given.arguments (action given.is_own given.live.line.text)

@@ -1,23 +1,23 @@
--- The sizes of what a line puts are asked of firm names alone.
+-- The sizes of what a line emits are asked of firm names alone.
 use Rattle.std.proofs.Common.{◌≡◌, ◌∙◌, ℕ, List, [], ◌∷◌, ◌++◌, ◌*◌, map, Option, refl, sym, ap}
 use Rattle.std.proofs.lemmas.List.{map-append}
-use Rattle.m11_unfold_arguments.specs.Expressions.{Known}
+use Rattle.m11_unfold_arguments.specs.Expressions.{KnownSymbols}
 use Rattle.m11_base.specs.Devices.{Bytes}
 use Rattle.m11_base.specs.Rad50.{Name}
 use Rattle.m11_obj_texts.specs.declared.pieces.PieceContent.{PieceContent}
 use Rattle.m11_scan_statements.specs.declared.parts.Part.{Part}
 use Rattle.m11_scan_statements.specs.declared.parts.PartKind.{PartKind}
 use Rattle.m11_scan_statements.specs.declared.parts.PartKind.TheVariants.{Text, Expression}
-use Rattle.m11_unfold_rules.specs.Unfolding.{Given}
+use Rattle.m11_unfold_rules.specs.Unfolding.{UnfoldedLine}
 use Rattle.m11_asm_rules.proofs.FirmLines.{line_alike, stands_alike}
 use Rattle.m11_asm_rules.specs.Alignment.{location_for}
 use Rattle.m11_asm_rules.specs.Codes as codes
 use Rattle.m11_asm_rules.specs.Contents.{content_size, fixed_byte, further, pieces_from}
-use Rattle.m11_asm_rules.specs.Effects.{directive_put, operator_put}
+use Rattle.m11_asm_rules.specs.Effects.{directive_emission, operator_emission}
 use Rattle.m11_asm_rules.specs.Elements.{elements_at}
 use Rattle.m11_asm_rules.specs.Fields.{fields_at, forms_of}
 use Rattle.m11_asm_rules.specs.Instructions as instructions
-use Rattle.m11_asm_rules.specs.Lines.{Assign, Action, Operate, NoAction, SetCounter, after_line, action, line_put, pieces, put_by, put_location, stands}
+use Rattle.m11_asm_rules.specs.Lines.{Assign, Action, Operate, NoAction, SetCounter, after_line, action, line_emission, pieces, emission_by, put_location, stands}
 use Rattle.m11_asm_rules.specs.Meanings.{LocalOnly, Map, empty_map, known_at}
 use Rattle.m11_asm_rules.specs.declared.operands.Form.{Form}
 use Rattle.m11_asm_rules.specs.declared.operands.Form.TheVariants.{Absent, InRegister, Indexed, Unindexed, AfterCounter}
@@ -104,12 +104,12 @@ ones_of : (f : ℕ → ℕ) (text : List ℕ) → ones (map f text) ≡ ones tex
 ones_of f [] = refl
 ones_of f (character ∷ text) = ap (λ (l : List ℕ). 1 ∷ l) (ones_of f text)
 
-part_coded : (known : Known) (line : Bytes) (part : Part) (kind : PartKind)
+part_coded : (known : KnownSymbols) (line : Bytes) (part : Part) (kind : PartKind)
     → ones (strings.part_codes known line part kind).codes ≡ part_ones line part kind
 part_coded known line part Text = ones_of strings.character_code (strings.part_text line part)
 part_coded known line part Expression = refl
 
-parts_coded : (known : Known) (line : Bytes) (parts : List Part)
+parts_coded : (known : KnownSymbols) (line : Bytes) (parts : List Part)
     → ones (strings.parts_codes known line parts).codes ≡ parts_ones line parts
 parts_coded known line [] = refl
 parts_coded known line (part ∷ parts) =
@@ -160,7 +160,7 @@ directive_sizes line start word.Limit = 4 ∷ []
 directive_sizes line start other = []
 
 directive_sized : (known : Map) (table : Table) (here : ℕ) (line : Bytes) (start : ℕ) (arguments : Option ℕ) (directive : Directive)
-    → sizes (directive_put known table here line start arguments directive).contents ≡ directive_sizes line start directive
+    → sizes (directive_emission known table here line start arguments directive).contents ≡ directive_sizes line start directive
 directive_sized known table here line start arguments word.Word = words_sized known table line here (elements_at line start).columns
 directive_sized known table here line start arguments word.Byte = bytes_sized known table line here (elements_at line start).columns
 directive_sized known table here line start arguments word.Ascii =
@@ -200,7 +200,7 @@ operator_sizes firm here line start (operators.Instruction operation) =
 operator_sizes firm here line start (operators.Directive directive) = directive_sizes line start directive
 
 operator_sized : (known : Map) (table : Table) (here : ℕ) (line : Bytes) (start : ℕ) (arguments : Option ℕ) (operator : Operator)
-    → sizes (operator_put known table here line start arguments operator).contents
+    → sizes (operator_emission known table here line start arguments operator).contents
     ≡ operator_sizes (firm_table table) here line start operator
 operator_sized known table here line start arguments (operators.Instruction operation) =
     ap (λ (l : List ℕ). 2 ∷ l) (forms_sized (instructions.line_context known table here line) (further here 2)
@@ -216,17 +216,17 @@ action_sizes firm line (Operate operator start) =
     operator_sizes firm (location_for (is_even operator) (location firm)) line start operator
 
 action_sized : (known : Map) (table : Table) (line : Bytes) (arguments : Option ℕ) (does : Action)
-    → sizes (put_by known table line arguments does).contents ≡ action_sizes (firm_table table) line does
+    → sizes (emission_by known table line arguments does).contents ≡ action_sizes (firm_table table) line does
 action_sized known table line arguments NoAction = refl
 action_sized known table line arguments (Assign name is_global start) = refl
 action_sized known table line arguments (SetCounter start) = refl
 action_sized known table line arguments (Operate operator start) =
     operator_sized known table (location_for (is_even operator) (location table)) line start arguments operator
 
-line_sized : (known : Map) (stood : Table) (given : Given)
-    → sizes (line_put known stood given).contents
+line_sized : (known : Map) (stood : Table) (given : UnfoldedLine)
+    → sizes (line_emission known stood given).contents
     ≡ action_sizes (firm_table stood) given.live.line.text (action given.is_own given.live.line.text)
-unfolding line_put
+unfolding line_emission
 line_sized known stood given =
     action_sized known stood given.live.line.text given.arguments (action given.is_own given.live.line.text)
 
@@ -255,12 +255,12 @@ start_firm table (Assign name is_global start) = refl
 start_firm table (SetCounter start) = refl
 start_firm table (Operate operator start) = refl
 
-line_shaped : (known : Map) (table : Table) (given : Given)
+line_shaped : (known : Map) (table : Table) (given : UnfoldedLine)
     → map shape_of (pieces known table given)
     ≡ firm_shapes (firm_table (stands table given)) given.live.line.text (action given.is_own given.live.line.text)
 line_shaped known table given =
     shaped (section_name (stands table given)) (put_location (stands table given) (action given.is_own given.live.line.text))
-    (line_put known (stands table given) given).contents
+    (line_emission known (stands table given) given).contents
     ∙ ap (λ (l : List ℕ). shapes (section_name (stands table given))
     (put_location (stands table given) (action given.is_own given.live.line.text)) l)
     (line_sized known (stands table given) given)
@@ -268,7 +268,7 @@ line_shaped known table given =
     (action_sizes (firm_table (stands table given)) given.live.line.text (action given.is_own given.live.line.text)))
     (start_firm (stands table given) (action given.is_own given.live.line.text))
 
-lines_shaped : (one other : Map) (lines : List Given) (first second : Table) → firm_table first ≡ firm_table second
+lines_shaped : (one other : Map) (lines : List UnfoldedLine) (first second : Table) → firm_table first ≡ firm_table second
     → map shapes_in (placed_from one first lines) ≡ map shapes_in (placed_from other second lines)
 lines_shaped one other [] first second same = refl
 lines_shaped one other (given ∷ lines) first second same =
@@ -281,6 +281,6 @@ lines_shaped one other (given ∷ lines) first second same =
     (lines_shaped one other lines (after_line one first given) (after_line other second given)
     (line_alike one other given first second same))
 
-pub shapes_alike : (one other : Map) (lines : List Given)
+pub shapes_alike : (one other : Map) (lines : List UnfoldedLine)
     → map shapes_in (placement one lines) ≡ map shapes_in (placement other lines)
 shapes_alike one other lines = lines_shaped one other lines first_table first_table refl

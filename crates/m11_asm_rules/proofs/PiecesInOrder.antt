@@ -6,7 +6,7 @@ use Rattle.std.specs.Prelude.{◌==◌, ◌&&◌, not, if◌then◌else◌, Opti
 use Rattle.m11_base.specs.Rad50.{Name}
 use Rattle.m11_obj_texts.specs.declared.pieces.Piece.{Piece}
 use Rattle.m11_obj_texts.specs.declared.pieces.PieceContent.{PieceContent}
-use Rattle.m11_unfold_rules.specs.Unfolding.{Given}
+use Rattle.m11_unfold_rules.specs.Unfolding.{UnfoldedLine}
 use Rattle.m11_asm_rules.proofs.LabelLocations.{Standing, labels_stay}
 use Rattle.m11_asm_rules.proofs.LinesFill.{lines_fill}
 use Rattle.m11_asm_rules.specs.Alignment.{gap}
@@ -16,11 +16,11 @@ use Rattle.m11_asm_rules.specs.Contents.{content_size, contents_size, further, p
 use Rattle.m11_asm_rules.specs.Definitions.{Definition, Named, is_labelled}
 use Rattle.m11_asm_rules.specs.Filling.{Fills, gap_before}
 use Rattle.m11_asm_rules.specs.Labels.{global_if, with_definition, with_doubly_defined}
-use Rattle.m11_asm_rules.specs.Lines.{Assign, Action, Operate, NoAction, SetCounter, after_line, action, line_change, line_put, pieces, put_location, stands}
+use Rattle.m11_asm_rules.specs.Lines.{Assign, Action, Operate, NoAction, SetCounter, after_line, action, line_change, line_emission, pieces, put_location, stands}
 use Rattle.m11_asm_rules.specs.Meanings.{Map}
 use Rattle.m11_asm_rules.specs.Order.{LieFrom, pieces_if, pieces_in}
 use Rattle.m11_asm_rules.specs.Placements.{after_lines}
-use Rattle.m11_asm_rules.specs.Locations.{Goes, Move, Moved, Steps, has_set, in_section, last_set, moves_in, sizes_since}
+use Rattle.m11_asm_rules.specs.Locations.{Goes, Move, SectionMove, Steps, has_set, in_section, last_set, moves_in, sizes_since}
 use Rattle.m11_asm_rules.specs.Tables.{Table, firm_table, first_table, location, section_name}
 
 -- ---- moves of one section without a set location
@@ -63,7 +63,7 @@ abbrev move_if : Bool → Move → List Move
 move_if true move = move ∷ []
 move_if false move = []
 
-moves_add : (section other : ℕ) (moves : List Moved) (move : Move)
+moves_add : (section other : ℕ) (moves : List SectionMove) (move : Move)
     → moves_in section (moves ++ in_section other move ∷ []) ≡ moves_in section moves ++ move_if (other == section) move
 moves_add section other [] move = by_here (other == section)
   where
@@ -81,13 +81,13 @@ moves_add section other (first ∷ moves) move =
 
 -- ---- labels leave the moves
 
-stood_moves : (table : Table) (given : Given) → (stands table given).moves ≡ table.moves
+stood_moves : (table : Table) (given : UnfoldedLine) → (stands table given).moves ≡ table.moves
 stood_moves table given =
     ap (λ (s : Standing). s.0) (labels_stay table given.live.line.text)
 
 -- ---- what a change adds to the moves
 
-abbrev moved_by : ℕ → Change → List Moved
+abbrev moved_by : ℕ → Change → List SectionMove
 moved_by section (Counts move) = in_section section move ∷ []
 moved_by section other = []
 
@@ -165,7 +165,7 @@ pieces_lie section location (content ∷ contents) fits =
     = pieces_lie section (location + content_size content) contents (omega (arith, all)) in
     (omega arith, subst Q (sym next) (subst P sum rest))
 
--- where a line puts what it puts
+-- where a line emits what it emits
 start_is : (table : Table) (does : Action) → put_location table does ≡ (location table + gap_before table does) % 65536
 start_is table NoAction = omega arith
 start_is table (Assign name is_global start) = omega arith
@@ -198,11 +198,11 @@ abbrev added : Bool → Change → List Move
 added is_here (Counts move) = move_if is_here move
 added is_here other = []
 
-stays : (section : ℕ) (moves : List Moved) → moves_in section (moves ++ []) ≡ moves_in section moves ++ []
+stays : (section : ℕ) (moves : List SectionMove) → moves_in section (moves ++ []) ≡ moves_in section moves ++ []
 stays section moves =
-    ap (λ (l : List Moved). moves_in section l) (append-nil moves) ∙ sym (append-nil (moves_in section moves))
+    ap (λ (l : List SectionMove). moves_in section l) (append-nil moves) ∙ sym (append-nil (moves_in section moves))
 
-grown : (section other : ℕ) (moves : List Moved) (change : Change)
+grown : (section other : ℕ) (moves : List SectionMove) (change : Change)
     → moves_in section (moves ++ moved_by other change) ≡ moves_in section moves ++ added (other == section) change
 grown section other moves Keeps = stays section moves
 grown section other moves (Counts move) = moves_add section other moves move
@@ -216,10 +216,10 @@ line_grows : (map : Map) (line : List ℕ) (change : Change) (section : ℕ) (st
     → moves_in section (changed map line change stood).moves
     ≡ moves_in section stood.moves ++ added (stood.modes.section == section) change
 line_grows map line change section stood =
-    ap (λ (l : List Moved). moves_in section l) (change_moves map line change stood)
+    ap (λ (l : List SectionMove). moves_in section l) (change_moves map line change stood)
     ∙ grown section stood.modes.section stood.moves change
 
--- a line that puts nothing in a section
+-- a line that emits nothing in a section
 empty_lies : (section : ℕ) (before after : Table) (more : List Move)
     → moves_in section after.moves ≡ moves_in section before.moves ++ more → IsUnset section after
     → Lies section (sizes section after) before []
@@ -232,7 +232,7 @@ empty_lies section before after more grows unset =
       within = subst Q (sym grows) (sizes_front (moves_in section before.moves) more whole);
     }
 
--- a line that puts something, after some bytes that are passed over
+-- a line that emits something, after some bytes that are passed over
 filled_lies : (section gap start : ℕ) (name : Name) (contents : List PieceContent) (before after : Table)
     → moves_in section after.moves ≡ moves_in section before.moves ++ Steps (gap + contents_size contents) ∷ []
     → before.modes.section ≡ section → IsUnset section after → sizes section after ≤ 65535
@@ -284,7 +284,7 @@ line_by true section gap start name contents change before after where_it_is gro
 line_by false section gap start name contents change before after where_it_is grows unset fits begins (inr steps) =
     empty_lies section before after (added false change) grows unset
 
-line_lies : (map : Map) (section : ℕ) (table : Table) (given : Given) → IsUnset section (after_line map table given)
+line_lies : (map : Map) (section : ℕ) (table : Table) (given : UnfoldedLine) → IsUnset section (after_line map table given)
     → sizes section (after_line map table given) ≤ 65535
     → Lies section (sizes section (after_line map table given)) (stands table given)
     (pieces_if ((stands table given).modes.section == section) (pieces map table given))
@@ -292,7 +292,7 @@ line_lies map section table given unset fits =
     line_by ((stands table given).modes.section == section) section
     (gap_before (stands table given) (action given.is_own given.live.line.text))
     (put_location (stands table given) (action given.is_own given.live.line.text)) (section_name (stands table given))
-    (line_put map (stands table given) given).contents (line_change (firm_table (stands table given)) given) (stands table given)
+    (line_emission map (stands table given) given).contents (line_change (firm_table (stands table given)) given) (stands table given)
     (after_line map table given) refl
     (line_grows map given.live.line.text (line_change (firm_table (stands table given)) given) section (stands table given))
     unset fits (start_is (stands table given) (action given.is_own given.live.line.text)) (lines_fill map (stands table given) given)
@@ -315,8 +315,8 @@ record AllLie (section : ℕ) (table : Table) (found : List Piece) : Type 0 wher
 one_more : (section end : ℕ) (table stood : Table) (here later : List Piece) → stood.moves ≡ table.moves
     → Lies section end stood here → end ≤ 65535 → LieFrom end later → AllLie section table (here ++ later)
 one_more section end table stood here later same lies fits lie =
-    let P : List Moved → Type 0 = λ l. has_set (moves_in section l) ≡ false in
-    let Q : List Moved → Type 0 = λ l. LieWithin (sizes_since (moves_in section l)) end here in
+    let P : List SectionMove → Type 0 = λ l. has_set (moves_in section l) ≡ false in
+    let Q : List SectionMove → Type 0 = λ l. LieWithin (sizes_since (moves_in section l)) end here in
     let within : LieWithin (sizes section table) end here = subst Q same lies.within in
     let ends : sizes section table ≤ end = within_ends (sizes section table) end here within in
     record {
@@ -325,7 +325,7 @@ one_more section end table stood here later same lies fits lie =
       lie = lie_on (sizes section table) end here later within lie;
     }
 
-all_lie : (map : Map) (section : ℕ) (lines : List Given) (table : Table) → IsUnset section (after_lines map table lines)
+all_lie : (map : Map) (section : ℕ) (lines : List UnfoldedLine) (table : Table) → IsUnset section (after_lines map table lines)
     → sizes section (after_lines map table lines) ≤ 65535 → AllLie section table (pieces_in section map table lines)
 all_lie map section [] table unset fits = record { unset = unset; fits = fits; lie = tt }
 all_lie map section (given ∷ lines) table unset fits =
@@ -336,7 +336,7 @@ all_lie map section (given ∷ lines) table unset fits =
     (pieces_in section map (after_line map table given) lines) (stood_moves table given)
     (line_lies map section table given rest.unset rest.fits) rest.fits rest.lie
 
-pub in_order : (map : Map) (lines : List Given) (section : ℕ)
+pub in_order : (map : Map) (lines : List UnfoldedLine) (section : ℕ)
     → has_set (moves_in section (after_lines map first_table lines).moves) ≡ false
     → sizes_since (moves_in section (after_lines map first_table lines).moves) ≤ 65535
     → LieFrom 0 (pieces_in section map first_table lines)

@@ -4,7 +4,7 @@
 use Rattle.std.specs.Prelude.{ℕ, ◌*◌, ◌%◌, not, nat_le, Bool, true, false, List, [], ◌∷◌}
 use Rattle.std.specs.Int.{cast_signed, w8}
 use Rattle.std.specs.Int.RustNames.{bit_or}
-use Rattle.m11_unfold_arguments.specs.Expressions.{Known, number_at, value_at}
+use Rattle.m11_unfold_arguments.specs.Expressions.{KnownSymbols, number_at, value_at}
 use Rattle.m11_base.specs.Devices.{Bytes}
 use Rattle.m11_base_instructions.specs.Encoding.{code_of, number_limit}
 use Rattle.m11_base_instructions.specs.Operand.{register_of}
@@ -26,9 +26,9 @@ use Rattle.m11_scan_values.specs.Kinds.{is_register, flag_R}
 use Rattle.m11_scan_values.specs.Operations.{absence}
 use Rattle.m11_scan_values.specs.Quantities.{Quantity}
 use Rattle.m11_asm_rules.specs.Branches.{branch_offset, branch_reaches, loop_offset, loop_reaches, target_flags}
-use Rattle.m11_asm_rules.specs.Contents.{Put, fixed_word, followed_by, further, nothing, put, register_flags, word}
+use Rattle.m11_asm_rules.specs.Contents.{Emission, fixed_word, followed_by, further, nothing, emission, register_flags, word}
 use Rattle.m11_asm_rules.specs.declared.fields.Field.{Field}
-use Rattle.m11_asm_rules.specs.declared.fields.Field.TheVariants.{Formed, Registered, Targeted, Numbered, Missing}
+use Rattle.m11_asm_rules.specs.declared.fields.Field.TheVariants as content
 use Rattle.m11_asm_rules.specs.declared.operands.Form.{Form}
 use Rattle.m11_asm_rules.specs.declared.operands.Form.TheVariants.{Absent, InRegister, Indexed, Unindexed, AfterCounter}
 use Rattle.m11_asm_rules.specs.Operands.{words_of}
@@ -39,8 +39,8 @@ use Rattle.m11_asm_rules.specs.Tables.{Table}
 pub record LineContext : Type 0 where
   pub table : Table
   pub location : ℕ
-  pub known : Known
-  pub refers : Known
+  pub known : KnownSymbols
+  pub refers : KnownSymbols
   pub line : Bytes
 
 -- ---- registers
@@ -81,39 +81,39 @@ is_relative mode.IndexDeferred = true
 is_relative kind = false
 
 -- the word after the instruction, at a location of its own; `.` in it is the location of the instruction
-abbrev pub form_words : LineContext → ℕ → Form → Put
+abbrev pub form_words : LineContext → ℕ → Form → Emission
 form_words line_context location Absent = nothing 0
 form_words line_context location (InRegister kind start) = nothing 0
 form_words line_context location (Indexed kind start index) =
     word line_context.table false location (value_at line_context.refers line_context.line index)
-form_words line_context location (Unindexed start) = put (fixed_word 0 ∷ []) 0
+form_words line_context location (Unindexed start) = emission (fixed_word 0 ∷ []) 0
 form_words line_context location (AfterCounter kind start) =
     word line_context.table (is_relative kind) location (value_at line_context.refers line_context.line start)
 
 -- ---- fields
 
 abbrev pub operand_in : LineContext → List Field → Operand
-operand_in line_context (Formed form ∷ fields) = operand_of line_context form
+operand_in line_context (content.Operand form ∷ fields) = operand_of line_context form
 operand_in line_context fields = operand mode.Register R0
 
 abbrev pub register_in : LineContext → List Field → Register
-register_in line_context (Registered start ∷ fields) = register line_context start
+register_in line_context (content.Register start ∷ fields) = register line_context start
 register_in line_context fields = R0
 
 abbrev pub target_at : LineContext → ℕ → Quantity
 target_at line_context start = value_at line_context.known line_context.line start
 
 abbrev pub branch_in : LineContext → List Field → ℕ
-branch_in line_context (Targeted start ∷ fields) = branch_offset line_context.table line_context.location (target_at line_context start)
+branch_in line_context (content.Target start ∷ fields) = branch_offset line_context.table line_context.location (target_at line_context start)
 branch_in line_context fields = 0
 
 abbrev pub loop_in : LineContext → List Field → ℕ
-loop_in line_context (Targeted start ∷ fields) = loop_offset line_context.table line_context.location (target_at line_context start)
+loop_in line_context (content.Target start ∷ fields) = loop_offset line_context.table line_context.location (target_at line_context start)
 loop_in line_context fields = 0
 
 -- cut to the bits that the code has for it
 abbrev pub number_in : LineContext → NumberOp → List Field → ℕ
-number_in line_context operation (Numbered start ∷ fields) = number_at line_context.known line_context.line start % number_limit operation
+number_in line_context operation (content.Number start ∷ fields) = number_at line_context.known line_context.line start % number_limit operation
 number_in line_context operation fields = 0
 
 abbrev pub others : List Field → List Field
@@ -159,11 +159,11 @@ targeted_flags line_context operation start value =
     bit_or (bit_or value.flags (register_flags value.kind)) (reach_flags line_context operation start)
 
 abbrev pub field_flags : LineContext → Op → Field → ℕ
-field_flags line_context operation (Formed form) = form_flags line_context form
-field_flags line_context operation (Registered start) = registered_flags line_context start
-field_flags line_context operation (Targeted start) = targeted_flags line_context operation start (target_at line_context start)
-field_flags line_context operation (Numbered start) = numbered_flags operation (value_at line_context.known line_context.line start)
-field_flags line_context operation Missing = 0
+field_flags line_context operation (content.Operand form) = form_flags line_context form
+field_flags line_context operation (content.Register start) = registered_flags line_context start
+field_flags line_context operation (content.Target start) = targeted_flags line_context operation start (target_at line_context start)
+field_flags line_context operation (content.Number start) = numbered_flags operation (value_at line_context.known line_context.line start)
+field_flags line_context operation content.Missing = 0
 
 abbrev pub fields_flags : LineContext → Op → List Field → ℕ
 fields_flags line_context operation [] = 0
@@ -173,12 +173,12 @@ fields_flags line_context operation (field ∷ fields) =
 -- ---- the words
 
 -- the words after that of the code, one after the other
-abbrev pub words_from : LineContext → ℕ → List Form → Put
+abbrev pub words_from : LineContext → ℕ → List Form → Emission
 words_from line_context location [] = nothing 0
 words_from line_context location (form ∷ forms) =
     followed_by (form_words line_context location form) (words_from line_context (further location (words_of form * 2)) forms)
 
 -- the instruction's own word
-abbrev pub code : LineContext → Op → List Field → Put
+abbrev pub code : LineContext → Op → List Field → Emission
 code line_context operation fields =
-    put (fixed_word (code_of (instruction line_context operation fields)) ∷ []) (fields_flags line_context operation fields)
+    emission (fixed_word (code_of (instruction line_context operation fields)) ∷ []) (fields_flags line_context operation fields)

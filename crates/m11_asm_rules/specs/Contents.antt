@@ -1,8 +1,8 @@
--- What a line puts at its locations, one after the other, with its flags. (MACRO-11 Language Reference Manual, "Expressions" and
+-- What a line emits at its locations, one after the other, with its flags. (MACRO-11 Language Reference Manual, "Expressions" and
 -- "Diagnostic error message summary", R and T.)
 use Rattle.std.specs.Prelude.{ℕ, ◌+◌, ◌/◌, ◌%◌, ◌==◌, ◌||◌, not, Bool, false, if◌then◌else◌, List, [], ◌∷◌, ◌++◌, length}
 use Rattle.std.specs.Int.RustNames.{bit_or}
-use Rattle.m11_unfold_arguments.specs.Expressions.{Known, has_expression, value_at}
+use Rattle.m11_unfold_arguments.specs.Expressions.{KnownSymbols, has_expression, value_at}
 use Rattle.m11_base.specs.Devices.{Bytes}
 use Rattle.m11_base.specs.Rad50.{Name}
 use Rattle.m11_obj_texts.specs.declared.pieces.Piece.{Piece}
@@ -17,24 +17,24 @@ use Rattle.m11_scan_values.specs.Quantities.{Quantity, absolute}
 use Rattle.m11_asm_rules.specs.Relocations.{fixed, stored}
 use Rattle.m11_asm_rules.specs.Tables.{Table}
 
--- what is put, and flags
-pub record Put : Type 0 where
+-- what is emitted, and flags
+pub record Emission : Type 0 where
   pub contents : List PieceContent
   pub flags : ℕ
 
-abbrev pub put : List PieceContent → ℕ → Put
-put contents flags = record { contents = contents; flags = flags }
+abbrev pub emission : List PieceContent → ℕ → Emission
+emission contents flags = record { contents = contents; flags = flags }
 
 -- nothing, with flags
-abbrev pub nothing : ℕ → Put
-nothing flags = put [] flags
+abbrev pub nothing : ℕ → Emission
+nothing flags = emission [] flags
 
--- one thing put after another
-abbrev pub followed_by : Put → Put → Put
-followed_by first next = put (first.contents ++ next.contents) (bit_or first.flags next.flags)
+-- one thing emitted after another
+abbrev pub followed_by : Emission → Emission → Emission
+followed_by first next = emission (first.contents ++ next.contents) (bit_or first.flags next.flags)
 
-abbrev pub with_flags : ℕ → Put → Put
-with_flags flags what = put what.contents (bit_or flags what.flags)
+abbrev pub with_flags : ℕ → Emission → Emission
+with_flags flags what = emission what.contents (bit_or flags what.flags)
 
 -- ---- sizes and locations
 
@@ -52,7 +52,7 @@ further location size = (location + size) % 65536
 abbrev pub piece : Name → ℕ → PieceContent → Piece
 piece section location content = record { section = section; location = location; content = content }
 
--- what is put from a location of a section on: each piece stands after the one before it
+-- what is emitted from a location of a section on: each piece stands after the one before it
 abbrev pub pieces_from : Name → ℕ → List PieceContent → List Piece
 pieces_from section location [] = []
 pieces_from section location (content ∷ contents) =
@@ -61,7 +61,7 @@ pieces_from section location (content ∷ contents) =
 -- ---- values
 
 -- an empty element counts as 0
-abbrev pub element_value : Known → Bytes → ℕ → Quantity
+abbrev pub element_value : KnownSymbols → Bytes → ℕ → Quantity
 element_value known line location = if has_expression line location then value_at known line location else absolute 0 0
 
 -- R for a register where none may be
@@ -77,14 +77,14 @@ abbrev pub byte_flags : ℕ → ℕ
 byte_flags number = flag_if (not (is_byte_high (number / 256))) flag_T
 
 -- a value as a word, relative to the location after it or not
-abbrev pub word : Table → Bool → ℕ → Quantity → Put
+abbrev pub word : Table → Bool → ℕ → Quantity → Emission
 word table is_relative location value =
-    put (Word (stored table is_relative location value) ∷ []) (bit_or value.flags (register_flags value.kind))
+    emission (Word (stored table is_relative location value) ∷ []) (bit_or value.flags (register_flags value.kind))
 
 -- a value as a byte: its number is asked, whatever it counts from
-abbrev pub byte : Table → ℕ → Quantity → Put
+abbrev pub byte : Table → ℕ → Quantity → Emission
 byte table location value =
-    put (Byte (stored table false location value) ∷ [])
+    emission (Byte (stored table false location value) ∷ [])
     (bit_or (bit_or value.flags (register_flags value.kind)) (byte_flags value.number))
 
 abbrev pub fixed_word : ℕ → PieceContent

@@ -1,4 +1,4 @@
--- What each operator puts, which flags its line has, and what it changes. Each directive stands by its name in the file of its group.
+-- What each operator emits, which flags its line has, and what it changes. Each directive stands by its name in the file of its group.
 -- (MACRO-11 Language Reference Manual, "General assembler directives"; PDP-11/40 Processor Handbook, "Instruction set".)
 use Rattle.std.specs.Prelude.{ℕ, ◌+◌, Option}
 use Rattle.std.specs.Int.RustNames.{bit_or}
@@ -7,7 +7,7 @@ use Rattle.m11_base.specs.Devices.{Bytes}
 use Rattle.m11_asm_rules.specs.Alignment.{gap, location_for, to_even, to_odd}
 use Rattle.m11_asm_rules.specs.Assigning.{number_flags}
 use Rattle.m11_asm_rules.specs.Changes.{Change, Counts, Exports, Keeps}
-use Rattle.m11_asm_rules.specs.Contents.{Put, nothing}
+use Rattle.m11_asm_rules.specs.Contents.{Emission, nothing}
 use Rattle.m11_asm_rules.specs.Control as control
 use Rattle.m11_asm_rules.specs.Counts as counts
 use Rattle.m11_asm_rules.specs.Exports as exports
@@ -75,45 +75,45 @@ abbrev pub operator_change : Table → Bytes → ℕ → Option ℕ → Operator
 operator_change table line start arguments operator =
     change_by table (gap (is_even operator) (location table)) (location_for (is_even operator) (location table)) line start arguments operator
 
--- ---- what is put, with the flags: under a map
+-- ---- what is emitted, with the flags: under a map
 
-abbrev pub directive_put : Map → Table → ℕ → Bytes → ℕ → Option ℕ → Directive → Put
-directive_put map table here line start arguments word.Word = storage.words map table here line start
-directive_put map table here line start arguments word.Byte = storage.bytes map table here line start
-directive_put map table here line start arguments word.Ascii = strings.ascii map table here line start
-directive_put map table here line start arguments word.Asciz = strings.asciz map table here line start
-directive_put map table here line start arguments word.Rad50 = strings.rad50 map table here line start
-directive_put map table here line start arguments word.Blkb = nothing (storage.block_flags table here line start)
-directive_put map table here line start arguments word.Blkw = nothing (storage.block_flags table here line start)
-directive_put map table here line start arguments word.Even = nothing (left_over line start)
-directive_put map table here line start arguments word.Odd = nothing (left_over line start)
-directive_put map table here line start arguments word.Limit = storage.limits line start
-directive_put map table here line start arguments word.Radix = nothing (control.radix_flags line start)
-directive_put map table here line start arguments word.Asect = nothing (sections.asect_flags line start)
-directive_put map table here line start arguments word.Csect = nothing (sections.csect_flags line start)
-directive_put map table here line start arguments word.Psect =
+abbrev pub directive_emission : Map → Table → ℕ → Bytes → ℕ → Option ℕ → Directive → Emission
+directive_emission map table here line start arguments word.Word = storage.words map table here line start
+directive_emission map table here line start arguments word.Byte = storage.bytes map table here line start
+directive_emission map table here line start arguments word.Ascii = strings.ascii map table here line start
+directive_emission map table here line start arguments word.Asciz = strings.asciz map table here line start
+directive_emission map table here line start arguments word.Rad50 = strings.rad50 map table here line start
+directive_emission map table here line start arguments word.Blkb = nothing (storage.block_flags table here line start)
+directive_emission map table here line start arguments word.Blkw = nothing (storage.block_flags table here line start)
+directive_emission map table here line start arguments word.Even = nothing (left_over line start)
+directive_emission map table here line start arguments word.Odd = nothing (left_over line start)
+directive_emission map table here line start arguments word.Limit = storage.limits line start
+directive_emission map table here line start arguments word.Radix = nothing (control.radix_flags line start)
+directive_emission map table here line start arguments word.Asect = nothing (sections.asect_flags line start)
+directive_emission map table here line start arguments word.Csect = nothing (sections.csect_flags line start)
+directive_emission map table here line start arguments word.Psect =
     nothing (sections.psect_flags table.sections line start)
-directive_put map table here line start arguments word.Globl = nothing (exports.globl_flags line start)
-directive_put map table here line start arguments word.Weak = nothing (exports.globl_flags line start)
-directive_put map table here line start arguments word.Title = nothing (exports.title_flags line start)
-directive_put map table here line start arguments word.Ident =
+directive_emission map table here line start arguments word.Globl = nothing (exports.globl_flags line start)
+directive_emission map table here line start arguments word.Weak = nothing (exports.globl_flags line start)
+directive_emission map table here line start arguments word.Title = nothing (exports.title_flags line start)
+directive_emission map table here line start arguments word.Ident =
     nothing (exports.ident_flags line start)
-directive_put map table here line start arguments word.Sbttl = nothing (control.sbttl_flags line start)
-directive_put map table here line start arguments word.Page = nothing (control.page_flags line start)
-directive_put map table here line start arguments word.List = nothing (control.list_flags line start)
-directive_put map table here line start arguments word.Nlist = nothing (control.list_flags line start)
-directive_put map table here line start arguments word.Enabl = nothing (control.enabl_flags line start)
-directive_put map table here line start arguments word.Dsabl = nothing (control.dsabl_flags line start)
-directive_put map table here line start arguments word.Narg =
+directive_emission map table here line start arguments word.Sbttl = nothing (control.sbttl_flags line start)
+directive_emission map table here line start arguments word.Page = nothing (control.page_flags line start)
+directive_emission map table here line start arguments word.List = nothing (control.list_flags line start)
+directive_emission map table here line start arguments word.Nlist = nothing (control.list_flags line start)
+directive_emission map table here line start arguments word.Enabl = nothing (control.enabl_flags line start)
+directive_emission map table here line start arguments word.Dsabl = nothing (control.dsabl_flags line start)
+directive_emission map table here line start arguments word.Narg =
     nothing (bit_or (counts.narg_flags arguments line start)
     (number_flags map table (counts.narg arguments line start)))
-directive_put map table here line start arguments word.Nchr =
+directive_emission map table here line start arguments word.Nchr =
     nothing (bit_or (counts.nchr_flags line start) (number_flags map table (counts.nchr line start)))
-directive_put map table here line start arguments word.End = nothing (exports.end_flags map table line start)
+directive_emission map table here line start arguments word.End = nothing (exports.end_flags map table line start)
 
--- what an operator puts at a location, whose name ends at a column of its line
-abbrev pub operator_put : Map → Table → ℕ → Bytes → ℕ → Option ℕ → Operator → Put
-operator_put map table here line start arguments (operators.Instruction operation) =
+-- what an operator emits at a location, whose name ends at a column of its line
+abbrev pub operator_emission : Map → Table → ℕ → Bytes → ℕ → Option ℕ → Operator → Emission
+operator_emission map table here line start arguments (operators.Instruction operation) =
     instructions.words map table here line start operation
-operator_put map table here line start arguments (operators.Directive directive) =
-    directive_put map table here line start arguments directive
+operator_emission map table here line start arguments (operators.Directive directive) =
+    directive_emission map table here line start arguments directive

@@ -2,7 +2,7 @@
 -- that one map has to serve both readings, is this project's own.)
 use Rattle.std.specs.Prelude.{◌≡◌, ◌||◌, Bool, if◌then◌else◌, List, Option, Some, None}
 use Rattle.std.specs.Option.{is_some}
-use Rattle.m11_unfold_rules.specs.Unfolding.{Given}
+use Rattle.m11_unfold_rules.specs.Unfolding.{UnfoldedLine}
 use Rattle.m11_asm_rules.specs.Definitions.{Definition, Key, firm_part, last_definition}
 use Rattle.m11_asm_rules.specs.Meanings.{Map}
 use Rattle.m11_asm_rules.specs.Placements.{table_after}
@@ -21,7 +21,7 @@ abbrev pub label_or_value_of : Key → List Definition → Option Definition
 label_or_value_of key definitions = label_or_value (last_definition key definitions)
 
 -- a map solves a source where the placement under it gives again the labels and the firm values that the map has
-abbrev pub Solves : Map → List Given → Type 0
+abbrev pub Solves : Map → List UnfoldedLine → Type 0
 Solves map lines = (key : Key)
     → label_or_value_of key map.definitions ≡ label_or_value_of key (table_after map lines).definitions
 

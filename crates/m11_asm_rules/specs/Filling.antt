@@ -1,4 +1,4 @@
--- What a line puts fills what its counter goes on by. (MACRO-11 Language Reference Manual, "Current location counter".)
+-- What a line emits fills what its counter goes on by. (MACRO-11 Language Reference Manual, "Current location counter".)
 use Rattle.std.specs.Prelude.{◌≡◌, ◌⊎◌, ℕ, ◌+◌, List, []}
 use Rattle.m11_obj_texts.specs.declared.pieces.PieceContent.{PieceContent}
 use Rattle.m11_asm_rules.specs.Alignment.{gap}
@@ -9,13 +9,13 @@ use Rattle.m11_asm_rules.specs.Operators.{is_even}
 use Rattle.m11_asm_rules.specs.Locations.{Steps}
 use Rattle.m11_asm_rules.specs.Tables.{Table, location}
 
--- the bytes that are passed over before what a line puts
+-- the bytes that are passed over before what a line emits
 abbrev pub gap_before : Table → Action → ℕ
 gap_before table NoAction = 0
 gap_before table (Assign name is_global start) = 0
 gap_before table (SetCounter start) = 0
 gap_before table (Operate operator start) = gap (is_even operator) (location table)
 
--- nothing is put, or the counter goes on by the gap and by as many bytes as are put
+-- nothing is emitted, or the counter goes on by the gap and by as many bytes as are emitted
 abbrev pub Fills : ℕ → List PieceContent → Change → Type 0
 Fills gap contents change = (contents ≡ []) ⊎ (change ≡ Counts (Steps (gap + contents_size contents)))

@@ -6,7 +6,7 @@ use Rattle.m11_unfold_arguments.specs.LeftOvers.{left_over, skip_flags}
 use Rattle.m11_base.specs.Devices.{Bytes}
 use Rattle.m11_base_instructions.specs.declared.instruction.Op.{Op}
 use Rattle.m11_asm_rules.specs.Codes.{LineContext, code, words_from}
-use Rattle.m11_asm_rules.specs.Contents.{Put, followed_by, further, with_flags}
+use Rattle.m11_asm_rules.specs.Contents.{Emission, followed_by, further, with_flags}
 use Rattle.m11_asm_rules.specs.Fields.{Fields, fields_at, forms_of}
 use Rattle.m11_asm_rules.specs.Meanings.{LocalOnly, Map, MayBeGlobal, firm_known, known_at}
 use Rattle.m11_asm_rules.specs.Operands.{instruction_size}
@@ -33,12 +33,12 @@ abbrev pub line_flags : Bytes → ℕ → Fields → ℕ
 line_flags line start fields =
     bit_or fields.flags (bit_or (skip_flags line start fields.end) (left_over line fields.end))
 
-abbrev pub assembled : LineContext → ℕ → Op → Fields → Put
+abbrev pub assembled : LineContext → ℕ → Op → Fields → Emission
 assembled line_context start operation fields =
     with_flags (line_flags line_context.line start fields)
     (followed_by (code line_context operation fields.list) (words_from line_context (further line_context.location 2) (forms_of fields.list)))
 
 -- the words of an instruction
-abbrev pub words : Map → Table → ℕ → Bytes → ℕ → Op → Put
+abbrev pub words : Map → Table → ℕ → Bytes → ℕ → Op → Emission
 words map table location line start operation =
     assembled (line_context map table location line) start operation (fields table location line start operation)

@@ -1,4 +1,4 @@
--- What a listing shows of a line, and which lines it has: the items are what a line puts, or what it assigns. (MACRO-11 Language Reference
+-- What a listing shows of a line, and which lines it has: the items are what a line emits, or what it assigns. (MACRO-11 Language Reference
 -- Manual, "Listing control directives". Which mark an item has, and that flagged lines always stand in it, is this project's own.)
 use Rattle.std.specs.Prelude.{ℕ, ◌%◌, ◌==◌, ◌&&◌, ◌||◌, not, nat_le, Bool, if◌then◌else◌, List, [], ◌∷◌, ◌++◌}
 use Rattle.std.specs.List.{flat_map}
@@ -13,16 +13,16 @@ use Rattle.m11_obj_texts.specs.declared.pieces.PieceContent.{PieceContent}
 use Rattle.m11_obj_texts.specs.declared.pieces.PieceContent.TheVariants.{Byte, Word, Limits}
 use Rattle.m11_obj_texts.specs.declared.pieces.RelocationKind.{RelocationKind}
 use Rattle.m11_obj_texts.specs.declared.pieces.RelocationKind.TheVariants as relocation
-use Rattle.m11_unfold_rules.specs.Unfolding.{Given}
+use Rattle.m11_unfold_rules.specs.Unfolding.{UnfoldedLine}
 use Rattle.m11_scan_values.specs.declared.kinds.Kind.{Kind}
 use Rattle.m11_scan_values.specs.declared.kinds.Kind.TheVariants as kind
 use Rattle.m11_scan_values.specs.Quantities.{Quantity}
 use Rattle.m11_asm_rules.specs.Changes.{Change, Numbers}
-use Rattle.m11_asm_rules.specs.Lines.{Assign, Action, Operate, NoAction, SetCounter, action, line_change, line_put, stands}
+use Rattle.m11_asm_rules.specs.Lines.{Assign, Action, Operate, NoAction, SetCounter, action, line_change, line_emission, stands}
 use Rattle.m11_asm_rules.specs.Meanings.{LocalOnly, Map, known_at}
 use Rattle.m11_asm_rules.specs.Tables.{Modes, Table, firm_table, location}
 
--- ---- what is put: the constant, by what the location is relocated by
+-- ---- what is emitted: the constant, by what the location is relocated by
 
 abbrev pub mark_of : RelocationKind → Mark
 mark_of relocation.Fixed = Unmarked
@@ -63,18 +63,18 @@ action_items map table line change (Assign name is_global start) =
 action_items map table line change (SetCounter start) = []
 action_items map table line change (Operate operator start) = number_items change
 
-abbrev pub assigned_items : Map → Table → Given → List Item
+abbrev pub assigned_items : Map → Table → UnfoldedLine → List Item
 assigned_items map table given =
     action_items map (stands table given) given.live.line.text (line_change (firm_table (stands table given)) given)
     (action given.is_own given.live.line.text)
 
--- ---- a line: what it puts, and what it assigns. No line does both
+-- ---- a line: what it emits, and what it assigns. No line does both
 
 abbrev pub items_of : List PieceContent → List Item
 items_of contents = flat_map content_items contents
 
-abbrev pub items : Map → Table → Given → List Item
-items map table given = items_of (line_put map (stands table given) given).contents ++ assigned_items map table given
+abbrev pub items : Map → Table → UnfoldedLine → List Item
+items map table given = items_of (line_emission map (stands table given) given).contents ++ assigned_items map table given
 
 -- ---- which lines stand in a listing: flagged ones; others where the level after them isn't below 0, and those of expansions by `.LIST ME`
 
@@ -82,5 +82,5 @@ abbrev pub is_shown : Modes → Bool → Bool
 is_shown modes is_expanded =
     nat_le modes.unlisted modes.listed && (not is_expanded || modes.shows_expansions)
 
-abbrev pub is_listed : Table → Given → ℕ → Bool
+abbrev pub is_listed : Table → UnfoldedLine → ℕ → Bool
 is_listed after given flags = not (flags == 0) || is_shown after.modes given.live.is_expanded

@@ -3,7 +3,7 @@
 use Rattle.std.specs.Prelude.{ℕ, ◌+◌, ◌||◌, Bool, true, false, nat_lt, if◌then◌else◌, List, [], ◌∷◌, ◌++◌, length, count_by, Option, Some, None}
 use Rattle.std.specs.List.{list_any}
 use Rattle.m11_base.specs.Rad50.{Name, is_same_name}
-use Rattle.m11_unfold_rules.specs.Unfolding.{Given}
+use Rattle.m11_unfold_rules.specs.Unfolding.{UnfoldedLine}
 use Rattle.m11_scan_values.specs.declared.names.Symbol.{Symbol}
 use Rattle.m11_scan_values.specs.declared.names.Symbol.TheVariants.{Ordinary, Local, Counter}
 use Rattle.m11_asm_rules.specs.Definitions.{Definition, Key, Named, Numbered, is_defined, registers}
@@ -45,7 +45,7 @@ abbrev pub with_uses : List SymbolUse → List Name → List Name
 with_uses [] names = names
 with_uses (symbol_use ∷ symbol_uses) names = with_uses symbol_uses (with_symbol symbol_use.symbol names)
 
-abbrev pub names_after : Map → Table → List Given → List Name → List Name
+abbrev pub names_after : Map → Table → List UnfoldedLine → List Name → List Name
 names_after map table [] names = names
 names_after map table (given ∷ lines) names =
     names_after map (after_line map table given) lines (with_uses (symbol_uses table given) names)

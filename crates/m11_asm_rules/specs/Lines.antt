@@ -1,4 +1,4 @@
--- What a line of a source does: the pieces that it puts at its locations, its flags, and what holds after it. (MACRO-11 Language Reference
+-- What a line of a source does: the pieces that it emits at its locations, its flags, and what holds after it. (MACRO-11 Language Reference
 -- Manual, "Source program format", "Operator field" and ".WORD directive". That a line which unfolding has done places nothing, is this
 -- project's own.)
 use Rattle.std.specs.Prelude.{ℕ, Bool, if◌then◌else◌, List, length, Option, Some, None}
@@ -13,12 +13,12 @@ use Rattle.m11_scan_statements.specs.Statements.{body_of, label_flags}
 use Rattle.m11_scan_statements.specs.declared.bodies.Body.{Body}
 use Rattle.m11_scan_statements.specs.declared.bodies.Body.TheVariants as body
 use Rattle.m11_scan_statements.specs.declared.spans.Span.{Span}
-use Rattle.m11_unfold_rules.specs.Unfolding.{Given}
+use Rattle.m11_unfold_rules.specs.Unfolding.{UnfoldedLine}
 use Rattle.m11_asm_rules.specs.Alignment.{gap_flags, location_for}
 use Rattle.m11_asm_rules.specs.Assigning.{assignment, assignment_flags, counter_change, counter_flags}
 use Rattle.m11_asm_rules.specs.Changes.{Change, Keeps, changed}
-use Rattle.m11_asm_rules.specs.Contents.{Put, nothing, pieces_from, with_flags}
-use Rattle.m11_asm_rules.specs.Effects.{operator_change, operator_put}
+use Rattle.m11_asm_rules.specs.Contents.{Emission, nothing, pieces_from, with_flags}
+use Rattle.m11_asm_rules.specs.Effects.{operator_change, operator_emission}
 use Rattle.m11_asm_rules.specs.Labels.{labels_flags, labels_stand}
 use Rattle.m11_asm_rules.specs.Meanings.{Map}
 use Rattle.m11_asm_rules.specs.declared.operators.Operator.{Operator}
@@ -66,39 +66,39 @@ change_of table line arguments (Assign name is_global start) = assignment line n
 change_of table line arguments (SetCounter start) = counter_change table line start
 change_of table line arguments (Operate operator start) = operator_change table line start arguments operator
 
-abbrev pub stands : Table → Given → Table
+abbrev pub stands : Table → UnfoldedLine → Table
 stands table given = labels_stand table given.live.line.text
 
-unfoldable pub line_change : Table → Given → Change
+unfoldable pub line_change : Table → UnfoldedLine → Change
 line_change firm given =
     change_of firm given.live.line.text given.arguments (action given.is_own given.live.line.text)
 
 -- the table after a line: what its operator changes is asked of firm names alone, and no map changes it
-abbrev pub after_operator : Map → Table → Given → Table
+abbrev pub after_operator : Map → Table → UnfoldedLine → Table
 after_operator map stood given =
     changed map given.live.line.text (line_change (firm_table stood) given) stood
 
-abbrev pub after_line : Map → Table → Given → Table
+abbrev pub after_line : Map → Table → UnfoldedLine → Table
 after_line map table given = after_operator map (stands table given) given
 
--- ---- what is put
+-- ---- what is emitted
 
-abbrev pub operation_put : Map → Table → Bytes → Option ℕ → Operator → ℕ → Put
-operation_put map table line arguments operator start =
+abbrev pub operation_emission : Map → Table → Bytes → Option ℕ → Operator → ℕ → Emission
+operation_emission map table line arguments operator start =
     with_flags (gap_flags (is_even operator) (location table))
-    (operator_put map table (location_for (is_even operator) (location table)) line start arguments operator)
+    (operator_emission map table (location_for (is_even operator) (location table)) line start arguments operator)
 
-abbrev pub put_by : Map → Table → Bytes → Option ℕ → Action → Put
-put_by map table line arguments NoAction = nothing 0
-put_by map table line arguments (Assign name is_global start) = nothing (assignment_flags map table line name start)
-put_by map table line arguments (SetCounter start) = nothing (counter_flags table line start)
-put_by map table line arguments (Operate operator start) = operation_put map table line arguments operator start
+abbrev pub emission_by : Map → Table → Bytes → Option ℕ → Action → Emission
+emission_by map table line arguments NoAction = nothing 0
+emission_by map table line arguments (Assign name is_global start) = nothing (assignment_flags map table line name start)
+emission_by map table line arguments (SetCounter start) = nothing (counter_flags table line start)
+emission_by map table line arguments (Operate operator start) = operation_emission map table line arguments operator start
 
-unfoldable pub line_put : Map → Table → Given → Put
-line_put map stood given =
-    put_by map stood given.live.line.text given.arguments (action given.is_own given.live.line.text)
+unfoldable pub line_emission : Map → Table → UnfoldedLine → Emission
+line_emission map stood given =
+    emission_by map stood given.live.line.text given.arguments (action given.is_own given.live.line.text)
 
--- where the operator of a line puts what it puts
+-- where the operator of a line emits what it emits
 abbrev pub put_location : Table → Action → ℕ
 put_location table NoAction = location table
 put_location table (Assign name is_global start) = location table
@@ -106,11 +106,11 @@ put_location table (SetCounter start) = location table
 put_location table (Operate operator start) = location_for (is_even operator) (location table)
 
 -- the pieces of a line
-abbrev pub pieces : Map → Table → Given → List Piece
+abbrev pub pieces : Map → Table → UnfoldedLine → List Piece
 pieces map table given =
     pieces_from (section_name (stands table given))
     (put_location (stands table given) (action given.is_own given.live.line.text))
-    (line_put map (stands table given) given).contents
+    (line_emission map (stands table given) given).contents
 
 -- ---- flags
 
@@ -120,10 +120,10 @@ known_end line (body.Operate name) = name.start
 known_end line other = length line
 
 -- M of its labels; L, A and I of the line; the flags of its operator, and what unfolding found
-abbrev pub flags : Map → Table → Given → ℕ
+abbrev pub flags : Map → Table → UnfoldedLine → ℕ
 flags map table given =
     bit_or
     (bit_or (label_flags given.live.line) (labels_flags given.live.line.text table (labels_at given.live.line.text)))
     (bit_or (skip_flags given.live.line.text (labels_end given.live.line.text)
     (known_end given.live.line.text (body_of given.live.line.text)))
-    (bit_or (line_put map (stands table given) given).flags given.notes.flags))
+    (bit_or (line_emission map (stands table given) given).flags given.remarks.flags))

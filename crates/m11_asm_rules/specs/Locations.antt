@@ -36,21 +36,21 @@ location_after moves = (last_set moves + sizes_since moves) % 65536
 -- ---- lines of all sections
 
 -- what a line of a section does to its counter
-pub record Moved : Type 0 where
+pub record SectionMove : Type 0 where
   pub section : ℕ
   pub move : Move
 
-abbrev pub in_section : ℕ → Move → Moved
+abbrev pub in_section : ℕ → Move → SectionMove
 in_section section move = record { section = section; move = move }
 
 -- what the lines of one section do
-abbrev pub moves_in : ℕ → List Moved → List Move
+abbrev pub moves_in : ℕ → List SectionMove → List Move
 moves_in section [] = []
 moves_in section (moved ∷ more) =
     if moved.section == section then moved.move ∷ moves_in section more else moves_in section more
 
 -- where the counter of a section stands after lines of all sections
-abbrev pub location_in : ℕ → List Moved → ℕ
+abbrev pub location_in : ℕ → List SectionMove → ℕ
 location_in section moves = location_after (moves_in section moves)
 
 -- the greatest location that a counter has after one of some lines, before which others stand
@@ -59,5 +59,5 @@ greatest_after before [] = 0
 greatest_after before (move ∷ moves) = max (location_after (before ++ move ∷ [])) (greatest_after (before ++ move ∷ []) moves)
 
 -- the size of a section
-abbrev pub size_in : ℕ → List Moved → ℕ
+abbrev pub size_in : ℕ → List SectionMove → ℕ
 size_in section moves = greatest_after [] (moves_in section moves)

@@ -62,12 +62,12 @@ stands_for map context table location (Local number) =
     meaning_of map (undefined context (Local number)) table (Numbered table.modes.block number)
 stands_for map context table location Counter = record { number = location; kind = kind_here table; flags = 0 }
 
-abbrev pub known_at : Map → Context → Table → ℕ → expressions.Known
+abbrev pub known_at : Map → Context → Table → ℕ → expressions.KnownSymbols
 known_at map context table location =
     expressions.known_by table.modes.radix (stands_for map context table location)
 
 -- what sizes, locations, conditions and repeats see: firm names of the lines before alone. Any other counts as 0, with U
-abbrev pub firm_known : Table → ℕ → expressions.Known
+abbrev pub firm_known : Table → ℕ → expressions.KnownSymbols
 firm_known table location = known_at empty_map LocalOnly (firm_table table) location
 
 -- ---- which symbols are firm

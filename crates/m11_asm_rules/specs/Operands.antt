@@ -7,7 +7,7 @@
 --   #n     immediate: 27            @#n         absolute: 37
 --   A      relative: 67             @A          relative deferred: 77
 use Rattle.std.specs.Prelude.{ℕ, ◌+◌, ◌*◌, ◌&&◌, not, Bool, true, false, if◌then◌else◌, List, [], ◌∷◌}
-use Rattle.m11_unfold_arguments.specs.Expressions.{Known, value_at}
+use Rattle.m11_unfold_arguments.specs.Expressions.{KnownSymbols, value_at}
 use Rattle.m11_base.specs.Devices.{Bytes}
 use Rattle.m11_base_instructions.specs.declared.operand.Mode.{Mode}
 use Rattle.m11_base_instructions.specs.declared.operand.Mode.TheVariants as mode
@@ -95,24 +95,24 @@ bracketed is_deferred line register =
     bracketed_by is_deferred register (expression_end line register) (tokens_from line (expression_end line register))
 
 -- an expression without `(`: a register, or an address
-abbrev pub plain : Known → Bool → Bytes → ℕ → Form
+abbrev pub plain : KnownSymbols → Bool → Bytes → ℕ → Form
 plain firm is_deferred line start =
     if is_register (value_at firm line start).kind then InRegister (direct is_deferred) start
     else AfterCounter (indexed is_deferred) start
 
 -- an expression before some tokens: with `(R)` it is an index
-abbrev pub expression_by : Known → Bool → Bytes → ℕ → List Lexeme → Read
+abbrev pub expression_by : KnownSymbols → Bool → Bytes → ℕ → List Lexeme → Read
 expression_by firm is_deferred line start [] = read (plain firm is_deferred line start) (expression_end line start) 0
 expression_by firm is_deferred line start (token ∷ tokens) =
     if is_open token.sort then closed (Indexed (indexed is_deferred) token.end start) line token.end
     else read (plain firm is_deferred line start) (expression_end line start) 0
 
-abbrev pub expression : Known → Bool → Bytes → ℕ → Read
+abbrev pub expression : KnownSymbols → Bool → Bytes → ℕ → Read
 expression firm is_deferred line start =
     expression_by firm is_deferred line start (tokens_from line (expression_end line start))
 
 -- `-` directly before `(`, but for blanks; any other `-` is a sign
-abbrev pub after_minus : Known → Bool → Bytes → ℕ → ℕ → List Lexeme → Read
+abbrev pub after_minus : KnownSymbols → Bool → Bytes → ℕ → ℕ → List Lexeme → Read
 after_minus firm is_deferred line start end [] = expression firm is_deferred line start
 after_minus firm is_deferred line start end (token ∷ tokens) =
     if is_open token.sort && not (skipped_between line end token.start)
@@ -120,7 +120,7 @@ after_minus firm is_deferred line start end (token ∷ tokens) =
     else expression firm is_deferred line start
 
 -- what begins with a token, after `@` or without it
-abbrev pub begun_by : Known → Bool → Bytes → ℕ → Sort → ℕ → List Lexeme → Read
+abbrev pub begun_by : KnownSymbols → Bool → Bytes → ℕ → Sort → ℕ → List Lexeme → Read
 begun_by firm is_deferred line start sorts.NumberSign end tokens =
     read (AfterCounter (autoincrement is_deferred) end) (expression_end line end) 0
 begun_by firm is_deferred line start sorts.Open end tokens = bracketed is_deferred line end
@@ -128,21 +128,21 @@ begun_by firm is_deferred line start sorts.Minus end tokens = after_minus firm i
 begun_by firm is_deferred line start sort end tokens = expression firm is_deferred line start
 
 -- after `@`
-abbrev pub deferred_by : Known → Bytes → ℕ → List Lexeme → Read
+abbrev pub deferred_by : KnownSymbols → Bytes → ℕ → List Lexeme → Read
 deferred_by firm line start [] = expression firm true line start
 deferred_by firm line start (token ∷ tokens) = begun_by firm true line start token.sort token.end tokens
 
-abbrev pub operand_by : Known → Bytes → ℕ → Sort → ℕ → List Lexeme → Read
+abbrev pub operand_by : KnownSymbols → Bytes → ℕ → Sort → ℕ → List Lexeme → Read
 operand_by firm line start sorts.At end tokens = deferred_by firm line end tokens
 operand_by firm line start sorts.Comma end tokens = read Absent start flag_A
 operand_by firm line start sort end tokens = begun_by firm false line start sort end tokens
 
-abbrev pub operand_in : Known → Bytes → ℕ → List Lexeme → Read
+abbrev pub operand_in : KnownSymbols → Bytes → ℕ → List Lexeme → Read
 operand_in firm line start [] = read Absent start flag_A
 operand_in firm line start (token ∷ tokens) = operand_by firm line start token.sort token.end tokens
 
 -- the operand at a column of a line. Whether it is a register is asked of firm names: others count as 0
-abbrev pub operand_at : Known → Bytes → ℕ → Read
+abbrev pub operand_at : KnownSymbols → Bytes → ℕ → Read
 operand_at firm line start = operand_in firm line start (tokens_from line start)
 
 -- the size of an instruction: its own word, and those of its operands

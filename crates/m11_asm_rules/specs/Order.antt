@@ -1,7 +1,7 @@
 -- Pieces that lie one after the other. (MACRO-11 Language Reference Manual, "Current location counter".)
 use Rattle.std.specs.Prelude.{ℕ, ◌+◌, ◌≤◌, ◌==◌, Bool, true, false, List, [], ◌∷◌, ◌++◌, ⊤}
 use Rattle.m11_obj_texts.specs.declared.pieces.Piece.{Piece}
-use Rattle.m11_unfold_rules.specs.Unfolding.{Given}
+use Rattle.m11_unfold_rules.specs.Unfolding.{UnfoldedLine}
 use Rattle.m11_asm_rules.specs.Contents.{content_size}
 use Rattle.m11_asm_rules.specs.Lines.{after_line, pieces, stands}
 use Rattle.m11_asm_rules.specs.Meanings.{Map}
@@ -17,7 +17,7 @@ pieces_if true pieces = pieces
 pieces_if false pieces = []
 
 -- the pieces of lines in the section of a number, in the order of the lines
-abbrev pub pieces_in : ℕ → Map → Table → List Given → List Piece
+abbrev pub pieces_in : ℕ → Map → Table → List UnfoldedLine → List Piece
 pieces_in section map table [] = []
 pieces_in section map table (given ∷ lines) =
     pieces_if ((stands table given).modes.section == section) (pieces map table given)

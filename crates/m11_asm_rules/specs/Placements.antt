@@ -3,40 +3,40 @@
 -- the end, is this project's own.)
 use Rattle.std.specs.Prelude.{ℕ, List, [], ◌∷◌}
 use Rattle.m11_obj_texts.specs.declared.pieces.Piece.{Piece}
-use Rattle.m11_unfold_rules.specs.Unfolding.{Given}
+use Rattle.m11_unfold_rules.specs.Unfolding.{UnfoldedLine}
 use Rattle.m11_asm_rules.specs.Lines.{after_line, flags, pieces}
 use Rattle.m11_asm_rules.specs.Meanings.{Map, empty_map, map_of}
 use Rattle.m11_asm_rules.specs.Tables.{Table, first_table}
 
 -- the table after some lines
-abbrev pub after_lines : Map → Table → List Given → Table
+abbrev pub after_lines : Map → Table → List UnfoldedLine → Table
 after_lines map table [] = table
 after_lines map table (given ∷ lines) = after_lines map (after_line map table given) lines
 
 -- the table after the first lines of a source
-abbrev pub table_after : Map → List Given → Table
+abbrev pub table_after : Map → List UnfoldedLine → Table
 table_after map lines = after_lines map first_table lines
 
 -- the map of a source: what its placement under the empty map gives its names in the end
-abbrev pub program_map : List Given → Map
+abbrev pub program_map : List UnfoldedLine → Map
 program_map lines = map_of (table_after empty_map lines)
 
 -- ---- what each line gives
 
 -- a placed line: the table before it, its pieces and its flags
-pub record Placed : Type 0 where
+pub record LinePlacement : Type 0 where
   pub before : Table
   pub pieces : List Piece
   pub flags : ℕ
 
-abbrev pub placed : Map → Table → Given → Placed
+abbrev pub placed : Map → Table → UnfoldedLine → LinePlacement
 placed map table given =
     record { before = table; pieces = pieces map table given; flags = flags map table given }
 
-abbrev pub placed_from : Map → Table → List Given → List Placed
+abbrev pub placed_from : Map → Table → List UnfoldedLine → List LinePlacement
 placed_from map table [] = []
 placed_from map table (given ∷ lines) = placed map table given ∷ placed_from map (after_line map table given) lines
 
 -- the placed lines of a source
-abbrev pub placement : Map → List Given → List Placed
+abbrev pub placement : Map → List UnfoldedLine → List LinePlacement
 placement map lines = placed_from map first_table lines

@@ -1,10 +1,10 @@
--- What a linker does to the values that a line puts at its locations. (MACRO-11 Language Reference Manual, "Relocation and linking"; RT-11
+-- What a linker does to the values that a line emits at its locations. (MACRO-11 Language Reference Manual, "Relocation and linking"; RT-11
 -- Volume and File Formats Manual, "Object file format", RLD block. Which command stands for which value is this project's own.)
 use Rattle.std.specs.Prelude.{ℕ, ◌+◌, ◌-◌, ◌%◌, not, Bool, true, false, if◌then◌else◌}
 use Rattle.m11_base.specs.Rad50.{Name, is_same_name}
 use Rattle.m11_obj_texts.specs.declared.pieces.RelocationKind.{RelocationKind}
 use Rattle.m11_obj_texts.specs.declared.pieces.RelocationKind.TheVariants as relocation
-use Rattle.m11_obj_texts.specs.declared.pieces.Stored.{Stored}
+use Rattle.m11_obj_texts.specs.declared.pieces.StoredConstant.{StoredConstant}
 use Rattle.m11_scan_values.specs.declared.kinds.Kind.{Kind}
 use Rattle.m11_scan_values.specs.declared.kinds.Kind.TheVariants as kind
 use Rattle.m11_scan_values.specs.Quantities.{Quantity}
@@ -66,17 +66,17 @@ abbrev pub constant : Bool → RelocationKind → ℕ → ℕ → ℕ
 constant true relocation.Fixed location number = distance location number
 constant is_relative other location number = number
 
-abbrev pub stored_as : Bool → RelocationKind → ℕ → ℕ → Stored
+abbrev pub stored_as : Bool → RelocationKind → ℕ → ℕ → StoredConstant
 stored_as is_relative kind location number =
     record { constant = constant is_relative kind location number; kind = kind }
 
 -- what stands at a location for a value
-abbrev pub stored : Table → Bool → ℕ → Quantity → Stored
+abbrev pub stored : Table → Bool → ℕ → Quantity → StoredConstant
 stored table is_relative location value =
     stored_as is_relative (relocation_of table is_relative value.kind) location value.number
 
 -- a number that stands as it is
-abbrev pub fixed : ℕ → Stored
+abbrev pub fixed : ℕ → StoredConstant
 fixed number = record { constant = number; kind = relocation.Fixed }
 
 -- whether a value counts from the section of the line: in one with ABS every absolute number does

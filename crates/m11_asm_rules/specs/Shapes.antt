@@ -3,7 +3,7 @@ use Rattle.std.specs.Prelude.{ℕ, List, map}
 use Rattle.m11_base.specs.Rad50.{Name}
 use Rattle.m11_obj_texts.specs.declared.pieces.Piece.{Piece}
 use Rattle.m11_asm_rules.specs.Contents.{content_size}
-use Rattle.m11_asm_rules.specs.Placements.{Placed}
+use Rattle.m11_asm_rules.specs.Placements.{LinePlacement}
 
 -- a piece by its section, its location and its size
 pub record Shape : Type 0 where
@@ -15,5 +15,5 @@ abbrev pub shape_of : Piece → Shape
 shape_of piece = record { section = piece.section; location = piece.location; size = content_size piece.content }
 
 -- the shapes of the pieces of a placed line
-abbrev pub shapes_in : Placed → List Shape
+abbrev pub shapes_in : LinePlacement → List Shape
 shapes_in line = map shape_of line.pieces

@@ -5,7 +5,7 @@ use Rattle.std.specs.Prelude.{ℕ, List, [], ◌∷◌, map, Option, Some, None}
 use Rattle.std.specs.List.{flat_map}
 use Rattle.m11_base.specs.Devices.{Bytes}
 use Rattle.m11_base.specs.Rad50.{Name}
-use Rattle.m11_unfold_rules.specs.Unfolding.{Given}
+use Rattle.m11_unfold_rules.specs.Unfolding.{UnfoldedLine}
 use Rattle.m11_scan_values.specs.Quantities.{Quantity}
 use Rattle.m11_asm_rules.specs.Elements.{listed_names}
 use Rattle.m11_asm_rules.specs.Exports.{ident, title, transfer}
@@ -31,7 +31,7 @@ directed_in (Operate operator start) = directed_by operator start
 directed_in other = None
 
 -- the directive of a line, if it has one
-abbrev pub directed : Given → Option Directed
+abbrev pub directed : UnfoldedLine → Option Directed
 directed given = directed_in (action given.is_own given.live.line.text)
 
 -- the last of some lines that gives something
@@ -53,10 +53,10 @@ abbrev pub title_in : Bytes → Option Directed → Option Name
 title_in line (Some found) = title_by line found.directive found.start
 title_in line None = None
 
-abbrev pub line_title : Given → Option Name
+abbrev pub line_title : UnfoldedLine → Option Name
 line_title given = title_in given.live.line.text (directed given)
 
-abbrev pub source_title : List Given → Option Name
+abbrev pub source_title : List UnfoldedLine → Option Name
 source_title lines = last_of (map line_title lines)
 
 abbrev pub ident_by : Bytes → Directive → ℕ → Option Name
@@ -67,10 +67,10 @@ abbrev pub ident_in : Bytes → Option Directed → Option Name
 ident_in line (Some found) = ident_by line found.directive found.start
 ident_in line None = None
 
-abbrev pub line_identification : Given → Option Name
+abbrev pub line_identification : UnfoldedLine → Option Name
 line_identification given = ident_in given.live.line.text (directed given)
 
-abbrev pub source_identification : List Given → Option Name
+abbrev pub source_identification : List UnfoldedLine → Option Name
 source_identification lines = last_of (map line_identification lines)
 
 -- ---- names that some line makes weak
@@ -83,10 +83,10 @@ abbrev pub weak_in : Bytes → Option Directed → List Name
 weak_in line (Some found) = weak_by line found.directive found.start
 weak_in line None = []
 
-abbrev pub line_weak_names : Given → List Name
+abbrev pub line_weak_names : UnfoldedLine → List Name
 line_weak_names given = weak_in given.live.line.text (directed given)
 
-abbrev pub weak_names : List Given → List Name
+abbrev pub weak_names : List UnfoldedLine → List Name
 weak_names lines = flat_map line_weak_names lines
 
 -- ---- where the program begins: the expression of the `.END` that became live, as the first pass finds it
@@ -99,15 +99,15 @@ abbrev pub transfer_in : Map → Table → Bytes → Option Directed → Option 
 transfer_in map table line (Some found) = transfer_by map table line found.directive found.start
 transfer_in map table line None = None
 
-abbrev pub line_transfer : Map → Table → Given → Option Quantity
+abbrev pub line_transfer : Map → Table → UnfoldedLine → Option Quantity
 line_transfer map table given = transfer_in map (stands table given) given.live.line.text (directed given)
 
-abbrev pub transfer_after : Map → Table → List Given → Option Quantity
+abbrev pub transfer_after : Map → Table → List UnfoldedLine → Option Quantity
 transfer_after map table [] = None
 transfer_after map table (given ∷ lines) =
     last_or (transfer_after map (after_line map table given) lines) (line_transfer map table given)
 
-abbrev pub source_transfer : List Given → Option Quantity
+abbrev pub source_transfer : List UnfoldedLine → Option Quantity
 source_transfer lines = transfer_after empty_map first_table lines
 
 -- ---- flags of an address that names decide, which are the first pass's, at the line of `.END`

@@ -8,7 +8,7 @@ use Rattle.m11_unfold_arguments.specs.LeftOvers.{left_over, skip_flags}
 use Rattle.m11_base.specs.Devices.{Bytes}
 use Rattle.m11_obj_texts.specs.declared.pieces.PieceContent.TheVariants.{Limits}
 use Rattle.m11_scan.specs.Ends.{expression_end}
-use Rattle.m11_asm_rules.specs.Contents.{Put, byte, element_value, followed_by, further, nothing, put, with_flags, word}
+use Rattle.m11_asm_rules.specs.Contents.{Emission, byte, element_value, followed_by, further, nothing, emission, with_flags, word}
 use Rattle.m11_asm_rules.specs.Elements.{Elements, elements_at}
 use Rattle.m11_asm_rules.specs.Meanings.{Map, MayBeGlobal, firm_known, known_at}
 use Rattle.m11_asm_rules.specs.Tables.{Table}
@@ -23,17 +23,17 @@ abbrev pub word_size : Bytes → ℕ → ℕ
 word_size line start = length (elements_at line start).columns * 2
 
 -- each element has its own location, which is `.` in it
-abbrev pub words_from : Map → Table → Bytes → ℕ → List ℕ → Put
+abbrev pub words_from : Map → Table → Bytes → ℕ → List ℕ → Emission
 words_from map table line location [] = nothing 0
 words_from map table line location (start ∷ starts) =
     followed_by (word table false location (element_value (known_at map MayBeGlobal table location) line start))
     (words_from map table line (further location 2) starts)
 
-abbrev pub words_of : Map → Table → ℕ → Bytes → ℕ → Elements → Put
+abbrev pub words_of : Map → Table → ℕ → Bytes → ℕ → Elements → Emission
 words_of map table location line start elements =
     with_flags (end_flags line start elements.end) (words_from map table line location elements.columns)
 
-abbrev pub words : Map → Table → ℕ → Bytes → ℕ → Put
+abbrev pub words : Map → Table → ℕ → Bytes → ℕ → Emission
 words map table location line start = words_of map table location line start (elements_at line start)
 
 -- ---- .BYTE e,..
@@ -41,17 +41,17 @@ words map table location line start = words_of map table location line start (el
 abbrev pub byte_size : Bytes → ℕ → ℕ
 byte_size line start = length (elements_at line start).columns
 
-abbrev pub bytes_from : Map → Table → Bytes → ℕ → List ℕ → Put
+abbrev pub bytes_from : Map → Table → Bytes → ℕ → List ℕ → Emission
 bytes_from map table line location [] = nothing 0
 bytes_from map table line location (start ∷ starts) =
     followed_by (byte table location (element_value (known_at map MayBeGlobal table location) line start))
     (bytes_from map table line (further location 1) starts)
 
-abbrev pub bytes_of : Map → Table → ℕ → Bytes → ℕ → Elements → Put
+abbrev pub bytes_of : Map → Table → ℕ → Bytes → ℕ → Elements → Emission
 bytes_of map table location line start elements =
     with_flags (end_flags line start elements.end) (bytes_from map table line location elements.columns)
 
-abbrev pub bytes : Map → Table → ℕ → Bytes → ℕ → Put
+abbrev pub bytes : Map → Table → ℕ → Bytes → ℕ → Emission
 bytes map table location line start = bytes_of map table location line start (elements_at line start)
 
 -- ---- .LIMIT
@@ -59,8 +59,8 @@ bytes map table location line start = bytes_of map table location line start (el
 abbrev pub limit_size : ℕ
 limit_size = 4
 
-abbrev pub limits : Bytes → ℕ → Put
-limits line start = put (Limits ∷ []) (left_over line start)
+abbrev pub limits : Bytes → ℕ → Emission
+limits line start = emission (Limits ∷ []) (left_over line start)
 
 -- ---- .BLKB e, .BLKW e: 1 without e, which is asked of firm names
 

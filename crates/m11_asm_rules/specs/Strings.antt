@@ -4,7 +4,7 @@
 use Rattle.std.specs.Prelude.{ℕ, zero, suc, ◌+◌, ◌-◌, ◌*◌, ◌/◌, ◌%◌, nat_lt, Bool, true, false, if◌then◌else◌, List, [], ◌∷◌, ◌++◌, length, map, Option, Some, None, unwrap_or, is_none}
 use Rattle.std.specs.List.{list_any}
 use Rattle.std.specs.Int.RustNames.{bit_or}
-use Rattle.m11_unfold_arguments.specs.Expressions.{Known, value_at}
+use Rattle.m11_unfold_arguments.specs.Expressions.{KnownSymbols, value_at}
 use Rattle.m11_unfold_arguments.specs.LeftOvers.{left_over, skip_flags}
 use Rattle.m11_base.specs.Devices.{Bytes}
 use Rattle.m11_base.specs.Rad50.{code_of}
@@ -18,7 +18,7 @@ use Rattle.m11_scan_statements.specs.declared.parts.PartKind.{PartKind}
 use Rattle.m11_scan_statements.specs.declared.parts.PartKind.TheVariants.{Text, Expression}
 use Rattle.m11_scan_values.specs.Operations.{absence}
 use Rattle.m11_scan_values.specs.Quantities.{Quantity}
-use Rattle.m11_asm_rules.specs.Contents.{Put, byte, fixed_byte, fixed_word, followed_by, further, nothing, put, with_flags}
+use Rattle.m11_asm_rules.specs.Contents.{Emission, byte, fixed_byte, fixed_word, followed_by, further, nothing, emission, with_flags}
 use Rattle.m11_asm_rules.specs.Meanings.{LocalOnly, Map, MayBeGlobal, known_at}
 use Rattle.m11_asm_rules.specs.Tables.{Table}
 
@@ -94,24 +94,24 @@ abbrev pub asciz_size : Bytes → ℕ → ℕ
 asciz_size line start = ascii_size line start + 1
 
 -- an expression is a byte as an element of `.BYTE` is, and `.` in it is its own location
-abbrev pub part_bytes : Map → Table → ℕ → Bytes → Part → PartKind → Put
-part_bytes known table location line part Text = put (map fixed_byte (part_text line part)) 0
+abbrev pub part_bytes : Map → Table → ℕ → Bytes → Part → PartKind → Emission
+part_bytes known table location line part Text = emission (map fixed_byte (part_text line part)) 0
 part_bytes known table location line part Expression =
     byte table location (value_at (known_at known MayBeGlobal table location) line part.inside.start)
 
-abbrev pub parts_bytes : Map → Table → ℕ → Bytes → List Part → Put
+abbrev pub parts_bytes : Map → Table → ℕ → Bytes → List Part → Emission
 parts_bytes known table location line [] = nothing 0
 parts_bytes known table location line (part ∷ parts) =
     followed_by (part_bytes known table location line part part.kind)
     (parts_bytes known table (further location (part_size line part part.kind)) line parts)
 
-abbrev pub ascii : Map → Table → ℕ → Bytes → ℕ → Put
+abbrev pub ascii : Map → Table → ℕ → Bytes → ℕ → Emission
 ascii known table location line start =
     with_flags (text_flags line start (parts_at line start))
     (parts_bytes known table location line (parts_at line start).list)
 
-abbrev pub asciz : Map → Table → ℕ → Bytes → ℕ → Put
-asciz known table location line start = followed_by (ascii known table location line start) (put (fixed_byte 0 ∷ []) 0)
+abbrev pub asciz : Map → Table → ℕ → Bytes → ℕ → Emission
+asciz known table location line start = followed_by (ascii known table location line start) (emission (fixed_byte 0 ∷ []) 0)
 
 -- ---- .RAD50
 
@@ -137,7 +137,7 @@ value_codes value = record {
   flags = bit_or (bit_or value.flags (absence value.kind)) (code_flags value.number);
 }
 
-abbrev pub part_codes : Known → Bytes → Part → PartKind → Codes
+abbrev pub part_codes : KnownSymbols → Bytes → Part → PartKind → Codes
 part_codes known line part Text =
     record { codes = map character_code (part_text line part); flags = character_flags (part_text line part) }
 part_codes known line part Expression = value_codes (value_at known line part.inside.start)
@@ -145,7 +145,7 @@ part_codes known line part Expression = value_codes (value_at known line part.in
 abbrev pub codes_then : Codes → Codes → Codes
 codes_then first next = record { codes = first.codes ++ next.codes; flags = bit_or first.flags next.flags }
 
-abbrev pub parts_codes : Known → Bytes → List Part → Codes
+abbrev pub parts_codes : KnownSymbols → Bytes → List Part → Codes
 parts_codes known line [] = record { codes = []; flags = 0 }
 parts_codes known line (part ∷ parts) =
     codes_then (part_codes known line part part.kind) (parts_codes known line parts)
@@ -165,10 +165,10 @@ packed_words (first ∷ (second ∷ (third ∷ codes))) = packed first second th
 abbrev pub rad50_size : Bytes → ℕ → ℕ
 rad50_size line start = (parts_size line (parts_at line start).list + 2) / 3 * 2
 
-abbrev pub rad50_words : ℕ → Codes → Put
-rad50_words flags found = put (packed_words found.codes) (bit_or flags found.flags)
+abbrev pub rad50_words : ℕ → Codes → Emission
+rad50_words flags found = emission (packed_words found.codes) (bit_or flags found.flags)
 
-abbrev pub rad50 : Map → Table → ℕ → Bytes → ℕ → Put
+abbrev pub rad50 : Map → Table → ℕ → Bytes → ℕ → Emission
 rad50 known table location line start =
     rad50_words (text_flags line start (parts_at line start))
     (parts_codes (known_at known LocalOnly table location) line (parts_at line start).list)

@@ -12,7 +12,7 @@ use Rattle.m11_scan_statements.specs.declared.labels.LabelKind.TheVariants as la
 use Rattle.m11_scan_statements.specs.declared.parts.Part.{Part}
 use Rattle.m11_scan_statements.specs.declared.parts.PartKind.{PartKind}
 use Rattle.m11_scan_statements.specs.declared.parts.PartKind.TheVariants.{Text, Expression}
-use Rattle.m11_unfold_rules.specs.Unfolding.{Given}
+use Rattle.m11_unfold_rules.specs.Unfolding.{UnfoldedLine}
 use Rattle.m11_scan_values.specs.declared.names.Symbol.{Symbol}
 use Rattle.m11_scan_values.specs.declared.names.Symbol.TheVariants.{Ordinary, Local}
 use Rattle.m11_asm_rules.specs.Alignment.{location_for}
@@ -21,7 +21,7 @@ use Rattle.m11_asm_rules.specs.Changes.{Change, Numbers}
 use Rattle.m11_asm_rules.specs.Counts as counts
 use Rattle.m11_asm_rules.specs.Elements.{elements_at, listed_names}
 use Rattle.m11_asm_rules.specs.declared.fields.Field.{Field}
-use Rattle.m11_asm_rules.specs.declared.fields.Field.TheVariants.{Formed, Registered, Targeted, Numbered, Missing}
+use Rattle.m11_asm_rules.specs.declared.fields.Field.TheVariants.{Operand, Register, Target, Number, Missing}
 use Rattle.m11_asm_rules.specs.Instructions as instructions
 use Rattle.m11_asm_rules.specs.Labels.{label_name}
 use Rattle.m11_asm_rules.specs.Lines.{Assign, Action, Operate, NoAction, SetCounter, action, stands}
@@ -77,10 +77,10 @@ form_uses line (Unindexed start) = read_at LocalOnly line start
 form_uses line (AfterCounter kind start) = read_at MayBeGlobal line start
 
 abbrev pub field_uses : Bytes → Field → List SymbolUse
-field_uses line (Formed form) = form_uses line form
-field_uses line (Registered start) = read_at LocalOnly line start
-field_uses line (Targeted start) = read_at LocalOnly line start
-field_uses line (Numbered start) = read_at LocalOnly line start
+field_uses line (Operand form) = form_uses line form
+field_uses line (Register start) = read_at LocalOnly line start
+field_uses line (Target start) = read_at LocalOnly line start
+field_uses line (Number start) = read_at LocalOnly line start
 field_uses line Missing = []
 
 -- ---- directives
@@ -129,8 +129,8 @@ action_uses table line arguments (SetCounter start) = read_at LocalOnly line sta
 action_uses table line arguments (Operate operator start) = operator_uses table line start arguments operator
 
 -- the symbols that a line uses: its labels, those that unfolding read, and those of its operator
-abbrev pub symbol_uses : Table → Given → List SymbolUse
+abbrev pub symbol_uses : Table → UnfoldedLine → List SymbolUse
 symbol_uses table given =
     flat_map (label_uses given.live.line.text) (labels_at given.live.line.text)
-    ++ map (symbol_use LocalOnly) given.notes.symbols
+    ++ map (symbol_use LocalOnly) given.remarks.symbols
     ++ action_uses (stands table given) given.live.line.text given.arguments (action given.is_own given.live.line.text)

@@ -6,7 +6,7 @@ use Rattle.m11_scan.specs.declared.radix.Radix.TheVariants.{Octal}
 use Rattle.m11_scan_values.specs.declared.kinds.Kind.{Kind}
 pub use Rattle.m11_asm_rules.specs.declared.modes.Modes.{Modes}
 use Rattle.m11_asm_rules.specs.Definitions.{Definition, Key, firm_parts, registers}
-use Rattle.m11_asm_rules.specs.Locations.{Moved, location_in}
+use Rattle.m11_asm_rules.specs.Locations.{SectionMove, location_in}
 use Rattle.m11_asm_rules.specs.Sections.{Section, first_number, first_sections, location_kind, numbered}
 
 abbrev pub first_modes : Modes
@@ -27,7 +27,7 @@ pub record Table : Type 0 where
   pub globals : List Name
   -- sections by their numbers, and what lines did to their counters
   pub sections : List Section
-  pub moves : List Moved
+  pub moves : List SectionMove
   pub modes : Modes
 
 -- before the first line

@@ -2,23 +2,23 @@
 -- Reference Manual, "Macro directives", "Conditional assembly directives" and "Symbols and expressions". That conditions and repeats ask
 -- firm names alone is this project's own.)
 use Rattle.std.specs.Prelude.{◌≡◌, List, [], ◌∷◌, ⊤}
-use Rattle.m11_unfold_arguments.specs.Expressions.{Known}
+use Rattle.m11_unfold_arguments.specs.Expressions.{KnownSymbols}
 use Rattle.m11_scan_lines.specs.Line.{SourceLine}
 use Rattle.m11_unfold_rules.specs.Stages.{Stage}
-use Rattle.m11_unfold_rules.specs.Unfolding.{Given, Unfolds}
+use Rattle.m11_unfold_rules.specs.Unfolding.{UnfoldedLine, Unfolds}
 use Rattle.m11_asm_rules.specs.Lines.{after_line, stands}
 use Rattle.m11_asm_rules.specs.Meanings.{Map, firm_known}
 use Rattle.m11_asm_rules.specs.Tables.{Table, first_table, location}
 
 -- what conditions, repeats and macros know when the labels of their line are defined
-abbrev pub known_after_labels : Table → Known
+abbrev pub known_after_labels : Table → KnownSymbols
 known_after_labels stood = firm_known stood (location stood)
 
 -- each line knows what the lines before it say
-abbrev pub KnowLinesBefore : Map → Table → List Given → Type 0
+abbrev pub KnowLinesBefore : Map → Table → List UnfoldedLine → Type 0
 KnowLinesBefore map table [] = ⊤
 KnowLinesBefore map table (given ∷ lines) = (given.known ≡ known_after_labels (stands table given)) × KnowLinesBefore map (after_line map table given) lines
 
 -- the live lines of a source, up to a stage of its unfolding, placed under a map
-abbrev pub AreLines : Map → List SourceLine → List Given → Stage → Type 0
+abbrev pub AreLines : Map → List SourceLine → List UnfoldedLine → Stage → Type 0
 AreLines map source lines stage = Unfolds source lines stage × KnowLinesBefore map first_table lines

@@ -19,13 +19,13 @@ pub enum FieldKind {
 #[derive(Clone, Copy, Default)]
 pub enum Field {
     /// An operand, by its form.
-    Formed(Form),
+    Operand(Form),
     /// A register: the column where its expression begins.
-    Registered(u8),
+    Register(u8),
     /// A target: the column where its expression begins.
-    Targeted(u8),
+    Target(u8),
     /// A number: the column where its expression begins.
-    Numbered(u8),
+    Number(u8),
     /// Nothing.
     #[default]
     Missing,

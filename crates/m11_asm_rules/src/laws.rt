@@ -9,39 +9,39 @@ ghost use Rattle.m11_asm_rules.specs.Definitions.{Key, firm_part};
 ghost use Rattle.m11_asm_rules.specs.Equation.{AreAlike, Solves};
 ghost use Rattle.m11_asm_rules.specs.Filling.{Fills, gap_before};
 ghost use Rattle.m11_asm_rules.specs.Labels.{labels_stand};
-ghost use Rattle.m11_asm_rules.specs.Lines.{action, line_change, line_put};
+ghost use Rattle.m11_asm_rules.specs.Lines.{action, line_change, line_emission};
 ghost use Rattle.m11_asm_rules.specs.Meanings.{AreFirm, Context, Map, firm_known, known_at};
 ghost use Rattle.m11_asm_rules.specs.Operands.{words_of};
 ghost use Rattle.m11_asm_rules.specs.declared.operands.Form.{Form};
 ghost use Rattle.m11_asm_rules.specs.Order.{LieFrom, pieces_in};
 ghost use Rattle.m11_asm_rules.specs.Placements.{placement, program_map, table_after};
-ghost use Rattle.m11_asm_rules.specs.Locations.{Goes, Move, Moved, Steps, has_set, in_section, location_in, moves_in, sizes_since};
+ghost use Rattle.m11_asm_rules.specs.Locations.{Goes, Move, SectionMove, Steps, has_set, in_section, location_in, moves_in, sizes_since};
 ghost use Rattle.m11_asm_rules.specs.Shapes.{shapes_in};
 ghost use Rattle.m11_asm_rules.specs.Strings.{parts_at};
 ghost use Rattle.m11_asm_rules.specs.Tables.{Table, firm_table, first_table, location};
 ghost use Rattle.m11_asm_rules.specs.Unfolded.{AreLines};
 ghost use Rattle.m11_scan_statements.specs.Parts.{AreParts};
 ghost use Rattle.m11_unfold_rules.specs.Stages.{Stage};
-ghost use Rattle.m11_unfold_rules.specs.Unfolding.{Given};
+ghost use Rattle.m11_unfold_rules.specs.Unfolding.{UnfoldedLine};
 
 /// After a line that goes on, the counter of its section stands as many bytes further, modulo 65536.
 #[tactic(auto, using(crate::proofs::Counters::steps_on))]
 pub fn a_line_steps_the_counter()
-    ensures { (section size : ℕ) (moves : List Moved) → location_in section (moves ++ in_section section (Steps size) ∷ [])
+    ensures { (section size : ℕ) (moves : List SectionMove) → location_in section (moves ++ in_section section (Steps size) ∷ [])
         ≡ (location_in section moves + size) % 65536 }
 {}
 
 /// After a line that sets the counter of its section, it stands at that location, whatever stood before.
 #[tactic(auto, using(crate::proofs::Counters::goes_there))]
 pub fn a_line_sets_the_counter()
-    ensures { (section location : ℕ) (moves : List Moved) → location_in section (moves ++ in_section section (Goes location) ∷ [])
+    ensures { (section location : ℕ) (moves : List SectionMove) → location_in section (moves ++ in_section section (Goes location) ∷ [])
         ≡ location % 65536 }
 {}
 
 /// A line leaves the counters of other sections where they stand.
 #[tactic(auto, using(crate::proofs::Counters::stays_there))]
 pub fn other_sections_keep_their_counter()
-    ensures { (section other : ℕ) (move : Move) (moves : List Moved) → other ≢ section
+    ensures { (section other : ℕ) (move : Move) (moves : List SectionMove) → other ≢ section
         → location_in section (moves ++ in_section other move ∷ []) ≡ location_in section moves }
 {}
 
@@ -73,39 +73,39 @@ pub fn firm_assignments_are_those_of_every_map()
 /// Any two maps place live lines alike: after them the tables are the same as far as they are firm, so sections, the locations of their
 /// counters, sizes, labels and firm values are the same. The lines are any, so this holds after each line of a source.
 pub fn placements_are_the_same_under_every_map()
-    ensures { (one other : Map) (lines : List Given)
+    ensures { (one other : Map) (lines : List UnfoldedLine)
         → firm_table (table_after one lines) ≡ firm_table (table_after other lines) }
 {}
 
-/// What a line puts has as many bytes as its counter goes on by, but for those that are passed over before it; a line that leaves room
-/// puts nothing.
+/// What a line emits has as many bytes as its counter goes on by, but for those that are passed over before it; a line that leaves room
+/// emits nothing.
 pub fn a_line_fills_what_it_steps_by()
-    ensures { (map : Map) (table : Table) (given : Given)
-        → Fills (gap_before table (action given.is_own given.live.line.text)) (line_put map table given).contents
+    ensures { (map : Map) (table : Table) (given : UnfoldedLine)
+        → Fills (gap_before table (action given.is_own given.live.line.text)) (line_emission map table given).contents
         (line_change (firm_table table) given) }
 {}
 
 /// The map of a source solves its equation: the placement under it gives again each label with its location, and each firm value. It is
 /// asked of no other name.
 pub fn the_map_of_a_source_solves_it()
-    ensures { (lines : List Given) → Solves (program_map lines) lines }
+    ensures { (lines : List UnfoldedLine) → Solves (program_map lines) lines }
 {}
 
 /// Every map that solves a source has the labels of the source's own map, with their locations, and its firm values, whatever else it has.
 pub fn solutions_are_alike()
-    ensures { (map : Map) (lines : List Given) → Solves map lines → AreAlike map (program_map lines) }
+    ensures { (map : Map) (lines : List UnfoldedLine) → Solves map lines → AreAlike map (program_map lines) }
 {}
 
 /// A source has the same live lines under every map: no condition, no repeat and no macro asks what stands later in the source.
 pub fn sources_have_the_same_lines_under_every_map()
-    ensures { (one other : Map) (source : List SourceLine) (lines : List Given) (stage : Stage)
+    ensures { (one other : Map) (source : List SourceLine) (lines : List UnfoldedLine) (stage : Stage)
         → AreLines one source lines stage → AreLines other source lines stage }
 {}
 
 /// In a section where no location is set, and whose sizes don't pass the end of the addresses, pieces lie in the order of the lines, and
 /// none begins before the one before it ends.
 pub fn pieces_lie_in_the_order_of_lines()
-    ensures { (map : Map) (lines : List Given) (section : ℕ)
+    ensures { (map : Map) (lines : List UnfoldedLine) (section : ℕ)
         → has_set (moves_in section (table_after map lines).moves) ≡ false
         → sizes_since (moves_in section (table_after map lines).moves) ≤ 65535
         → LieFrom 0 (pieces_in section map first_table lines) }
@@ -114,7 +114,7 @@ pub fn pieces_lie_in_the_order_of_lines()
 /// The pieces of each line lie in the same sections, at the same locations and with the same sizes under every map: a map says only what
 /// they hold.
 pub fn pieces_lie_alike_under_every_map()
-    ensures { (one other : Map) (lines : List Given) → map shapes_in (placement one lines) ≡ map shapes_in (placement other lines) }
+    ensures { (one other : Map) (lines : List UnfoldedLine) → map shapes_in (placement one lines) ≡ map shapes_in (placement other lines) }
 {}
 
 /// The parts of a text stand one after the other, up to where none stands next or one has no end: no bound cuts them off.

@@ -1,4 +1,4 @@
-//! Where lines of a source lie, what they define, what symbols stand for there, and what each instruction and directive puts at its
+//! Where lines of a source lie, what they define, what symbols stand for there, and what each instruction and directive emits at its
 //! locations. Here stand definitions with their laws, and the types that they speak of. (MACRO-11 Language Reference Manual, "Symbols and
 //! expressions", "Addressing modes" and "General assembler directives".)
 #![tactic(auto)]

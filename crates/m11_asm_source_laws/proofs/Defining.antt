@@ -28,7 +28,7 @@ use Rattle.m11_scan_statements.specs.Labels.{labels_at}
 use Rattle.m11_scan_statements.specs.declared.labels.Label.{Label}
 use Rattle.m11_scan_statements.specs.declared.labels.LabelKind.{LabelKind}
 use Rattle.m11_scan_statements.specs.declared.labels.LabelKind.TheVariants as label
-use Rattle.m11_unfold_rules.specs.Unfolding.{Given}
+use Rattle.m11_unfold_rules.specs.Unfolding.{UnfoldedLine}
 
 -- ---- lists of names that differ
 
@@ -239,7 +239,7 @@ changed_known map_ line some (Sets modes) table names noted known = known_stays 
 
 -- ---- lines
 
-change_noted : (table : Table) (given : Given)
+change_noted : (table : Table) (given : UnfoldedLine)
     → IsNoted (action_uses (stands table given) given.live.line.text given.arguments (action given.is_own given.live.line.text))
     (line_change (firm_table (stands table given)) given)
 unfolding line_change
@@ -247,21 +247,21 @@ change_noted table given =
     action_noted (stands table given) (firm_table (stands table given)) given.live.line.text given.arguments
     (action given.is_own given.live.line.text)
 
-line_known : (map_ : Map) (table : Table) (given : Given) (names : List Name) → Known table names
+line_known : (map_ : Map) (table : Table) (given : UnfoldedLine) (names : List Name) → Known table names
     → Known (after_line map_ table given) (with_uses (symbol_uses table given) names)
 line_known map_ table given names known =
     let text : Bytes = given.live.line.text in
     let of_labels : List SymbolUse = flat_map (label_uses text) (labels_at text) in
-    let of_notes : List SymbolUse = map (symbol_use LocalOnly) given.notes.symbols in
+    let of_remarks : List SymbolUse = map (symbol_use LocalOnly) given.remarks.symbols in
     let of_action : List SymbolUse = action_uses (stands table given) text given.arguments (action given.is_own text) in
     let P : List Name → Type 0 = λ ns. Known (after_line map_ table given) ns in
     subst P
-    (sym (joined (of_labels ++ of_notes) of_action names ∙ ap (with_uses of_action) (joined of_labels of_notes names)))
+    (sym (joined (of_labels ++ of_remarks) of_action names ∙ ap (with_uses of_action) (joined of_labels of_remarks names)))
     (changed_known map_ text of_action (line_change (firm_table (stands table given)) given) (stands table given)
-    (with_uses of_notes (with_uses of_labels names)) (change_noted table given)
-    (known_stays of_notes (stands table given) (with_uses of_labels names) (labels_known text table (labels_at text) names known)))
+    (with_uses of_remarks (with_uses of_labels names)) (change_noted table given)
+    (known_stays of_remarks (stands table given) (with_uses of_labels names) (labels_known text table (labels_at text) names known)))
 
-lines_known : (map_ : Map) (table : Table) (lines : List Given) (names : List Name) → Known table names
+lines_known : (map_ : Map) (table : Table) (lines : List UnfoldedLine) (names : List Name) → Known table names
     → Known (after_lines map_ table lines) (names_after map_ table lines names)
 lines_known map_ table [] names known = known
 lines_known map_ table (given ∷ lines) names known =
@@ -297,7 +297,7 @@ counted_there names name counts =
     list_any-append (λ (other : Name). is_same_name other name) (names_defined registers []) names
     ∙ ap (λ (b : Bool). b || is_among name names) (among_defined name registers []) ∙ counts
 
-pub few_defined : (map_ : Map) (lines : List Given)
+pub few_defined : (map_ : Map) (lines : List UnfoldedLine)
     → name_count (table_after map_ lines) ≤ length registers + length (names_after map_ first_table lines [])
 few_defined map_ lines =
     let names : List Name = names_after map_ first_table lines [] in

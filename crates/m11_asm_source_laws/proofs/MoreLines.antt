@@ -4,7 +4,7 @@ use Rattle.std.specs.Prelude.{if◌then◌else◌, nat_le, nat_lt}
 use Rattle.m11_base.specs.Devices.{Bytes}
 use Rattle.m11_unfold_bodies.specs.Bodies.{depth_after}
 use Rattle.m11_unfold_bodies.specs.Conditions.{OpenConditions}
-use Rattle.m11_unfold_bodies.specs.Left.{Left, Line, End, bytes_in, has_mark, most_expansions}
+use Rattle.m11_unfold_bodies.specs.Left.{RemainingItem, Line, End, bytes_in, has_mark, most_expansions}
 use Rattle.m11_unfold_bodies.specs.declared.mark.Mark.{Mark}
 use Rattle.m11_scan_lines.specs.Line.{SourceLine}
 use Rattle.m11_unfold_rules.proofs.MoreLines.{same_open}
@@ -17,12 +17,12 @@ use Rattle.m11_unfold_rules.specs.declared.fault.UnfoldFault.{UnfoldFault}
 use Rattle.m11_unfold_rules.specs.declared.fault.UnfoldFault.TheVariants.{TooDeep, TooManyLines, TooMuchText}
 
 module _ (more : List SourceLine) where
-  abbrev lines : List Left
+  abbrev lines : List RemainingItem
   lines = map line_left more
 
   -- ---- limits
 
-  same_depth : (left : List Left) → depth_fault (left ++ lines) ≡ depth_fault left
+  same_depth : (left : List RemainingItem) → depth_fault (left ++ lines) ≡ depth_fault left
   same_depth left = ap (λ (ms : List Mark). fault_if (nat_le most_expansions (length ms)) TooDeep) (same_open more left)
 
   same_closing : (purpose : Purpose) (stage : Stage) → closing_fault purpose (with_more more stage) ≡ closing_fault purpose stage
@@ -74,7 +74,7 @@ module _ (more : List SourceLine) where
   taken_on (Some opening) line stage after live is = absurd (let bad = is in cc)
   taken_on None line stage after live is = live_on (skipped stage.conditions line.text) line stage ∙ ap on_after is
 
-  from_on : (has_ended : Bool) (left : List Left) (stage after : Stage) (live : Live)
+  from_on : (has_ended : Bool) (left : List RemainingItem) (stage after : Stage) (live : Live)
       → (if has_ended then NothingLeft else move_from left stage) ≡ Gives live after
       → (if has_ended then NothingLeft else move_from (left ++ lines) (with_more more stage)) ≡ Gives live (with_more more after)
   from_on true left stage after live is = absurd (let bad = is in cc)

@@ -2,12 +2,12 @@
 use Rattle.std.proofs.Common.{◌≡◌, ◌∙◌, Bool, true, false, List, [], ◌∷◌, ◌++◌, append_assoc, append-nil, map, Option, Some, None, inl, inr, refl, sym, ap, subst}
 use Rattle.std.specs.Option.{option_or}
 use Rattle.std.specs.Prelude.{◌⊎◌, if◌then◌else◌}
-use Rattle.m11_unfold_arguments.specs.Expressions.{Known}
+use Rattle.m11_unfold_arguments.specs.Expressions.{KnownSymbols}
 use Rattle.m11_asm_faults.specs.declared.fault.AsmFault.{AsmFault}
 use Rattle.m11_unfold_bodies.specs.Conditions.{OpenConditions}
-use Rattle.m11_unfold_bodies.specs.Left.{Left, Line, End}
+use Rattle.m11_unfold_bodies.specs.Left.{RemainingItem, Line, End}
 use Rattle.m11_scan_lines.specs.Line.{SourceLine}
-use Rattle.m11_asm_passes.specs.Lines.{Numbered, PassLines, acted, counting_at, givens, table_at}
+use Rattle.m11_asm_passes.specs.Lines.{NumberedLine, PassLines, acted, counting_at, givens, table_at}
 use Rattle.m11_asm_passes.specs.Reaching.{Exceeds}
 use Rattle.m11_asm_passes.specs.Reaching as reaching
 use Rattle.m11_asm_passes.specs.Refusals.{act_refused, given_by, labels_fault, line_fault, placing_fault}
@@ -22,7 +22,7 @@ use Rattle.m11_unfold_rules.specs.Histories.{GoesOn, IsKnownBy, with_more}
 use Rattle.m11_unfold_rules.specs.Limits.{fault_from, next_fault}
 use Rattle.m11_unfold_rules.specs.Stages.{Opening, Stage, line_left, start}
 use Rattle.m11_unfold_rules.specs.Taking.{Gives, Live, Passes, NothingLeft, line_taken, live_or_skipped, move, move_from, one_taken, skipped}
-use Rattle.m11_unfold_rules.specs.Unfolding.{Given, Leads}
+use Rattle.m11_unfold_rules.specs.Unfolding.{UnfoldedLine, Leads}
 use Rattle.m11_unfold_rules.specs.Unfolding as steps
 use Rattle.m11_unfold_rules.specs.declared.fault.UnfoldFault.{UnfoldFault}
 use Rattle.m11_asm_pass_laws.proofs.EachEnds.{has_end}
@@ -39,7 +39,7 @@ record Halts (stage : Stage) : Type 0 where
   no_line : (after : Stage) (live : Live) → next_fault stage ≡ None → move stage ≡ Gives live after
       → act_fault after live.line.text ≡ None → ⊥
 
-stays : (before after : Stage) (done : List Given) → Halts before → Leads before done after → (done ≡ []) × (after ≡ before)
+stays : (before after : Stage) (done : List UnfoldedLine) → Halts before → Leads before done after → (done ≡ []) × (after ≡ before)
 stays before _ _ halts steps.Leads.Stays = (refl, refl)
 stays before after done halts (steps.Leads.Passing _ stage _ leads fits moves) =
     let earlier = stays before stage done halts leads in
@@ -92,7 +92,7 @@ no_rest_line : (opening : Option Opening) (line : SourceLine) (stage : Stage) �
 no_rest_line (Some opening) line stage is = let bad = is in cc
 no_rest_line None line stage is = no_rest (skipped stage.conditions line.text) line stage is
 
-no_rest_by : (has_ended : Bool) (left : List Left) (stage : Stage) (fault : UnfoldFault)
+no_rest_by : (has_ended : Bool) (left : List RemainingItem) (stage : Stage) (fault : UnfoldFault)
     → (if has_ended then NothingLeft else move_from left stage) ≡ NothingLeft → (if has_ended then None else fault_from left stage) ≡ Some fault → ⊥
 no_rest_by true left stage fault rests is = let bad = is in cc
 no_rest_by false [] stage fault rests is = let bad = is in cc
@@ -104,7 +104,7 @@ stuck_moves stage (Taking fault is) rests = no_rest_by stage.has_ended stage.lef
 stuck_moves stage (Acting fault live after gives is) rests = let bad : Gives live after ≡ NothingLeft = sym gives ∙ rests in cc
 
 -- with further lines of the source it is the same limit
-fault_on : (more : List SourceLine) (has_ended : Bool) (left : List Left) (stage : Stage) (fault : UnfoldFault)
+fault_on : (more : List SourceLine) (has_ended : Bool) (left : List RemainingItem) (stage : Stage) (fault : UnfoldFault)
     → (if has_ended then None else fault_from left stage) ≡ Some fault
     → (if has_ended then None else fault_from (left ++ map line_left more) (with_more more stage)) ≡ Some fault
 fault_on more true left stage fault is = absurd (let bad = is in cc)
@@ -121,12 +121,12 @@ stuck_on more stage (Acting fault live after gives is) =
 -- ---- two unfoldings of one source
 
 abbrev pub Compared : Type 0
-Compared = (tells : List Given → Live → Known) (before first second : Stage) (done later : List Given) → IsKnownBy tells done
+Compared = (tells : List UnfoldedLine → Live → KnownSymbols) (before first second : Stage) (done later : List UnfoldedLine) → IsKnownBy tells done
     → IsKnownBy tells later → Leads before done first → Leads before later second
     → GoesOn done first later second ⊎ GoesOn later second done first
 
 abbrev pub EndsOnce : Type 0
-EndsOnce = (tells : List Given → Live → Known) (before first second : Stage) (done later : List Given) → IsKnownBy tells done
+EndsOnce = (tells : List UnfoldedLine → Live → KnownSymbols) (before first second : Stage) (done later : List UnfoldedLine) → IsKnownBy tells done
     → IsKnownBy tells later → Leads before done first → Leads before later second → move first ≡ NothingLeft → move second ≡ NothingLeft
     → (done ≡ later) × (first ≡ second)
 
@@ -138,22 +138,22 @@ no_fault labels acting placing none none' none'' =
     ∙ ap (λ (f : Option UnfoldFault). option_or (act_refused f) placing) none' ∙ none''
 
 module _ (compare : Compared) (once : EndsOnce) (map_ : Map) (counting : Counting) (all : List SourceLine) where
-  same_lines : (one other : List Given) (first second : Stage) → AreAllLines map_ all one first → AreAllLines map_ all other second
+  same_lines : (one other : List UnfoldedLine) (first second : Stage) → AreAllLines map_ all one first → AreAllLines map_ all other second
       → one ≡ other
   same_lines one other first second are are' =
       (once (tells map_) (start all) first second one other (known_by map_ one are.are.1) (known_by map_ other are'.are.1)
       are.are.0 are'.are.0 are.rests are'.rests).0
 
-  pub just_these : (source : List SourceLine) (placed_lines : List Numbered) (gives : List Given) (stage after : Stage)
+  pub just_these : (source : List SourceLine) (placed_lines : List NumberedLine) (gives : List UnfoldedLine) (stage after : Stage)
       → EndsAfter map_ counting all source placed_lines stage → AreAllLines map_ all gives after → givens placed_lines ≡ gives
   just_these source placed_lines gives stage after end whole =
       same_lines (givens placed_lines) gives (with_more end.more stage) after
       (all_lines map_ counting all source placed_lines stage end) whole
 
-  module _ (gives : List Given) (after : Stage) (whole : AreAllLines map_ all gives after)
+  module _ (gives : List UnfoldedLine) (after : Stage) (whole : AreAllLines map_ all gives after)
       (kept : KeepLimits map_ first_table counting gives) where
     -- any other unfolding goes on to this end
-    on_to_end : (done : List Given) (stage : Stage) → AreLines map_ all done stage → GoesOn done stage gives after
+    on_to_end : (done : List UnfoldedLine) (stage : Stage) → AreLines map_ all done stage → GoesOn done stage gives after
     on_to_end done stage are =
         go (compare (tells map_) (start all) stage after done gives (known_by map_ done are.1) (known_by map_ gives whole.are.1)
         are.0 whole.are.0)
@@ -164,18 +164,18 @@ module _ (compare : Compared) (once : EndsOnce) (map_ : Map) (counting : Countin
             let still = stays after stage on.more (at_rest after whole.rests) on.leads in
             let P : Stage → Type 0 = λ s. Leads s [] after in record {
               more = [];
-              whole = sym (append-nil done ∙ on.whole ∙ ap (λ (m : List Given). gives ++ m) still.0 ∙ append-nil gives);
+              whole = sym (append-nil done ∙ on.whole ∙ ap (λ (m : List UnfoldedLine). gives ++ m) still.0 ∙ append-nil gives);
               leads = subst P (sym still.1) steps.Leads.Stays;
             }
 
     -- so it isn't stuck
-    not_stuck : (done : List Given) (stage : Stage) → AreLines map_ all done stage → IsStuck stage → ⊥
+    not_stuck : (done : List UnfoldedLine) (stage : Stage) → AreLines map_ all done stage → IsStuck stage → ⊥
     not_stuck done stage are stuck =
         let on : GoesOn done stage gives after = on_to_end done stage are in
         let still = stays stage after on.more (stuck_halts stage stuck) on.leads in
         stuck_moves stage stuck (ap move (sym still.1) ∙ whole.rests)
 
-    module _ (source more : List SourceLine) (placed_lines : List Numbered) (parts : source ++ more ≡ all) (stage : Stage)
+    module _ (source more : List SourceLine) (placed_lines : List NumberedLine) (parts : source ++ more ≡ all) (stage : Stage)
         (passes : PassLines map_ counting source placed_lines stage) where
       are_lines : AreLines map_ all (givens placed_lines) (with_more more stage)
       are_lines =
@@ -192,7 +192,7 @@ module _ (compare : Compared) (once : EndsOnce) (map_ : Map) (counting : Countin
         abbrev named : Counting
         named = counting_at map_ counting placed_lines
 
-        abbrev one : Given
+        abbrev one : UnfoldedLine
         one = given_by table live there
 
         -- a line whose operator passes no limit is one of the lines of the source
@@ -213,7 +213,7 @@ module _ (compare : Compared) (once : EndsOnce) (map_ : Map) (counting : Countin
             = on_to_end (givens placed_lines ++ one ∷ []) (with_more more (acted table live there)) (with_line acts) in
             let split : gives ≡ givens placed_lines ++ one ∷ on.more
             = on.whole ∙ append_assoc (givens placed_lines) (one ∷ []) on.more in
-            let P : List Given → Type 0 = KeepLimits map_ first_table counting in
+            let P : List UnfoldedLine → Type 0 = KeepLimits map_ first_table counting in
             let here = kept_at map_ first_table counting (givens placed_lines) on.more one (subst P split kept) in
             no_fault (labels_fault named table live.line.text) (act_fault there live.line.text) (placing_fault map_ table named one) here.0 acts
             here.1
@@ -225,7 +225,7 @@ module _ (compare : Compared) (once : EndsOnce) (map_ : Map) (counting : Countin
             by (Some inner) acts = no_limit (Acting inner live there moves acts)
             by None acts = let bad : Some fault ≡ None = sym is ∙ within acts in cc
 
-    never_exceeds : (source more : List SourceLine) (placed_lines : List Numbered) (fault : AsmFault) → source ++ more ≡ all
+    never_exceeds : (source more : List SourceLine) (placed_lines : List NumberedLine) (fault : AsmFault) → source ++ more ≡ all
         → Exceeds map_ counting source placed_lines fault → ⊥
     never_exceeds source more placed_lines fault parts (reaching.Exceeds.BeforeLine stage inner passes exceeds is) =
         no_limit source more placed_lines parts stage passes (Taking inner exceeds)

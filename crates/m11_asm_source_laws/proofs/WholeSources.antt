@@ -2,12 +2,12 @@
 use Rattle.std.proofs.Common.{◌≡◌, ◌∙◌, List, [], ◌∷◌, ◌++◌, append_assoc, append-nil, length, map, Option, Some, None, inl, inr, refl, sym, ap, subst}
 use Rattle.std.specs.Option.{option_or}
 use Rattle.std.proofs.lemmas.List.{map-append}
-use Rattle.m11_unfold_arguments.specs.Expressions.{Known}
+use Rattle.m11_unfold_arguments.specs.Expressions.{KnownSymbols}
 use Rattle.m11_asm_faults.specs.declared.fault.AsmFault.{AsmFault}
-use Rattle.m11_unfold_bodies.specs.Left.{Left}
+use Rattle.m11_unfold_bodies.specs.Left.{RemainingItem}
 use Rattle.m11_scan_lines.specs.Line.{SourceLine}
 use Rattle.m11_asm_lines.specs.Counting.{with_counted}
-use Rattle.m11_asm_passes.specs.Lines.{Numbered, PassLines, acted, counting_after, counting_at, given_in, givens, numbered, table_at, with_line}
+use Rattle.m11_asm_passes.specs.Lines.{NumberedLine, PassLines, acted, counting_after, counting_at, given_in, givens, numbered, table_at, with_line}
 use Rattle.m11_asm_passes.specs.Lines as lines
 use Rattle.m11_asm_passes.specs.Refusals.{act_refused, given_by, labels_fault, line_fault, placing_fault}
 use Rattle.m11_asm_rules.specs.Labels.{labels_stand}
@@ -24,7 +24,7 @@ use Rattle.m11_unfold_rules.specs.Histories.{IsKnownBy, with_more}
 use Rattle.m11_unfold_rules.specs.Limits.{next_fault}
 use Rattle.m11_unfold_rules.specs.Stages.{Stage, line_left, start}
 use Rattle.m11_unfold_rules.specs.Taking.{Gives, Live, NothingLeft, move}
-use Rattle.m11_unfold_rules.specs.Unfolding.{Given, Leads}
+use Rattle.m11_unfold_rules.specs.Unfolding.{UnfoldedLine, Leads}
 use Rattle.m11_unfold_rules.specs.Unfolding as steps
 use Rattle.m11_unfold_rules.specs.declared.fault.UnfoldFault.{UnfoldFault}
 use Rattle.m11_asm_pass_laws.proofs.Stepping.{ended_rests, none_rests}
@@ -56,32 +56,32 @@ acts_within map_ table counting live after within =
 
 -- ---- what lines know
 
-pub know_more : (map_ : Map) (table : Table) (done : List Given) (one : Given) → KnowLinesBefore map_ table done
+pub know_more : (map_ : Map) (table : Table) (done : List UnfoldedLine) (one : UnfoldedLine) → KnowLinesBefore map_ table done
     → one.known ≡ known_after_labels (stands (after_lines map_ table done) one) → KnowLinesBefore map_ table (done ++ one ∷ [])
 know_more map_ table [] one are_told is = (is, tt)
 know_more map_ table (given ∷ done) one are_told is =
     (are_told.0, know_more map_ (after_line map_ table given) done one are_told.1 is)
 
 -- what a live line is told by the lines before it
-pub tells : Map → List Given → Live → Known
+pub tells : Map → List UnfoldedLine → Live → KnownSymbols
 tells map_ earlier live = known_after_labels (labels_stand (table_after map_ earlier) live.line.text)
 
-told_from : (map_ : Map) (table : Table) (done : List Given) → KnowLinesBefore map_ table done
-    → (earlier later : List Given) (one : Given) → done ≡ earlier ++ one ∷ later
+told_from : (map_ : Map) (table : Table) (done : List UnfoldedLine) → KnowLinesBefore map_ table done
+    → (earlier later : List UnfoldedLine) (one : UnfoldedLine) → done ≡ earlier ++ one ∷ later
     → one.known ≡ known_after_labels (stands (after_lines map_ table earlier) one)
 told_from map_ table [] are_told [] later one is = absurd (let bad = is in cc)
 told_from map_ table [] are_told (first ∷ earlier) later one is = absurd (let bad = is in cc)
 told_from map_ table (given ∷ done) are_told [] later one is =
     let same : given ≡ one = cc in
-    let P : Given → Type 0 = λ g. g.known ≡ known_after_labels (stands table g) in
+    let P : UnfoldedLine → Type 0 = λ g. g.known ≡ known_after_labels (stands table g) in
     subst P same are_told.0
 told_from map_ table (given ∷ done) are_told (first ∷ earlier) later one is =
     let same : given ≡ first = cc in
     let rest : done ≡ earlier ++ one ∷ later = cc in
-    let P : Given → Type 0 = λ g. one.known ≡ known_after_labels (stands (after_lines map_ (after_line map_ table g) earlier) one) in
+    let P : UnfoldedLine → Type 0 = λ g. one.known ≡ known_after_labels (stands (after_lines map_ (after_line map_ table g) earlier) one) in
     subst P same (told_from map_ (after_line map_ table given) done are_told.1 earlier later one rest)
 
-pub known_by : (map_ : Map) (done : List Given) → KnowLinesBefore map_ first_table done → IsKnownBy (tells map_) done
+pub known_by : (map_ : Map) (done : List UnfoldedLine) → KnowLinesBefore map_ first_table done → IsKnownBy (tells map_) done
 unfolding tells
 known_by map_ done are_told earlier later one is = told_from map_ first_table done are_told earlier later one is
 
@@ -89,32 +89,32 @@ known_by map_ done are_told earlier later one is = told_from map_ first_table do
 
 module _ (map_ : Map) (counting : Counting) where
   -- one line of the source is read
-  read : (source more : List SourceLine) (done : List Given) (stage : Stage) (line : SourceLine) → stage.left ≡ []
+  read : (source more : List SourceLine) (done : List UnfoldedLine) (stage : Stage) (line : SourceLine) → stage.left ≡ []
       → Leads (start (source ++ line ∷ more)) done (with_more (line ∷ more) stage)
       → Leads (start ((source ++ line ∷ []) ++ more)) done (with_more more (with_line line stage))
   read source more done stage line none leads =
-      let P : List Left → Type 0 = λ l. Leads (start (source ++ line ∷ more)) done
+      let P : List RemainingItem → Type 0 = λ l. Leads (start (source ++ line ∷ more)) done
       (record stage { left = l ++ map line_left (line ∷ more) }) in
       let Q : List SourceLine → Type 0 = λ s. Leads (start s) done (with_more more (with_line line stage)) in
       subst Q (sym (append_assoc source (line ∷ []) more)) (subst P none leads)
 
   -- something is taken
-  passed : (source more : List SourceLine) (done : List Given) (before after : Stage) → Leads before [] after
+  passed : (source more : List SourceLine) (done : List UnfoldedLine) (before after : Stage) → Leads before [] after
       → Leads (start (source ++ more)) done (with_more more before) → Leads (start (source ++ more)) done (with_more more after)
   passed source more done before after moves leads =
-      let P : List Given → Type 0 = λ ds. Leads (start (source ++ more)) ds (with_more more after) in
+      let P : List UnfoldedLine → Type 0 = λ ds. Leads (start (source ++ more)) ds (with_more more after) in
       subst P (append-nil done) (follows (start (source ++ more)) (with_more more before) (with_more more after) done [] leads
       (leads_on more before after [] moves))
 
   -- a line becomes live
-  placed : (source more : List SourceLine) (placed_lines : List Numbered) (before after : Stage) (live : Live)
+  placed : (source more : List SourceLine) (placed_lines : List NumberedLine) (before after : Stage) (live : Live)
       → next_fault before ≡ None → move before ≡ Gives live after
       → line_fault map_ (table_at map_ placed_lines) (counting_at map_ counting placed_lines) live after ≡ None
       → AreLines map_ (source ++ more) (givens placed_lines) (with_more more before)
       → AreLines map_ (source ++ more) (givens placed_lines ++ given_by (table_at map_ placed_lines) live after ∷ [])
       (with_more more (acted (table_at map_ placed_lines) live after))
   placed source more placed_lines before after live fits moves within are =
-      let one : Given = given_by (table_at map_ placed_lines) live after in
+      let one : UnfoldedLine = given_by (table_at map_ placed_lines) live after in
       let next : Stage = acted (table_at map_ placed_lines) live after in
       let here : Leads before (one ∷ []) next = steps.Leads.Giving [] before after live one.known steps.Leads.Stays fits moves
       (acts_within map_ (table_at map_ placed_lines) (counting_at map_ counting placed_lines) live after within) in (
@@ -123,7 +123,7 @@ module _ (map_ : Map) (counting : Counting) where
         know_more map_ first_table (givens placed_lines) one are.1 refl,
       )
 
-  pub so_far : (source more : List SourceLine) (placed_lines : List Numbered) (stage : Stage)
+  pub so_far : (source more : List SourceLine) (placed_lines : List NumberedLine) (stage : Stage)
       → PassLines map_ counting source placed_lines stage → AreLines map_ (source ++ more) (givens placed_lines) (with_more more stage)
   so_far _ more _ _ lines.PassLines.Begins = (steps.Leads.Stays, tt)
   so_far _ more placed_lines _ (lines.PassLines.Reading source _ stage line before none goes) =
@@ -134,8 +134,8 @@ module _ (map_ : Map) (counting : Counting) where
       (passed source more (givens placed_lines) stage after moves here.0, here.1)
   so_far source more _ _ (lines.PassLines.Placing _ placed_lines stage after live before fits moves within) =
       let here = so_far source more placed_lines stage before in
-      let one : Numbered = numbered (length source) (given_by (table_at map_ placed_lines) live after) in
-      let P : List Given → Type 0 = λ ds. AreLines map_ (source ++ more) ds (with_more more (acted (table_at map_ placed_lines) live after)) in
+      let one : NumberedLine = numbered (length source) (given_by (table_at map_ placed_lines) live after) in
+      let P : List UnfoldedLine → Type 0 = λ ds. AreLines map_ (source ++ more) ds (with_more more (acted (table_at map_ placed_lines) live after)) in
       subst P (sym (map-append given_in placed_lines (one ∷ []))) (placed source more placed_lines stage after live fits moves within here)
 
   -- ---- a pass that ends
@@ -143,9 +143,9 @@ module _ (map_ : Map) (counting : Counting) where
   no_more : (stage : Stage) (more : List SourceLine) → IsOver more stage → move (with_more more stage) ≡ NothingLeft
   no_more stage more (inl ended) = ended_rests (with_more more stage) ended
   no_more stage more (inr (all, none, goes)) =
-      none_rests (with_more more stage) (ap (λ (l : List Left). l ++ map line_left more) none ∙ ap (map line_left) all) goes
+      none_rests (with_more more stage) (ap (λ (l : List RemainingItem). l ++ map line_left more) none ∙ ap (map line_left) all) goes
 
-  pub all_lines : (all source : List SourceLine) (placed_lines : List Numbered) (stage : Stage)
+  pub all_lines : (all source : List SourceLine) (placed_lines : List NumberedLine) (stage : Stage)
       (end : EndsAfter map_ counting all source placed_lines stage)
       → AreAllLines map_ all (givens placed_lines) (with_more end.more stage)
   all_lines all source placed_lines stage end =
@@ -156,7 +156,7 @@ module _ (map_ : Map) (counting : Counting) where
 
 -- ---- limits
 
-kept_more : (map_ : Map) (table : Table) (counting : Counting) (done : List Given) (one : Given)
+kept_more : (map_ : Map) (table : Table) (counting : Counting) (done : List UnfoldedLine) (one : UnfoldedLine)
     → KeepLimits map_ table counting done
     → labels_fault (counting_after map_ table done counting) (after_lines map_ table done) one.live.line.text ≡ None
     → placing_fault map_ (after_lines map_ table done) (counting_after map_ table done counting) one ≡ None
@@ -165,7 +165,7 @@ kept_more map_ table counting [] one kept labels placing = (labels, placing, tt)
 kept_more map_ table counting (given ∷ done) one kept labels placing =
     (kept.0, kept.1, kept_more map_ (after_line map_ table given) (with_counted (symbol_uses table given) counting) done one kept.2 labels placing)
 
-pub kept_at : (map_ : Map) (table : Table) (counting : Counting) (done more : List Given) (one : Given)
+pub kept_at : (map_ : Map) (table : Table) (counting : Counting) (done more : List UnfoldedLine) (one : UnfoldedLine)
     → KeepLimits map_ table counting (done ++ one ∷ more)
     → (labels_fault (counting_after map_ table done counting) (after_lines map_ table done) one.live.line.text ≡ None)
     × (placing_fault map_ (after_lines map_ table done) (counting_after map_ table done counting) one ≡ None)
@@ -174,7 +174,7 @@ kept_at map_ table counting (given ∷ done) more one kept =
     kept_at map_ (after_line map_ table given) (with_counted (symbol_uses table given) counting) done more one kept.2
 
 module _ (map_ : Map) (counting : Counting) where
-  pub keeps : (source : List SourceLine) (placed_lines : List Numbered) (stage : Stage)
+  pub keeps : (source : List SourceLine) (placed_lines : List NumberedLine) (stage : Stage)
       → PassLines map_ counting source placed_lines stage → KeepLimits map_ first_table counting (givens placed_lines)
   keeps _ _ _ lines.PassLines.Begins = tt
   keeps _ placed_lines _ (lines.PassLines.Reading source _ stage line before none goes) = keeps source placed_lines stage before
@@ -182,11 +182,11 @@ module _ (map_ : Map) (counting : Counting) where
   keeps source _ _ (lines.PassLines.Placing _ placed_lines stage after live before fits moves within) =
       let table : Table = table_at map_ placed_lines in
       let named : Counting = counting_at map_ counting placed_lines in
-      let one : Numbered = numbered (length source) (given_by table live after) in
+      let one : NumberedLine = numbered (length source) (given_by table live after) in
       let acting : Option AsmFault = act_refused (act_fault after live.line.text) in
       let placing : Option AsmFault = placing_fault map_ table named one.given in
       let labels : Option AsmFault = labels_fault named table live.line.text in
-      let P : List Given → Type 0 = KeepLimits map_ first_table counting in
+      let P : List UnfoldedLine → Type 0 = KeepLimits map_ first_table counting in
       subst P (sym (map-append given_in placed_lines (one ∷ [])))
       (kept_more map_ first_table counting (givens placed_lines) one.given (keeps source placed_lines stage before)
       (first_none labels (option_or acting placing) within)

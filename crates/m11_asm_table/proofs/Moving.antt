@@ -4,7 +4,7 @@ use Rattle.std.proofs.lemmas.Bool.{eq-eqb, eqb-true}
 use Rattle.m11_base.specs.Rad50.{Name}
 use Rattle.m11_asm_rules.specs.declared.modes.Modes.{Modes}
 use Rattle.m11_asm_rules.specs.Changes.{with_move}
-use Rattle.m11_asm_rules.specs.Locations.{Goes, Moved, Steps, in_section, location_after, location_in}
+use Rattle.m11_asm_rules.specs.Locations.{Goes, SectionMove, Steps, in_section, location_after, location_in}
 use Rattle.m11_asm_rules.specs.Tables.{Table, location}
 use Rattle.m11_asm_rules.proofs.Counters.{goes_there, stays_there, steps_on}
 use Rattle.m11_asm_table.specs.declared.entries.Entry.{Entry}
@@ -54,7 +54,7 @@ not_equal number other e f = true≢false (sym (eq-eqb number other f) ∙ e)
 swapped : (number other : ℕ) → number ≢ other → other ≢ number
 swapped number other h e = h (sym e)
 
-set_by : (counters : List ℕ) (number new other : ℕ) (moves : List Moved) (is_this : Bool) → (number == other) ≡ is_this
+set_by : (counters : List ℕ) (number new other : ℕ) (moves : List SectionMove) (is_this : Bool) → (number == other) ≡ is_this
     → number < length counters → location_in other (counters_from 0 counters) ≡ location_in other moves
     → location_in other (counters_from 0 (slice_set counters number new)) ≡ location_in other (moves ++ in_section number (Goes new) ∷ [])
 set_by counters number new other moves true e h alike =
@@ -106,7 +106,7 @@ module _ (names : List (Name × Entry)) (symbols : List ((ℕ × ℕ) × Entry))
 at_location : (new size before : ℕ) → new ≡ (before + size) % 65536 → new % 65536 ≡ (before + size) % 65536
 at_location new size before e = omega (arith, e)
 
-steps_by : (section new size other : ℕ) (moves : List Moved) (is_this : Bool) → (section == other) ≡ is_this
+steps_by : (section new size other : ℕ) (moves : List SectionMove) (is_this : Bool) → (section == other) ≡ is_this
     → new ≡ (location_in section moves + size) % 65536
     → location_in other (moves ++ in_section section (Goes new) ∷ []) ≡ location_in other (moves ++ in_section section (Steps size) ∷ [])
 steps_by section new size other moves true e is =

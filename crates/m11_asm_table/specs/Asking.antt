@@ -10,21 +10,21 @@ use Rattle.m11_asm_rules.specs.Tables.{Table}
 use Rattle.m11_asm_table.specs.declared.entries.Entry.{Entry}
 
 -- the map and the table, where the symbol stands, and the location that `.` is
-pub record Asked : Type 0 where
+pub record LookupContext : Type 0 where
   pub map : Map
   pub context : Context
   pub table : Table
   pub location : ℕ
 
-abbrev pub asked : Map → Context → Table → ℕ → Asked
+abbrev pub asked : Map → Context → Table → ℕ → LookupContext
 asked map context table location = record { map = map; context = context; table = table; location = location }
 
 -- a question that firm names alone answer
-pub record FirmAsked : Type 0 where
+pub record FirmContext : Type 0 where
   pub table : Table
   pub location : ℕ
 
-abbrev pub firm_asked : Table → ℕ → FirmAsked
+abbrev pub firm_asked : Table → ℕ → FirmContext
 firm_asked table location = record { table = table; location = location }
 
 -- what `.` stands for

@@ -9,7 +9,7 @@ use Rattle.m11_asm_rules.specs.declared.sections.Section.{Section}
 use Rattle.m11_asm_rules.specs.declared.modes.Modes.{Modes}
 use Rattle.m11_asm_rules.specs.Definitions.{registers}
 use Rattle.m11_asm_rules.specs.Labels.{with_definition}
-use Rattle.m11_asm_rules.specs.Locations.{Goes, Moved, in_section}
+use Rattle.m11_asm_rules.specs.Locations.{Goes, SectionMove, in_section}
 use Rattle.m11_asm_rules.specs.Tables.{Table, first_modes}
 use Rattle.m11_asm_table.specs.declared.entries.Entry.{Entry}
 
@@ -44,7 +44,7 @@ definitions_by key_of (entry ∷ entries) = definitions_by key_of entries ++ def
 abbrev pub section_in : Name × ℕ → Section
 section_in entry = record { name = entry.0; attributes = entry.1 }
 
-abbrev pub counters_from : ℕ → List ℕ → List Moved
+abbrev pub counters_from : ℕ → List ℕ → List SectionMove
 counters_from number [] = []
 counters_from number (counter ∷ counters) = in_section number (Goes counter) ∷ counters_from (number + 1) counters
 

@@ -30,9 +30,9 @@ pub struct NamesAt<'a> {
 }
 
 impl<'a> Model for NamesAt<'a> {
-    ghost use Rattle.m11_asm_table.specs.Asking.{Asked, asked};
+    ghost use Rattle.m11_asm_table.specs.Asking.{LookupContext, asked};
 
-    ghost Value = { Asked };
+    ghost Value = { LookupContext };
 
     ghost view = { λ n. asked n.map.now n.context n.table.now n.location };
 }
@@ -86,9 +86,9 @@ pub struct FirmNames<'a> {
 }
 
 impl<'a> Model for FirmNames<'a> {
-    ghost use Rattle.m11_asm_table.specs.Asking.{FirmAsked, firm_asked};
+    ghost use Rattle.m11_asm_table.specs.Asking.{FirmContext, firm_asked};
 
-    ghost Value = { FirmAsked };
+    ghost Value = { FirmContext };
 
     ghost view = { λ n. firm_asked n.table.now n.location };
 }

@@ -7,7 +7,7 @@ mod texts;
 
 use m11_base::Name;
 use m11_obj::Block;
-use m11_obj_texts::{OpenText, Piece, PieceContent, RelocationKind, Stored, Text};
+use m11_obj_texts::{OpenText, Piece, PieceContent, RelocationKind, StoredConstant, Text};
 use std::alloc::{AllocError, Global};
 use std::process::Abort;
 use std::test::Fail;
@@ -20,7 +20,7 @@ pub(crate) fn word(section: Name, location: u16, constant: u16, kind: Relocation
     Piece {
         section,
         location,
-        content: PieceContent::Word(Stored { constant, kind }),
+        content: PieceContent::Word(StoredConstant { constant, kind }),
     }
 }
 
@@ -28,7 +28,7 @@ pub(crate) fn byte(section: Name, location: u16, constant: u16, kind: Relocation
     Piece {
         section,
         location,
-        content: PieceContent::Byte(Stored { constant, kind }),
+        content: PieceContent::Byte(StoredConstant { constant, kind }),
     }
 }
 
@@ -52,7 +52,7 @@ pub(crate) fn records(alloc: Global, pieces: &[Piece]) -> Result<Vec<Block>, All
     let mut records = Vec::new(alloc);
     let mut open = OpenText::new();
     for piece in pieces {
-        if let Some(text) = open.take(piece) {
+        if let Some(text) = open.accept(piece) {
             put(&mut records, &text)?;
         }
     }

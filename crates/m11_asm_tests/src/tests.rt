@@ -24,7 +24,7 @@ use std::process::Abort;
 // Takes what is left. Returns whether the next line of the source is needed. The flags of placed lines and what they put are added to a
 // text.
 fn take_rest(pass: &mut SourcePass, map: &Map<'_>, text: &mut Vec<u8>) -> Result<bool, AsmFault>
-    ensures { result ≡ Ok true → pass.new.going.unfolder.stage.left ≡ [] }
+    ensures { result ≡ Ok true → pass.new.pass_state.unfolder.stage.left ≡ [] }
 {
     let mut line = pass.room_for_line();
     'turns: for _ in 0..300_000 {
@@ -44,7 +44,7 @@ fn go_over(
     source: &[&str],
     text: &mut Vec<u8>,
 ) -> Result<(), AsmFault>
-    requires { pass.old.going.unfolder.stage.left ≡ [] }
+    requires { pass.old.pass_state.unfolder.stage.left ≡ [] }
 {
     'source: for line in source {
         pass.feed(&Line::from_bytes(line.as_bytes()));

@@ -15,9 +15,9 @@ mod relocations;
 
 pub use relocations::{distance, fixed};
 
-// What is put: values as words and as bytes.
-mod puts;
+// What is emitted: values as words and as bytes.
+mod emission;
 mod values;
 
-pub use puts::Put;
-pub use values::{further, put_byte, put_word};
+pub use emission::Emission;
+pub use values::{emit_byte, emit_word, further};

@@ -1,4 +1,4 @@
-//! What a linker does to the values that a line puts at its locations. (MACRO-11 Language Reference Manual, "Relocation and linking"; RT-11
+//! What a linker does to the values that a line emits at its locations. (MACRO-11 Language Reference Manual, "Relocation and linking"; RT-11
 //! Volume and File Formats Manual, "Object file format", RLD block.)
 
 ghost use Rattle.std.specs.Prelude.{◌≡◌};
@@ -8,7 +8,7 @@ ghost use Rattle.m11_asm_rules.specs.Relocations as spec;
 use crate::line_context::LineContext;
 use m11_asm_table::Table;
 use m11_base::Name;
-use m11_obj_texts::{RelocationKind, Stored};
+use m11_obj_texts::{RelocationKind, StoredConstant};
 use m11_scan_values::{Kind, Value};
 use std::marker::Model;
 
@@ -122,7 +122,7 @@ pub(crate) fn stored(
     is_relative: bool,
     location: u16,
     value: Value,
-) -> Stored
+) -> StoredConstant
     ensures { result ≡ spec.stored line_context.now.table is_relative location (quantity value) }
 {
     let kind = relocation_of(line_context.table(), is_relative, value.kind);
@@ -137,12 +137,17 @@ pub fn distance(location: u16, target: u16) -> u16
 }
 
 // A value at a location with what a linker does to it. A relative operand that no linker changes has its distance.
-pub(crate) fn stored_as(is_relative: bool, kind: RelocationKind, location: u16, number: u16) -> Stored
+pub(crate) fn stored_as(
+    is_relative: bool,
+    kind: RelocationKind,
+    location: u16,
+    number: u16,
+) -> StoredConstant
     ensures { result ≡ spec.stored_as is_relative kind location number }
 {
     match kind {
         RelocationKind::Fixed if is_relative => fixed(distance(location, number)),
-        _ => Stored {
+        _ => StoredConstant {
             constant: number,
             kind,
         },
@@ -150,10 +155,10 @@ pub(crate) fn stored_as(is_relative: bool, kind: RelocationKind, location: u16, 
 }
 
 /// A number that stands as it is.
-pub fn fixed(number: u16) -> Stored
+pub fn fixed(number: u16) -> StoredConstant
     ensures { result ≡ spec.fixed number }
 {
-    Stored {
+    StoredConstant {
         constant: number,
         kind: RelocationKind::Fixed,
     }

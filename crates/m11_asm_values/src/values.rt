@@ -6,8 +6,8 @@ ghost use Rattle.m11_asm_rules.specs.Contents.{followed_by};
 ghost use Rattle.m11_scan.specs.Views.{bits_of};
 ghost use Rattle.m11_scan_values.specs.Quantities.{quantity};
 
+use crate::emission::Emission;
 use crate::line_context::LineContext;
-use crate::puts::Put;
 use crate::relocations::stored;
 use m11_asm_table::register_flags;
 use m11_scan::ErrorFlags;
@@ -35,33 +35,33 @@ fn is_byte_high(number: u16) -> bool
 }
 
 /// A value as a word, relative to the location after it or not. Error: memory may be refused.
-pub fn put_word(
-    put: &mut Put,
+pub fn emit_word(
+    emission: &mut Emission,
     line_context: &LineContext,
     is_relative: bool,
     location: u16,
     value: Value,
 ) -> Result<(), AllocError>
-    ensures { IfOk result (λ _. put.new ≡ followed_by put.old
+    ensures { IfOk result (λ _. emission.new ≡ followed_by emission.old
         (spec.word line_context.now.table is_relative location (quantity value))) }
 {
     let flags = value.flags.with(register_flags(value.kind));
-    put.add_word(stored(line_context, is_relative, location, value), flags)
+    emission.add_word(stored(line_context, is_relative, location, value), flags)
 }
 
 /// A value as a byte: its number is asked, whatever it counts from. Error: memory may be refused.
-pub fn put_byte(
-    put: &mut Put,
+pub fn emit_byte(
+    emission: &mut Emission,
     line_context: &LineContext,
     location: u16,
     value: Value,
 ) -> Result<(), AllocError>
-    ensures { IfOk result (λ _. put.new ≡ followed_by put.old
+    ensures { IfOk result (λ _. emission.new ≡ followed_by emission.old
         (spec.byte line_context.now.table location (quantity value))) }
 {
     let flags = value
         .flags
         .with(register_flags(value.kind))
         .with(byte_flags(value.number));
-    put.add_byte(stored(line_context, false, location, value), flags)
+    emission.add_byte(stored(line_context, false, location, value), flags)
 }

@@ -3,7 +3,7 @@ use Rattle.std.specs.Prelude.{Bool, List, [], ◌∷◌, map, Option, Some, None
 use Rattle.std.specs.Str.{bytes_eq}
 use Rattle.m11_base.specs.Devices.{Bytes}
 use Rattle.m11_base.specs.Feed.{Text, Ends}
-use Rattle.m11_base_files.specs.Opens.{Made, Files}
+use Rattle.m11_base_files.specs.Opens.{CreatedFile, Files}
 use Rattle.m11_base_files.specs.declared.memory_files.MadeFile.{MadeFile}
 use Rattle.m11_base_files.specs.declared.memory_files.MemoryFile.{MemoryFile}
 
@@ -17,7 +17,7 @@ held_among [] path = None
 held_among (file ∷ more) path =
     if bytes_eq (string_bytes file.path) path then Some (text_of file) else held_among more path
 
-abbrev pub made_of : MadeFile → Made
+abbrev pub made_of : MadeFile → CreatedFile
 made_of file = record { path = string_bytes file.path; kept = option_map (λ bytes. bytes.items) file.kept }
 
 -- the files that are stored, and the files that were made

@@ -8,14 +8,14 @@ use Rattle.m11_base_files.specs.declared.opens.OpenRefusal.{OpenRefusal}
 use Rattle.m11_base_files.specs.declared.opens.OpenRefusal.TheVariants.{NotOpened, NoMemory}
 
 -- a file that was created, and what it has got, once its output was handed back
-pub record Made : Type 0 where
+pub record CreatedFile : Type 0 where
   pub path : Bytes
   pub kept : Option Bytes
 
 -- files: the text of each that there is to read, by its path, and those that were created, in order
 pub record Files : Type 0 where
   pub held : Bytes → Option Text
-  pub made : List Made
+  pub made : List CreatedFile
 
 -- ---- what is read
 
@@ -66,7 +66,7 @@ IsFirstLacking files paths path = (before : List Bytes) × (more : List Bytes)
 
 -- ---- what is written
 
-abbrev pub is_made : Bytes → Made
+abbrev pub is_made : Bytes → CreatedFile
 is_made path = record { path = path; kept = None }
 
 -- files were created at these paths, in order
@@ -85,7 +85,7 @@ Creates path old new (Ok output) = new ≡ creating (path ∷ []) old
 Creates path old new (Err refusal) = new ≡ old
 
 -- the first file that was created at this path holds what an output has handed on
-abbrev pub kept_among : Bytes → Option Bytes → List Made → List Made
+abbrev pub kept_among : Bytes → Option Bytes → List CreatedFile → List CreatedFile
 kept_among path text [] = []
 kept_among path text (made ∷ more) =
     if bytes_eq made.path path then record made { kept = text } ∷ more else made ∷ kept_among path text more

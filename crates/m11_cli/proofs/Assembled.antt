@@ -6,7 +6,7 @@ use Rattle.m11_asm_faults.specs.declared.fault.AsmFault.{AsmFault}
 use Rattle.m11_asm_faults.specs.declared.fault.AsmFault.TheVariants as fault
 use Rattle.m11_asm_outputs.specs.Outputs.{Outputs}
 use Rattle.m11_base.specs.Feed.{Text}
-use Rattle.m11_asm_passes.specs.Lines.{Numbered, givens}
+use Rattle.m11_asm_passes.specs.Lines.{NumberedLine, givens}
 use Rattle.m11_scan_line_laws.specs.Calls.{FailReading, HaveReading}
 use Rattle.m11_scan_line_laws.specs.Readings.{Reading}
 use Rattle.m11_asm.specs.Program.{Program, program_of}
@@ -22,7 +22,7 @@ module _ {F : Type 0} (text : F → Option Text) (faults : F → ℕ) where
       → FailReading (λ s. s.text) (λ s. s.faults) (seen text faults olds) (seen text faults news) reading
   fail olds news reading h = (h.0, h.1, one text faults olds news h.0 h.1 h.2, h.3)
 
-  first : (olds news : List F) (result : Result (List Numbered) AsmFault)
+  first : (olds news : List F) (result : Result (List NumberedLine) AsmFault)
       → ReadsFirst (pass_of text faults olds news) result
       → ReadsFirst (pass_of (λ s. s.text) (λ s. s.faults) (seen text faults olds) (seen text faults news)) result
   first olds news (Ok lines) h = (h.0, have olds news h.0 h.1, h.2, h.3)

@@ -6,7 +6,7 @@ use Rattle.m11_base.specs.Feed.{NoneFailed, Text}
 use Rattle.m11_base.specs.Sink.{handed_on}
 use Rattle.m11_base.specs.declared.sink.Sink.{Ghosts}
 use Rattle.m11_base_files.specs.Opens.{Files, IsEmptiedSome, keeping_some}
-use Rattle.m11_link_layout.specs.Plan.{Planned}
+use Rattle.m11_link_layout.specs.Plan.{PlanTables}
 use Rattle.m11_link_layout.specs.declared.fault.LinkFault.{LinkFault}
 use Rattle.m11_link_layout.specs.declared.fault.LinkFault.TheVariants as fault
 use Rattle.m11_link.specs.FirstPass.{ReadsFirst, pass_of}
@@ -72,7 +72,7 @@ module _ {F : Type 0} (text : F → Option Text) (faults : F → ℕ) where
       × (items : List Item) × GiveItems (λ s. s.text) (seen text faults olds) items × P items
   carried olds news P h = (none text faults olds news h.0, h.1, given olds h.1 h.2, h.3)
 
-  first : (olds news : List F) (bottom : ℕ) (result : Result Planned LinkFault)
+  first : (olds news : List F) (bottom : ℕ) (result : Result PlanTables LinkFault)
       → ReadsFirst (pass_of text faults olds news) bottom result
       → ReadsFirst (pass_of (λ s. s.text) (λ s. s.faults) (seen text faults olds) (seen text faults news)) bottom result
   first olds news bottom (Ok plan) h =
@@ -93,7 +93,7 @@ module _ {F : Type 0} (text : F → Option Text) (faults : F → ℕ) where
   first olds news bottom (Err (fault.Write output)) h = carried olds news _ h
   first olds news bottom (Err fault.NoMemory) h = none text faults olds news h
 
-  second : (olds news : List F) (plan : Planned) (old new : Outputs) (result : Result LinkDone LinkFault)
+  second : (olds news : List F) (plan : PlanTables) (old new : Outputs) (result : Result LinkDone LinkFault)
       → ReadsSecond (pass_of text faults olds news) plan old new result
       → ReadsSecond (pass_of (λ s. s.text) (λ s. s.faults) (seen text faults olds) (seen text faults news)) plan old new result
   second olds news plan old new (Ok done) h =

@@ -3,7 +3,7 @@ use Rattle.std.proofs.Common.{◌≡◌, ◌∙◌, ℕ, Bool, true, false, if�
 use Rattle.m11_base.specs.Devices.{Bytes}
 use Rattle.m11_base.specs.Names.{absolute_name, blank_name}
 use Rattle.m11_base.specs.Rad50.{Name}
-use Rattle.m11_asm_passes.specs.Lines.{Numbered, givens}
+use Rattle.m11_asm_passes.specs.Lines.{NumberedLine, givens}
 use Rattle.m11_asm_rules.specs.Assignments.{assigned, with_assigned}
 use Rattle.m11_asm_rules.specs.Changes as change
 use Rattle.m11_asm_rules.specs.Changes.{Change, becomes_global, changed, numbered, with_new}
@@ -22,7 +22,7 @@ use Rattle.m11_scan_statements.specs.Labels.{labels_at}
 use Rattle.m11_scan_statements.specs.declared.labels.Label.{Label}
 use Rattle.m11_scan_statements.specs.declared.labels.LabelKind.{LabelKind}
 use Rattle.m11_scan_statements.specs.declared.labels.LabelKind.TheVariants as label
-use Rattle.m11_unfold_rules.specs.Unfolding.{Given}
+use Rattle.m11_unfold_rules.specs.Unfolding.{UnfoldedLine}
 
 abbrev pub Begins : List Section → Type 0
 Begins sections = (others : List Section) × (sections ≡ section absolute_name of_absolute ∷ others)
@@ -92,14 +92,14 @@ change_begins map line (change.Sets modes) table b = b
 
 -- ---- lines
 
-line_begins : (map : Map) (table : Table) (given : Given) → Begins table.sections → Begins (after_line map table given).sections
+line_begins : (map : Map) (table : Table) (given : UnfoldedLine) → Begins table.sections → Begins (after_line map table given).sections
 line_begins map table given b =
     change_begins map given.live.line.text (line_change (firm_table (stands table given)) given) (stands table given)
     (begins_as (stands table given).sections table.sections (labels_keep given.live.line.text table (labels_at given.live.line.text)) b)
 
-lines_begin : (map : Map) (table : Table) (all : List Given) → Begins table.sections → Begins (after_lines map table all).sections
+lines_begin : (map : Map) (table : Table) (all : List UnfoldedLine) → Begins table.sections → Begins (after_lines map table all).sections
 lines_begin map table [] b = b
 lines_begin map table (given ∷ all) b = lines_begin map (after_line map table given) all (line_begins map table given b)
 
-pub begins_with_absolute : (all : List Numbered) → Begins (table_after empty_map (givens all)).sections
+pub begins_with_absolute : (all : List NumberedLine) → Begins (table_after empty_map (givens all)).sections
 begins_with_absolute all = lines_begin empty_map first_table (givens all) (section blank_name of_program ∷ [], refl)

@@ -3,7 +3,7 @@ use Rattle.std.proofs.Common.{◌≡◌, ◌∙◌, List, [], ◌∷◌, ◌++�
 use Rattle.std.specs.Io.KnownBytes.{Appends}
 use Rattle.std.specs.List.{flat_map}
 use Rattle.m11_asm.specs.Program.{Program}
-use Rattle.m11_asm.specs.Written.{Ended, pieces_in, program_writes}
+use Rattle.m11_asm.specs.Written.{EndOfSource, pieces_in, program_writes}
 use Rattle.m11_asm.specs.declared.done.AsmDone.{AsmDone}
 use Rattle.m11_asm_faults.specs.declared.fault.AsmFault.{AsmFault}
 use Rattle.m11_asm_faults.specs.declared.fault.AsmOutput.TheVariants.{Object}
@@ -16,7 +16,7 @@ use Rattle.m11_obj.specs.Records.{Content, record_data}
 use Rattle.m11_asm_outcome_laws.specs.Live.{ComesTo, WritesLive}
 use Rattle.m11_asm_outcome_laws.specs.OneText.{program_after}
 use Rattle.m11_asm_outcome_laws.specs.Outputs.{content_block}
-use Rattle.m11_asm_passes.specs.Lines.{Numbered, givens}
+use Rattle.m11_asm_passes.specs.Lines.{NumberedLine, givens}
 use Rattle.m11_asm_rules.specs.Placements.{program_map}
 use Rattle.m11_base_writes.specs.Writes.{gained}
 use Rattle.m11_cli_chain.specs.Assemblies.{AssemblyYields, WritesObject}
@@ -26,7 +26,7 @@ use Rattle.m11_cli_chain.proofs.LiveLocations.{pieces_at_words}
 
 -- what is known of the object of an assembly
 abbrev pub ObjectLaw : Type 0
-ObjectLaw = (program : Program) (lines : List Numbered) (ended : Ended)
+ObjectLaw = (program : Program) (lines : List NumberedLine) (ended : EndOfSource)
     → gained assembly Object (program_writes program lines ended)
     ≡ flat_map content_block (object_contents program.rows (pieces_in program.map lines))
 
@@ -34,7 +34,7 @@ data_blocks : (contents : List Content) → flat_map content_block contents ≡ 
 data_blocks [] = refl
 data_blocks (content ∷ contents) = ap (λ (t : Bytes). block (record_data content) ++ t) (data_blocks contents)
 
-source_fits : (lines : List Numbered)
+source_fits : (lines : List NumberedLine)
     → AllFit (object_contents (program_after lines).rows (pieces_in (program_after lines).map lines)) → SourceFits (source_of lines)
 source_fits lines fit = record {
   records = fit;

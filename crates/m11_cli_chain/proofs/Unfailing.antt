@@ -9,7 +9,7 @@ use Rattle.m11_asm_faults.specs.declared.fault.AsmFault.TheVariants as assembly
 use Rattle.m11_asm_outputs.specs.Outputs as asm_outputs
 use Rattle.m11_base.specs.Devices.{Bytes, Rises}
 use Rattle.m11_base.specs.Feed.{OneFailed, Text}
-use Rattle.m11_link_layout.specs.Plan.{Planned}
+use Rattle.m11_link_layout.specs.Plan.{PlanTables}
 use Rattle.m11_link_layout.specs.declared.fault.LinkFault.{LinkFault}
 use Rattle.m11_link_layout.specs.declared.fault.LinkFault.TheVariants as linking
 use Rattle.m11_link.specs.FirstPass as first_pass
@@ -59,7 +59,7 @@ module _ {F : Type 0} (text : F → Option Text) (faults : F → ℕ) (never : N
     first_links : (bottom : ℕ) → first_pass.ReadsFirst (first_pass.pass_of text faults before after) bottom (Err linking.Read) → ⊥
     first_links bottom (items, fails, taken) = none_failed before after fails.sources fails.beginning fails.failed
 
-    second_links : (plan : Planned) (old new : link_outputs.Outputs)
+    second_links : (plan : PlanTables) (old new : link_outputs.Outputs)
         → ReadsSecond (first_pass.pass_of text faults before after) plan old new (Err linking.Read) → ⊥
     second_links plan old new (items, fails, taken, writes) = none_failed before after fails.sources fails.beginning fails.failed
 

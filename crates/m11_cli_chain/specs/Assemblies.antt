@@ -10,12 +10,12 @@ use Rattle.m11_base.specs.Devices.{Bytes}
 use Rattle.m11_cli_image.specs.Objects.{SourceFits, object_of}
 use Rattle.m11_asm_outcome_laws.specs.Beginnings.{MayStop}
 use Rattle.m11_asm_outcome_laws.specs.Live.{AreRefused}
-use Rattle.m11_asm_passes.specs.Lines.{Numbered}
+use Rattle.m11_asm_passes.specs.Lines.{NumberedLine}
 use Rattle.m11_cli_chain.specs.Sources.{AreLive, source_of}
 
 -- the object of the source that the live lines are was appended, and it fits
 pub record WritesObject (texts : List Bytes) (old new : Outputs) : Type 0 where
-  pub lines : List Numbered
+  pub lines : List NumberedLine
   pub live : AreLive texts lines
   pub fits : SourceFits (source_of lines)
   pub appends : Appends (old Object).text (new Object).text (object_of (source_of lines))

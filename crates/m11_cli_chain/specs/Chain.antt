@@ -20,7 +20,7 @@ use Rattle.m11_link.specs.Outputs.{link}
 use Rattle.m11_link.specs.Written.{link_writes}
 use Rattle.m11_link_text.specs.Findings.{findings_of}
 use Rattle.m11_link_modules.specs.Rules.{first_fault}
-use Rattle.m11_asm_passes.specs.Lines.{Numbered}
+use Rattle.m11_asm_passes.specs.Lines.{NumberedLine}
 use Rattle.m11_cpu_tape_laws.specs.Image.{Image}
 use Rattle.m11_cpu_tape_laws.specs.Loaded.{LiesInside, LiesPast}
 use Rattle.m11_cpu_tape_laws.specs.Tapes.{transfer_address}
@@ -58,7 +58,7 @@ tape_of bottom sources =
 
 -- the texts assemble, they link, and this holds of the sources that they are
 pub record Linked (texts : List (List Bytes)) (bottom : ℕ) (Holds : List Source → Type 0) : Type 0 where
-  pub lines : List (List Numbered)
+  pub lines : List (List NumberedLine)
   pub live : AllLive texts lines
   pub links : LinkTakes bottom (sources_of lines)
   pub holds : Holds (sources_of lines)
@@ -71,7 +71,7 @@ StopsLoad bottom words (Tape other) sources = ⊥
 
 -- the texts assemble, and this is the first refusal of a link of their objects
 pub record LinkRefuses (texts : List (List Bytes)) (bottom : ℕ) (stopped : LinkFault) : Type 0 where
-  pub lines : List (List Numbered)
+  pub lines : List (List NumberedLine)
   pub live : AllLive texts lines
   pub items : List Item
   pub are : AreItems (map object_of (sources_of lines)) items

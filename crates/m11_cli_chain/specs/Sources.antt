@@ -3,35 +3,35 @@
 use Rattle.std.specs.Prelude.{◌≡◌, List, [], ◌∷◌, ◌++◌, map, ⊤}
 use Rattle.m11_asm.specs.Outcome.{Ends}
 use Rattle.m11_asm.specs.Program.{directory_facts_of}
-use Rattle.m11_asm.specs.Written.{Ended, pieces_in}
+use Rattle.m11_asm.specs.Written.{EndOfSource, pieces_in}
 use Rattle.m11_asm_faults.specs.declared.fault.AsmFault.{AsmFault}
 use Rattle.m11_base.specs.Devices.{Bytes}
 use Rattle.m11_cli_image.specs.Sources.{Source}
 use Rattle.m11_asm_outcome_laws.specs.Live.{AreRefused}
-use Rattle.m11_asm_passes.specs.Lines.{Numbered, givens}
+use Rattle.m11_asm_passes.specs.Lines.{NumberedLine, givens}
 use Rattle.m11_asm_rules.specs.Meanings.{empty_map}
 use Rattle.m11_asm_rules.specs.Placements.{program_map}
 use Rattle.m11_asm_lines.specs.Counting.{none_used}
 use Rattle.m11_scan_line_laws.specs.Readings.{reading_of}
 
 -- what live lines give to a link: sections, names and `.END` of the first pass, and the pieces that they put under the program's map
-abbrev pub source_of : List Numbered → Source
+abbrev pub source_of : List NumberedLine → Source
 source_of lines = record {
   facts = directory_facts_of (givens lines);
   pieces = pieces_in (program_map (givens lines)) lines;
 }
 
-abbrev pub sources_of : List (List Numbered) → List Source
+abbrev pub sources_of : List (List NumberedLine) → List Source
 sources_of all = map source_of all
 
 -- ---- texts
 
 -- these are the live lines of some texts that are assembled together
-abbrev pub AreLive : List Bytes → List Numbered → Type 0
-AreLive texts lines = (ended : Ended) × Ends empty_map none_used (reading_of texts) lines ended
+abbrev pub AreLive : List Bytes → List NumberedLine → Type 0
+AreLive texts lines = (ended : EndOfSource) × Ends empty_map none_used (reading_of texts) lines ended
 
 -- these are the live lines of several assemblies, each of its texts
-abbrev pub AllLive : List (List Bytes) → List (List Numbered) → Type 0
+abbrev pub AllLive : List (List Bytes) → List (List NumberedLine) → Type 0
 AllLive [] [] = ⊤
 AllLive [] (lines ∷ others) = ⊥
 AllLive (texts ∷ more) [] = ⊥
@@ -43,6 +43,6 @@ pub record IsFirstRefused (all : List (List Bytes)) (stopped : AsmFault) : Type 
   pub texts : List Bytes
   pub more : List (List Bytes)
   pub whole : all ≡ before ++ texts ∷ more
-  pub lines : List (List Numbered)
+  pub lines : List (List NumberedLine)
   pub live : AllLive before lines
   pub refused : AreRefused texts stopped

@@ -19,7 +19,7 @@ use Rattle.m11_link.specs.Written.{link_writes}
 use Rattle.m11_link_text.specs.Findings.{findings_of}
 use Rattle.m11_link_modules.specs.Parts.{Part}
 use Rattle.m11_asm_outcome_laws.specs.Live.{AreRefused}
-use Rattle.m11_asm_passes.specs.Lines.{Numbered}
+use Rattle.m11_asm_passes.specs.Lines.{NumberedLine}
 use Rattle.m11_base_writes.specs.Writes.{gained}
 use Rattle.m11_cli_chain.specs.Refusals.{IsOfObjects, IsOfTexts}
 use Rattle.m11_cli_chain.specs.Sources.{AllLive, AreLive, IsFirstRefused, source_of, sources_of}
@@ -44,7 +44,7 @@ of_assembly stopped = Assembly stopped
 
 -- the object of the source that some texts are
 pub record IsObjectOf (texts : List Bytes) (object : Bytes) : Type 0 where
-  pub lines : List Numbered
+  pub lines : List NumberedLine
   pub live : AreLive texts lines
   pub fits : SourceFits (source_of lines)
   pub object_is : object ≡ object_of (source_of lines)
@@ -56,7 +56,7 @@ AssemblyFails texts other = ⊥
 
 -- the objects of several assemblies, each of the source that its texts are
 pub record AreObjectsOf (all : List (List Bytes)) (objects : List Bytes) : Type 0 where
-  pub lines : List (List Numbered)
+  pub lines : List (List NumberedLine)
   pub live : AllLive all lines
   pub fit : AllByRecursion SourceFits (sources_of lines)
   pub objects_are : objects ≡ map object_of (sources_of lines)

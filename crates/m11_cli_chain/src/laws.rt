@@ -12,7 +12,7 @@ ghost use Rattle.m11_base.specs.Devices.{Bytes};
 ghost use Rattle.m11_base.specs.Names.{absolute_name};
 ghost use Rattle.m11_cli_image.specs.Objects.{LiesAtWord};
 ghost use Rattle.m11_asm_outcome_laws.specs.Beginnings.{AreKnown};
-ghost use Rattle.m11_asm_passes.specs.Lines.{Numbered};
+ghost use Rattle.m11_asm_passes.specs.Lines.{NumberedLine};
 ghost use Rattle.m11_asm_rules.specs.Sections.{of_absolute, section};
 ghost use Rattle.m11_asm_rules.specs.declared.sections.Section.{Section};
 ghost use Rattle.m11_cli_chain.specs.Assemblies.{AssemblyYields};
@@ -25,9 +25,9 @@ use m11_base::Feed;
 
 /// Whatever its lines are, the first section of a source is `. ABS.`, and each of its pieces lies at a location below 65,536.
 pub fn live_lines_begin_with_the_absolute_section()
-    ensures first { (lines : List Numbered) → (others : List Section)
+    ensures first { (lines : List NumberedLine) → (others : List Section)
         × ((source_of lines).facts.table.sections ≡ section absolute_name of_absolute ∷ others) }
-    ensures locations { (lines : List Numbered) → AllByRecursion LiesAtWord (source_of lines).pieces }
+    ensures locations { (lines : List NumberedLine) → AllByRecursion LiesAtWord (source_of lines).pieces }
 {}
 
 /// Where both passes get the same known texts, an assembly that is Ok appended to its object exactly the object of the source that the live

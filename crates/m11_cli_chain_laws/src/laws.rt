@@ -6,12 +6,12 @@ ghost use Rattle.m11_cli_chain.specs.Chain.{Chains};
 ghost use Rattle.m11_cli_chain.specs.Sources.{sources_of};
 ghost use Rattle.m11_cli_chain.specs.declared.chain.Chained.{Chained};
 ghost use Rattle.m11_cli_image_laws.specs.Agreement.{AreOf};
-ghost use Rattle.m11_asm_passes.specs.Lines.{Numbered, givens};
+ghost use Rattle.m11_asm_passes.specs.Lines.{NumberedLine, givens};
 ghost use Rattle.m11_cli_chain_laws.specs.Stating.{HoldsStated};
 
 /// The sources of a chain are what their live lines give.
 pub fn live_lines_give_their_sources()
-    ensures { (all : List (List Numbered)) → AreOf (map givens all) (sources_of all) }
+    ensures { (all : List (List NumberedLine)) → AreOf (map givens all) (sources_of all) }
 {}
 
 /// After a chain that is Ok the machine holds at each address the byte that the live lines of its texts state there, and 0 where they state

@@ -97,7 +97,10 @@ fn has(rt: &impl Abort, name: &str, machine: &Machine, words: u16, bytes: &[u8])
     let mut address: u16 = 0o1000;
     for byte in bytes {
         assert!(rt; machine.has_byte(address), "{name}: no byte at {address}");
-        assert!(rt; machine.byte(address) == *byte, "{name}: the byte at {address}");
+        assert!(rt;
+            machine.byte(address) == *byte,
+            "{name}: the byte at {address}"
+        );
         address = address.wrapping_add(1);
     }
     let end = words.wrapping_mul(2);

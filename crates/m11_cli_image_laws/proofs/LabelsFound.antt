@@ -10,7 +10,7 @@ use Rattle.m11_asm_rules.specs.Labels.{global_if, label_name, labelled, with_blo
 use Rattle.m11_asm_rules.specs.Lines.{after_line, line_change, stands}
 use Rattle.m11_asm_rules.specs.Meanings.{Map, defined_or, empty_map, flag_D, quantity_of}
 use Rattle.m11_asm_rules.specs.Placements.{after_lines, program_map, table_after}
-use Rattle.m11_asm_rules.specs.Locations.{Moved, last_set, location_in, moves_in, sizes_since}
+use Rattle.m11_asm_rules.specs.Locations.{SectionMove, last_set, location_in, moves_in, sizes_since}
 use Rattle.m11_asm_rules.specs.Relocations.{is_moved}
 use Rattle.m11_asm_rules.specs.Sections.{location_kind}
 use Rattle.m11_asm_rules.specs.Tables.{Table, firm_table, first_table, kind_here, location, section_name}
@@ -25,7 +25,7 @@ use Rattle.m11_scan_statements.specs.Statements.{flag_if}
 use Rattle.m11_scan_statements.specs.declared.labels.Label.{Label}
 use Rattle.m11_scan_statements.specs.declared.labels.LabelKind.{LabelKind}
 use Rattle.m11_scan_statements.specs.declared.labels.LabelKind.TheVariants as label
-use Rattle.m11_unfold_rules.specs.Unfolding.{Given}
+use Rattle.m11_unfold_rules.specs.Unfolding.{UnfoldedLine}
 use Rattle.m11_scan_values.specs.declared.kinds.Kind.{Kind}
 use Rattle.m11_scan_values.specs.declared.kinds.Kind.TheVariants as kind
 use Rattle.m11_scan_values.specs.Quantities.{Quantity}
@@ -39,7 +39,7 @@ use Rattle.m11_cli_image_laws.proofs.SourcesLie.{Alike}
 -- ---- where a line stands: what counters did, and the section
 
 abbrev pub Frame : Type 0
-Frame = List Moved × (ℕ × List Section)
+Frame = List SectionMove × (ℕ × List Section)
 
 abbrev pub frame : Table → Frame
 frame table = (table.moves, (table.modes.section, table.sections))
@@ -86,12 +86,12 @@ labels_frame line table (named ∷ labels) =
 
 -- ---- lines in a row
 
-pub lines_then : (known : Map) (table : Table) (some more : List Given)
+pub lines_then : (known : Map) (table : Table) (some more : List UnfoldedLine)
     → after_lines known table (some ++ more) ≡ after_lines known (after_lines known table some) more
 lines_then known table [] more = refl
 lines_then known table (given ∷ some) more = lines_then known (after_line known table given) some more
 
-pub whole_after : (known : Map) (lines before : List Given) (given : Given) (after : List Given) → lines ≡ before ++ given ∷ after
+pub whole_after : (known : Map) (lines before : List UnfoldedLine) (given : UnfoldedLine) (after : List UnfoldedLine) → lines ≡ before ++ given ∷ after
     → table_after known lines ≡ after_lines known (after_line known (table_after known before) given) after
 whole_after known lines before given after e =
     ap (table_after known) e ∙ lines_then known first_table before (given ∷ after)
@@ -125,7 +125,7 @@ module _ (name : Name) where
       (Marking (kind_marks name table (label_name line named) named.kind)) l
       (labels_before definition l line (with_label line table named) labels is)
 
-  line_turns : (known : Map) (table : Table) (given : Given) → LineTurns name (stands table given) (after_line known table given)
+  line_turns : (known : Map) (table : Table) (given : UnfoldedLine) → LineTurns name (stands table given) (after_line known table given)
   line_turns known table given =
       change_turns name known given.live.line.text (line_change (firm_table (stands table given)) given) (stands table given)
 
@@ -138,13 +138,13 @@ module _ (name : Name) where
       (label_stays table definition (last name table) (last name (with_label line table named))
       (Marking (kind_marks name table (label_name line named) named.kind)) is)
 
-  operator_after : (definition : Definition) (known : Map) (table : Table) (given : Given)
+  operator_after : (definition : Definition) (known : Map) (table : Table) (given : UnfoldedLine)
       → IsLabel definition (last name (stands table given)) → IsLabel definition (last name (after_line known table given))
   operator_after definition known table given is =
       label_stays (stands table given) definition (last name (stands table given)) (last name (after_line known table given))
       (line_turns known table given) is
 
-  lines_after : (definition : Definition) (known : Map) (table : Table) (lines : List Given)
+  lines_after : (definition : Definition) (known : Map) (table : Table) (lines : List UnfoldedLine)
       → IsLabel definition (last name table) → IsLabel definition (last name (after_lines known table lines))
   lines_after definition known table [] is = is
   lines_after definition known table (given ∷ lines) is =
@@ -152,13 +152,13 @@ module _ (name : Name) where
       (operator_after definition known table given
       (labels_after definition given.live.line.text table (labels_at given.live.line.text) is))
 
-  operator_before : (definition : Definition) → is_some definition.label ≡ true → (known : Map) (table : Table) (given : Given)
+  operator_before : (definition : Definition) → is_some definition.label ≡ true → (known : Map) (table : Table) (given : UnfoldedLine)
       → IsOrNone definition (last name (after_line known table given)) → IsOrNone definition (last name (stands table given))
   operator_before definition l known table given is =
       or_none_before (stands table given) definition (last name (stands table given)) (last name (after_line known table given))
       (line_turns known table given) l is
 
-  lines_before : (definition : Definition) → is_some definition.label ≡ true → (known : Map) (table : Table) (lines : List Given)
+  lines_before : (definition : Definition) → is_some definition.label ≡ true → (known : Map) (table : Table) (lines : List UnfoldedLine)
       → IsOrNone definition (last name (after_lines known table lines)) → IsOrNone definition (last name table)
   lines_before definition l known table [] is = is
   lines_before definition l known table (given ∷ lines) is =
@@ -168,13 +168,13 @@ module _ (name : Name) where
 
   -- ---- the definition that a label is in the end
 
-  pub record IsLabelled (lines : List Given) (line : LineOf lines) : Type 0 where
+  pub record IsLabelled (lines : List UnfoldedLine) (line : LineOf lines) : Type 0 where
     pub at : Table
     pub other : Name
     pub same : frame at ≡ frame (at_line lines line)
     pub there : IsLabel (labelled at (Named other)) (last name (at_line lines line))
 
-  found_at : (lines : List Given) (line : LineOf lines) → is_some (last name (at_line lines line)) ≡ true
+  found_at : (lines : List UnfoldedLine) (line : LineOf lines) → is_some (last name (at_line lines line)) ≡ true
       → IsAt (before_line lines line) (last name (at_line lines line)) → IsLabelled lines line
   found_at lines line some (inl none) = absurd (true≢false (sym some ∙ ap is_some none))
   found_at lines line some (inr (at, other, same, e)) = record {
@@ -185,17 +185,17 @@ module _ (name : Name) where
     there = (e, refl);
   }
 
-  pub is_labelled : (lines : List Given) (line : LineOf lines) → HasLabel lines line name → IsLabelled lines line
+  pub is_labelled : (lines : List UnfoldedLine) (line : LineOf lines) → HasLabel lines line name → IsLabelled lines line
   is_labelled lines line has =
       let before = before_line lines line in
       found_at lines line (sym (defined_last (Named name) (at_line lines line).definitions) ∙ has.defined)
       (labels_at_location before before line.given.live.line.text (labels_at line.given.live.line.text) refl
       (inl (none_found (last name before) (sym (defined_last (Named name) before.definitions) ∙ has.new))))
 
-  abbrev pub definition_of : (lines : List Given) (line : LineOf lines) → IsLabelled lines line → Definition
+  abbrev pub definition_of : (lines : List UnfoldedLine) (line : LineOf lines) → IsLabelled lines line → Definition
   definition_of lines line is = labelled is.at (Named is.other)
 
-  in_the_end : (lines : List Given) (line : LineOf lines) (is : IsLabelled lines line)
+  in_the_end : (lines : List UnfoldedLine) (line : LineOf lines) (is : IsLabelled lines line)
       → IsLabel (definition_of lines line is) (last name (table_after (program_map lines) lines))
   in_the_end lines line is =
       let known = program_map lines in
@@ -205,7 +205,7 @@ module _ (name : Name) where
       (operator_after definition known (before_line lines line) line.given is.there))
 
   -- in another line it is that, or nothing yet
-  pub in_a_line : (lines : List Given) (line other : LineOf lines) (is : IsLabelled lines line)
+  pub in_a_line : (lines : List UnfoldedLine) (line other : LineOf lines) (is : IsLabelled lines line)
       → IsOrNone (definition_of lines line is) (last name (at_line lines other))
   in_a_line lines line other is =
       let known = program_map lines in
@@ -238,7 +238,7 @@ module _ (name : Name) where
       by true f = sym (ap (λ (b : Bool). firm_standing b one.standing) f) ∙ firm_given
       by false f = absurd (unknown_not (sym (ap (λ (b : Bool). firm_standing b one.standing) f) ∙ firm_given))
 
-  pub under_the_empty_map : Alike → (lines : List Given) (line : LineOf lines) (is : IsLabelled lines line)
+  pub under_the_empty_map : Alike → (lines : List UnfoldedLine) (line : LineOf lines) (is : IsLabelled lines line)
       → (one : Definition) × (last_definition (Named name) (table_after empty_map lines).definitions ≡ Some one)
       × (one.standing ≡ Known (location is.at) (kind_here is.at))
   under_the_empty_map alike lines line is =

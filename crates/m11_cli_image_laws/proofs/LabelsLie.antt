@@ -14,7 +14,7 @@ use Rattle.m11_asm_rules.specs.declared.definitions.Definition.{Definition}
 use Rattle.m11_asm_rules.specs.declared.definitions.Key.TheVariants.{Named}
 use Rattle.m11_asm_rules.specs.declared.definitions.Standing.TheVariants.{Known}
 use Rattle.m11_asm_rules.specs.declared.meanings.Context.{Context}
-use Rattle.m11_unfold_rules.specs.Unfolding.{Given}
+use Rattle.m11_unfold_rules.specs.Unfolding.{UnfoldedLine}
 use Rattle.m11_scan_values.specs.declared.kinds.Kind.{Kind}
 use Rattle.m11_scan_values.specs.declared.names.Symbol.TheVariants.{Ordinary}
 use Rattle.m11_cli_image.specs.Addresses.{Addresses}
@@ -37,7 +37,7 @@ module _ (alike : Alike) (bottom : ℕ) (sources : List Source) where
   abbrev program : Addresses
   program = addresses_of bottom sources
 
-  zeros_at : (first index : ℕ) (all : List (List Given)) (others : List Source) (lines : List Given) → AreOf all others
+  zeros_at : (first index : ℕ) (all : List (List UnfoldedLine)) (others : List Source) (lines : List UnfoldedLine) → AreOf all others
       → AllAtZero bottom sources first others → slice_get all index ≡ Some lines
       → LieAtZero program (first + index) (table_after (program_map lines) lines).sections
   zeros_at first index [] others lines are zeros e = absurd (true≢false (sym (ap is_some e)))
@@ -46,9 +46,9 @@ module _ (alike : Alike) (bottom : ℕ) (sources : List Source) where
       let here = zeros_of alike program first own source are.0 zeros.0 in
       let at : first ≡ first + 0 = omega arith in
       subst (λ (i : ℕ). LieAtZero program i (table_after (program_map lines) lines).sections) at
-      (subst (λ (o : Option (List Given)). SomeAtZero first o) e here)
+      (subst (λ (o : Option (List UnfoldedLine)). SomeAtZero first o) e here)
     where
-      SomeAtZero : ℕ → Option (List Given) → Type 0
+      SomeAtZero : ℕ → Option (List UnfoldedLine) → Type 0
       SomeAtZero i (Some some) = LieAtZero program i (table_after (program_map some) some).sections
       SomeAtZero i None = Unit {0}
   zeros_at first (suc index) (own ∷ all) (source ∷ others) lines are zeros e =
@@ -56,7 +56,7 @@ module _ (alike : Alike) (bottom : ℕ) (sources : List Source) where
       subst (λ (i : ℕ). LieAtZero program i (table_after (program_map lines) lines).sections) at
       (zeros_at (first + 1) index all others lines are.1 zeros.1 e)
 
-  module _ (all : List (List Given)) (are : AreOf all sources) (agree : AbsolutesAgree sources) (index : ℕ) (lines : List Given)
+  module _ (all : List (List UnfoldedLine)) (are : AreOf all sources) (agree : AbsolutesAgree sources) (index : ℕ) (lines : List UnfoldedLine)
       (own : slice_get all index ≡ Some lines) (name : Name) where
     zeros_here : LieAtZero program index (table_after (program_map lines) lines).sections
     zeros_here =
@@ -106,20 +106,20 @@ module _ (alike : Alike) (bottom : ℕ) (sources : List Source) where
         let one = under_the_empty_map name alike lines line is in
         (one.0, location is.at, kind_here is.at, one.1, one.2, at_the_line line is)
 
-is_of_at : (all : List (List Given)) (sources : List Source) (index : ℕ) (lines : List Given) (source : Source) → AreOf all sources
+is_of_at : (all : List (List UnfoldedLine)) (sources : List Source) (index : ℕ) (lines : List UnfoldedLine) (source : Source) → AreOf all sources
     → slice_get all index ≡ Some lines → slice_get sources index ≡ Some source → IsOf lines source
 is_of_at [] sources index lines source are own at = absurd (true≢false (sym (ap is_some own)))
 is_of_at (here ∷ all) [] index lines source are own at = absurd are
-is_of_at (here ∷ all) (one ∷ sources) zero lines source are own at = subst (λ (o : Option (List Given)). OfLines o (Some source)) own
+is_of_at (here ∷ all) (one ∷ sources) zero lines source are own at = subst (λ (o : Option (List UnfoldedLine)). OfLines o (Some source)) own
     (subst (λ (o : Option Source). OfLines (Some here) o) at are.0)
   where
-    OfLines : Option (List Given) → Option Source → Type 0
+    OfLines : Option (List UnfoldedLine) → Option Source → Type 0
     OfLines (Some some) (Some other) = IsOf some other
     OfLines (Some some) None = Unit {0}
     OfLines None other = Unit {0}
 is_of_at (here ∷ all) (one ∷ sources) (suc index) lines source are own at = is_of_at all sources index lines source are.1 own at
 
-pub global_label_lies : (alike : Alike) (bottom : ℕ) (sources : List Source) (all : List (List Given)) (index : ℕ) (lines : List Given)
+pub global_label_lies : (alike : Alike) (bottom : ℕ) (sources : List Source) (all : List (List UnfoldedLine)) (index : ℕ) (lines : List UnfoldedLine)
     (source : Source) (line : LineOf lines) (name : Name) → AreOf all sources → AbsolutesAgree sources → slice_get all index ≡ Some lines
     → HasLabel lines line name → DefinesFirst sources index source name
     → (addresses_of bottom sources).global name

@@ -3,11 +3,11 @@ use Rattle.std.proofs.Common.{◌≡◌, ℕ, ◌<◌, false, map, refl, arith}
 use Rattle.m11_base.specs.Devices.{Bytes}
 use Rattle.m11_asm_rules.specs.Alignment.{location_for}
 use Rattle.m11_asm_rules.specs.Contents.{further}
-use Rattle.m11_asm_rules.specs.Effects.{directive_put, operator_put}
+use Rattle.m11_asm_rules.specs.Effects.{directive_emission, operator_emission}
 use Rattle.m11_asm_rules.specs.Elements.{elements_at}
 use Rattle.m11_asm_rules.specs.Fields.{forms_of}
 use Rattle.m11_asm_rules.specs.Instructions.{fields, line_context}
-use Rattle.m11_asm_rules.specs.Lines.{Action, action, line_put, pieces, put_by, put_location, stands}
+use Rattle.m11_asm_rules.specs.Lines.{Action, action, line_emission, pieces, emission_by, put_location, stands}
 use Rattle.m11_asm_rules.specs.Lines as lines
 use Rattle.m11_asm_rules.specs.Meanings.{Map, known_at}
 use Rattle.m11_asm_rules.specs.Operators.{is_even}
@@ -19,7 +19,7 @@ use Rattle.m11_asm_rules.specs.declared.operators.Directive.{Directive}
 use Rattle.m11_asm_rules.specs.declared.operators.Directive.TheVariants as word
 use Rattle.m11_asm_rules.specs.declared.operators.Operator.{Operator}
 use Rattle.m11_asm_rules.specs.declared.operators.Operator.TheVariants as operators
-use Rattle.m11_unfold_rules.specs.Unfolding.{Given}
+use Rattle.m11_unfold_rules.specs.Unfolding.{UnfoldedLine}
 use Rattle.std.specs.Prelude.{Option}
 use Rattle.m11_cli_image.specs.Addresses.{Addresses}
 use Rattle.m11_cli_image.specs.Pieces.{placed}
@@ -31,7 +31,7 @@ use Rattle.m11_cli_image_laws.proofs.ManyThings.{AllStay, Mean, anywhere, both_s
 module _ (program : Addresses) (source : ℕ) (table : Table)
     (absolute : is_moved table ≡ false → program.base source (section_name table) ≡ 0) where
   directive_stays : (known : Map) (here : ℕ) (line : Bytes) (start : ℕ) (arguments : Option ℕ) (directive : Directive)
-      → AllStay program source table absolute (directive_put known table here line start arguments directive).contents
+      → AllStay program source table absolute (directive_emission known table here line start arguments directive).contents
       (directive_stated known table here line start directive)
   directive_stays known here line start arguments word.Word =
       words_stay program source table absolute known line here (elements_at line start).columns
@@ -72,7 +72,7 @@ module _ (program : Addresses) (source : ℕ) (table : Table)
   further_low location size = omega arith
 
   operator_means : (known : Map) (here : ℕ) (line : Bytes) (start : ℕ) (arguments : Option ℕ) (operator : Operator)
-      → Mean program source table absolute here (operator_put known table here line start arguments operator).contents
+      → Mean program source table absolute here (operator_emission known table here line start arguments operator).contents
       (operator_stated known table here line start operator)
   operator_means known here line start arguments (operators.Instruction operation) = (
     plain_word program source table absolute here _,
@@ -83,7 +83,7 @@ module _ (program : Addresses) (source : ℕ) (table : Table)
       anywhere program source table absolute here _ _ (directive_stays known here line start arguments directive)
 
   action_means : (known : Map) (line : Bytes) (arguments : Option ℕ) (done : Action)
-      → Mean program source table absolute (put_location table done) (put_by known table line arguments done).contents
+      → Mean program source table absolute (put_location table done) (emission_by known table line arguments done).contents
       (action_stated known table line done)
   action_means known line arguments lines.NoAction = tt
   action_means known line arguments (lines.Assign name is_global start) = tt
@@ -91,15 +91,15 @@ module _ (program : Addresses) (source : ℕ) (table : Table)
   action_means known line arguments (lines.Operate operator start) =
       operator_means known (location_for (is_even operator) (location table)) line start arguments operator
 
-  pub stood_lies : (known : Map) (given : Given)
-      → Mean program source table absolute (line_location table given) (line_put known table given).contents (line_stated known table given)
-  unfolding line_put line_stated
+  pub stood_lies : (known : Map) (given : UnfoldedLine)
+      → Mean program source table absolute (line_location table given) (line_emission known table given).contents (line_stated known table given)
+  unfolding line_emission line_stated
   stood_lies known given = action_means known given.live.line.text given.arguments (action given.is_own given.live.line.text)
 
-pub line_lies : (program : Addresses) (source : ℕ) (known : Map) (table : Table) (given : Given)
+pub line_lies : (program : Addresses) (source : ℕ) (known : Map) (table : Table) (given : UnfoldedLine)
     → (is_moved (stands table given) ≡ false → program.base source (section_name (stands table given)) ≡ 0)
     → map (placed program source) (pieces known table given) ≡ line_lying program source known (stands table given) given
 line_lies program source known table given absolute =
     laid_out program source (stands table given) absolute (line_location (stands table given) given)
-    (line_put known (stands table given) given).contents (line_stated known (stands table given) given)
+    (line_emission known (stands table given) given).contents (line_stated known (stands table given) given)
     (stood_lies program source (stands table given) absolute known given)

@@ -23,7 +23,7 @@ use Rattle.m11_scan_statements.specs.Labels.{labels_at}
 use Rattle.m11_scan_statements.specs.declared.labels.Label.{Label}
 use Rattle.m11_scan_statements.specs.declared.labels.LabelKind.{LabelKind}
 use Rattle.m11_scan_statements.specs.declared.labels.LabelKind.TheVariants as label
-use Rattle.m11_unfold_rules.specs.Unfolding.{Given}
+use Rattle.m11_unfold_rules.specs.Unfolding.{UnfoldedLine}
 use Rattle.m11_cli_image.specs.Addresses.{Addresses}
 use Rattle.m11_cli_image.specs.Image.{addresses_of, image_of, placed_pieces}
 use Rattle.m11_cli_image.specs.Pieces.{placed}
@@ -97,12 +97,12 @@ module _ (P : Section → Type 0) where
   before_change known line (change.Exports start) table all = all
   before_change known line (change.Sets modes) table all = all
 
-  pub at_line : (known : Map) (table : Table) (given : Given) → AllByRecursion P (after_line known table given).sections
+  pub at_line : (known : Map) (table : Table) (given : UnfoldedLine) → AllByRecursion P (after_line known table given).sections
       → AllByRecursion P (stands table given).sections
   at_line known table given all =
       before_change known given.live.line.text (line_change (firm_table (stands table given)) given) (stands table given) all
 
-  pub before_lines : (known : Map) (table : Table) (lines : List Given) → AllByRecursion P (after_lines known table lines).sections
+  pub before_lines : (known : Map) (table : Table) (lines : List UnfoldedLine) → AllByRecursion P (after_lines known table lines).sections
       → AllByRecursion P table.sections
   before_lines known table [] all = all
   before_lines known table (given ∷ lines) all =
@@ -111,7 +111,7 @@ module _ (P : Section → Type 0) where
 
 -- ---- the lines of one source
 
-pub lines_lie : (program : Addresses) (source : ℕ) (known : Map) (table : Table) (lines : List Given)
+pub lines_lie : (program : Addresses) (source : ℕ) (known : Map) (table : Table) (lines : List UnfoldedLine)
     → LieAtZero program source (after_lines known table lines).sections
     → map (placed program source) (flat_map agreement.placed_pieces (placed_from known table lines))
     ≡ lines_lying program source known table lines
@@ -130,15 +130,15 @@ lines_lie program source known table (given ∷ lines) all =
 
 -- any two maps place lines alike
 abbrev pub Alike : Type 0
-Alike = (one other : Map) (lines : List Given) → firm_table (table_after one lines) ≡ firm_table (table_after other lines)
+Alike = (one other : Map) (lines : List UnfoldedLine) → firm_table (table_after one lines) ≡ firm_table (table_after other lines)
 
-pub zeros_of : Alike → (program : Addresses) (index : ℕ) (lines : List Given) (source : Source) → IsOf lines source
+pub zeros_of : Alike → (program : Addresses) (index : ℕ) (lines : List UnfoldedLine) (source : Source) → IsOf lines source
     → LieAtZero program index source.facts.table.sections → LieAtZero program index (table_after (program_map lines) lines).sections
 zeros_of alike program index lines source is zeros =
     subst (LieAtZero program index) (ap (λ (t : Table). t.sections) is.table
     ∙ ap (λ (t : Table). t.sections) (alike empty_map (program_map lines) lines)) zeros
 
-source_lies : Alike → (program : Addresses) (index : ℕ) (lines : List Given) (source : Source) → IsOf lines source
+source_lies : Alike → (program : Addresses) (index : ℕ) (lines : List UnfoldedLine) (source : Source) → IsOf lines source
     → LieAtZero program index source.facts.table.sections
     → map (placed program index) source.pieces ≡ source_lying program (index, lines)
 source_lies alike program index lines source is zeros =
@@ -146,7 +146,7 @@ source_lies alike program index lines source is zeros =
     ∙ lines_lie program index (program_map lines) first_table lines (zeros_of alike program index lines source is zeros)
 
 module _ (alike : Alike) (bottom : ℕ) (sources : List Source) where
-  sources_lie : (index : ℕ) (all : List (List Given)) (others : List Source) → AreOf all others → AllAtZero bottom sources index others
+  sources_lie : (index : ℕ) (all : List (List UnfoldedLine)) (others : List Source) → AreOf all others → AllAtZero bottom sources index others
       → flat_map (placed_pieces (addresses_of bottom sources)) (enumerate_from index others)
       ≡ flat_map (source_lying (addresses_of bottom sources)) (enumerate_from index all)
   sources_lie index [] [] are zeros = refl
@@ -157,7 +157,7 @@ module _ (alike : Alike) (bottom : ℕ) (sources : List Source) where
       (source_lies alike (addresses_of bottom sources) index lines source are.0 zeros.0)
       (sources_lie (index + 1) all others are.1 zeros.1)
 
-  pub image_lies : (all : List (List Given)) → AreOf all sources → AbsolutesAgree sources → (address : ℕ)
+  pub image_lies : (all : List (List UnfoldedLine)) → AreOf all sources → AbsolutesAgree sources → (address : ℕ)
       → (image_of bottom sources).byte address ≡ byte_of (all_lying (addresses_of bottom sources) all) address
   unfolding image_of
   image_lies all are agree address =

@@ -3,7 +3,7 @@ use Rattle.std.proofs.Common.{◌≡◌, [], ◌∷◌, refl}
 use Rattle.m11_base_instructions.specs.Instructions.{other_names, row_of, rows}
 use Rattle.m11_base.specs.Rad50.{alphabet, code_of}
 use Rattle.m11_link_modules.specs.Positions.{distinct}
-use Rattle.m11_asm_rules.specs.Lines.{line_change, line_put}
+use Rattle.m11_asm_rules.specs.Lines.{line_change, line_emission}
 use Rattle.m11_scan.specs.Pieces.{first_piece}
 use Rattle.m11_scan_values.specs.Values.{value_of}
 use Rattle.m11_cli_image.specs.Globals.{global}
@@ -19,7 +19,7 @@ unfolding alphabet code_of first_piece value_of line_change line_stated rows oth
 worked_out = refl
 
 pub placed_out : all_placed (addresses_of 0o1000 worked_sources) worked_sources ≡ worked_bytes
-unfolding alphabet code_of first_piece value_of line_change line_put rows other_names row_of addresses_of contribution global distinct
+unfolding alphabet code_of first_piece value_of line_change line_emission rows other_names row_of addresses_of contribution global distinct
 placed_out = refl
 
 pub worked_agree : AbsolutesAgree worked_sources

@@ -5,23 +5,23 @@ use Rattle.std.specs.List.{AllByRecursion, flat_map}
 use Rattle.m11_link_layout.specs.Sections.{is_relocatable}
 use Rattle.m11_obj_texts.specs.declared.pieces.Piece.{Piece}
 use Rattle.m11_asm_rules.specs.Meanings.{empty_map}
-use Rattle.m11_asm_rules.specs.Placements.{Placed, placement, program_map, table_after}
-use Rattle.m11_unfold_rules.specs.Unfolding.{Given}
+use Rattle.m11_asm_rules.specs.Placements.{LinePlacement, placement, program_map, table_after}
+use Rattle.m11_unfold_rules.specs.Unfolding.{UnfoldedLine}
 use Rattle.m11_cli_image.specs.Sections.{OwnSection, all_sections, attributes_of}
 use Rattle.m11_cli_image.specs.Sources.{Source}
 
 -- ---- lines
 
-abbrev pub placed_pieces : Placed → List Piece
+abbrev pub placed_pieces : LinePlacement → List Piece
 placed_pieces line = line.pieces
 
 -- a source is what these live lines give: its table is that of the first pass, and its pieces are put under the map that the lines make
-pub record IsOf (lines : List Given) (source : Source) : Type 0 where
+pub record IsOf (lines : List UnfoldedLine) (source : Source) : Type 0 where
   pub table : source.facts.table ≡ table_after empty_map lines
   pub pieces : source.pieces ≡ flat_map placed_pieces (placement (program_map lines) lines)
 
 -- each of several sources, by its lines
-abbrev pub AreOf : List (List Given) → List Source → Type 0
+abbrev pub AreOf : List (List UnfoldedLine) → List Source → Type 0
 AreOf [] [] = ⊤
 AreOf [] (source ∷ sources) = ⊥
 AreOf (lines ∷ all) [] = ⊥

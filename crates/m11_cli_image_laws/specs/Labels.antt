@@ -14,7 +14,7 @@ use Rattle.m11_asm_rules.specs.declared.definitions.Definition.{Definition}
 use Rattle.m11_asm_rules.specs.declared.definitions.Key.TheVariants.{Named}
 use Rattle.m11_asm_rules.specs.declared.definitions.Standing.TheVariants.{Known}
 use Rattle.m11_asm_rules.specs.declared.meanings.Context.{Context}
-use Rattle.m11_unfold_rules.specs.Unfolding.{Given}
+use Rattle.m11_unfold_rules.specs.Unfolding.{UnfoldedLine}
 use Rattle.m11_scan_values.specs.declared.kinds.Kind.{Kind}
 use Rattle.m11_scan_values.specs.declared.names.Symbol.TheVariants.{Ordinary}
 use Rattle.m11_scan_values.specs.Quantities.{Quantity}
@@ -24,28 +24,28 @@ use Rattle.m11_cli_image.specs.Sources.{Source}
 -- ---- the lines of a source
 
 -- one line of a source, with those before it and after it
-pub record LineOf (lines : List Given) : Type 0 where
-  pub before : List Given
-  pub given : Given
-  pub after : List Given
+pub record LineOf (lines : List UnfoldedLine) : Type 0 where
+  pub before : List UnfoldedLine
+  pub given : UnfoldedLine
+  pub after : List UnfoldedLine
   pub whole : lines ≡ before ++ given ∷ after
 
 -- the table before a line, and the one in which its labels are defined
-abbrev pub before_line : (lines : List Given) → LineOf lines → Table
+abbrev pub before_line : (lines : List UnfoldedLine) → LineOf lines → Table
 before_line lines line = table_after (program_map lines) line.before
 
-abbrev pub at_line : (lines : List Given) → LineOf lines → Table
+abbrev pub at_line : (lines : List UnfoldedLine) → LineOf lines → Table
 at_line lines line = stands (before_line lines line) line.given
 
 -- ---- labels
 
 -- a line has a name as a label: the name is defined by the labels of the line, and not before
-pub record HasLabel (lines : List Given) (line : LineOf lines) (name : Name) : Type 0 where
+pub record HasLabel (lines : List UnfoldedLine) (line : LineOf lines) (name : Name) : Type 0 where
   pub new : is_defined (Named name) (before_line lines line).definitions ≡ false
   pub defined : is_defined (Named name) (at_line lines line).definitions ≡ true
 
 -- what a name stands for in a line of the source, where `.` is a location
-abbrev pub meaning_at : (lines : List Given) → LineOf lines → Context → ℕ → Name → Quantity
+abbrev pub meaning_at : (lines : List UnfoldedLine) → LineOf lines → Context → ℕ → Name → Quantity
 meaning_at lines line context here name =
     stands_for (program_map lines) context (at_line lines line) here (Ordinary name)
 

@@ -30,7 +30,7 @@ use Rattle.m11_asm_rules.specs.declared.operators.Operator.TheVariants as operat
 use Rattle.m11_scan_statements.specs.declared.parts.Part.{Part}
 use Rattle.m11_scan_statements.specs.declared.parts.PartKind.{PartKind}
 use Rattle.m11_scan_statements.specs.declared.parts.PartKind.TheVariants.{Text, Expression}
-use Rattle.m11_unfold_rules.specs.Unfolding.{Given}
+use Rattle.m11_unfold_rules.specs.Unfolding.{UnfoldedLine}
 use Rattle.m11_scan_values.specs.Quantities.{Quantity}
 
 pub data Stated : Type 0 where
@@ -127,6 +127,6 @@ action_stated map table line (lines.Operate operator start) =
 action_stated map table line other = []
 
 -- what a line states, by the table in which its labels are defined
-unfoldable pub line_stated : Map → Table → Given → List Stated
+unfoldable pub line_stated : Map → Table → UnfoldedLine → List Stated
 line_stated map stood given =
     action_stated map stood given.live.line.text (action given.is_own given.live.line.text)

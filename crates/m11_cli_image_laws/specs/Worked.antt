@@ -3,7 +3,7 @@
 use Rattle.std.specs.Prelude.{ℕ, ◌==◌, if◌then◌else◌, false, List, [], ◌∷◌, codes, None}
 use Rattle.std.specs.List.{flat_map}
 use Rattle.m11_unfold_arguments.specs.Expressions.{known_by}
-use Rattle.m11_unfold_arguments.specs.Notes.{no_notes}
+use Rattle.m11_unfold_arguments.specs.Remarks.{no_remarks}
 use Rattle.m11_base.specs.Devices.{Bytes}
 use Rattle.m11_scan_lines.specs.Line.{line_of}
 use Rattle.m11_asm_rules.specs.Meanings.{empty_map}
@@ -11,33 +11,33 @@ use Rattle.m11_asm_rules.specs.Placements.{placement, program_map, table_after}
 use Rattle.m11_asm_rules.specs.Locations.{size_in}
 use Rattle.m11_asm_rules.specs.Sources.{source_transfer}
 use Rattle.m11_scan.specs.declared.radix.Radix.TheVariants.{Octal}
-use Rattle.m11_unfold_rules.specs.Unfolding.{Given}
+use Rattle.m11_unfold_rules.specs.Unfolding.{UnfoldedLine}
 use Rattle.m11_scan_values.specs.Quantities.{absolute}
 use Rattle.m11_cli_image.specs.Addresses.{Addresses}
 use Rattle.m11_cli_image.specs.Sources.{Source}
 use Rattle.m11_cli_image_laws.specs.Agreement.{placed_pieces}
 
-abbrev pub worked_line : Bytes → Given
+abbrev pub worked_line : Bytes → UnfoldedLine
 worked_line text = record {
   live = record { line = line_of text; is_expanded = false };
   known = known_by Octal (λ symbol. absolute 0 0);
   is_own = false;
-  notes = no_notes;
+  remarks = no_remarks;
   arguments = None;
 }
 
-abbrev pub fetching : List Given
+abbrev pub fetching : List UnfoldedLine
 fetching =
     worked_line (codes "START: MOV VALUE,R0")
     ∷ worked_line (codes " HALT")
     ∷ worked_line (codes " .END START")
     ∷ []
 
-abbrev pub giving : List Given
+abbrev pub giving : List UnfoldedLine
 giving = worked_line (codes "VALUE:: .WORD 123") ∷ []
 
 -- the sources that these lines are
-abbrev pub worked_source : List Given → Source
+abbrev pub worked_source : List UnfoldedLine → Source
 worked_source lines = record {
   facts = record {
     table = table_after empty_map lines;

@@ -6,7 +6,7 @@ ghost use Rattle.m11_cli_image.specs.Image.{addresses_of};
 ghost use Rattle.m11_cli_image.specs.Sources.{Source};
 ghost use Rattle.m11_asm_rules.specs.Tables.{location, section_name};
 ghost use Rattle.m11_asm_rules.specs.declared.meanings.Context.{Context};
-ghost use Rattle.m11_unfold_rules.specs.Unfolding.{Given};
+ghost use Rattle.m11_unfold_rules.specs.Unfolding.{UnfoldedLine};
 ghost use Rattle.m11_scan_values.specs.declared.kinds.Kind.{Kind};
 ghost use Rattle.m11_cli_image_laws.specs.Agreement.{AbsolutesAgree, AreOf};
 ghost use Rattle.m11_cli_image_laws.specs.Labels.{DefinesFirst, HasLabel, HasValue, LineOf, at_line, meaning_at};
@@ -16,7 +16,7 @@ ghost use Rattle.m11_cli_image_laws.specs.Targets.{target, target_by};
 /// In every line of its source, before the label and after it, the name of a label stands for one address in the program: that of the
 /// location at which the line with the label stands, so of the first byte that the line puts, where it passes over none.
 pub fn labels_lie_where_their_lines_do()
-    ensures { (bottom : ℕ) (all : List (List Given)) (sources : List Source) (index : ℕ) (lines : List Given) (line other : LineOf lines)
+    ensures { (bottom : ℕ) (all : List (List UnfoldedLine)) (sources : List Source) (index : ℕ) (lines : List UnfoldedLine) (line other : LineOf lines)
         (name : Name) (context : Context) (here : ℕ) → AreOf all sources → AbsolutesAgree sources → slice_get all index ≡ Some lines
         → HasLabel lines line name
         → target (addresses_of bottom sources) index (meaning_at lines other context here name)
@@ -35,7 +35,7 @@ pub fn globals_lie_where_they_are_defined()
 
 /// If such a name is a label of its source, other sources refer by it to the location at which the line with the label stands.
 pub fn globals_of_labels_lie_where_their_lines_do()
-    ensures { (bottom : ℕ) (all : List (List Given)) (sources : List Source) (index : ℕ) (lines : List Given) (source : Source)
+    ensures { (bottom : ℕ) (all : List (List UnfoldedLine)) (sources : List Source) (index : ℕ) (lines : List UnfoldedLine) (source : Source)
         (line : LineOf lines) (name : Name) → AreOf all sources → AbsolutesAgree sources → slice_get all index ≡ Some lines
         → HasLabel lines line name → DefinesFirst sources index source name
         → (addresses_of bottom sources).global name

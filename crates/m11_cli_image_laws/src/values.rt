@@ -9,7 +9,7 @@ ghost use Rattle.m11_asm_rules.specs.Branches.{branch_offset, branch_reaches, lo
 ghost use Rattle.m11_asm_rules.specs.Relocations.{is_moved};
 ghost use Rattle.m11_asm_rules.specs.Tables.{Table, section_name};
 ghost use Rattle.m11_cpu_tape_laws.specs.Image.{byte_of};
-ghost use Rattle.m11_unfold_rules.specs.Unfolding.{Given};
+ghost use Rattle.m11_unfold_rules.specs.Unfolding.{UnfoldedLine};
 ghost use Rattle.m11_scan_values.specs.Quantities.{Quantity};
 ghost use Rattle.m11_cli_image_laws.specs.Agreement.{AbsolutesAgree, AreOf};
 ghost use Rattle.m11_cli_image_laws.specs.Branching.{branch_distance, loop_distance};
@@ -21,7 +21,7 @@ ghost use Rattle.m11_cli_image_laws.specs.Targets.{target};
 /// any source, or a number; a relative operand by how far that value lies from the location after it. A later line counts before an
 /// earlier one.
 pub fn images_hold_what_their_lines_state()
-    ensures { (bottom : ℕ) (all : List (List Given)) (sources : List Source) → AreOf all sources → AbsolutesAgree sources
+    ensures { (bottom : ℕ) (all : List (List UnfoldedLine)) (sources : List Source) → AreOf all sources → AbsolutesAgree sources
         → (address : ℕ) → (image_of bottom sources).byte address ≡ byte_of (all_lying (addresses_of bottom sources) all) address }
 {
     m11_asm_rules::placements_are_the_same_under_every_map();

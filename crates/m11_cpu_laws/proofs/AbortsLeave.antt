@@ -27,7 +27,7 @@ use Rattle.m11_cpu_machine.specs.Execution.{execute, numbered, on_register, then
 use Rattle.m11_cpu_machine.specs.Extended.{extended}
 use Rattle.m11_cpu_machine.specs.Jumps.{call, enter, push, return_by, target, jump, mark, pop}
 use Rattle.m11_cpu_machine.specs.Machine.{register_of, with_register}
-use Rattle.m11_cpu_machine.specs.Addressing.{fetch, fetch_operand, next_word, location_of, put_result, store, back}
+use Rattle.m11_cpu_machine.specs.Addressing.{fetch, fetch_operand, next_word, location_of, store_result, store, back}
 use Rattle.m11_cpu_machine.specs.SingleOperands.{single_by, change_at, change_single, single, write, test_operand}
 use Rattle.m11_cpu_machine.specs.Steps.{instruction}
 use Rattle.m11_cpu_laws.specs.Writes.{AbortLeaves, IsElseAsBefore}
@@ -119,8 +119,8 @@ module _ (I : Machine → Type 0) where
       left_last I (store_moved location size source) _ m (moved_leaves location size source m i) (λ u n. at_comes tt)
 
   result_leaves : (location : OperandLocation) (size : Size) (computed : Computed) (m : Machine) → I m
-      → Always (put_result location size computed m) (λ y. Leaves I y)
-  unfolding put_result
+      → Always (store_result location size computed m) (λ y. Leaves I y)
+  unfolding store_result
   result_leaves location size computed m i =
       left_last I (store location size computed.value) _ m (location_leaves location size computed.value m i)
       (λ u n. at_comes tt)

@@ -23,7 +23,7 @@ use Rattle.m11_base_instructions.specs.declared.operand.Size.TheVariants.{Word, 
 use Rattle.m11_cpu_arithmetic.specs.declared.results.Computed.{Computed}
 use Rattle.m11_cpu_machine.specs.Access.{load_byte, load_word, store_byte, store_word}
 use Rattle.m11_cpu_machine.specs.Acts.{Act, ◌>>=◌}
-use Rattle.m11_cpu_machine.specs.Addressing.{deferred, fetch, fetch_operand, indexed, location_by, location_of, next_word, put_result, stepped_back, store}
+use Rattle.m11_cpu_machine.specs.Addressing.{deferred, fetch, fetch_operand, indexed, location_by, location_of, next_word, store_result, stepped_back, store}
 use Rattle.m11_cpu_machine.specs.Dialogue.{Comes, Exchange, Leads}
 use Rattle.m11_cpu_machine.specs.DoubleOperands.{change_double, change_exclusive, compare, double, double_at, exclusive_or, move_to, store_moved}
 use Rattle.m11_cpu_machine.specs.Execution.{bare, execute, numbered, on_register, return_from_trap}
@@ -158,8 +158,8 @@ moved_traps (InRegister register) Byte v m = in_register register Byte _ m _
 moved_traps (InMemory address) size v m = store_traps (InMemory address) size v m
 
 result_traps : (location : OperandLocation) (size : Size) (computed : Computed) (m : Machine)
-    → TrapsAtThese {A = Unit {0}} (put_result location size computed m) (access_at location size ∷ []) m
-unfolding put_result
+    → TrapsAtThese {A = Unit {0}} (store_result location size computed m) (access_at location size ∷ []) m
+unfolding store_result
 result_traps location size computed m =
     then_quiet (store location size computed.value) _ m m (access_at location size ∷ [])
     (store_traps location size computed.value m) (λ u n first h. done_never tt _)
@@ -207,18 +207,18 @@ store_never (InMemory address) Word v m i = (store_word_at address v m).finds i
 store_never (InMemory address) Byte v m i = (store_byte_at address (v % 256) m).finds i
 
 result_never : (location : OperandLocation) (size : Size) (computed : Computed) (m : Machine) → IsThere location size m
-    → NeverAt4 {A = Unit {0}} (put_result location size computed m)
-unfolding put_result
+    → NeverAt4 {A = Unit {0}} (store_result location size computed m)
+unfolding store_result
 result_never location size computed m i =
     bind_never (store location size computed.value) _ m (store_never location size computed.value m i)
     (λ u n. done_never tt _)
 
 -- a destination that is read and then stored to
 changes_trap : (location : OperandLocation) (size : Size) (computed : ℕ → Machine → Computed) (m : Machine)
-    → TrapsAtThese {A = Unit {0}} ((fetch location size >>= λ value n. put_result location size (computed value n) n) m)
+    → TrapsAtThese {A = Unit {0}} ((fetch location size >>= λ value n. store_result location size (computed value n) n) m)
     (access_at location size ∷ []) m
 changes_trap location size computed m =
-    then_quiet (fetch location size) (λ value n. put_result location size (computed value n) n) m m
+    then_quiet (fetch location size) (λ value n. store_result location size (computed value n) n) m m
     (access_at location size ∷ []) (fetch_traps location size m)
     (λ value n first h. result_never location size (computed value n) n
     (there_still location size m n value first h ((fetch_quiet m.memory location size m refl).each first (Ok value, n) h)))

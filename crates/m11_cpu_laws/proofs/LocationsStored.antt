@@ -14,7 +14,7 @@ use Rattle.m11_cpu_machine.specs.Console.{device_at}
 use Rattle.m11_cpu_machine.specs.Dialogue.{Comes}
 use Rattle.m11_cpu_machine.specs.DoubleOperands.{change_double, change_exclusive, move_to, store_moved}
 use Rattle.m11_cpu_machine.specs.Machine.{finished, is_status, with_condition_codes}
-use Rattle.m11_cpu_machine.specs.Addressing.{fetch, put_result, store}
+use Rattle.m11_cpu_machine.specs.Addressing.{fetch, store_result, store}
 use Rattle.m11_cpu_machine.specs.SingleOperands.{change_at}
 use Rattle.m11_cpu_laws.specs.Writes.{location_bytes, word_bytes, written_by}
 use Rattle.m11_cpu_machine.specs.declared.abort.Abort.{Abort}
@@ -107,8 +107,8 @@ finishes act location codes m bytes memory a =
 
 pub result_stores : (location : OperandLocation) (size : Size) (computed : Computed) (memory : List ℕ) (m : Machine)
     → Same memory m
-    → Always (put_result location size computed m) (λ y. Stores (location_bytes location size) memory y)
-unfolding put_result
+    → Always (store_result location size computed m) (λ y. Stores (location_bytes location size) memory y)
+unfolding store_result
 result_stores location size computed memory m e =
     finishes (store location size computed.value) location computed.codes m (location_bytes location size) memory
     (location_stores location size computed.value memory m e)

@@ -37,7 +37,7 @@ use Rattle.m11_cpu_machine.specs.Execution.{bare, execute, numbered, on_register
 use Rattle.m11_cpu_machine.specs.Extended.{after_division, extended, extended_by, low_word_of}
 use Rattle.m11_cpu_machine.specs.Jumps.{address_of, branched, call, counted_down, enter, jump, mark, pop, push, return_by, target, words_on}
 use Rattle.m11_cpu_machine.specs.Machine.{finished, is_status, register_of, with_condition_codes, with_register}
-use Rattle.m11_cpu_machine.specs.Addressing.{back, deferred, fetch, fetch_operand, forward, indexed, location_by, location_of, next_word, put_result, store}
+use Rattle.m11_cpu_machine.specs.Addressing.{back, deferred, fetch, fetch_operand, forward, indexed, location_by, location_of, next_word, store_result, store}
 use Rattle.m11_cpu_machine.specs.SingleOperands.{change_at, change_single, single, single_by, test_operand, write}
 use Rattle.m11_cpu_machine.specs.Steps.{instruction}
 use Rattle.m11_cpu_machine.specs.declared.abort.Abort.{Abort}
@@ -285,8 +285,8 @@ move_reports location size source m =
     (λ u n. finished_reports location _ n)
 
 result_reports : (location : OperandLocation) (size : Size) (computed : Computed) (m : Machine)
-    → Reports m.receiver m.stopped (put_result location size computed m)
-unfolding put_result
+    → Reports m.receiver m.stopped (store_result location size computed m)
+unfolding store_result
 result_reports location size computed m =
     reports_bind (store location size computed.value) _ m (store_reports location size computed.value m)
     (λ u n. finished_reports location _ n)

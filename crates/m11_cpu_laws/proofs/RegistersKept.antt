@@ -36,7 +36,7 @@ use Rattle.m11_cpu_machine.specs.Execution.{bare, execute, numbered, on_register
 use Rattle.m11_cpu_machine.specs.Extended.{after_division, extended, extended_by, low_word_of}
 use Rattle.m11_cpu_machine.specs.Jumps.{branched, call, counted_down, enter, jump, mark, pop, push, return_by, target, words_on}
 use Rattle.m11_cpu_machine.specs.Machine.{finished, is_status, register_of, with_condition_codes, with_register}
-use Rattle.m11_cpu_machine.specs.Addressing.{back, deferred, fetch, fetch_operand, forward, indexed, location_by, location_of, next_word, put_result, store}
+use Rattle.m11_cpu_machine.specs.Addressing.{back, deferred, fetch, fetch_operand, forward, indexed, location_by, location_of, next_word, store_result, store}
 use Rattle.m11_cpu_machine.specs.SingleOperands.{change_at, change_single, single, test_operand, write}
 use Rattle.m11_cpu_machine.specs.declared.abort.Abort.{Abort}
 use Rattle.m11_cpu_machine.specs.declared.machine.Machine.{Machine}
@@ -218,8 +218,8 @@ module _ (r : Register) (held : ℕ) (counts : register_number r ≢ register_nu
       (λ u n j. at_comes (finished_held location _ n j))
 
   result_held : (location : OperandLocation) (size : Size) (computed : Computed) (m : Machine) → Apart location → Holds m
-      → Keeps Holds (put_result location size computed m)
-  unfolding put_result
+      → Keeps Holds (store_result location size computed m)
+  unfolding store_result
   result_held location size computed m apart i =
       keeps_bind Holds (store location size computed.value) _ m (store_held location size computed.value m apart i)
       (λ u n j. at_comes (finished_held location _ n j))

@@ -27,7 +27,7 @@ use Rattle.m11_cpu_arithmetic.specs.declared.results.Division.{Division}
 use Rattle.m11_cpu_arithmetic.specs.declared.results.Division.TheVariants.{Done, Refused}
 use Rattle.m11_cpu_machine.specs.Access.{is_inside, is_odd, send, sent, store_byte, store_device, store_register, store_word}
 use Rattle.m11_cpu_machine.specs.Acts.{Act}
-use Rattle.m11_cpu_machine.specs.Addressing.{back, fetch, fetch_operand, location_of, put_result, store}
+use Rattle.m11_cpu_machine.specs.Addressing.{back, fetch, fetch_operand, location_of, store_result, store}
 use Rattle.m11_cpu_machine.specs.Console.{device_at}
 use Rattle.m11_cpu_machine.specs.Dialogue.{Exchange, Leads}
 use Rattle.m11_cpu_machine.specs.DoubleOperands.{change_double, change_exclusive, compare, double, double_at, exclusive_or, move_to, store_moved}
@@ -114,8 +114,8 @@ module _ (t : Bool) where
       either_trace (is_status location) m (with_condition_codes codes m) refl ∙ i
 
   result_traces : (location : OperandLocation) (size : Size) (computed : Computed) (m : Machine) → Traces m
-      → Keeps Traces (put_result location size computed m)
-  unfolding put_result
+      → Keeps Traces (store_result location size computed m)
+  unfolding store_result
   result_traces location size computed m i =
       keeps_bind Traces (store location size computed.value) _ m (location_traces location size computed.value m i)
       (λ u n j. at_comes (finished_traces location computed.codes n j))

@@ -19,7 +19,7 @@ use Rattle.m11_cpu_arithmetic.specs.Singles.{single_result}
 use Rattle.m11_cpu_arithmetic.specs.declared.results.Computed.{Computed}
 use Rattle.m11_cpu_machine.specs.Access.{is_inside, load_byte, load_device, load_word, store_byte, store_device, store_word}
 use Rattle.m11_cpu_machine.specs.Acts.{Act, unless_aborted, ◌>>=◌}
-use Rattle.m11_cpu_machine.specs.Addressing.{fetch, fetch_operand, location_of, put_result, store}
+use Rattle.m11_cpu_machine.specs.Addressing.{fetch, fetch_operand, location_of, store_result, store}
 use Rattle.m11_cpu_machine.specs.Dialogue.{Comes, Dialogue, Exchange, Leads}
 use Rattle.m11_cpu_machine.specs.DoubleOperands.{change_double, change_exclusive, double, double_at, exclusive_or, move_to, store_moved}
 use Rattle.m11_cpu_machine.specs.Execution.{bare, execute, on_register, return_from_trap}
@@ -102,14 +102,14 @@ odd_stored v m h = cond_not (is_inside 0o177777 m) _ _ (outside 0o177777 m h (om
 -- ---- results that go there
 
 result_stored : (size : Size) (computed : Computed) (m : Machine) → EndsBeforeDevices m
-    → put_result (InMemory 0o177776) size computed m ≡ Comes (Ok tt, with_status_word computed.value m)
-unfolding put_result
+    → store_result (InMemory 0o177776) size computed m ≡ Comes (Ok tt, with_status_word computed.value m)
+unfolding store_result
 result_stored size computed m h =
     bind_at (store (InMemory 0o177776) size computed.value) _ m _ tt (status_stored size computed.value m h)
 
 result_ignored : (computed : Computed) (m : Machine) → EndsBeforeDevices m
-    → put_result (InMemory 0o177777) Byte computed m ≡ Comes (Ok tt, with_condition_codes computed.codes m)
-unfolding put_result
+    → store_result (InMemory 0o177777) Byte computed m ≡ Comes (Ok tt, with_condition_codes computed.codes m)
+unfolding store_result
 result_ignored computed m h =
     bind_at (store (InMemory 0o177777) Byte computed.value) _ m m tt (odd_stored computed.value m h)
 
@@ -207,7 +207,7 @@ single_leads operation size operand m formed left es next location same k e =
     (subst P (sym same) (bind_leads (location_of operand size) next m formed es location (Ok tt, left) k e)) refl
 
 abbrev written : SingleOp → Size → OperandLocation → Act (Unit {0})
-written operation size location m = put_result location size (single_result operation size 0 m.status.codes) m
+written operation size location m = store_result location size (single_result operation size 0 m.status.codes) m
 
 changed_single : (operation : SingleOp) (size : Size) (m : Machine) → EndsBeforeDevices m
     → change_at operation size (InMemory 0o177776) m

@@ -12,7 +12,7 @@ use Rattle.m11_cpu_machine.specs.declared.addressing.OperandLocation.{OperandLoc
 use Rattle.m11_cpu_machine.specs.declared.addressing.OperandLocation.TheVariants.{InMemory}
 use Rattle.m11_cpu_machine.specs.DoubleOperands.{change_exclusive}
 use Rattle.m11_cpu_machine.specs.Jumps.{push}
-use Rattle.m11_cpu_machine.specs.Addressing.{in_memory, put_result}
+use Rattle.m11_cpu_machine.specs.Addressing.{in_memory, store_result}
 use Rattle.m11_cpu_machine.specs.Acts.{Act, value, ◌>>=◌}
 use Rattle.m11_cpu_machine.specs.Dialogue.{Reply, Dialogue, Comes, Asks, Sends, after, Exchange, Asked, Sent, Leads, Devices, Happened, Does, Replies, DialogueTakes, Input, Output}
 
@@ -238,11 +238,11 @@ pub stepped_comes : (d : Devices) (to came : ℕ × Machine) → came ≡ to
 stepped_comes d to came e =
     let into : ℕ × Machine → Result OperandLocation Abort × Machine = λ x. (Ok (InMemory x.0), x.1) in comes d _ _ (ap into e)
 
-pub put_result_at : (location : OperandLocation) (size : Size) (computed computed' : Computed) (m : Machine) (old new : Devices)
-    (y : Result (Unit {0}) Abort × Machine) → computed' ≡ computed → Does (put_result location size computed' m) old new y
-    → Does (put_result location size computed m) old new y
-put_result_at location size computed computed' m old new y e h =
-    let P : Computed → Type 0 = λ x. Does (put_result location size x m) old new y in subst P e h
+pub store_result_at : (location : OperandLocation) (size : Size) (computed computed' : Computed) (m : Machine) (old new : Devices)
+    (y : Result (Unit {0}) Abort × Machine) → computed' ≡ computed → Does (store_result location size computed' m) old new y
+    → Does (store_result location size computed m) old new y
+store_result_at location size computed computed' m old new y e h =
+    let P : Computed → Type 0 = λ x. Does (store_result location size x m) old new y in subst P e h
 
 pub push_at : (word word' : ℕ) (m : Machine) (old new : Devices) (y : Result (Unit {0}) Abort × Machine)
     → word' ≡ word → Does (push word' m) old new y → Does (push word m) old new y
@@ -256,7 +256,7 @@ change_exclusive_at source source' location m old new y e h =
 
 -- for calls of one device, and for calls of both
 pub ruleset dialogues = (
-  put_result_at,
+  store_result_at,
   push_at,
   comes_ok,
   comes,

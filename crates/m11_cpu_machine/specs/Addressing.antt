@@ -81,6 +81,6 @@ store (InMemory address) Word value m = store_word address value m
 store (InMemory address) Byte value m = store_byte address (value % 256) m
 
 -- the result of an operation goes to its location, and its condition codes after it
-unfoldable pub put_result : OperandLocation → Size → Computed → Act (Unit {0})
-put_result location size computed = store location size computed.value >>= λ _ m.
+unfoldable pub store_result : OperandLocation → Size → Computed → Act (Unit {0})
+store_result location size computed = store location size computed.value >>= λ _ m.
     Comes (Ok tt, finished location computed.codes m)

@@ -15,7 +15,7 @@ use Rattle.m11_cpu_machine.specs.declared.destination_use.DestinationUse.{Destin
 use Rattle.m11_cpu_machine.specs.declared.destination_use.DestinationUse.TheVariants.{Writes, Reads, Changes}
 use Rattle.m11_cpu_machine.specs.Dialogue.{Comes}
 use Rattle.m11_cpu_machine.specs.Machine.{finished, register_of, with_condition_codes, with_register}
-use Rattle.m11_cpu_machine.specs.Addressing.{fetch, fetch_operand, location_of, put_result, store}
+use Rattle.m11_cpu_machine.specs.Addressing.{fetch, fetch_operand, location_of, store_result, store}
 use Rattle.m11_cpu_machine.specs.declared.addressing.OperandLocation.{OperandLocation}
 use Rattle.m11_cpu_machine.specs.declared.addressing.OperandLocation.TheVariants.{InRegister, InMemory}
 
@@ -39,7 +39,7 @@ compare operation location size source = fetch location size >>= λ value m.
 
 unfoldable pub change_double : DoubleOp → OperandLocation → Size → ℕ → Act (Unit {0})
 change_double operation location size source = fetch location size >>= λ value m.
-    put_result location size (double_result operation size source value m.status.codes) m
+    store_result location size (double_result operation size source value m.status.codes) m
 
 abbrev pub double_by : DestinationUse → DoubleOp → Size → ℕ → OperandLocation → Act (Unit {0})
 double_by Writes operation size source location = move_to location size source
@@ -55,7 +55,7 @@ double operation size source destination = fetch_operand source size >>= λ valu
 
 unfoldable pub change_exclusive : ℕ → OperandLocation → Act (Unit {0})
 change_exclusive source location = fetch location Word >>= λ value m.
-    put_result location Word (exclusive_or_result source value m.status.codes) m
+    store_result location Word (exclusive_or_result source value m.status.codes) m
 
 -- XOR: its register is read first
 unfoldable pub exclusive_or : Register → Operand → Act (Unit {0})

@@ -13,11 +13,11 @@ use Rattle.m11_cpu_machine.specs.declared.addressing.OperandLocation.{OperandLoc
 use Rattle.m11_cpu_machine.specs.Dialogue.{Comes}
 use Rattle.m11_cpu_machine.specs.Jumps.{jump}
 use Rattle.m11_cpu_machine.specs.Machine.{with_condition_codes}
-use Rattle.m11_cpu_machine.specs.Addressing.{fetch, fetch_operand, location_of, put_result}
+use Rattle.m11_cpu_machine.specs.Addressing.{fetch, fetch_operand, location_of, store_result}
 
 unfoldable pub write : SingleOp → Size → Operand → Act (Unit {0})
 write operation size operand = location_of operand size >>= λ location m.
-    put_result location size (single_result operation size 0 m.status.codes) m
+    store_result location size (single_result operation size 0 m.status.codes) m
 
 unfoldable pub test_operand : SingleOp → Size → Operand → Act (Unit {0})
 test_operand operation size operand = fetch_operand operand size >>= λ value m.
@@ -25,7 +25,7 @@ test_operand operation size operand = fetch_operand operand size >>= λ value m.
 
 unfoldable pub change_at : SingleOp → Size → OperandLocation → Act (Unit {0})
 change_at operation size location = fetch location size >>= λ value m.
-    put_result location size (single_result operation size value m.status.codes) m
+    store_result location size (single_result operation size value m.status.codes) m
 
 unfoldable pub change_single : SingleOp → Size → Operand → Act (Unit {0})
 change_single operation size operand = location_of operand size >>= change_at operation size

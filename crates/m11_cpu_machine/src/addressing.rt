@@ -3,7 +3,7 @@
 ghost use Rattle.std.specs.Prelude.{◌≡◌, ◌+◌, ◌<◌, IfOk};
 ghost use Rattle.m11_cpu_arithmetic.specs.Sizes.{size_limit};
 ghost use Rattle.m11_cpu_machine.specs.Dialogue.{Does, input_alone, output_alone};
-ghost use Rattle.m11_cpu_machine.specs.Addressing.{back, deferred, forward, fetch, fetch_operand, indexed, location_of, next_word, put_result, step_of, store, without_low_byte};
+ghost use Rattle.m11_cpu_machine.specs.Addressing.{back, deferred, forward, fetch, fetch_operand, indexed, location_of, next_word, store_result, step_of, store, without_low_byte};
 
 use crate::abort::Abort;
 use crate::machine::Machine;
@@ -187,19 +187,19 @@ impl Machine {
     /// Puts the result of an operation into a location, and then its condition codes, but where the location is the processor
     /// status, which stays as it was written.
     #[inline(always)]
-    pub(crate) fn put_result<S: Sink>(
+    pub(crate) fn store_result<S: Sink>(
         &mut self,
         location: OperandLocation,
         size: Size,
         computed: Computed,
         sink: &mut S,
     ) -> Result<(), Abort>
-        ensures { Does (put_result location size computed self.old)
+        ensures { Does (store_result location size computed self.old)
             (output_alone (S.text sink.old) (S.faults sink.old))
             (output_alone (S.text sink.new) (S.faults sink.new)) (result, self.new) }
     {
         self.store(location, size, computed.value, sink)?;
-        self.finish(location, computed.codes);
+        self.set_codes_after_store(location, computed.codes);
         Ok(())
     }
 }

@@ -77,7 +77,7 @@ impl Machine {
             self.status.codes,
         );
         self.store_moved(location, size, source, sink)?;
-        self.finish(location, computed.codes);
+        self.set_codes_after_store(location, computed.codes);
         Ok(())
     }
 
@@ -150,7 +150,7 @@ impl Machine {
             destination,
             self.status.codes,
         );
-        self.put_result(location, size, computed, sink)
+        self.store_result(location, size, computed, sink)
     }
 
     /// XOR: its register is read first.
@@ -182,7 +182,7 @@ impl Machine {
     {
         let value = self.fetch(location, Size::Word, feed)?;
         let computed = m11_cpu_arithmetic::exclusive_or(source, value, self.status.codes);
-        self.put_result(location, Size::Word, computed, sink)
+        self.store_result(location, Size::Word, computed, sink)
     }
 }
 

@@ -136,7 +136,7 @@ impl Machine {
     /// Puts the condition codes of an instruction that has stored its result. A write of the processor status stays as
     /// it was written.
     #[inline(always)]
-    pub fn finish(&mut self, location: OperandLocation, codes: ConditionCodes)
+    pub fn set_codes_after_store(&mut self, location: OperandLocation, codes: ConditionCodes)
         ensures { self.new ≡ finished location codes self.old }
     {
         if location != OperandLocation::InMemory(0o177776) {

@@ -50,7 +50,7 @@ impl Machine {
     {
         let location = self.location_of(operand, size, feed)?;
         let computed = m11_cpu_arithmetic::single(operation, size, 0, self.status.codes);
-        self.put_result(location, size, computed, sink)
+        self.store_result(location, size, computed, sink)
     }
 
     // TST and TSTB: nothing is stored.
@@ -103,6 +103,6 @@ impl Machine {
     {
         let value = self.fetch(location, size, feed)?;
         let computed = m11_cpu_arithmetic::single(operation, size, value, self.status.codes);
-        self.put_result(location, size, computed, sink)
+        self.store_result(location, size, computed, sink)
     }
 }

@@ -21,7 +21,7 @@ use Rattle.m11_cpu_arithmetic.specs.declared.results.Pair.{Pair}
 use Rattle.m11_cpu_machine.specs.Extended.{extended, low_word_of}
 use Rattle.m11_base_instructions.specs.declared.operand.Size.{Size}
 use Rattle.m11_base_instructions.specs.declared.operand.Size.TheVariants.{Word, Byte}
-use Rattle.m11_cpu_machine.specs.Addressing.{fetch, fetch_operand, location_of, put_result, store, without_low_byte}
+use Rattle.m11_cpu_machine.specs.Addressing.{fetch, fetch_operand, location_of, store_result, store, without_low_byte}
 use Rattle.m11_cpu_machine.specs.DestinationUse.{use_by_double}
 use Rattle.m11_cpu_machine.specs.Dialogue.{Comes, Dialogue}
 use Rattle.m11_cpu_machine.specs.declared.destination_use.DestinationUse.TheVariants.{Writes}
@@ -70,8 +70,8 @@ pub put_register : (register : Register) (size : Size) (computed : Computed) (k 
     → register_number register < 7
     → rs' ≡ with_held rs register (with_low size (held rs register) computed.value)
     → n ≡ with_condition_codes computed.codes m
-    → put_result (InRegister register) size computed (shown k rs m) ≡ done (shown k rs' n)
-unfolding put_result
+    → store_result (InRegister register) size computed (shown k rs m) ≡ done (shown k rs' n)
+unfolding store_result
 put_register register size computed k rs rs' m n g f e =
     let rest : Unit {0} → Machine → Dialogue (Result (Unit {0}) Abort × Machine) =
     λ _ x. done (finished (InRegister register) computed.codes x) in
@@ -83,8 +83,8 @@ put_register register size computed k rs rs' m n g f e =
 pub put_memory : (a : ℕ) (size : Size) (computed : Computed) (k : ℕ) (rs : List ℕ) (m n : Machine)
     → is_plain size a m.memory ≡ true → (a == 0o177776) ≡ false
     → n ≡ with_condition_codes computed.codes (stored size a computed.value m)
-    → put_result (InMemory a) size computed (shown k rs m) ≡ done (shown k rs n)
-unfolding put_result
+    → store_result (InMemory a) size computed (shown k rs m) ≡ done (shown k rs n)
+unfolding store_result
 put_memory a size computed k rs m n p q e =
     let rest : Unit {0} → Machine → Dialogue (Result (Unit {0}) Abort × Machine) =
     λ _ x. done (finished (InMemory a) computed.codes x) in
@@ -150,12 +150,12 @@ compares operation location size source v computed k rs m n f c e =
 pub changes : (operation : DoubleOp) (location : OperandLocation) (size : Size) (source v : ℕ) (computed : Computed) (k : ℕ)
     (rs rs' : List ℕ) (m n : Machine) → fetch location size (shown k rs m) ≡ Comes (Ok v, shown k rs m)
     → computed ≡ double_result operation size source v m.status.codes
-    → put_result location size computed (shown k rs m) ≡ done (shown k rs' n)
+    → store_result location size computed (shown k rs m) ≡ done (shown k rs' n)
     → change_double operation location size source (shown k rs m) ≡ done (shown k rs' n)
 unfolding change_double
 changes operation location size source v computed k rs rs' m n f c e =
     bind_at (fetch location size) _ (shown k rs m) (shown k rs m) v f
-    ∙ ap (λ (x : Computed). put_result location size x (shown k rs m)) (sym c) ∙ e
+    ∙ ap (λ (x : Computed). store_result location size x (shown k rs m)) (sym c) ∙ e
 
 -- ---- the processor status lies past all memory
 
@@ -178,12 +178,12 @@ pub writes : (operation : SingleOp) (size : Size) (operand : Operand) (location 
     (k k' : ℕ) (rs rs' rs'' : List ℕ) (m n : Machine)
     → location_of operand size (shown k rs m) ≡ Comes (Ok location, shown k' rs' m)
     → computed ≡ single_result operation size 0 m.status.codes
-    → put_result location size computed (shown k' rs' m) ≡ done (shown k' rs'' n)
+    → store_result location size computed (shown k' rs' m) ≡ done (shown k' rs'' n)
     → write operation size operand (shown k rs m) ≡ done (shown k' rs'' n)
 unfolding write
 writes operation size operand location computed k k' rs rs' rs'' m n p c e =
     bind_at (location_of operand size) _ (shown k rs m) (shown k' rs' m) location p
-    ∙ ap (λ (x : Computed). put_result location size x (shown k' rs' m)) (sym c) ∙ e
+    ∙ ap (λ (x : Computed). store_result location size x (shown k' rs' m)) (sym c) ∙ e
 
 pub tests : (operation : SingleOp) (size : Size) (operand : Operand) (v : ℕ) (computed : Computed)
     (k k' : ℕ) (rs rs' : List ℕ) (m n : Machine)
@@ -201,13 +201,13 @@ pub changes_one : (operation : SingleOp) (size : Size) (operand : Operand) (loca
     → location_of operand size (shown k rs m) ≡ Comes (Ok location, shown k' rs' m)
     → fetch location size (shown k' rs' m) ≡ Comes (Ok v, shown k' rs' m)
     → computed ≡ single_result operation size v m.status.codes
-    → put_result location size computed (shown k' rs' m) ≡ done (shown k' rs'' n)
+    → store_result location size computed (shown k' rs' m) ≡ done (shown k' rs'' n)
     → change_single operation size operand (shown k rs m) ≡ done (shown k' rs'' n)
 unfolding change_single change_at
 changes_one operation size operand location v computed k k' rs rs' rs'' m n p f c e =
     bind_at (location_of operand size) _ (shown k rs m) (shown k' rs' m) location p
     ∙ bind_at (fetch location size) _ (shown k' rs' m) (shown k' rs' m) v f
-    ∙ ap (λ (x : Computed). put_result location size x (shown k' rs' m)) (sym c) ∙ e
+    ∙ ap (λ (x : Computed). store_result location size x (shown k' rs' m)) (sym c) ∙ e
 
 -- MOV takes nothing of its destination
 pub written : (operation : DoubleOp) (size : Size) (source v : ℕ) (codes : ConditionCodes) (computed : Computed)

@@ -11,7 +11,7 @@ ghost use Rattle.m11_cpu_quick.specs.Near.{NearEnds, NearKeeps, is_plain};
 ghost use Rattle.m11_cpu_quick.specs.declared.forms.Form.TheVariants as form;
 
 use crate::forms::Form;
-use crate::near::{plain, put_plain};
+use crate::near::{plain, store_plain};
 use crate::operands::{address_of, held, hold, low, value_of, with_low};
 use m11_base_instructions::{DoubleOp, Operand, Register, Size};
 use m11_cpu_machine::{DestinationUse, Machine, sign_extended, use_by_double};
@@ -149,12 +149,12 @@ fn double_into_memory(
     let computed = m11_cpu_arithmetic::double(operation, size, source, value, machine.codes());
     match use_by_double(operation) {
         DestinationUse::Writes => {
-            put_plain(machine, size, address, source);
+            store_plain(machine, size, address, source);
             machine.set_codes(computed.codes);
         }
         DestinationUse::Reads => machine.set_codes(computed.codes),
         DestinationUse::Changes => {
-            put_plain(machine, size, address, computed.value);
+            store_plain(machine, size, address, computed.value);
             machine.set_codes(computed.codes);
         }
     }

@@ -13,7 +13,7 @@ ghost use Rattle.m11_cpu_quick.specs.Forms.{IsForm};
 ghost use Rattle.m11_cpu_quick.specs.Near.{NearEnds, NearKeeps};
 
 use crate::forms::Form;
-use crate::near::{is_plain, plain, put_plain};
+use crate::near::{is_plain, plain, store_plain};
 use crate::operands::{address_of, held, hold};
 use m11_base_instructions::{BranchOp, Operand, Register, Size};
 use m11_cpu_arithmetic::is_taken;
@@ -106,7 +106,7 @@ pub(crate) fn call(
         return None;
     }
     hold(Register::Sp, top, registers);
-    put_plain(machine, Size::Word, top, after);
+    store_plain(machine, Size::Word, top, after);
     Some(target)
 }
 

@@ -35,7 +35,7 @@ pub(crate) fn plain(machine: &Machine, size: Size, address: u16) -> u16
 
 /// Puts a word, or the low byte of one, at an address that `is_plain`. The processor status has none that is.
 #[inline(always)]
-pub(crate) fn put_plain(machine: &mut Machine, size: Size, address: u16, value: u16)
+pub(crate) fn store_plain(machine: &mut Machine, size: Size, address: u16, value: u16)
     requires { is_plain size address machine.old.memory ≡ true }
     ensures stored { machine.new ≡ stored size address value machine.old }
     ensures status { (address == 0o177776) ≡ false }

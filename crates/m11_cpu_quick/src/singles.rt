@@ -7,7 +7,7 @@ ghost use Rattle.m11_cpu_quick.specs.Forms.{IsForm};
 ghost use Rattle.m11_cpu_quick.specs.Near.{NearEnds, NearKeeps};
 
 use crate::forms::Form;
-use crate::near::{plain, put_plain};
+use crate::near::{plain, store_plain};
 use crate::operands::{address_of, held, hold, low, value_of, with_low};
 use m11_base_instructions::{Operand, SingleOp, Size};
 use m11_cpu_machine::{DestinationUse, Machine, use_by_single};
@@ -79,7 +79,7 @@ fn write(
         }
         _ => {
             let (address, after) = address_of(machine, form, size, operand, registers, counter)?;
-            put_plain(machine, size, address, computed.value);
+            store_plain(machine, size, address, computed.value);
             machine.set_codes(computed.codes);
             Some(after)
         }
@@ -149,7 +149,7 @@ fn change(
             let (address, after) = address_of(machine, form, size, operand, registers, counter)?;
             let value = plain(machine, size, address);
             let computed = m11_cpu_arithmetic::single(operation, size, value, machine.codes());
-            put_plain(machine, size, address, computed.value);
+            store_plain(machine, size, address, computed.value);
             machine.set_codes(computed.codes);
             Some(after)
         }

@@ -12,13 +12,13 @@ use Rattle.m11_dump.specs.Records.{shown}
 use Rattle.m11_dump.specs.Objects.{AreInFront, DumpsObject, FailsAt, Gained, JudgesEnd, LacksMemory, RefusesBlock, Shows, StopsAfter, TakesBlock, after, after_all, object_text, parts_all, start, text_from}
 use Rattle.m11_dump.specs.Positions.{RecordShowsAt, content_start, count_read, placed_at, stop_byte}
 use Rattle.m11_link_modules.specs.Parts.{Part, record_parts}
-use Rattle.m11_link_modules.specs.Positions.{Known, known_of}
+use Rattle.m11_link_modules.specs.Positions.{RulesState, known_of}
 use Rattle.m11_link_modules.specs.Rules.{first_fault}
 use Rattle.m11_dump.proofs.Judging.{none_unsound, parts_more, sound_more}
 use Rattle.m11_dump.proofs.Offsets.{read_is, stops_at}
 use Rattle.m11_dump.specs.declared.fault.DumpFault.{DumpFault}
 use Rattle.m11_dump.specs.declared.fault.DumpFault.TheVariants as fault
-use Rattle.m11_dump.specs.declared.fault.Placed.{Placed}
+use Rattle.m11_dump.specs.declared.fault.LocatedFault.{LocatedFault}
 use Rattle.m11_dump.specs.declared.stand.Stand.{Stand}
 use Rattle.m11_dump.specs.declared.view.View.{View}
 
@@ -60,7 +60,7 @@ appends_then (Some x) (Some y) (Some z) xs ys a b = b ∙ ap (λ (text : List �
 -- ---- how far a dump has come
 
 -- these blocks were shown, and the dump stands after them; the room bounds how many there are, and how large
-pub record Dumping (view : View) (old here : Position) (output output' : Output) (s : Stand) (known : Known) (contents : List (List ℕ))
+pub record Dumping (view : View) (old here : Position) (output output' : Output) (s : Stand) (known : RulesState) (contents : List (List ℕ))
     : Type 0 where
   pub shows : Shows view old here output output' contents
   pub stands : s ≡ after_all start contents
@@ -68,7 +68,7 @@ pub record Dumping (view : View) (old here : Position) (output output' : Output)
   pub whole : old.room ≡ 4194304
   pub few : s.blocks + here.room ≤ 4194304
 
-pub dump_begins : (view : View) (old : Position) (output : Output) (known : Known) → old.room ≡ 4194304 → known ≡ known_of []
+pub dump_begins : (view : View) (old : Position) (output : Output) (known : RulesState) → old.room ≡ 4194304 → known ≡ known_of []
     → Dumping view old old output output start known []
 dump_begins view old output known room none = record {
   shows = record {
@@ -104,7 +104,7 @@ pub reads_on : {X : Type 0} (has_failed : Bool) (returned : X) → (IsTrue has_f
 reads_on false returned h = refl
 reads_on {X} true returned h = absurd (let bad = h.0 refl in cc)
 
-module _ (view : View) (old here : Position) (output output' : Output) (s : Stand) (known : Known) (contents : List (List ℕ))
+module _ (view : View) (old here : Position) (output output' : Output) (s : Stand) (known : RulesState) (contents : List (List ℕ))
     (d : Dumping view old here output output' s known contents) where
   pub blocks_fit : s.blocks < 2 ^ 32
   blocks_fit = omega (arith, d.few)
@@ -112,20 +112,20 @@ module _ (view : View) (old here : Position) (output output' : Output) (s : Stan
   number_is : s.blocks + 1 ≡ (after_all start contents).blocks + 1
   number_is = ap (λ (x : Stand). x.blocks + 1) d.stands
 
-  pub dump_ends : (new : Position) (count : ℕ) (result : Result (Unit {0}) Placed) → count ≡ count_read new
+  pub dump_ends : (new : Position) (count : ℕ) (result : Result (Unit {0}) LocatedFault) → count ≡ count_read new
       → Stops first_block here new EndsBetween → JudgesEnd (parts_all contents) s.blocks count result
       → DumpsObject view old new output output' result
   dump_ends new count (Ok done) is stops j = (contents, here, d.shows, stops, j)
   dump_ends new count (Err said) is stops j =
-      let P : Placed → Type 0 = λ x. DumpsObject view old new output output' (Err x) in
+      let P : LocatedFault → Type 0 = λ x. DumpsObject view old new output output' (Err x) in
       let at = stops_at first_block EndsBetween old here new d.shows.given count d.whole d.shows.took stops is in
       subst P (sym j.2) (contents, here, output', d.shows, inr (at, j.1, refl), number_is)
 
-  pub block_refused : (new : Position) (inner : BlockFault) (said : Placed) (byte count : ℕ)
+  pub block_refused : (new : Position) (inner : BlockFault) (said : LocatedFault) (byte count : ℕ)
       → said ≡ placed_at (fault.Block inner) s.blocks byte → byte ≡ stop_byte (why_of inner) count → count ≡ count_read new → Stops first_block here new (why_of inner)
       → DumpsObject view old new output output' (Err said)
   block_refused new inner said byte count e is read h =
-      let P : Placed → Type 0 = λ x. DumpsObject view old new output output' (Err x) in
+      let P : LocatedFault → Type 0 = λ x. DumpsObject view old new output output' (Err x) in
       let stops = stops_at first_block (why_of inner) old here new d.shows.given byte d.whole d.shows.took h
       (is ∙ ap (stop_byte (why_of inner)) read) in
       subst P (sym e) (contents, here, output', d.shows, (stops, refl), number_is)
@@ -150,14 +150,14 @@ module _ (view : View) (old here : Position) (output output' : Output) (s : Stan
         let P : Stand → Type 0 = λ x. LacksMemory view x.address (parts_all contents) content output' final in
         (content, r, h.0, subst P d.stands h.1, h.2 ∙ count_is)
 
-    pub block_stops : (count : ℕ) (known' : Known) (said : Placed) → count ≡ count_read new
+    pub block_stops : (count : ℕ) (known' : RulesState) (said : LocatedFault) → count ≡ count_read new
         → TakesBlock view s (parts_all contents) known' content count output' final (Err said)
         → DumpsObject view old new output final (Err said)
     block_stops count known' said e h =
         let P : ℕ → Type 0 = λ n. RefusesBlock view s (parts_all contents) content n output' final said.fault said.byte in
         (contents, here, output', d.shows, refused said.fault said.byte (subst P e h.0), h.1 ∙ number_is)
 
-    pub block_taken : (count : ℕ) (known' : Known) (s' : Stand)
+    pub block_taken : (count : ℕ) (known' : RulesState) (s' : Stand)
         → TakesBlock view s (parts_all contents) known' content count output' final (Ok s')
         → Dumping view old new output final s' known' (contents ++ content ∷ [])
     block_taken count known' s' h =

@@ -20,7 +20,7 @@ use Rattle.m11_dump.proofs.Offsets.{stops_at}
 use Rattle.m11_dump.specs.Tapes.{DumpsTape, Hold, Puts, ReadsData, ShowsTape, StopsData, StopsTape, TakesData, block_text, part_after, start_text, tape_text}
 use Rattle.m11_dump.specs.declared.fault.DumpFault.{DumpFault}
 use Rattle.m11_dump.specs.declared.fault.DumpFault.TheVariants as fault
-use Rattle.m11_dump.specs.declared.fault.Placed.{Placed}
+use Rattle.m11_dump.specs.declared.fault.LocatedFault.{LocatedFault}
 use Rattle.m11_dump.specs.declared.view.View.{View}
 
 abbrev Reader : Type 0
@@ -233,14 +233,14 @@ module _ (view : View) (old here : Position) (output output' : Output) (stage : 
   blocks_few = omega (arith, d.few)
 
   -- a fault, at the byte that comes of all that was read
-  abbrev pub SaidAt : DumpFault → Position → Placed → Type 0
+  abbrev pub SaidAt : DumpFault → Position → LocatedFault → Type 0
   SaidAt f new said = said ≡ placed_at f passed (fault_byte f (count_read new))
 
-  stopped : (f : DumpFault) (new : Position) (final : Output) (said : Placed) → SaidAt f new said
+  stopped : (f : DumpFault) (new : Position) (final : Output) (said : LocatedFault) → SaidAt f new said
       → StopsTape view f here new output' final blocks d.shows.given (fault_byte f (count_read new))
       → DumpsTape view old new output final (Err said)
   stopped f new final said e h =
-      let P : Placed → Type 0 = λ x. DumpsTape view old new output final (Err x) in
+      let P : LocatedFault → Type 0 = λ x. DumpsTape view old new output final (Err x) in
       subst P (sym e) (blocks, here, output', d.shows, h, ap (λ (n : ℕ). n + 1) d.counts)
 
   module _ (new : Position) (after : TapeStage) (result : Result TapePart TapeFault) (r : ReadsNext stage here new after result) where
@@ -256,7 +256,7 @@ module _ (view : View) (old here : Position) (output output' : Output) (stage : 
     pub stage_is : (same : Result TapePart TapeFault) → result ≡ same → after ≡ stage_after same
     stage_is same is = part_read.1 ∙ ap stage_after is
 
-    pub part_stops : (inner : TapeFault) (said : Placed) → result ≡ Err inner → SaidAt (fault.Tape inner) new said
+    pub part_stops : (inner : TapeFault) (said : LocatedFault) → result ≡ Err inner → SaidAt (fault.Tape inner) new said
         → DumpsTape view old new output output' (Err said)
     part_stops inner said is e = stopped (fault.Tape inner) new output' said e (
       refl,
@@ -281,7 +281,7 @@ module _ (view : View) (old here : Position) (output output' : Output) (stage : 
         faults = p.1;
       }
 
-      start_refused : (f : DumpFault) (said : Placed) → SaidAt f new said → Puts (start_text start) output' final (Err f)
+      start_refused : (f : DumpFault) (said : LocatedFault) → SaidAt f new said → Puts (start_text start) output' final (Err f)
           → DumpsTape view old new output final (Err said)
       start_refused fault.Write said e p =
           stopped fault.Write new final said e (start_text start, inr (start, new, last, refl), p, refl)
@@ -291,7 +291,7 @@ module _ (view : View) (old here : Position) (output output' : Output) (stage : 
       start_refused (fault.Rule inner) said e p = absurd p
       start_refused (fault.Tape inner) said e p = absurd p
 
-      pub start_stops : (f : DumpFault) (said : Placed) → SaidAt f new said → Puts (start_text start) output' final (Err f)
+      pub start_stops : (f : DumpFault) (said : LocatedFault) → SaidAt f new said → Puts (start_text start) output' final (Err f)
           → DumpsTape view old new output final (Err said)
       start_stops f said e p = start_refused f said e p
 
@@ -304,7 +304,7 @@ module _ (view : View) (old here : Position) (output output' : Output) (stage : 
           let P : ℕ → Type 0 = λ n. Reads (part_after first_part blocks) here new (Data address n) in
           subst P (sym long) header
 
-      data_refused : (f : DumpFault) (said : Placed) → SaidAt f end said
+      data_refused : (f : DumpFault) (said : LocatedFault) → SaidAt f end said
           → TakesData view new end stage' address count output' final (Err f) → DumpsTape view old end output final (Err said)
       data_refused fault.Write said e t = stopped fault.Write end final said e (
         block_text view address t.0,
@@ -337,7 +337,7 @@ module _ (view : View) (old here : Position) (output output' : Output) (stage : 
             ),
           )
 
-      pub data_fails : (f : DumpFault) (said : Placed) → SaidAt f end said
+      pub data_fails : (f : DumpFault) (said : LocatedFault) → SaidAt f end said
           → TakesData view new end stage' address count output' final (Err f) → DumpsTape view old end output final (Err said)
       data_fails f said e t = data_refused f said e t
 

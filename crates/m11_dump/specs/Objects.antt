@@ -9,7 +9,7 @@ use Rattle.m11_obj_blocks.specs.Blocks.{first_block, why_of}
 use Rattle.m11_obj_blocks.specs.Limited.{EndsBetween, Position, Reads, Stops, Took}
 use Rattle.m11_link_modules.specs.Laws.{TakesAfter}
 use Rattle.m11_link_modules.specs.Parts.{EndOfFile, Part, record_parts}
-use Rattle.m11_link_modules.specs.Positions.{Known}
+use Rattle.m11_link_modules.specs.Positions.{RulesState}
 use Rattle.m11_link_modules.specs.Rules.{StopsAtName, first_fault}
 use Rattle.m11_link_modules.specs.declared.fault.ModuleFault.{ModuleFault}
 use Rattle.m11_obj.specs.Reading.{IsRecord, content_of}
@@ -18,7 +18,7 @@ use Rattle.m11_dump.specs.Positions.{RecordShowsAt, StopsAt, content_start, of_r
 use Rattle.m11_dump.specs.Records.{address_then, shown}
 use Rattle.m11_dump.specs.declared.fault.DumpFault.{DumpFault}
 use Rattle.m11_dump.specs.declared.fault.DumpFault.TheVariants as fault
-use Rattle.m11_dump.specs.declared.fault.Placed.{Placed}
+use Rattle.m11_dump.specs.declared.fault.LocatedFault.{LocatedFault}
 use Rattle.m11_dump.specs.declared.stand.Stand.{Stand}
 use Rattle.m11_dump.specs.declared.view.View.{View}
 
@@ -119,7 +119,7 @@ StopsAfter view fault.NoMemory here new output output' contents before byte =
 
 -- what a dump of an object does: the output gains the text of all blocks, after which the bytes end, between modules; or of all blocks
 -- before the first fault
-abbrev pub DumpsObject : View → Position → Position → Output → Output → Result (Unit {0}) Placed → Type 0
+abbrev pub DumpsObject : View → Position → Position → Output → Output → Result (Unit {0}) LocatedFault → Type 0
 DumpsObject view old new output output' (Ok done) = (contents : List Bytes) × (here : Position)
     × Shows view old here output output' contents × Stops first_block here new EndsBetween
     × (first_fault (parts_all contents) (EndOfFile ∷ []) ≡ None)
@@ -143,13 +143,13 @@ ShowsRecord view s content output output' (Err fault.NoMemory) = output' ≡ out
 
 -- a record was judged with which so many bytes of the file end, after these parts: the rules then stand after it; or it breaks one, or
 -- memory was refused, as this is said after so many blocks
-abbrev pub Judges : List Part → Known → Bytes → ℕ → ℕ → Result (Unit {0}) Placed → Type 0
+abbrev pub Judges : List Part → RulesState → Bytes → ℕ → ℕ → Result (Unit {0}) LocatedFault → Type 0
 Judges parts known content blocks count (Ok done) = TakesAfter parts known (record_parts content) (Ok done)
 Judges parts known content blocks count (Err said) = (inner : ModuleFault) × TakesAfter parts known (record_parts content) (Err inner)
     × (said ≡ placed_at (of_rule inner) blocks (rule_byte inner content count))
 
 -- the end of the bytes was judged after these parts: it ends a file; or it breaks a rule, as this is said after so many blocks
-abbrev pub JudgesEnd : List Part → ℕ → ℕ → Result (Unit {0}) Placed → Type 0
+abbrev pub JudgesEnd : List Part → ℕ → ℕ → Result (Unit {0}) LocatedFault → Type 0
 JudgesEnd parts blocks count (Ok done) = first_fault parts (EndOfFile ∷ []) ≡ None
 JudgesEnd parts blocks count (Err said) = (inner : ModuleFault) × (first_fault parts (EndOfFile ∷ []) ≡ Some inner)
     × (said ≡ placed_at (fault.Rule inner) blocks count)
@@ -170,7 +170,7 @@ RefusesBlock view s parts content count output output' fault.NoMemory byte =
     IsRecord content × LacksMemory view s.address parts content output output' × (byte ≡ count)
 
 -- a block was shown and judged, and the dump and the rules stand after it; or why it wasn't taken
-abbrev pub TakesBlock : View → Stand → List Part → Known → Bytes → ℕ → Output → Output → Result Stand Placed → Type 0
+abbrev pub TakesBlock : View → Stand → List Part → RulesState → Bytes → ℕ → Output → Output → Result Stand LocatedFault → Type 0
 TakesBlock view s parts known content count output output' (Ok s') = IsRecord content
     × ShowsRecord view s content output output' (Ok s') × TakesAfter parts known (record_parts content) (Ok tt)
 TakesBlock view s parts known content count output output' (Err said) =

@@ -11,7 +11,7 @@ use Rattle.m11_obj.specs.declared.fault.RecordFault.{RecordFault}
 use Rattle.m11_obj.specs.declared.fault.RecordFault.TheVariants.{BadLength}
 use Rattle.m11_dump.specs.declared.fault.DumpFault.{DumpFault}
 use Rattle.m11_dump.specs.declared.fault.DumpFault.TheVariants as fault
-use Rattle.m11_dump.specs.declared.fault.Placed.{Placed}
+use Rattle.m11_dump.specs.declared.fault.LocatedFault.{LocatedFault}
 
 -- ---- a fault of blocks or of a tape
 
@@ -89,5 +89,5 @@ fault_byte (fault.Tape inner) count = stop_byte (tapes.why_of inner) count
 fault_byte other count = count
 
 -- a fault of the block after so many, at this byte of the file
-abbrev pub placed_at : DumpFault → ℕ → ℕ → Placed
+abbrev pub placed_at : DumpFault → ℕ → ℕ → LocatedFault
 placed_at inner blocks byte = record { fault = inner; block = blocks + 1; byte = byte }

@@ -18,7 +18,7 @@ use Rattle.m11_dump.specs.Positions.{StopsAt, count_read}
 use Rattle.m11_dump.specs.Words.{data_cells}
 use Rattle.m11_dump.specs.declared.fault.DumpFault.{DumpFault}
 use Rattle.m11_dump.specs.declared.fault.DumpFault.TheVariants as fault
-use Rattle.m11_dump.specs.declared.fault.Placed.{Placed}
+use Rattle.m11_dump.specs.declared.fault.LocatedFault.{LocatedFault}
 use Rattle.m11_dump.specs.Instructions.{head_line, lines}
 use Rattle.m11_dump.specs.declared.view.View.{View}
 use Rattle.m11_dump.specs.declared.view.View.TheVariants.{Octal, Instructions}
@@ -107,7 +107,7 @@ pub record DumpsWhole (view : View) (old new : Position) (output output' : Outpu
   pub faults : output'.faults ≡ middle.faults
 
 -- what a dump of a tape does: the output gains the text of the whole tape; or of all blocks before the first fault
-abbrev pub DumpsTape : View → Position → Position → Output → Output → Result (Unit {0}) Placed → Type 0
+abbrev pub DumpsTape : View → Position → Position → Output → Output → Result (Unit {0}) LocatedFault → Type 0
 DumpsTape view old new output output' (Ok done) = DumpsWhole view old new output output'
 DumpsTape view old new output output' (Err said) = (blocks : List (ℕ × Bytes)) × (here : Position) × (middle : Output)
     × (shows : ShowsTape view old here output middle blocks)

@@ -8,7 +8,7 @@ ghost use Rattle.m11_obj.specs.declared.gsd.GsdKind.TheVariants.{GlobalSymbol, P
 use bitflags::Flags;
 use m11_base::octal6;
 use m11_obj::{GsdEntry, GsdKind, SectionFlags, SymbolFlags};
-use m11_obj_print::{Line, ended, put, put_attributes};
+use m11_obj_print::{Line, add_attributes, add_bytes, ended};
 
 // The word of a global symbol: it is defined here, or referred to.
 fn symbol_word(flags: SymbolFlags) -> &'static [u8]
@@ -39,13 +39,13 @@ fn entry_word(entry: &GsdEntry) -> &'static [u8]
 }
 
 // A value, after a blank.
-fn put_value(line: &mut Line, value: u16)
+fn add_value(line: &mut Line, value: u16)
     requires { array_vec_len line.old ≤ 160 }
     ensures text { line.new.items ≡ line.old.items ++ spec.value_text value }
     ensures room { array_vec_len line.new ≤ array_vec_len line.old + 7 }
 {
-    put(line, b" ");
-    put(line, &octal6(value));
+    add_bytes(line, b" ");
+    add_bytes(line, &octal6(value));
 }
 
 // Whether the value of a global symbol moves with its section.
@@ -73,42 +73,42 @@ fn weak_word(flags: SymbolFlags) -> &'static [u8]
 }
 
 // The value of a global symbol that is defined here.
-fn put_definition(line: &mut Line, flags: SymbolFlags, value: u16)
+fn add_definition(line: &mut Line, flags: SymbolFlags, value: u16)
     requires { array_vec_len line.old ≤ 100 }
     ensures text { line.new.items ≡ line.old.items ++ (spec.value_text value ++ spec.relocation_word flags.0) }
     ensures room { array_vec_len line.new ≤ array_vec_len line.old + 11 }
 {
-    put_value(line, value);
-    put(line, relocation_word(flags));
+    add_value(line, value);
+    add_bytes(line, relocation_word(flags));
 }
 
 // What follows the name of a global symbol.
-fn put_symbol(line: &mut Line, flags: SymbolFlags, value: u16)
+fn add_symbol(line: &mut Line, flags: SymbolFlags, value: u16)
     requires { array_vec_len line.old ≤ 100 }
     ensures text { line.new.items ≡ line.old.items ++ spec.symbol_text flags.0 value }
     ensures room { array_vec_len line.new ≤ array_vec_len line.old + 16 }
 {
     if flags.contains(SymbolFlags::DEFINED) {
-        put_definition(line, flags, value);
-        put(line, weak_word(flags));
+        add_definition(line, flags, value);
+        add_bytes(line, weak_word(flags));
     } else {
-        put(line, weak_word(flags));
+        add_bytes(line, weak_word(flags));
     }
 }
 
 // What follows the name of a section.
-fn put_section(line: &mut Line, flags: SectionFlags, value: u16)
+fn add_section(line: &mut Line, flags: SectionFlags, value: u16)
     requires { array_vec_len line.old ≤ 100 }
     ensures text { line.new.items ≡ line.old.items ++ spec.entry_rest ProgramSection flags.0 value }
     ensures room { array_vec_len line.new ≤ array_vec_len line.old + 28 }
 {
-    put_value(line, value);
-    put(line, b" ");
-    put_attributes(line, flags);
+    add_value(line, value);
+    add_bytes(line, b" ");
+    add_attributes(line, flags);
 }
 
 // What follows an entry's name.
-fn put_rest(line: &mut Line, entry: &GsdEntry)
+fn add_rest(line: &mut Line, entry: &GsdEntry)
     requires { array_vec_len line.old ≤ 100 }
     ensures text { line.new.items ≡ line.old.items
         ++ spec.entry_rest entry.now.kind entry.now.flags entry.now.value }
@@ -117,17 +117,17 @@ fn put_rest(line: &mut Line, entry: &GsdEntry)
     match entry.kind {
         GsdKind::ModuleName | GsdKind::Identification => {}
         GsdKind::ControlSection | GsdKind::InternalSymbol | GsdKind::TransferAddress => {
-            put_value(line, entry.value);
+            add_value(line, entry.value);
         }
         GsdKind::GlobalSymbol => {
-            put_symbol(
+            add_symbol(
                 line,
                 SymbolFlags::from_bits_retain(entry.flags),
                 entry.value,
             );
         }
         GsdKind::ProgramSection => {
-            put_section(
+            add_section(
                 line,
                 SectionFlags::from_bits_retain(entry.flags),
                 entry.value,
@@ -142,8 +142,8 @@ pub(crate) fn entry_line(entry: &GsdEntry) -> Line
     ensures { result.items ≡ spec.entry_line entry.now }
 {
     let mut line = Line::new();
-    put(&mut line, entry_word(entry));
-    put(&mut line, &entry.name.characters());
-    put_rest(&mut line, entry);
+    add_bytes(&mut line, entry_word(entry));
+    add_bytes(&mut line, &entry.name.characters());
+    add_rest(&mut line, entry);
     ended(line)
 }

@@ -27,7 +27,7 @@ pub enum DumpFault {
 
 /// A fault, and where in the file it was found.
 #[derive(Clone, Copy, Debug, PartialEq, Eq)]
-pub struct Placed {
+pub struct LocatedFault {
     /// What is wrong.
     pub fault: DumpFault,
     /// The number of the block, from 1 on.

@@ -10,7 +10,7 @@ use crate::words::word_of;
 use arrayvec::ArrayVec;
 use m11_base::octal6;
 use m11_base_disassembly::{Source, byte_source, disassembled};
-use m11_obj_print::{Line, put};
+use m11_obj_print::{Line, add_bytes};
 use std::alloc::AllocError;
 
 // What stands first among bytes.
@@ -69,20 +69,20 @@ fn front_of(location: u16, bytes: &[u8]) -> Front
 }
 
 // Bytes as words. A last one without another stays a byte.
-fn put_cells(line: &mut Line, bytes: &[u8])
+fn add_cells(line: &mut Line, bytes: &[u8])
     requires { array_vec_len line.old + 7 * length bytes.now ≤ 100 }
     ensures text { line.new.items ≡ line.old.items ++ spec.cells bytes.now }
     ensures room { array_vec_len line.new ≤ array_vec_len line.old + 7 * length bytes.now }
 {
     match bytes {
         [low, high, others @ ..] => {
-            put(line, b" ");
-            put(line, &octal6(word_of(*low, *high)));
-            put_cells(line, others);
+            add_bytes(line, b" ");
+            add_bytes(line, &octal6(word_of(*low, *high)));
+            add_cells(line, others);
         }
         [byte] => {
-            put(line, b" ");
-            put(line, &octal3(*byte));
+            add_bytes(line, b" ");
+            add_bytes(line, &octal3(*byte));
         }
         [] => {}
     }
@@ -108,12 +108,12 @@ fn line_by(location: u16, shown: &[u8], source: &[u8]) -> Line
     ensures { result.items ≡ spec.line_by location shown.now source.now }
 {
     let mut line = Line::new();
-    put(&mut line, b"  ");
-    put(&mut line, &octal6(location));
-    put_cells(&mut line, shown);
-    put(&mut line, gap(shown.len()));
-    put(&mut line, source);
-    put(&mut line, b"\n");
+    add_bytes(&mut line, b"  ");
+    add_bytes(&mut line, &octal6(location));
+    add_cells(&mut line, shown);
+    add_bytes(&mut line, gap(shown.len()));
+    add_bytes(&mut line, source);
+    add_bytes(&mut line, b"\n");
     line
 }
 

@@ -34,7 +34,7 @@ pub use tapes::dump_tape;
 mod fault;
 mod positions;
 
-pub use fault::{DumpFault, Placed};
+pub use fault::{DumpFault, LocatedFault};
 
 // Laws of what is shown, and where.
 mod laws;

@@ -8,7 +8,7 @@ ghost use Rattle.m11_obj.specs.Reading.{IsRecord};
 ghost use Rattle.m11_base_writes.specs.Outputs.{output_of};
 ghost use Rattle.m11_dump.specs.Objects as spec;
 
-use crate::fault::{DumpFault, Placed};
+use crate::fault::{DumpFault, LocatedFault};
 use crate::positions::{fault_byte, placed, record_byte, rule_byte};
 use crate::records::record_text;
 use crate::stand::{Stand, address_after};
@@ -64,7 +64,7 @@ fn judge_record(
     record: &Record<'_>,
     blocks: u64,
     read: u32,
-) -> Result<(), Placed>
+) -> Result<(), LocatedFault>
     requires { blocks < 2 ^ 32 }
     ensures { (parts : List Part) → rules.old ≡ known_of parts
         → spec.Judges parts rules.new «record».now blocks read result }
@@ -79,7 +79,7 @@ fn judge_record(
 }
 
 // Judges the end of a file of so many bytes, after so many blocks.
-fn judge_end(rules: &mut Rules, blocks: u64, read: u32) -> Result<(), Placed>
+fn judge_end(rules: &mut Rules, blocks: u64, read: u32) -> Result<(), LocatedFault>
     requires { blocks < 2 ^ 32 }
     ensures { (parts : List Part) → rules.old ≡ known_of parts → spec.JudgesEnd parts blocks read result }
 {
@@ -90,7 +90,7 @@ fn judge_end(rules: &mut Rules, blocks: u64, read: u32) -> Result<(), Placed>
 }
 
 // Shows a record with which so many bytes of the file end, judges it, and returns where the dump then stands.
-fn take_record<S: Sink>(
+fn accept_record<S: Sink>(
     alloc: Global,
     view: View,
     rules: &mut Rules,
@@ -98,7 +98,7 @@ fn take_record<S: Sink>(
     stand: Stand,
     read: u32,
     sink: &mut S,
-) -> Result<Stand, Placed>
+) -> Result<Stand, LocatedFault>
     requires { stand.blocks < 2 ^ 32 }
     ensures { (parts : List Part) → IsRecord «record».now → rules.old ≡ known_of parts
         → spec.TakesBlock view stand parts rules.new «record».now read (output_of S.Sink sink.old) (output_of S.Sink sink.new) result }
@@ -113,7 +113,7 @@ fn take_record<S: Sink>(
 }
 
 // Shows and judges the record of a block, and returns where the dump then stands. A block may hold no record.
-fn take_block<S: Sink>(
+fn accept_block<S: Sink>(
     alloc: Global,
     view: View,
     rules: &mut Rules,
@@ -121,13 +121,13 @@ fn take_block<S: Sink>(
     stand: Stand,
     read: u32,
     sink: &mut S,
-) -> Result<Stand, Placed>
+) -> Result<Stand, LocatedFault>
     requires { stand.blocks < 2 ^ 32 }
     ensures { (parts : List Part) → rules.old ≡ known_of parts
         → spec.TakesBlock view stand parts rules.new block.now.items read (output_of S.Sink sink.old) (output_of S.Sink sink.new) result }
 {
     match read_record(block) {
-        Ok(record) => take_record(alloc, view, rules, &record, stand, read, sink),
+        Ok(record) => accept_record(alloc, view, rules, &record, stand, read, sink),
         Err(fault) => {
             let byte = record_byte(block, fault, read);
             Err(placed(DumpFault::Record(fault), stand.blocks, byte))
@@ -142,7 +142,7 @@ fn dump_blocks<F: Feed, S: Sink>(
     rules: &mut Rules,
     feed: &mut F,
     sink: &mut S,
-) -> Result<(), Placed>
+) -> Result<(), LocatedFault>
     requires { rules.old ≡ known_of [] }
     ensures { (room : ℕ) × spec.DumpsObject view (position (F.text feed.old) (F.faults feed.old) most_bytes)
         (position (F.text feed.new) (F.faults feed.new) room)
@@ -154,7 +154,7 @@ fn dump_blocks<F: Feed, S: Sink>(
     'reading: loop {
         match reader.next_into(feed, &mut block) {
             Ok(true) => {
-                match take_block(alloc, view, rules, &block, stand, reader.bytes_read(), sink) {
+                match accept_block(alloc, view, rules, &block, stand, reader.bytes_read(), sink) {
                     Ok(after) => stand = after,
                     Err(placed) => return Err(placed),
                 }
@@ -181,7 +181,7 @@ pub fn dump_object<F: Feed, S: Sink>(
     view: View,
     feed: &mut F,
     sink: &mut S,
-) -> Result<(), Placed>
+) -> Result<(), LocatedFault>
     ensures { (room : ℕ) × spec.DumpsObject view (position (F.text feed.old) (F.faults feed.old) most_bytes)
         (position (F.text feed.new) (F.faults feed.new) room)
         (output_of S.Sink sink.old) (output_of S.Sink sink.new) result }

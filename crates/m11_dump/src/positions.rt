@@ -5,7 +5,7 @@ ghost use Rattle.m11_obj_blocks.specs.Frames.{content_limit};
 ghost use Rattle.m11_obj.specs.Reading.{content_of};
 ghost use Rattle.m11_dump.specs.Positions as spec;
 
-use crate::fault::{DumpFault, Placed};
+use crate::fault::{DumpFault, LocatedFault};
 use m11_link_modules::ModuleFault;
 use m11_obj::{Block, BlockFault, RecordFault, TapeFault, read_record};
 
@@ -27,11 +27,11 @@ pub(crate) fn fault_byte(fault: DumpFault, read: u32) -> u64
 }
 
 /// A fault of the block after so many, at a byte of the file.
-pub(crate) fn placed(fault: DumpFault, blocks: u64, byte: u64) -> Placed
+pub(crate) fn placed(fault: DumpFault, blocks: u64, byte: u64) -> LocatedFault
     requires { blocks < 2 ^ 32 }
     ensures { result ≡ spec.placed_at fault blocks byte }
 {
-    Placed {
+    LocatedFault {
         fault,
         block: blocks + 1,
         byte,

@@ -7,7 +7,7 @@ ghost use Rattle.m11_obj.specs.Relocations.{parts_of};
 
 use m11_base::{Name, octal6};
 use m11_obj::{Relocation, Target};
-use m11_obj_print::{Line, ended, put};
+use m11_obj_print::{Line, add_bytes, ended};
 
 // The words of a target.
 fn target_word(target: &Target) -> &'static [u8]
@@ -74,38 +74,38 @@ fn constant_of(target: &Target) -> Option<u16>
 }
 
 // A name after a blank, if there is one.
-fn put_name(line: &mut Line, name: Option<Name>)
+fn add_name(line: &mut Line, name: Option<Name>)
     requires { array_vec_len line.old ≤ 100 }
     ensures text { line.new.items ≡ line.old.items ++ spec.optional_name name }
     ensures room { array_vec_len line.new ≤ array_vec_len line.old + 7 }
 {
     if let Some(name) = name {
-        put(line, b" ");
-        put(line, &name.characters());
+        add_bytes(line, b" ");
+        add_bytes(line, &name.characters());
     }
 }
 
 // A constant after a blank, if there is one.
-fn put_word(line: &mut Line, word: Option<u16>)
+fn add_word(line: &mut Line, word: Option<u16>)
     requires { array_vec_len line.old ≤ 110 }
     ensures text { line.new.items ≡ line.old.items ++ spec.optional_word word }
     ensures room { array_vec_len line.new ≤ array_vec_len line.old + 7 }
 {
     if let Some(word) = word {
-        put(line, b" ");
-        put(line, &octal6(word));
+        add_bytes(line, b" ");
+        add_bytes(line, &octal6(word));
     }
 }
 
 // A target: its words, the name and the constant that it has.
-fn put_target(line: &mut Line, target: &Target)
+fn add_target(line: &mut Line, target: &Target)
     requires { array_vec_len line.old ≤ 20 }
     ensures text { line.new.items ≡ line.old.items ++ spec.target_text target.now }
     ensures room { array_vec_len line.new ≤ array_vec_len line.old + 43 }
 {
-    put(line, target_word(target));
-    put_name(line, name_of(target));
-    put_word(line, constant_of(target));
+    add_bytes(line, target_word(target));
+    add_name(line, name_of(target));
+    add_word(line, constant_of(target));
 }
 
 // Whether only the low byte is stored.
@@ -152,10 +152,10 @@ pub(crate) fn relocation_line(address: u16, relocation: &Relocation) -> Line
     ensures { result.items ≡ spec.relocation_line address relocation.now }
 {
     let mut line = Line::new();
-    put(&mut line, b"  ");
-    put(&mut line, &location_text(address, relocation));
-    put(&mut line, b" ");
-    put_target(&mut line, &relocation.target);
-    put(&mut line, byte_word(relocation.is_byte));
+    add_bytes(&mut line, b"  ");
+    add_bytes(&mut line, &location_text(address, relocation));
+    add_bytes(&mut line, b" ");
+    add_target(&mut line, &relocation.target);
+    add_bytes(&mut line, byte_word(relocation.is_byte));
     ended(line)
 }

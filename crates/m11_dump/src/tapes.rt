@@ -8,7 +8,7 @@ ghost use Rattle.m11_base_writes.specs.Outputs.{output_of};
 ghost use Rattle.m11_dump.specs.Positions.{fault_byte, placed_at};
 ghost use Rattle.m11_dump.specs.Tapes as spec;
 
-use crate::fault::{DumpFault, Placed};
+use crate::fault::{DumpFault, LocatedFault};
 use crate::instructions::{put_head, put_instructions};
 use crate::positions::{fault_byte, placed};
 use crate::view::View;
@@ -135,7 +135,7 @@ fn take_data<F: Feed, S: Sink>(
 }
 
 // A fault of the block after so many, after all that the reader has read.
-fn placed_after(fault: DumpFault, blocks: u64, reader: &TapeReader) -> Placed
+fn placed_after(fault: DumpFault, blocks: u64, reader: &TapeReader) -> LocatedFault
     requires { blocks < 2 ^ 32 }
     ensures { result ≡ placed_at fault blocks (fault_byte fault (most_bytes - reader.now.room)) }
 {
@@ -154,7 +154,7 @@ pub fn dump_tape<F: Feed, S: Sink>(
     view: View,
     feed: &mut F,
     sink: &mut S,
-) -> Result<(), Placed>
+) -> Result<(), LocatedFault>
     ensures { (room : ℕ) × spec.DumpsTape view (position (F.text feed.old) (F.faults feed.old) most_bytes)
         (position (F.text feed.new) (F.faults feed.new) room)
         (output_of S.Sink sink.old) (output_of S.Sink sink.new) result }

@@ -10,7 +10,7 @@ use Rattle.m11_link_layout.specs.Fault.{link_fault_name, link_fault_number, of_m
 use Rattle.m11_obj.specs.Fault.{record_fault_name, record_fault_number}
 use Rattle.m11_dump.specs.declared.fault.DumpFault.{DumpFault}
 use Rattle.m11_dump.specs.declared.fault.DumpFault.TheVariants as fault
-use Rattle.m11_dump.specs.declared.fault.Placed.{Placed}
+use Rattle.m11_dump.specs.declared.fault.LocatedFault.{LocatedFault}
 use Rattle.m11_dump.specs.declared.kind.Kind.{Kind}
 use Rattle.m11_dump.specs.declared.kind.Kind.TheVariants.{Object, Tape}
 use Rattle.m11_dumper.specs.MapLines.{map_line}
@@ -45,11 +45,11 @@ fault_text fault.Write = codes "2 Write"
 fault_text fault.NoMemory = codes "90 NoMemory"
 
 -- where a fault is: its block, and the offset of the byte that shows it
-abbrev pub position_text : Placed → Bytes
+abbrev pub position_text : LocatedFault → Bytes
 position_text placed = ((codes " IN BLOCK " ++ decimal placed.block) ++ codes " AT BYTE ") ++ decimal placed.byte
 
 -- the line of a fault: what it is, where, and of which file
-abbrev pub in_file_line : Bytes → Placed → Bytes
+abbrev pub in_file_line : Bytes → LocatedFault → Bytes
 in_file_line path placed =
     ((codes "?M11 DUMP " ++ fault_text placed.fault) ++ position_text placed) ++ path_end (codes " OF ") path
 

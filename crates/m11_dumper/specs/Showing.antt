@@ -10,7 +10,7 @@ use Rattle.m11_dump.specs.Objects.{DumpsObject}
 use Rattle.m11_dump.specs.Tapes.{DumpsTape}
 use Rattle.m11_dump.specs.declared.kind.Kind.{Kind}
 use Rattle.m11_dump.specs.declared.kind.Kind.TheVariants.{Object, Tape}
-use Rattle.m11_dump.specs.declared.fault.Placed.{Placed}
+use Rattle.m11_dump.specs.declared.fault.LocatedFault.{LocatedFault}
 use Rattle.m11_dumper.specs.Lines.{head_line}
 use Rattle.m11_dumper.specs.declared.stop.Stop.{Stop}
 use Rattle.m11_dumper.specs.declared.stop.Stop.TheVariants.{NotOpened, InFile, InMap, Write, NoMemory}
@@ -26,12 +26,12 @@ abbrev pub Fails : Bytes → Output → Output → Type 0
 Fails text out out' = AppendsBeginning out.text out'.text text × Rises out.faults out'.faults
 
 -- what a dump of a file of this kind does
-abbrev pub DumpsKind : View → Kind → Position → Position → Output → Output → Result (Unit {0}) Placed → Type 0
+abbrev pub DumpsKind : View → Kind → Position → Position → Output → Output → Result (Unit {0}) LocatedFault → Type 0
 DumpsKind view Object old new out out' result = DumpsObject view old new out out' result
 DumpsKind view Tape old new out out' result = DumpsTape view old new out out' result
 
 -- after the head of a file the output gained what a dump makes of its bytes, which it read from their beginning
-abbrev pub DumpsInput : View → Kind → Option Text → ℕ → Bytes → Output → Output → Result (Unit {0}) Placed → Type 0
+abbrev pub DumpsInput : View → Kind → Option Text → ℕ → Bytes → Output → Output → Result (Unit {0}) LocatedFault → Type 0
 DumpsInput view kind text faults path out out' result = (middle : Output) × (new : Position) × Gains (head_line kind path) out middle
     × DumpsKind view kind (position text faults most_bytes) new middle out' result
 
@@ -41,7 +41,7 @@ IsOfKind files path kind =
     (text : Option Text) × (faults : ℕ) × (new : Position) × Holds files path text × IsKind (position text faults most_bytes) new kind
 
 -- the file of a path was dumped, which is of this kind
-abbrev pub Dumps : View → Kind → Option Files → Bytes → Output → Output → Result (Unit {0}) Placed → Type 0
+abbrev pub Dumps : View → Kind → Option Files → Bytes → Output → Output → Result (Unit {0}) LocatedFault → Type 0
 Dumps view kind files path out out' result = IsOfKind files path kind
     × ((text : Option Text) × (faults : ℕ) × Holds files path text × DumpsInput view kind text faults path out out' result)
 

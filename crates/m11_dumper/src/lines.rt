@@ -7,7 +7,7 @@ ghost use Rattle.m11_dumper.specs.Numbered.{numbered};
 
 use crate::map_lines::map_line;
 use crate::stop::Stop;
-use m11_dump::{DumpFault, Kind, Placed};
+use m11_dump::{DumpFault, Kind, LocatedFault};
 use m11_link_layout::LinkFault;
 use m11_obj::{BlockFault, TapeFault};
 use std::alloc::{AllocError, Global};
@@ -66,7 +66,7 @@ fn put_fault(line: &mut Vec<u8>, alloc: Global, fault: DumpFault) -> Result<(), 
 
 // Adds where a fault is.
 #[tactic(auto, using(m11_dump::proofs::Items::four_put))]
-fn put_position(line: &mut Vec<u8>, alloc: Global, placed: Placed) -> Result<(), AllocError>
+fn put_position(line: &mut Vec<u8>, alloc: Global, placed: LocatedFault) -> Result<(), AllocError>
     ensures { OnOk result (line.new.items ≡ line.old.items ++ spec.position_text placed) }
 {
     line.extend_from_slice(b" IN BLOCK ")?;
@@ -86,7 +86,7 @@ fn put_path(line: &mut Vec<u8>, word: &str, path: &str) -> Result<(), AllocError
 }
 
 // The line of a dump that stopped.
-fn in_file_line(alloc: Global, path: &str, placed: Placed) -> Result<Vec<u8>, AllocError>
+fn in_file_line(alloc: Global, path: &str, placed: LocatedFault) -> Result<Vec<u8>, AllocError>
     ensures { IfOk result (λ line. line.items ≡ spec.in_file_line path.now placed) }
 {
     let mut line = Vec::new(alloc);

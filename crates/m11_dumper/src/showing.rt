@@ -11,7 +11,7 @@ use crate::stop::Stop;
 use m11_base::{Feed, Sink};
 use m11_base_files::{OpenRefusal, Opens};
 use m11_base_writes::put_or_fail;
-use m11_dump::{Kind, Placed, View, dump_object, dump_tape, kind_of};
+use m11_dump::{Kind, LocatedFault, View, dump_object, dump_tape, kind_of};
 use std::alloc::Global;
 
 /// Shows the files of paths, in order, up to the first that can't be shown.
@@ -88,7 +88,7 @@ fn dump<I: Feed, O: Sink>(
     kind: Kind,
     view: View,
     out: &mut O,
-) -> Result<(), Placed>
+) -> Result<(), LocatedFault>
     ensures { (room : ℕ) × DumpsKind view kind (position (I.text input.old) (I.faults input.old) most_bytes)
         (position (I.text input.new) (I.faults input.new) room)
         (output_of O.Sink out.old) (output_of O.Sink out.new) result }

@@ -6,7 +6,7 @@ ghost use Rattle.m11_dumper.specs.declared.stop.Stop.TheVariants.{NoMemory};
 
 use m11_cli_reports::{link_status, tape_status, usage_status};
 use m11_cli_tasks::UsageFault;
-use m11_dump::{DumpFault, Placed};
+use m11_dump::{DumpFault, LocatedFault};
 use m11_link_layout::LinkFault;
 use m11_obj::BlockFault;
 use std::alloc::AllocError;
@@ -17,7 +17,7 @@ pub(crate) enum Stop<'a> {
     /// The file of this path doesn't open.
     NotOpened(&'a str),
     /// The dump of the file of this path stopped.
-    InFile(&'a str, Placed),
+    InFile(&'a str, LocatedFault),
     /// The objects have no load map: a link of them is refused so.
     InMap(LinkFault),
     /// The head of a file could not be written, or a load map.

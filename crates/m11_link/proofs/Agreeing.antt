@@ -10,7 +10,7 @@ use Rattle.m11_obj.specs.declared.relocations.Target.TheVariants as target
 use Rattle.m11_link_modules.specs.Parts.{Part, Directory, Entry, EndOfDirectory, Text, Relocations, Relocated, EndOfModule, EndOfFile}
 use Rattle.m11_link_modules.specs.Positions.{current_section, modules_in, this_module}
 use Rattle.m11_link_modules.specs.Rules.{lies_within}
-use Rattle.m11_link_layout.specs.Plan.{IsPlanOf, Planned}
+use Rattle.m11_link_layout.specs.Plan.{IsPlanOf, PlanTables}
 use Rattle.m11_link_layout.specs.Sections.{attributes_by}
 use Rattle.m11_link_text.specs.Findings.{Agree, Findings, findings_of, planned}
 use Rattle.m11_link.specs.Front.{front_writes, global_writes, map_writes, name_write, name_writes, section_writes, undefined_by, undefined_names, undefined_write, undefined_writes}
@@ -18,7 +18,7 @@ use Rattle.m11_link_text.specs.Relocation.{modulo, relocated, replaced, stored_b
 use Rattle.m11_link.specs.Written.{PlacedText, defined_names, different_writes, ended_writes, has_ended, link_writes, parts_writes, placed_text, relocations_after, text_writes, with_relocation, with_relocations, writes_at, writes_after, writes_by}
 
 -- a plan of all parts reports what the definitions give
-pub plan_agrees : (bottom : ℕ) (parts : List Part) (plan : Planned) → IsPlanOf bottom parts plan
+pub plan_agrees : (bottom : ℕ) (parts : List Part) (plan : PlanTables) → IsPlanOf bottom parts plan
     → Agree (planned plan) (findings_of bottom parts)
 unfolding findings_of
 plan_agrees bottom parts plan h = record {
@@ -196,7 +196,7 @@ module _ (f g : Findings) (a : Agree f g) where
   link_same parts = rw (front_same, parts_same parts, a.transfer) refl
 
 -- what a link writes by a plan of all parts is what it writes by the definitions
-pub written_by_definition : (bottom : ℕ) (parts others : List Part) (plan : Planned) → IsPlanOf bottom parts plan
+pub written_by_definition : (bottom : ℕ) (parts others : List Part) (plan : PlanTables) → IsPlanOf bottom parts plan
     → link_writes (planned plan) others ≡ link_writes (findings_of bottom parts) others
 written_by_definition bottom parts others plan h =
     link_same (planned plan) (findings_of bottom parts) (plan_agrees bottom parts plan h) others

@@ -16,18 +16,18 @@ use Rattle.m11_link_modules.specs.Steps.{RulesTake, known_after, with_optional_g
 use Rattle.m11_link_modules.proofs.Taking.{none_taken}
 use Rattle.m11_link_modules.proofs.KnownAfter.{known_after_part, taken_after}
 use Rattle.m11_link_layout.specs.Globals.{definitions_of}
-use Rattle.m11_link_modules.specs.Positions.{Known, current_section, distinct, global_of, known_of, modules_in, this_module}
+use Rattle.m11_link_modules.specs.Positions.{RulesState, current_section, distinct, global_of, known_of, modules_in, this_module}
 use Rattle.m11_link_modules.specs.Rules.{fault_known, fault_of, first_fault, may_stand}
 use Rattle.m11_link_modules.specs.declared.fault.ModuleFault.{ModuleFault}
 use Rattle.m11_link_modules.specs.declared.fault.ModuleFault.TheVariants as rule
 use Rattle.m11_link_layout.proofs.Standing.{sound_after}
 use Rattle.m11_link_layout.proofs.Walking.{head_none, walked}
 use Rattle.m11_link_layout.specs.Fault.{of_module}
-use Rattle.m11_link_layout.specs.Plan.{Planned}
-use Rattle.m11_link_layout.specs.Tables.{Gathered, nothing_gathered}
+use Rattle.m11_link_layout.specs.Plan.{PlanTables}
+use Rattle.m11_link_layout.specs.Tables.{LayoutTables, nothing_gathered}
 use Rattle.m11_link_layout.specs.declared.fault.LinkFault.{LinkFault}
 use Rattle.m11_link_layout.specs.declared.fault.LinkFault.TheVariants as fault
-use Rattle.m11_link.specs.Emit.{EmitStands, Emitting, Goes, GoesOn, Reporting, TakesBlock, TakesParts, begin_writes, begun_reporting, call_of, directory_writes, entries_writes, held_at, held_text, held_with, held_with_all, held_writes, relocated_parts, with_count, with_directory, with_held, with_reporting, with_text, written}
+use Rattle.m11_link.specs.Emit.{EmitStands, EmitState, Goes, GoesOn, ReporterState, TakesBlock, TakesParts, begin_writes, begun_reporting, call_of, directory_writes, entries_writes, held_at, held_text, held_with, held_with_all, held_writes, relocated_parts, with_count, with_directory, with_held, with_reporting, with_text, written}
 use Rattle.m11_link_text.specs.Findings.{Findings, planned}
 use Rattle.m11_link.specs.Front.{front_writes}
 use Rattle.m11_link.specs.Outputs.{Outputs, Write, Gains, Stops, StopsBetween, StopsIn, Writes, link}
@@ -39,18 +39,18 @@ use Rattle.m11_link.proofs.WritesAfter.{content_defined_is, content_held, conten
 
 -- ---- what is held
 
-pub record Holds (plan : Planned) (parts : List Part) (t : Reporting) : Type 0 where
+pub record Holds (plan : PlanTables) (parts : List Part) (t : ReporterState) : Type 0 where
   pub planned_so : t.plan ≡ plan
   pub defined : t.defined ≡ defined_names parts
   pub held : t.held ≡ held_text (planned plan) parts
 
 -- what parts write by what is held before them, and what is held after them
-pub record Makes (plan : Planned) (before parts : List Part) (ws : Reporting → List Write) (u : Reporting → Reporting) : Type 0
+pub record Makes (plan : PlanTables) (before parts : List Part) (ws : ReporterState → List Write) (u : ReporterState → ReporterState) : Type 0
   where
-    pub reported : (t : Reporting) → Holds plan before t
+    pub reported : (t : ReporterState) → Holds plan before t
         → ws t ≡ reported_all (planned plan) before (held_text (planned plan) before) parts
-    pub holds : (t : Reporting) → Holds plan before t → Holds plan (before ++ parts) (u t)
-    pub counts : (t : Reporting) → (u t).messages ≡ counted t.messages (ws t)
+    pub holds : (t : ReporterState) → Holds plan before t → Holds plan (before ++ parts) (u t)
+    pub counts : (t : ReporterState) → (u t).messages ≡ counted t.messages (ws t)
 
 -- blocks of the tape are no messages
 block_uncounted : (count address : ℕ) (bytes : List ℕ) (ws : List Write)
@@ -70,7 +70,7 @@ held_alone count held =
 -- ---- a record
 
 -- what a record of this content writes, by what stands before it
-abbrev pub made_by : List Part → records.Content → Reporting → List Write
+abbrev pub made_by : List Part → records.Content → ReporterState → List Write
 made_by before (records.Gsd entries) t = directory_writes (modules_in before) entries t
 made_by before records.EndOfGsd t = held_writes t.held
 made_by before (records.Text address bytes) t = held_writes t.held
@@ -78,11 +78,11 @@ made_by before (records.Relocations relocations) t = []
 made_by before records.InternalSymbols t = []
 made_by before records.EndOfModule t = held_writes t.held
 
-abbrev pub relocating : List Relocation → Reporting → Reporting
+abbrev pub relocating : List Relocation → ReporterState → ReporterState
 relocating relocations t = with_held (held_with_all (planned t.plan) t.held relocations) t
 
 -- and what stands after it
-abbrev pub following : List Part → records.Content → Reporting → Reporting
+abbrev pub following : List Part → records.Content → ReporterState → ReporterState
 following before (records.Gsd entries) t = with_directory (modules_in before) entries t
 following before records.EndOfGsd t = with_held None t
 following before (records.Text address bytes) t =
@@ -91,7 +91,7 @@ following before (records.Relocations relocations) t = relocating relocations t
 following before records.InternalSymbols t = t
 following before records.EndOfModule t = with_held None t
 
-content_reported_by : (plan : Planned) (before : List Part) (t : Reporting) (c : records.Content) → Holds plan before t
+content_reported_by : (plan : PlanTables) (before : List Part) (t : ReporterState) (c : records.Content) → Holds plan before t
     → made_by before c t ≡ content_reported (planned plan) before (held_text (planned plan) before) c
 content_reported_by plan before t (records.Gsd entries) h = rw (h.planned_so, h.defined, h.held) refl
 content_reported_by plan before t records.EndOfGsd h = ap held_writes h.held
@@ -100,7 +100,7 @@ content_reported_by plan before t (records.Relocations relocations) h = refl
 content_reported_by plan before t records.InternalSymbols h = refl
 content_reported_by plan before t records.EndOfModule h = ap held_writes h.held
 
-after_plan : (before : List Part) (c : records.Content) (t : Reporting) → (following before c t).plan ≡ t.plan
+after_plan : (before : List Part) (c : records.Content) (t : ReporterState) → (following before c t).plan ≡ t.plan
 after_plan before (records.Gsd entries) t = refl
 after_plan before records.EndOfGsd t = refl
 after_plan before (records.Text address bytes) t = refl
@@ -108,7 +108,7 @@ after_plan before (records.Relocations relocations) t = refl
 after_plan before records.InternalSymbols t = refl
 after_plan before records.EndOfModule t = refl
 
-after_held : (before : List Part) (c : records.Content) (t : Reporting)
+after_held : (before : List Part) (c : records.Content) (t : ReporterState)
     → (following before c t).held ≡ content_held (planned t.plan) before t.held c
 after_held before (records.Gsd entries) t = refl
 after_held before records.EndOfGsd t = refl
@@ -117,7 +117,7 @@ after_held before (records.Relocations relocations) t = refl
 after_held before records.InternalSymbols t = refl
 after_held before records.EndOfModule t = refl
 
-after_defined : (plan : Planned) (before : List Part) (c : records.Content) (t : Reporting) → Holds plan before t
+after_defined : (plan : PlanTables) (before : List Part) (c : records.Content) (t : ReporterState) → Holds plan before t
     → (following before c t).defined ≡ defined_names (before ++ parts_of c)
 after_defined plan before (records.Gsd entries) t h =
     rw h.defined (sym (content_defined_is before (records.Gsd entries)))
@@ -130,7 +130,7 @@ after_defined plan before records.InternalSymbols t h =
     h.defined ∙ sym (content_defined_is before records.InternalSymbols)
 after_defined plan before records.EndOfModule t h = h.defined ∙ sym (content_defined_is before records.EndOfModule)
 
-after_counts : (before : List Part) (c : records.Content) (t : Reporting)
+after_counts : (before : List Part) (c : records.Content) (t : ReporterState)
     → (following before c t).messages ≡ counted t.messages (made_by before c t)
 after_counts before (records.Gsd entries) t = sym (held_uncounted t.messages t.held
     (entries_writes (planned t.plan) (modules_in before) t.defined entries))
@@ -140,7 +140,7 @@ after_counts before (records.Relocations relocations) t = refl
 after_counts before records.InternalSymbols t = refl
 after_counts before records.EndOfModule t = sym (held_alone t.messages t.held)
 
-content_makes : (plan : Planned) (before : List Part) (c : records.Content)
+content_makes : (plan : PlanTables) (before : List Part) (c : records.Content)
     → Makes plan before (parts_of c) (made_by before c) (following before c)
 content_makes plan before c = record {
   reported = λ t h. content_reported_by plan before t c h
@@ -157,7 +157,7 @@ content_makes plan before c = record {
 }
 
 -- the end of an object
-pub end_makes : (plan : Planned) (before : List Part)
+pub end_makes : (plan : PlanTables) (before : List Part)
     → Makes plan before (EndOfFile ∷ []) (λ t. held_writes t.held) (with_held None)
 end_makes plan before = record {
   reported = λ t h. ap held_writes h.held ∙ sym (append-nil (held_writes (held_text (planned plan) before)));
@@ -171,22 +171,22 @@ end_makes plan before = record {
 
 -- ---- with what is written first
 
-pub begun_holds : (plan : Planned) (parts : List Part) (b : Bool) (t : Reporting) (ws : List Write) → Holds plan parts t
+pub begun_holds : (plan : PlanTables) (parts : List Part) (b : Bool) (t : ReporterState) (ws : List Write) → Holds plan parts t
     → Holds plan parts (if b then t else with_count ws t)
 begun_holds plan parts true t ws h = h
 begun_holds plan parts false t ws h = record { planned_so = h.planned_so; defined = h.defined; held = h.held }
 
-pub begun_counts : (b : Bool) (t : Reporting) (ws : List Write)
+pub begun_counts : (b : Bool) (t : ReporterState) (ws : List Write)
     → (if b then t else with_count ws t).messages ≡ counted t.messages (if b then [] else ws)
 begun_counts true t ws = refl
 begun_counts false t ws = refl
 
-pub none_written : (plan : Planned) (before : List Part) → before ≡ [] → parts_writes (planned plan) before ≡ []
+pub none_written : (plan : PlanTables) (before : List Part) → before ≡ [] → parts_writes (planned plan) before ≡ []
 unfolding parts_writes
 none_written plan before e = ap (λ parts. parts_writes (planned plan) parts) e
 
 -- all that is written after more parts
-all_split : (plan : Planned) (before parts : List Part) (b : Bool) (ws : List Write)
+all_split : (plan : PlanTables) (before parts : List Part) (b : Bool) (ws : List Write)
     → ws ≡ reported_all (planned plan) before (held_text (planned plan) before) parts → (b ≡ false → before ≡ [])
     → written plan true (before ++ parts)
     ≡ written plan b before ++ ((if b then [] else front_writes (planned plan)) ++ ws)
@@ -200,7 +200,7 @@ all_split plan before parts false ws e first =
     (none_written plan before (first refl)) ∙ sym e)
 
 -- nothing stands before any part
-pub stands_first : (plan : Planned) (s : Emitting) → s.known ≡ known_of []
+pub stands_first : (plan : PlanTables) (s : EmitState) → s.known ≡ known_of []
     → s.reporting ≡ record { plan = plan; defined = []; held = None; messages = 0 } → s.has_begun ≡ false → s.fault ≡ None
     → EmitStands plan [] s
 unfolding first_fault defined_names definitions_of distinct held_text
@@ -215,8 +215,8 @@ stands_first plan s k t b f = record {
   fault = f;
 }
 
-module _ (plan : Planned) (before parts : List Part) (ws : Reporting → List Write) (u : Reporting → Reporting)
-    (makes : Makes plan before parts ws u) (s : Emitting) (stands : EmitStands plan before s) where
+module _ (plan : PlanTables) (before parts : List Part) (ws : ReporterState → List Write) (u : ReporterState → ReporterState)
+    (makes : Makes plan before parts ws u) (s : EmitState) (stands : EmitStands plan before s) where
   holds_now : Holds plan before s.reporting
   holds_now = record { planned_so = stands.planned_so; defined = stands.defined; held = stands.held }
 
@@ -234,11 +234,11 @@ module _ (plan : Planned) (before parts : List Part) (ws : Reporting → List Wr
       ∙ ap (λ p. written plan s.has_begun before
       ++ ((if s.has_begun then [] else front_writes (planned p)) ++ ws (begun_reporting s))) (sym stands.planned_so)
 
-  stands_after : (s' : Emitting) → first_fault before parts ≡ None → s'.known ≡ known_of (before ++ parts)
+  stands_after : (s' : EmitState) → first_fault before parts ≡ None → s'.known ≡ known_of (before ++ parts)
       → s'.reporting ≡ u (begun_reporting s) → s'.has_begun ≡ true → s'.fault ≡ s.fault → EmitStands plan (before ++ parts) s'
   stands_after s' sound k t b f =
       let h = makes.holds (begun_reporting s) holds_begun in
-      let P : Reporting → Type 0 = λ x. Holds plan (before ++ parts) x in
+      let P : ReporterState → Type 0 = λ x. Holds plan (before ++ parts) x in
       let h' = subst P (sym t) h in
       record {
         sound = sound_after [] before parts stands.sound sound;
@@ -262,9 +262,9 @@ module _ (plan : Planned) (before parts : List Part) (ws : Reporting → List Wr
   went_on Went w = record { more = made; split = split; went = w }
 
   -- parts were judged, and written
-  pub parts_taken : (a b : Outputs) (s' : Emitting) (known : Known) (result : Result (Unit {0}) LinkFault)
+  pub parts_taken : (a b : Outputs) (s' : EmitState) (known : RulesState) (result : Result (Unit {0}) LinkFault)
       → first_fault before parts ≡ None → known ≡ known_of (before ++ parts)
-      → Goes a b made s' (let now : Emitting = record s { known = known } in with_reporting (u (begun_reporting s)) now) result
+      → Goes a b made s' (let now : EmitState = record s { known = known } in with_reporting (u (begun_reporting s)) now) result
       → TakesParts plan before (call_of a b s s') parts result
   parts_taken a b s' known (Ok done) sound k (gains, is) = (
     stands_after s' sound (ap (λ x. x.known) is ∙ k) (ap (λ x. x.reporting) is) (ap (λ x. x.has_begun) is)
@@ -289,7 +289,7 @@ module _ (plan : Planned) (before parts : List Part) (ws : Reporting → List Wr
   parts_taken a b s' known (Err fault.TextOutside) sound k h = absurd h
 
   -- parts were refused
-  refused_by : (a : Outputs) (s' : Emitting) (new : Known) (broken : ModuleFault)
+  refused_by : (a : Outputs) (s' : EmitState) (new : RulesState) (broken : ModuleFault)
       → TakesAfter before new parts (Err broken) → TakesParts plan before (call_of a a s s') parts (Err (of_module broken))
   refused_by a s' new rule.BadOrder h = ((rule.BadOrder, h, refl), refl)
   refused_by a s' new rule.NoText h = ((rule.NoText, h, refl), refl)
@@ -301,7 +301,7 @@ module _ (plan : Planned) (before parts : List Part) (ws : Reporting → List Wr
   refused_by a s' new rule.TooManyModules h = ((rule.TooManyModules, h, refl), refl)
   refused_by a s' new rule.NoMemory h = inl (h, refl)
 
-  pub parts_refused : (a : Outputs) (s' : Emitting) (new : Known) (broken : ModuleFault) (result : Result (Unit {0}) LinkFault)
+  pub parts_refused : (a : Outputs) (s' : EmitState) (new : RulesState) (broken : ModuleFault) (result : Result (Unit {0}) LinkFault)
       → TakesAfter before new parts (Err broken) → IsErrAnd result (λ e. e ≡ of_module broken)
       → TakesParts plan before (call_of a a s s') parts result
   parts_refused a s' new broken (Ok done) h e = absurd e
@@ -311,43 +311,43 @@ module _ (plan : Planned) (before parts : List Part) (ws : Reporting → List Wr
 
 -- ---- what is written first, by calls
 
-module _ {seen : Emitting} (old : Emitting) (is : seen ≡ old) where
+module _ {seen : EmitState} (old : EmitState) (is : seen ≡ old) where
   pub begun_before : (a : Outputs) → seen.has_begun ≡ true
       → Gains a a (begin_writes old) × (old ≡ with_reporting (begun_reporting old) old)
   begun_before a e =
-      let P : Emitting → Type 0 = λ x. Gains a a (begin_writes x) × (x ≡ with_reporting (begun_reporting x) x) in
+      let P : EmitState → Type 0 = λ x. Gains a a (begin_writes x) × (x ≡ with_reporting (begun_reporting x) x) in
       let front = front_writes (planned seen.reporting.plan) in
       let Q : Bool → Type 0 = λ b. Gains a a (if b then [] else front)
-      × (seen ≡ (let x : Emitting = record seen {
+      × (seen ≡ (let x : EmitState = record seen {
         reporting = if b then seen.reporting else with_count front seen.reporting;
         has_begun = true;
       } in x)) in
-      subst P is (subst Q (sym e) (gains_nothing link a, ap (λ b. let x : Emitting = record seen { has_begun = b } in x) e))
+      subst P is (subst Q (sym e) (gains_nothing link a, ap (λ b. let x : EmitState = record seen { has_begun = b } in x) e))
 
-  pub begin_stopped : (a b : Outputs) (stopped : LinkFault) (state expected : Emitting) (result : Result (Unit {0}) LinkFault)
+  pub begin_stopped : (a b : Outputs) (stopped : LinkFault) (state expected : EmitState) (result : Result (Unit {0}) LinkFault)
       → seen.has_begun ≡ false → Stops a b (front_writes (planned seen.reporting.plan)) stopped
       → IsErrAnd result (λ f. f ≡ stopped) → Goes a b (begin_writes old) state expected result
   begin_stopped a b stopped state expected result e h f =
-      let P : Emitting → Type 0 = λ x. Goes a b (begin_writes x) state expected result in
+      let P : EmitState → Type 0 = λ x. Goes a b (begin_writes x) state expected result in
       let Q : Bool → Type 0 = λ x.
       Goes a b (if x then [] else front_writes (planned seen.reporting.plan)) state expected result in
       subst P is (subst Q (sym e) (goes_stopped_alone a b _ state expected stopped result h f))
 
-  pub begun_now : (a b : Outputs) (reporting : Reporting) → seen.has_begun ≡ false
+  pub begun_now : (a b : Outputs) (reporting : ReporterState) → seen.has_begun ≡ false
       → Gains a b (front_writes (planned seen.reporting.plan))
       × (reporting ≡ with_count (front_writes (planned seen.reporting.plan)) seen.reporting)
       → Gains a b (begin_writes old)
-      × ((let x : Emitting = record seen { reporting = reporting; has_begun = true } in x) ≡ with_reporting (begun_reporting old) old)
+      × ((let x : EmitState = record seen { reporting = reporting; has_begun = true } in x) ≡ with_reporting (begun_reporting old) old)
   begun_now a b reporting e h =
       let front = front_writes (planned seen.reporting.plan) in
-      let P : Emitting → Type 0 = λ x. Gains a b (begin_writes x)
-      × ((let y : Emitting = record seen { reporting = reporting; has_begun = true } in y) ≡ with_reporting (begun_reporting x) x) in
+      let P : EmitState → Type 0 = λ x. Gains a b (begin_writes x)
+      × ((let y : EmitState = record seen { reporting = reporting; has_begun = true } in y) ≡ with_reporting (begun_reporting x) x) in
       let Q : Bool → Type 0 = λ x. Gains a b (if x then [] else front)
-      × ((let y : Emitting = record seen { reporting = reporting; has_begun = true } in y) ≡ (let z : Emitting = record seen {
+      × ((let y : EmitState = record seen { reporting = reporting; has_begun = true } in y) ≡ (let z : EmitState = record seen {
         reporting = if x then seen.reporting else with_count front seen.reporting;
         has_begun = true;
       } in z)) in
-      subst P is (subst Q (sym e) (h.0, ap (λ t. let y : Emitting = record seen { reporting = t; has_begun = true } in y) h.1))
+      subst P is (subst Q (sym e) (h.0, ap (λ t. let y : EmitState = record seen { reporting = t; has_begun = true } in y) h.1))
 
 goes_in : {A S T : Type 0} (a b c : Outputs) (xs ys : List Write) (of : T → S) (t u : T) (result : Result A LinkFault)
     → Gains a b xs → Goes b c ys t u result → Goes a c (xs ++ ys) (of t) (of u) result
@@ -355,15 +355,15 @@ goes_in a b c xs ys of t u (Ok x) g h = (gains_then link a b c xs ys g h.0, ap o
 goes_in a b c xs ys of t u (Err stopped) g h = stops_after link a b c xs ys stopped g h
 
 -- what is written after it
-pub written_then : {seen : Emitting} (old mid : Emitting) (a b c : Outputs) (ws : Reporting → List Write)
-    (u : Reporting → Reporting) (reporting : Reporting) (result : Result (Unit {0}) LinkFault) → seen ≡ mid
+pub written_then : {seen : EmitState} (old mid : EmitState) (a b c : Outputs) (ws : ReporterState → List Write)
+    (u : ReporterState → ReporterState) (reporting : ReporterState) (result : Result (Unit {0}) LinkFault) → seen ≡ mid
     → Gains a b (begin_writes old) × (mid ≡ with_reporting (begun_reporting old) old)
     → Goes b c (ws seen.reporting) reporting (u seen.reporting) result
-    → Goes a c (begin_writes old ++ ws (begun_reporting old)) (let x : Emitting = record seen { reporting = reporting } in x)
+    → Goes a c (begin_writes old ++ ws (begun_reporting old)) (let x : EmitState = record seen { reporting = reporting } in x)
     (with_reporting (u (begun_reporting old)) old) result
 written_then old mid a b c ws u reporting result is h k =
-    let P : Emitting → Type 0 = λ x. Goes b c (ws x.reporting) reporting (u x.reporting) result
-    → Goes a c (begin_writes old ++ ws (begun_reporting old)) (let y : Emitting = record x { reporting = reporting } in y)
+    let P : EmitState → Type 0 = λ x. Goes b c (ws x.reporting) reporting (u x.reporting) result
+    → Goes a c (begin_writes old ++ ws (begun_reporting old)) (let y : EmitState = record x { reporting = reporting } in y)
     (with_reporting (u (begun_reporting old)) old) result in
     subst P (sym (is ∙ h.1)) (λ g. goes_in a b c (begin_writes old) (ws (begun_reporting old)) (λ t. with_reporting t old) reporting
     (u (begun_reporting old)) result h.0 g) k
@@ -387,7 +387,7 @@ with_none : (found : Findings) (held : Option PlacedText) (relocation : Relocati
     → held_with found held relocation ≡ None
 with_none found held relocation e = ap (λ these. held_with found these relocation) e
 
-global_leaves : (global : Option (ℕ × ℕ)) (known : Known) → (with_optional_global global known).stage ≡ known.stage
+global_leaves : (global : Option (ℕ × ℕ)) (known : RulesState) → (with_optional_global global known).stage ≡ known.stage
 global_leaves None known = refl
 global_leaves (Some name) known = refl
 
@@ -406,10 +406,10 @@ held_step found before (Relocated relocation) n h b =
 held_step found before EndOfModule n h b = refl
 held_step found before EndOfFile n h b = refl
 
-held_on : (found : Findings) (before : List Part) (g : Gathered) (part : Part)
+held_on : (found : Findings) (before : List Part) (g : LayoutTables) (part : Part)
     → fault_of before part ≡ None → NoneHeld found before → NoneHeld found (before ++ part ∷ [])
 held_on found before g part n h b =
-    let P : Known → Type 0 = λ known. known.stage ≡ Between in
+    let P : RulesState → Type 0 = λ known. known.stage ≡ Between in
     held_more found before (part ∷ []) ∙ held_step found before part n h (subst P (known_after_part before part n) b)
 
 ends_between : (stage : Stage) (later : Option ModuleFault)
@@ -430,27 +430,27 @@ none_held found before n e =
     (ends_between (known_of before).stage _ e)
 
 -- so nothing of it is written
-nothing_held : (a b : Outputs) (ws : List Write) (t : Reporting) (now s' : Emitting) (result : Result (Unit {0}) LinkFault)
+nothing_held : (a b : Outputs) (ws : List Write) (t : ReporterState) (now s' : EmitState) (result : Result (Unit {0}) LinkFault)
     → t.held ≡ None → Goes a b ws s' (with_reporting t now) result
     → Goes a b (ws ++ held_writes t.held) s' (with_reporting (with_held None t) now) result
 nothing_held a b ws t now s' result e h =
     let P : List Write → Type 0 = λ all. Goes a b all s' (with_reporting (with_held None t) now) result in
-    let Q : Reporting → Type 0 = λ u. Goes a b ws s' (with_reporting u now) result in
+    let Q : ReporterState → Type 0 = λ u. Goes a b ws s' (with_reporting u now) result in
     subst P (sym (ap (λ held. ws ++ held_writes held) e ∙ append-nil ws))
     (subst Q (ap (λ held. with_held held t) e) h)
 
 -- ---- blocks and ends, by calls
 
-module _ {seen : Emitting} (plan : Planned) (before : List Part) (s : Emitting) (is : seen ≡ s)
+module _ {seen : EmitState} (plan : PlanTables) (before : List Part) (s : EmitState) (is : seen ≡ s)
     (stands : EmitStands plan before s) where
   pub here : EmitStands plan before seen
-  here = let P : Emitting → Type 0 = λ x. EmitStands plan before x in subst P (sym is) stands
+  here = let P : EmitState → Type 0 = λ x. EmitStands plan before x in subst P (sym is) stands
 
-  pub end_refused : (a : Outputs) (s' : Emitting) (new : Known) (broken : ModuleFault) (result : Result (Unit {0}) LinkFault)
+  pub end_refused : (a : Outputs) (s' : EmitState) (new : RulesState) (broken : ModuleFault) (result : Result (Unit {0}) LinkFault)
       → (seen.known ≡ known_of before → TakesAfter before new (EndOfFile ∷ []) (Err broken))
       → IsErrAnd result (λ e. e ≡ of_module broken) → TakesParts plan before (call_of a a s s') (EndOfFile ∷ []) result
   end_refused a s' new broken result h e =
-      let P : Emitting → Type 0 = λ x. TakesParts plan before (call_of a a x s') (EndOfFile ∷ []) result in
+      let P : EmitState → Type 0 = λ x. TakesParts plan before (call_of a a x s') (EndOfFile ∷ []) result in
       subst P is (parts_refused plan before (EndOfFile ∷ []) (λ t. held_writes t.held) (with_held None) (end_makes plan before)
       seen here a s' new broken result (h here.known) e)
 
@@ -458,15 +458,15 @@ module _ {seen : Emitting} (plan : Planned) (before : List Part) (s : Emitting) 
   unfolding first_fault
   ends_there e = head_none (fault_of before EndOfFile) None e
 
-  pub end_taken : (a b : Outputs) (s' : Emitting) (known : Known) (result : Result (Unit {0}) LinkFault)
+  pub end_taken : (a b : Outputs) (s' : EmitState) (known : RulesState) (result : Result (Unit {0}) LinkFault)
       → (seen.known ≡ known_of before → TakesAfter before known (EndOfFile ∷ []) (Ok tt))
       → Goes a b (begin_writes seen) s'
-      (let now : Emitting = record seen { known = known } in with_reporting (begun_reporting seen) now) result
+      (let now : EmitState = record seen { known = known } in with_reporting (begun_reporting seen) now) result
       → TakesParts plan before (call_of a b s s') (EndOfFile ∷ []) result
   end_taken a b s' known result h k =
-      let P : Emitting → Type 0 = λ x. TakesParts plan before (call_of a b x s') (EndOfFile ∷ []) result in
+      let P : EmitState → Type 0 = λ x. TakesParts plan before (call_of a b x s') (EndOfFile ∷ []) result in
       let t = h here.known in
-      let now : Emitting = record seen { known = known } in
+      let now : EmitState = record seen { known = known } in
       let none = none_held (planned plan) before here.sound (ends_there t.0) in
       let held = (begun_holds plan before seen.has_begun seen.reporting (front_writes (planned seen.reporting.plan))
       (record { planned_so = here.planned_so; defined = here.defined; held = here.held })).held in
@@ -476,31 +476,31 @@ module _ {seen : Emitting} (plan : Planned) (before : List Part) (s : Emitting) 
 
 -- ---- a record, by calls
 
-module _ {seen : Emitting} (plan : Planned) (before : List Part) (s : Emitting) (c : records.Content) (is : seen ≡ s)
+module _ {seen : EmitState} (plan : PlanTables) (before : List Part) (s : EmitState) (c : records.Content) (is : seen ≡ s)
     (stands : EmitStands plan before s) where
-  pub content_refused : (a : Outputs) (s' : Emitting) (new : Known) (broken : ModuleFault) (result : Result (Unit {0}) LinkFault)
+  pub content_refused : (a : Outputs) (s' : EmitState) (new : RulesState) (broken : ModuleFault) (result : Result (Unit {0}) LinkFault)
       → RulesTake seen.known new (parts_of c) (Err broken) → IsErrAnd result (λ f. f ≡ of_module broken)
       → TakesParts plan before (call_of a a s s') (parts_of c) result
   content_refused a s' new broken result h f =
-      let P : Emitting → Type 0 = λ x. TakesParts plan before (call_of a a x s') (parts_of c) result in
+      let P : EmitState → Type 0 = λ x. TakesParts plan before (call_of a a x s') (parts_of c) result in
       let now = here plan before s is stands in
       subst P is (parts_refused plan before (parts_of c) (made_by before c) (following before c) (content_makes plan before c)
       seen now a s' new broken result (taken_after before seen.known new (parts_of c) (Err broken) now.known h) f)
 
-  pub content_taken : (a b : Outputs) (s' : Emitting) (known : Known) (result : Result (Unit {0}) LinkFault)
+  pub content_taken : (a b : Outputs) (s' : EmitState) (known : RulesState) (result : Result (Unit {0}) LinkFault)
       → RulesTake seen.known known (parts_of c) (Ok tt)
       → Goes a b (begin_writes seen ++ made_by before c (begun_reporting seen)) s'
-      (let now : Emitting = record seen { known = known } in with_reporting (following before c (begun_reporting seen)) now) result
+      (let now : EmitState = record seen { known = known } in with_reporting (following before c (begun_reporting seen)) now) result
       → TakesParts plan before (call_of a b s s') (parts_of c) result
   content_taken a b s' known result h k =
-      let P : Emitting → Type 0 = λ x. TakesParts plan before (call_of a b x s') (parts_of c) result in
+      let P : EmitState → Type 0 = λ x. TakesParts plan before (call_of a b x s') (parts_of c) result in
       let now = here plan before s is stands in
       let t = taken_after before seen.known known (parts_of c) (Ok tt) now.known h in
       subst P is (parts_taken plan before (parts_of c) (made_by before c) (following before c) (content_makes plan before c)
       seen now a b s' known result t.0 t.1 k)
 
 -- one that has no parts
-pub nothing_taken : (plan : Planned) (before : List Part) (s : Emitting) → EmitStands plan before s → (a b : Outputs) (s' : Emitting)
+pub nothing_taken : (plan : PlanTables) (before : List Part) (s : EmitState) → EmitStands plan before s → (a b : Outputs) (s' : EmitState)
     (result : Result (Unit {0}) LinkFault) → Goes a b (begin_writes s) s' (with_reporting (begun_reporting s) s) result
     → TakesParts plan before (call_of a b s s') [] result
 nothing_taken plan before s stands a b s' result k =
@@ -509,20 +509,20 @@ nothing_taken plan before s stands a b s' result k =
     (subst P (sym (append-nil (begin_writes s))) k)
 
 -- the module in which the next record stands
-index_of : (before : List Part) (known : Known) → known ≡ known_of before → known.modules ≡ modules_in before
+index_of : (before : List Part) (known : RulesState) → known ≡ known_of before → known.modules ≡ modules_in before
 unfolding known_of
 index_of before known e = ap (λ k. k.modules) e
 
 -- a directory record in the module of this index
-pub directory_taken : {seen : Emitting} (plan : Planned) (before : List Part) (s : Emitting) (entries : List GsdEntry) → seen ≡ s
-    → EmitStands plan before s → (a b : Outputs) (s' : Emitting) (known : Known) (index : ℕ) (result : Result (Unit {0}) LinkFault)
+pub directory_taken : {seen : EmitState} (plan : PlanTables) (before : List Part) (s : EmitState) (entries : List GsdEntry) → seen ≡ s
+    → EmitStands plan before s → (a b : Outputs) (s' : EmitState) (known : RulesState) (index : ℕ) (result : Result (Unit {0}) LinkFault)
     → index ≡ seen.known.modules → RulesTake seen.known known (directory_parts entries) (Ok tt)
     → Goes a b (begin_writes seen ++ directory_writes index entries (begun_reporting seen)) s'
-    (let now : Emitting = record seen { known = known } in
+    (let now : EmitState = record seen { known = known } in
     with_reporting (with_directory index entries (begun_reporting seen)) now) result
     → TakesParts plan before (call_of a b s s') (directory_parts entries) result
 directory_taken {seen} plan before s entries is stands a b s' known index result l h k =
-    let expected : ℕ → Emitting = λ i. let x : Emitting = record seen { known = known } in
+    let expected : ℕ → EmitState = λ i. let x : EmitState = record seen { known = known } in
     with_reporting (with_directory i entries (begun_reporting seen)) x in
     let G : ℕ → Type 0 = λ i.
     Goes a b (begin_writes seen ++ directory_writes i entries (begun_reporting seen)) s' (expected i) result in
@@ -533,22 +533,22 @@ directory_taken {seen} plan before s entries is stands a b s' known index result
 abbrev Entered : Type 0
 Entered = ℕ × (ℕ × ℕ)
 
-location_of : (before : List Part) (known : Known) → known ≡ known_of before
+location_of : (before : List Part) (known : RulesState) → known ≡ known_of before
     → ◌≡◌ {A = Entered} (known.modules, known.section) (modules_in before, current_section (this_module before))
 unfolding known_of
 location_of before known e = ap (λ k. (k.modules, k.section)) e
 
 -- a text at this location
-pub text_taken : {seen : Emitting} (plan : Planned) (before : List Part) (s : Emitting) (address : ℕ) (text : List ℕ) → seen ≡ s
-    → EmitStands plan before s → (a b : Outputs) (s' : Emitting) (known : Known) (location : Entered)
+pub text_taken : {seen : EmitState} (plan : PlanTables) (before : List Part) (s : EmitState) (address : ℕ) (text : List ℕ) → seen ≡ s
+    → EmitStands plan before s → (a b : Outputs) (s' : EmitState) (known : RulesState) (location : Entered)
     (result : Result (Unit {0}) LinkFault) → ◌≡◌ {A = Entered} location (s.known.modules, s.known.section)
     → RulesTake seen.known known (Text address text ∷ []) (Ok tt)
     → Goes a b (begin_writes seen ++ held_writes (begun_reporting seen).held) s'
-    (let now : Emitting = record seen { known = known } in
+    (let now : EmitState = record seen { known = known } in
     with_reporting (with_text location.0 location.1 address text (begun_reporting seen)) now) result
     → TakesParts plan before (call_of a b s s') (Text address text ∷ []) result
 text_taken {seen} plan before s address text is stands a b s' known location result l h k =
-    let expected : Entered → Emitting = λ at. let x : Emitting = record seen { known = known } in
+    let expected : Entered → EmitState = λ at. let x : EmitState = record seen { known = known } in
     with_reporting (with_text at.0 at.1 address text (begun_reporting seen)) x in
     let G : Entered → Type 0 = λ at.
     Goes a b (begin_writes seen ++ held_writes (begun_reporting seen).held) s' (expected at) result in
@@ -558,21 +558,21 @@ text_taken {seen} plan before s address text is stands a b s' known location res
 -- ---- relocations, by calls
 
 -- what is written first changes no text that is held
-begun_after : (b : Bool) (t : Reporting) (ws : List Write) (relocations : List Relocation)
+begun_after : (b : Bool) (t : ReporterState) (ws : List Write) (relocations : List Relocation)
     → (if b then relocating relocations t else with_count ws (relocating relocations t))
     ≡ relocating relocations (if b then t else with_count ws t)
 begun_after true t ws relocations = refl
 begun_after false t ws relocations = refl
 
-same_but : (mid old : Emitting) (reporting : Reporting) → mid.reporting ≡ reporting → mid.has_begun ≡ old.has_begun
-    → mid.fault ≡ old.fault → mid ≡ (let x : Emitting = record old { known = mid.known; reporting = reporting } in x)
+same_but : (mid old : EmitState) (reporting : ReporterState) → mid.reporting ≡ reporting → mid.has_begun ≡ old.has_begun
+    → mid.fault ≡ old.fault → mid ≡ (let x : EmitState = record old { known = mid.known; reporting = reporting } in x)
 same_but mid old reporting e f g =
-    let with_these : Reporting → Bool → Option LinkFault → Emitting =
-    λ t b o. let x : Emitting = record { known = mid.known; reporting = t; has_begun = b; fault = o } in x in
+    let with_these : ReporterState → Bool → Option LinkFault → EmitState =
+    λ t b o. let x : EmitState = record { known = mid.known; reporting = t; has_begun = b; fault = o } in x in
     ap (λ t. with_these t mid.has_begun mid.fault) e ∙ ap (λ b. with_these reporting b mid.fault) f
     ∙ ap (λ o. with_these reporting old.has_begun o) g
 
-module _ (plan : Planned) (before : List Part) (relocations : List Relocation) (old mid : Emitting)
+module _ (plan : PlanTables) (before : List Part) (relocations : List Relocation) (old mid : EmitState)
     (stands : EmitStands plan before old) where
   abbrev parts : List Part
   parts = Relocations ∷ relocated_parts relocations
@@ -580,25 +580,25 @@ module _ (plan : Planned) (before : List Part) (relocations : List Relocation) (
   relocations_make : Makes plan before parts (λ t. []) (relocating relocations)
   relocations_make = content_makes plan before (records.Relocations relocations)
 
-  pub relocations_refused : (a : Outputs) (s' : Emitting) (broken : ModuleFault) (result : Result (Unit {0}) LinkFault)
+  pub relocations_refused : (a : Outputs) (s' : EmitState) (broken : ModuleFault) (result : Result (Unit {0}) LinkFault)
       → RulesTake old.known mid.known parts (Err broken) → IsErrAnd result (λ f. f ≡ of_module broken)
       → TakesParts plan before (call_of a a old s') parts result
   relocations_refused a s' broken result h f =
       parts_refused plan before parts (λ t. []) (relocating relocations) relocations_make old stands a s' mid.known
       broken result (taken_after before old.known mid.known parts (Err broken) stands.known h) f
 
-  pub relocations_taken : (a b : Outputs) (s' : Emitting) (result : Result (Unit {0}) LinkFault)
+  pub relocations_taken : (a b : Outputs) (s' : EmitState) (result : Result (Unit {0}) LinkFault)
       → RulesTake old.known mid.known parts (Ok tt) → mid.reporting ≡ relocating relocations old.reporting
       → mid.has_begun ≡ old.has_begun → mid.fault ≡ old.fault
       → Goes a b (begin_writes mid) s' (with_reporting (begun_reporting mid) mid) result
       → TakesParts plan before (call_of a b old s') parts result
   relocations_taken a b s' result h e f g k =
       let t = taken_after before old.known mid.known parts (Ok tt) stands.known h in
-      let P : Emitting → Type 0 = λ x. Goes a b (begin_writes x) s' (with_reporting (begun_reporting x) x) result in
-      let Q : Reporting → Type 0 = λ u. Goes a b (begin_writes old) s'
-      (let x : Emitting = record old { known = mid.known } in with_reporting u x) result in
+      let P : EmitState → Type 0 = λ x. Goes a b (begin_writes x) s' (with_reporting (begun_reporting x) x) result in
+      let Q : ReporterState → Type 0 = λ u. Goes a b (begin_writes old) s'
+      (let x : EmitState = record old { known = mid.known } in with_reporting u x) result in
       let R : List Write → Type 0 = λ ws. Goes a b ws s'
-      (let x : Emitting = record old { known = mid.known } in
+      (let x : EmitState = record old { known = mid.known } in
       with_reporting (relocating relocations (begun_reporting old)) x) result in
       parts_taken plan before parts (λ t. []) (relocating relocations) relocations_make old stands a b s' mid.known result
       t.0 t.1 (subst R (sym (append-nil (begin_writes old)))
@@ -606,12 +606,12 @@ module _ (plan : Planned) (before : List Part) (relocations : List Relocation) (
       (subst P (same_but mid old (relocating relocations old.reporting) e f g) k)))
 
 -- relocations that are left are stored one by one
-pub stored_more : (now later target : Reporting) (rest following : List Relocation) (item : Relocation)
+pub stored_more : (now later target : ReporterState) (rest following : List Relocation) (item : Relocation)
     → rest ≡ item ∷ following → relocating rest now ≡ target
     → later ≡ with_held (held_with (planned now.plan) now.held item) now → relocating following later ≡ target
 stored_more now later target rest following item e i h =
     let P : List Relocation → Type 0 = λ left. relocating left now ≡ target in
-    let Q : Reporting → Type 0 = λ t. relocating following t ≡ target in
+    let Q : ReporterState → Type 0 = λ t. relocating following t ≡ target in
     subst Q (sym h) (subst P e i)
 
 -- ---- a block
@@ -628,7 +628,7 @@ no_record rule.TooManySections inner e = cc
 no_record rule.TooManyModules inner e = cc
 
 -- no fault of parts is one of a block that is no record
-of_record : (plan : Planned) (before : List Part) (a b : Outputs) (s s' : Emitting) (items : List ℕ)
+of_record : (plan : PlanTables) (before : List Part) (a b : Outputs) (s s' : EmitState) (items : List ℕ)
     (result : Result (Unit {0}) LinkFault) → IsRecord items
     → TakesParts plan before (call_of a b s s') (record_parts items) result → TakesBlock plan before (call_of a b s s') items result
 of_record plan before a b s s' items (Ok done) is h = h
@@ -638,7 +638,7 @@ of_record plan before a b s s' items (Err (fault.Record inner)) is h = absurd (n
 of_record plan before a b s s' items (Err stopped) is h = h
 
 -- a block was taken, by what stands in it
-pub content_block : (plan : Planned) (before : List Part) (a b : Outputs) (s s' : Emitting) (items : List ℕ)
+pub content_block : (plan : PlanTables) (before : List Part) (a b : Outputs) (s s' : EmitState) (items : List ℕ)
     (content : records.Content) (result : Result (Unit {0}) LinkFault) → content_of items ≡ Ok content
     → TakesParts plan before (call_of a b s s') (parts_of content) result → TakesBlock plan before (call_of a b s s') items result
 content_block plan before a b s s' items content result e h =
@@ -648,15 +648,15 @@ content_block plan before a b s s' items content result e h =
 
 -- ---- the transfer block, by calls
 
-pub reporting_after : {seen : Emitting} (old mid : Emitting) → seen ≡ mid → mid ≡ with_reporting (begun_reporting old) old
+pub reporting_after : {seen : EmitState} (old mid : EmitState) → seen ≡ mid → mid ≡ with_reporting (begun_reporting old) old
     → seen.reporting ≡ begun_reporting old
 reporting_after old mid is e = ap (λ x. x.reporting) (is ∙ e)
 
-pub transfer_then : {seen : Emitting} {A : Type 0} (old mid : Emitting) (a b c : Outputs) (ws : Planned → List Write)
+pub transfer_then : {seen : EmitState} {A : Type 0} (old mid : EmitState) (a b c : Outputs) (ws : PlanTables → List Write)
     (result : Result A LinkFault) → seen ≡ mid
     → Gains a b (begin_writes old) × (mid ≡ with_reporting (begun_reporting old) old)
     → Writes b c (ws seen.reporting.plan) result → Writes a c (begin_writes old ++ ws (begun_reporting old).plan) result
 transfer_then {seen} old mid a b c ws result is h k =
-    let P : Reporting → Type 0 = λ t. Writes b c (ws t.plan) result in
+    let P : ReporterState → Type 0 = λ t. Writes b c (ws t.plan) result in
     writes_then link a b c (begin_writes old) (ws (begun_reporting old).plan) result h.0
     (subst P (reporting_after old mid is h.1) k)

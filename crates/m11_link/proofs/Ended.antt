@@ -3,18 +3,18 @@ use Rattle.std.proofs.Common.{◌≡◌, Bool, true, false, if◌then◌else◌,
 use Rattle.m11_obj_blocks.specs.Tapes.{tape_block}
 use Rattle.m11_link_modules.specs.Laws.{TakesAfter}
 use Rattle.m11_link_modules.specs.Parts.{Part, EndOfFile}
-use Rattle.m11_link_modules.specs.Positions.{Known, adds_name, known_of}
+use Rattle.m11_link_modules.specs.Positions.{RulesState, adds_name, known_of}
 use Rattle.m11_link_modules.specs.Rules.{fault_of, first_fault}
 use Rattle.m11_link_modules.specs.declared.fault.ModuleFault.{ModuleFault}
 use Rattle.m11_link_modules.specs.declared.fault.ModuleFault.TheVariants as rule
 use Rattle.m11_link_layout.proofs.Ending.{end_fault}
 use Rattle.m11_link_layout.proofs.Walking.{head_none}
 use Rattle.m11_link_layout.specs.Fault.{of_module}
-use Rattle.m11_link_layout.specs.Plan.{Planned}
+use Rattle.m11_link_layout.specs.Plan.{PlanTables}
 use Rattle.m11_link_layout.specs.declared.fault.LinkFault.{LinkFault}
 use Rattle.m11_link_layout.specs.declared.fault.LinkFault.TheVariants as fault
 use Rattle.m11_link.specs.declared.emit.LinkDone.{LinkDone}
-use Rattle.m11_link.specs.Emit.{Emitting, EmitEnds, GoesOn, EmitStands, begin_writes, begun_reporting, written}
+use Rattle.m11_link.specs.Emit.{EmitState, EmitEnds, GoesOn, EmitStands, begin_writes, begun_reporting, written}
 use Rattle.m11_link_text.specs.Findings.{planned}
 use Rattle.m11_link.specs.Front.{front_writes}
 use Rattle.m11_link.specs.Outputs.{Outputs, Write, Finishes, Gains, StopsBetween, StopsIn, flushes, to_tape}
@@ -34,10 +34,10 @@ no_name_there (first ∷ second ∷ taken) part left e adds = cc
 
 -- ---- the transfer block
 
-abbrev transfer : Planned → List Write
+abbrev transfer : PlanTables → List Write
 transfer plan = to_tape (tape_block (planned plan).transfer []) ∷ []
 
-all_written : (plan : Planned) (before : List Part) (b : Bool) (ws : List Write) → (b ≡ false → before ≡ [])
+all_written : (plan : PlanTables) (before : List Part) (b : Bool) (ws : List Write) → (b ≡ false → before ≡ [])
     → link_writes (planned plan) before
     ≡ written plan b before ++ ((if b then [] else front_writes (planned plan)) ++ transfer plan)
 all_written plan before true ws first = refl
@@ -45,7 +45,7 @@ all_written plan before false ws first =
     ap (λ these. (front_writes (planned plan) ++ these) ++ transfer plan) (none_written plan before (first refl))
     ∙ ap (λ these. these ++ transfer plan) (append-nil (front_writes (planned plan)))
 
-module _ {seen : Emitting} (plan : Planned) (before : List Part) (s : Emitting) (is : seen ≡ s) (stands : EmitStands plan before s)
+module _ {seen : EmitState} (plan : PlanTables) (before : List Part) (s : EmitState) (is : seen ≡ s) (stands : EmitStands plan before s)
   where
     now : EmitStands plan before seen
     now = here plan before s is stands
@@ -84,7 +84,7 @@ module _ {seen : Emitting} (plan : Planned) (before : List Part) (s : Emitting) 
         ∙ ap (λ ws. counted 0 ws) (append_assoc (written plan seen.has_begun before) (begin_writes seen)
         (transfer (begun_reporting seen).plan) ∙ sym split)
 
-    abbrev Ended : Outputs → Outputs → Emitting → Result LinkDone LinkFault → Type 0
+    abbrev Ended : Outputs → Outputs → EmitState → Result LinkDone LinkFault → Type 0
     Ended a b x result = EmitEnds plan before a b x result
 
     ended_here : (a b : Outputs) (result : Result LinkDone LinkFault) → fault_of before EndOfFile ≡ None
@@ -111,14 +111,14 @@ module _ {seen : Emitting} (plan : Planned) (before : List Part) (s : Emitting) 
     unfolding first_fault
     sound_end e = head_none (fault_of before EndOfFile) None e
 
-    pub ended : (a b : Outputs) (known : Known) (result : Result LinkDone LinkFault)
+    pub ended : (a b : Outputs) (known : RulesState) (result : Result LinkDone LinkFault)
         → (seen.known ≡ known_of before → TakesAfter before known (EndOfFile ∷ []) (Ok tt)) → Finishes a b made result
         → IfOk result (λ done. done.messages ≡ (begun_reporting seen).messages) → Ended a b s result
     ended a b known result t h n =
-        let P : Emitting → Type 0 = λ x. Ended a b x result in
+        let P : EmitState → Type 0 = λ x. Ended a b x result in
         subst P is (ended_here a b result (sound_end (t now.known).0) h n)
 
-    inside : (a : Outputs) (new : Known) (broken : ModuleFault) → TakesAfter before new (EndOfFile ∷ []) (Err broken)
+    inside : (a : Outputs) (new : RulesState) (broken : ModuleFault) → TakesAfter before new (EndOfFile ∷ []) (Err broken)
         → Ended a a seen (Err (of_module broken))
     inside a new rule.BadOrder h = ((end_fault before rule.BadOrder h).1, refl)
     inside a new rule.NoMemory h = absurd (no_name_there h.taken h.part h.left h.split h.adds)
@@ -130,11 +130,11 @@ module _ {seen : Emitting} (plan : Planned) (before : List Part) (s : Emitting) 
     inside a new rule.TooManySections h = let e = (end_fault before rule.TooManySections h).0 in absurd cc
     inside a new rule.TooManyModules h = let e = (end_fault before rule.TooManyModules h).0 in absurd cc
 
-    pub ended_inside : (a : Outputs) (new : Known) (broken : ModuleFault) (result : Result LinkDone LinkFault)
+    pub ended_inside : (a : Outputs) (new : RulesState) (broken : ModuleFault) (result : Result LinkDone LinkFault)
         → (seen.known ≡ known_of before → TakesAfter before new (EndOfFile ∷ []) (Err broken))
         → IsErrAnd result (λ e. e ≡ of_module broken) → Ended a a s result
     ended_inside a new broken (Ok done) t e = absurd e
     ended_inside a new broken (Err stopped) t e =
-        let P : Emitting → Type 0 = λ x. Ended a a x (Err (of_module broken)) in
+        let P : EmitState → Type 0 = λ x. Ended a a x (Err (of_module broken)) in
         let Q : LinkFault → Type 0 = λ l. Ended a a s (Err l) in
         subst Q (sym e) (subst P is (inside a new broken (t now.known)))

@@ -14,7 +14,7 @@ use Rattle.m11_obj_blocks.specs.Tapes.{tape_block}
 use Rattle.m11_obj.specs.declared.gsd.GsdEntry.{GsdEntry}
 use Rattle.m11_obj.specs.declared.gsd.GsdKind.{GsdKind}
 use Rattle.m11_obj.specs.declared.gsd.GsdKind.TheVariants as kind
-use Rattle.m11_link.specs.Emit.{Goes, EmitKeeps, Reporting, defined_by, defined_with, defined_with_all, entries_writes, held_writes, with_count, with_entries, with_entry, with_held, with_name, with_symbol, with_text}
+use Rattle.m11_link.specs.Emit.{Goes, EmitKeeps, ReporterState, defined_by, defined_with, defined_with_all, entries_writes, held_writes, with_count, with_entries, with_entry, with_held, with_name, with_symbol, with_text}
 use Rattle.m11_link_text.specs.Findings.{planned}
 use Rattle.m11_link_text.specs.Lines.{different_line, multiple_line}
 use Rattle.m11_link.specs.Front.{front_writes}
@@ -55,23 +55,23 @@ pub ruleset entering = (gains_nothing, goes_then, goes_stopped, goes_stopped_alo
 -- ---- entries
 
 -- what is left of the entries leads to all of them
-abbrev pub LeadsEntries : ℕ → Outputs → Reporting → Outputs → Reporting → List GsdEntry → List GsdEntry → Type 0
-LeadsEntries index start first now state left all = (new : Outputs) (later : Reporting) (result : Result (Unit {0}) LinkFault)
+abbrev pub LeadsEntries : ℕ → Outputs → ReporterState → Outputs → ReporterState → List GsdEntry → List GsdEntry → Type 0
+LeadsEntries index start first now state left all = (new : Outputs) (later : ReporterState) (result : Result (Unit {0}) LinkFault)
     → Goes now new (entries_writes (planned state.plan) index state.defined left) later (with_entries index left state) result
     → Goes start new (entries_writes (planned first.plan) index first.defined all) later (with_entries index all first) result
 
 -- an entry, and then the others
-one_then : (index : ℕ) (entry : GsdEntry) (entries : List GsdEntry) (t : Reporting)
+one_then : (index : ℕ) (entry : GsdEntry) (entries : List GsdEntry) (t : ReporterState)
     → with_entries index entries (with_entry index entry t) ≡ with_entries index (entry ∷ entries) t
-one_then index entry entries t = ap (λ n. let all : Reporting = record t {
+one_then index entry entries t = ap (λ n. let all : ReporterState = record t {
   defined = defined_with_all t.defined (entry ∷ entries);
   messages = n;
 } in all) (counted-append t.messages (entry_writes (planned t.plan) index t.defined entry)
     (entries_writes (planned t.plan) index (defined_with t.defined entry) entries))
 
-module _ (index : ℕ) (start now : Outputs) (first state : Reporting) (entries : List GsdEntry) (at : ℕ)
+module _ (index : ℕ) (start now : Outputs) (first state : ReporterState) (entries : List GsdEntry) (at : ℕ)
     (leads : LeadsEntries index start first now state (drop at entries) entries) where
-  pub entry_went : (later : Outputs) (following : Reporting) (entry : GsdEntry) → slice_get entries at ≡ Some entry
+  pub entry_went : (later : Outputs) (following : ReporterState) (entry : GsdEntry) → slice_get entries at ≡ Some entry
       → Gains now later (entry_writes (planned state.plan) index state.defined entry)
       → following ≡ with_entry index entry state
       → LeadsEntries index start first later following (drop (at + 1) entries) entries
@@ -79,17 +79,17 @@ module _ (index : ℕ) (start now : Outputs) (first state : Reporting) (entries 
       let rest = drop (at + 1) entries in
       let P : List GsdEntry → Type 0 = λ left.
       Goes now new (entries_writes (planned state.plan) index state.defined left) after (with_entries index left state) result in
-      let Q : Reporting → Type 0 = λ t.
+      let Q : ReporterState → Type 0 = λ t.
       Goes later new (entries_writes (planned t.plan) index t.defined rest) after (with_entries index rest t) result in
       let k = subst Q b h in
-      let R : Reporting → Type 0 = λ t.
+      let R : ReporterState → Type 0 = λ t.
       Goes now new (entries_writes (planned state.plan) index state.defined (entry ∷ rest)) after t result in
       let whole = goes_then now later new (entry_writes (planned state.plan) index state.defined entry)
       (entries_writes (planned state.plan) index (defined_with state.defined entry) rest) after
       (with_entries index rest (with_entry index entry state)) result gains k in
       leads new after result (subst P (sym (drop_at entries at entry e)) (subst R (one_then index entry rest state) whole))
 
-  pub entry_stopped : (later : Outputs) (after : Reporting) (entry : GsdEntry) (stopped : LinkFault)
+  pub entry_stopped : (later : Outputs) (after : ReporterState) (entry : GsdEntry) (stopped : LinkFault)
       → slice_get entries at ≡ Some entry
       → Stops now later (entry_writes (planned state.plan) index state.defined entry) stopped
       → Stops start later (entries_writes (planned first.plan) index first.defined entries) stopped
@@ -112,24 +112,24 @@ module _ (index : ℕ) (start now : Outputs) (first state : Reporting) (entries 
 
 -- ---- what one call sets
 
-pub count_set : {seen : Reporting} (old : Reporting) (count : ℕ) (writes : List Write) → seen ≡ old
-    → count ≡ counted seen.messages writes → (let t : Reporting = record seen { messages = count } in t) ≡ with_count writes old
+pub count_set : {seen : ReporterState} (old : ReporterState) (count : ℕ) (writes : List Write) → seen ≡ old
+    → count ≡ counted seen.messages writes → (let t : ReporterState = record seen { messages = count } in t) ≡ with_count writes old
 count_set {seen} old count writes v e =
-    let P : Reporting → Type 0 = λ o. (let t : Reporting = record seen { messages = count } in t) ≡ with_count writes o in
-    subst P v (ap (λ n. let t : Reporting = record seen { messages = n } in t) e)
+    let P : ReporterState → Type 0 = λ o. (let t : ReporterState = record seen { messages = count } in t) ≡ with_count writes o in
+    subst P v (ap (λ n. let t : ReporterState = record seen { messages = n } in t) e)
 
-pub held_set : {seen : Reporting} (old : Reporting) (held : Option PlacedText) → seen ≡ old
-    → (let t : Reporting = record seen { held = held } in t) ≡ with_held held old
-held_set {seen} old held v = ap (λ o. let t : Reporting = record o { held = held } in t) v
+pub held_set : {seen : ReporterState} (old : ReporterState) (held : Option PlacedText) → seen ≡ old
+    → (let t : ReporterState = record seen { held = held } in t) ≡ with_held held old
+held_set {seen} old held v = ap (λ o. let t : ReporterState = record o { held = held } in t) v
 
-pub front_set : {seen : Reporting} (old : Reporting) (count : ℕ) (a b : Outputs) → seen ≡ old
+pub front_set : {seen : ReporterState} (old : ReporterState) (count : ℕ) (a b : Outputs) → seen ≡ old
     → Gains a b (front_writes (planned seen.plan)) → count ≡ counted seen.messages (front_writes (planned seen.plan))
     → Gains a b (front_writes (planned old.plan))
-    × ((let t : Reporting = record seen { messages = count } in t) ≡ with_count (front_writes (planned old.plan)) old)
+    × ((let t : ReporterState = record seen { messages = count } in t) ≡ with_count (front_writes (planned old.plan)) old)
 front_set {seen} old count a b v h e =
-    let P : Reporting → Type 0 = λ o. Gains a b (front_writes (planned o.plan))
-    × ((let t : Reporting = record seen { messages = count } in t) ≡ with_count (front_writes (planned o.plan)) o) in
-    subst P v (h, ap (λ n. let t : Reporting = record seen { messages = n } in t) e)
+    let P : ReporterState → Type 0 = λ o. Gains a b (front_writes (planned o.plan))
+    × ((let t : ReporterState = record seen { messages = count } in t) ≡ with_count (front_writes (planned o.plan)) o) in
+    subst P v (h, ap (λ n. let t : ReporterState = record seen { messages = n } in t) e)
 
 -- ---- texts
 
@@ -142,34 +142,34 @@ pub block_some : (address : ℕ) (bytes : List ℕ) → (length bytes == 0) ≡ 
 block_some address [] e = absurd (true≢false e)
 block_some address (byte ∷ bytes) e = refl
 
-pub text_then : (a b : Outputs) (t s s' : Reporting) (index : ℕ) (section : ℕ × ℕ) (address : ℕ) (bytes : List ℕ)
+pub text_then : (a b : Outputs) (t s s' : ReporterState) (index : ℕ) (section : ℕ × ℕ) (address : ℕ) (bytes : List ℕ)
     → Gains a b (held_writes t.held) × (s ≡ with_held None t)
     → s' ≡ with_held (Some (placed_text (planned s.plan) index section address bytes)) s
     → Gains a b (held_writes t.held) × (s' ≡ with_text index section address bytes t)
 text_then a b t s s' index section address bytes h k =
-    let Q : Reporting → Type 0 = λ x. s' ≡ with_held (Some (placed_text (planned x.plan) index section address bytes)) x in
+    let Q : ReporterState → Type 0 = λ x. s' ≡ with_held (Some (placed_text (planned x.plan) index section address bytes)) x in
     (h.0, subst Q h.1 k)
 
-pub directory_then : (a b c : Outputs) (t s s' : Reporting) (index : ℕ) (entries : List GsdEntry) (result : Result (Unit {0}) LinkFault)
+pub directory_then : (a b c : Outputs) (t s s' : ReporterState) (index : ℕ) (entries : List GsdEntry) (result : Result (Unit {0}) LinkFault)
     → Gains a b (held_writes t.held) × (s ≡ with_held None t)
     → Goes b c (entries_writes (planned s.plan) index s.defined entries) s' (with_entries index entries s) result
     → Goes a c (held_writes t.held ++ entries_writes (planned t.plan) index t.defined entries) s'
     (with_entries index entries (with_held None t)) result
 directory_then a b c t s s' index entries result h k =
-    let P : Reporting → Type 0 = λ x. Goes b c (entries_writes (planned x.plan) index x.defined entries) s'
+    let P : ReporterState → Type 0 = λ x. Goes b c (entries_writes (planned x.plan) index x.defined entries) s'
     (with_entries index entries x) result in
     goes_then a b c (held_writes t.held) (entries_writes (planned t.plan) index t.defined entries) s'
     (with_entries index entries (with_held None t)) result h.0 (subst P h.1 k)
 
 -- ---- one entry
 
-abbrev section_test : Reporting → (ℕ × ℕ) × ℕ → Bool
+abbrev section_test : ReporterState → (ℕ × ℕ) × ℕ → Bool
 section_test t section = attributes_agree (planned_attributes t.plan section.0) section.1
 
-abbrev section_reported : Reporting → ℕ → (ℕ × ℕ) × ℕ → List Write
+abbrev section_reported : ReporterState → ℕ → (ℕ × ℕ) × ℕ → List Write
 section_reported t index section = to_messages (different_line section.0 (planned_module t.plan index)) ∷ []
 
-pub section_same : (a : Outputs) (t : Reporting) (index : ℕ) (section : (ℕ × ℕ) × ℕ) → section_test t section ≡ true
+pub section_same : (a : Outputs) (t : ReporterState) (index : ℕ) (section : (ℕ × ℕ) × ℕ) → section_test t section ≡ true
     → Gains a a (different_writes (planned t.plan) index (Some section))
     × (t ≡ with_count (different_writes (planned t.plan) index (Some section)) t)
 section_same a t index section e =
@@ -177,7 +177,7 @@ section_same a t index section e =
     × (t ≡ with_count (cond x [] (section_reported t index section)) t) in
     subst P (sym e) (gains_nothing link a, refl)
 
-pub section_differs : {A : Type 0} (a b : Outputs) (t s : Reporting) (index : ℕ) (section : (ℕ × ℕ) × ℕ) (result : Result A LinkFault)
+pub section_differs : {A : Type 0} (a b : Outputs) (t s : ReporterState) (index : ℕ) (section : (ℕ × ℕ) × ℕ) (result : Result A LinkFault)
     → section_test t section ≡ false
     → Goes a b (section_reported t index section) s (with_count (section_reported t index section) t) result
     → Goes a b (different_writes (planned t.plan) index (Some section)) s
@@ -188,26 +188,26 @@ section_differs a b t s index section result e h =
     subst P (sym e) h
 
 -- a symbol, by whether it is defined here, and whether it was before
-abbrev symbol_reported : Reporting → ℕ → GsdEntry → List Write
+abbrev symbol_reported : ReporterState → ℕ → GsdEntry → List Write
 symbol_reported t index entry = to_messages (multiple_line entry.name (planned_module t.plan index)) ∷ []
 
-abbrev reported_by : Bool → Bool → Reporting → ℕ → GsdEntry → List Write
+abbrev reported_by : Bool → Bool → ReporterState → ℕ → GsdEntry → List Write
 reported_by defines before t index entry = cond (defines && before) (symbol_reported t index entry) []
 
-abbrev kept_by : Bool → Bool → Reporting → ℕ → GsdEntry → Reporting
+abbrev kept_by : Bool → Bool → ReporterState → ℕ → GsdEntry → ReporterState
 kept_by defines before t index entry = record t {
   defined = cond defines (cond before t.defined (t.defined ++ entry.name ∷ [])) t.defined;
   messages = counted t.messages (reported_by defines before t index entry);
 }
 
-pub symbol_refers : (a : Outputs) (t : Reporting) (index : ℕ) (entry : GsdEntry) → defines entry ≡ false
+pub symbol_refers : (a : Outputs) (t : ReporterState) (index : ℕ) (entry : GsdEntry) → defines entry ≡ false
     → Gains a a (symbol_writes (planned t.plan) index t.defined entry) × (t ≡ with_symbol index entry t)
 symbol_refers a t index entry e =
     let m = is_among t.defined entry.name in
     let P : Bool → Type 0 = λ d. Gains a a (reported_by d m t index entry) × (t ≡ kept_by d m t index entry) in
     subst P (sym e) (gains_nothing link a, refl)
 
-kept_or_refused : (a : Outputs) (s expected : Reporting) (xs : List Write) (result : Result (Unit {0}) LinkFault)
+kept_or_refused : (a : Outputs) (s expected : ReporterState) (xs : List Write) (result : Result (Unit {0}) LinkFault)
     → EmitKeeps s expected result → xs ≡ [] → Goes a a xs s expected result
 kept_or_refused a s expected xs (Ok done) h e = (rw e (gains_nothing link a), h)
 kept_or_refused a s expected xs (Err fault.NoMemory) h e = refused_between link a xs
@@ -226,7 +226,7 @@ kept_or_refused a s expected xs (Err fault.TooManyModules) h e = absurd h
 kept_or_refused a s expected xs (Err fault.TooMuch) h e = absurd h
 kept_or_refused a s expected xs (Err fault.TextOutside) h e = absurd h
 
-pub symbol_first : (a : Outputs) (t s : Reporting) (index : ℕ) (entry : GsdEntry) (result : Result (Unit {0}) LinkFault)
+pub symbol_first : (a : Outputs) (t s : ReporterState) (index : ℕ) (entry : GsdEntry) (result : Result (Unit {0}) LinkFault)
     → defines entry ≡ true → is_among t.defined entry.name ≡ false → EmitKeeps s (with_name entry.name t) result
     → Goes a a (symbol_writes (planned t.plan) index t.defined entry) s (with_symbol index entry t) result
 symbol_first a t s index entry result d m h =
@@ -234,10 +234,10 @@ symbol_first a t s index entry result d m h =
     (kept_by x (is_among t.defined entry.name) t index entry) result in
     let Q : Bool → Type 0 = λ x. Goes a a (reported_by true x t index entry) s (kept_by true x t index entry) result in
     let R : Bool → Type 0 = λ x.
-    EmitKeeps s (let k : Reporting = record t { defined = cond x t.defined (t.defined ++ entry.name ∷ []) } in k) result in
+    EmitKeeps s (let k : ReporterState = record t { defined = cond x t.defined (t.defined ++ entry.name ∷ []) } in k) result in
     subst P (sym d) (subst Q (sym m) (kept_or_refused a s (kept_by true false t index entry) [] result (subst R m h) refl))
 
-pub symbol_again : {A : Type 0} (a b : Outputs) (t s : Reporting) (index : ℕ) (entry : GsdEntry) (result : Result A LinkFault)
+pub symbol_again : {A : Type 0} (a b : Outputs) (t s : ReporterState) (index : ℕ) (entry : GsdEntry) (result : Result A LinkFault)
     → defines entry ≡ true → is_among t.defined entry.name ≡ true
     → Goes a b (symbol_reported t index entry) s (with_count (symbol_reported t index entry) t) result
     → Goes a b (symbol_writes (planned t.plan) index t.defined entry) s (with_symbol index entry t) result
@@ -249,10 +249,10 @@ symbol_again a b t s index entry result d m h =
 
 -- ---- by its type
 
-module _ {A : Type 0} (a b : Outputs) (t s : Reporting) (index : ℕ) (entry : GsdEntry) (result : Result A LinkFault) where
+module _ {A : Type 0} (a b : Outputs) (t s : ReporterState) (index : ℕ) (entry : GsdEntry) (result : Result A LinkFault) where
   abbrev Noted : GsdKind → Type 0
   Noted k = Goes a b (writes_by k (planned t.plan) index t.defined entry) s
-      (let n : Reporting = record t {
+      (let n : ReporterState = record t {
         defined = defined_by k t.defined entry;
         messages = counted t.messages (writes_by k (planned t.plan) index t.defined entry);
       } in n) result
@@ -272,9 +272,9 @@ module _ {A : Type 0} (a b : Outputs) (t s : Reporting) (index : ℕ) (entry : G
       → Noted entry.kind
   entry_symbol e h = subst Noted (sym e) h
 
-module _ (a : Outputs) (t : Reporting) (index : ℕ) (entry : GsdEntry) where
+module _ (a : Outputs) (t : ReporterState) (index : ℕ) (entry : GsdEntry) where
   abbrev Silent : GsdKind → Type 0
-  Silent k = Gains a a (writes_by k (planned t.plan) index t.defined entry) × (t ≡ (let n : Reporting = record t {
+  Silent k = Gains a a (writes_by k (planned t.plan) index t.defined entry) × (t ≡ (let n : ReporterState = record t {
     defined = defined_by k t.defined entry;
     messages = counted t.messages (writes_by k (planned t.plan) index t.defined entry);
   } in n))

@@ -9,7 +9,7 @@ use Rattle.m11_obj.specs.Reading.{IsRecord}
 use Rattle.m11_link_modules.specs.Parts.{Part, EndOfFile, record_parts}
 use Rattle.m11_link_modules.specs.declared.fault.ModuleFault.{ModuleFault}
 use Rattle.m11_link_modules.specs.declared.fault.ModuleFault.TheVariants as rule
-use Rattle.m11_link_layout.specs.Plan.{LayoutEnds, Planned}
+use Rattle.m11_link_layout.specs.Plan.{LayoutEnds, PlanTables}
 use Rattle.m11_link_layout.specs.Sections.{is_too_large}
 use Rattle.m11_link_layout.specs.Layout.{LayoutState, LayoutStands, TakesBlock, TakesParts}
 use Rattle.m11_link_layout.specs.declared.fault.LinkFault.{LinkFault}
@@ -238,7 +238,7 @@ module _ {F : Type 0} (text : F → Option Text) (faults : F → ℕ) (feeds fee
   reading_stops stopped h =
       (h.0, h.1, h.2, bind_stops (taken [] h.1) (unless_too_large bottom) stopped h.3)
 
-  pub reading_ends : (l : LaysOut (pass_of text faults feeds feeds') bottom [] layout (Ok tt)) (result : Result Planned LinkFault)
+  pub reading_ends : (l : LaysOut (pass_of text faults feeds feeds') bottom [] layout (Ok tt)) (result : Result PlanTables LinkFault)
       → LayoutEnds bottom l.3.parts result → ReadsFirst (pass_of text faults feeds feeds') bottom result
   reading_ends l (Ok plan) e = (
     l.0,

@@ -8,7 +8,7 @@ use Rattle.m11_obj.specs.declared.fault.RecordFault.{RecordFault}
 use Rattle.m11_link_modules.specs.declared.fault.ModuleFault.{ModuleFault}
 use Rattle.m11_link_modules.specs.declared.fault.ModuleFault.TheVariants as rule
 use Rattle.m11_link_modules.specs.Parts.{Part, EndOfFile, parts_in, parts_of, record_parts}
-use Rattle.m11_link_modules.specs.Positions.{Known, known_of, stage_after}
+use Rattle.m11_link_modules.specs.Positions.{RulesState, known_of, stage_after}
 use Rattle.m11_link_modules.specs.Rules.{fault_known, fault_of, first_fault}
 use Rattle.m11_link_modules.specs.Steps.{known_after}
 use Rattle.m11_link_modules.proofs.KnownAfter.{known_after_part}
@@ -116,7 +116,7 @@ pub ends_again : (before : List Part) → first_fault [] (before ++ EndOfFile �
     → fault_of (before ++ EndOfFile ∷ []) EndOfFile ≡ None
 ends_again before e =
     let sound = end_sound before (rest_sound [] before (EndOfFile ∷ []) e) in
-    ap (λ (known : Known). fault_known known EndOfFile) (known_again before sound) ∙ sound
+    ap (λ (known : RulesState). fault_known known EndOfFile) (known_again before sound) ∙ sound
 
 pub ends_first : fault_of [] EndOfFile ≡ None
 unfolding fault_known known_of stage_after

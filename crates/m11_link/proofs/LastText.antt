@@ -6,18 +6,18 @@ use Rattle.m11_obj.specs.declared.relocations.Target.{Target}
 use Rattle.m11_obj.specs.declared.relocations.Target.TheVariants as target
 use Rattle.m11_link_modules.specs.declared.fault.ModuleFault.{ModuleFault}
 use Rattle.m11_link_modules.specs.Parts.{Part, Directory, Entry, EndOfDirectory, Text, Relocations, Relocated, EndOfModule, EndOfFile}
-use Rattle.m11_link_modules.specs.Positions.{Known, global_of, known_of}
+use Rattle.m11_link_modules.specs.Positions.{RulesState, global_of, known_of}
 use Rattle.m11_link_modules.specs.Rules.{fault_of, lies_within}
 use Rattle.m11_link_modules.specs.Steps.{TakesOne, known_after, with_optional_global}
 use Rattle.m11_link_modules.specs.TextRelocation.{InText, in_text, stored_by, stored_in}
 use Rattle.m11_link_modules.proofs.KnownAfter.{known_after_part}
-use Rattle.m11_link_layout.specs.Plan.{Planned}
-use Rattle.m11_link_layout.specs.Tables.{Gathered, nothing_gathered}
+use Rattle.m11_link_layout.specs.Plan.{PlanTables}
+use Rattle.m11_link_layout.specs.Tables.{LayoutTables, nothing_gathered}
 use Rattle.m11_link_layout.proofs.Walking.{walked}
 use Rattle.m11_link_text.specs.Findings.{Findings, planned}
 use Rattle.m11_link_text.specs.Relocation.{modulo}
 use Rattle.m11_link_text.proofs.Stored.{none_relocated, nothing_stored, size_kept}
-use Rattle.m11_link.specs.Emit.{EmitStands, Emitting, HoldsLastText, IsAsLong, Reporting, held_at, held_text, held_with, with_held}
+use Rattle.m11_link.specs.Emit.{EmitStands, EmitState, HoldsLastText, IsAsLong, ReporterState, held_at, held_text, held_with, with_held}
 use Rattle.m11_link.specs.Written.{PlacedText}
 use Rattle.m11_link.proofs.Emitted.{relocating}
 use Rattle.m11_link.proofs.WritesAfter.{held_more}
@@ -31,11 +31,11 @@ as_long_with found count (Some text) relocation h =
     h ∙ ap (λ n. Some n) (sym (size_kept found text.module_index text.base text.address relocation text.bytes
     (lies_within relocation (length text.bytes)) refl))
 
-global_leaves : (global : Option (ℕ × ℕ)) (known : Known) → (with_optional_global global known).text ≡ known.text
+global_leaves : (global : Option (ℕ × ℕ)) (known : RulesState) → (with_optional_global global known).text ≡ known.text
 global_leaves None known = refl
 global_leaves (Some name) known = refl
 
-relocated_leaves : (known : Known) (relocation : Relocation) → (known_after known (Relocated relocation)).text ≡ known.text
+relocated_leaves : (known : RulesState) (relocation : Relocation) → (known_after known (Relocated relocation)).text ≡ known.text
 unfolding known_after
 relocated_leaves known relocation = global_leaves (global_of relocation.target) _
 
@@ -58,10 +58,10 @@ as_long_step found before EndOfFile h = tt
 abbrev AsLongAfter : Findings → List Part → Type 0
 AsLongAfter found before = IsAsLong (known_of before).text (held_text found before)
 
-as_long_on : (found : Findings) (before : List Part) (g : Gathered) (part : Part)
+as_long_on : (found : Findings) (before : List Part) (g : LayoutTables) (part : Part)
     → fault_of before part ≡ None → AsLongAfter found before → AsLongAfter found (before ++ part ∷ [])
 as_long_on found before g part n h =
-    let P : Known → Type 0 = λ known. IsAsLong known.text (held_text found (before ++ part ∷ [])) in
+    let P : RulesState → Type 0 = λ known. IsAsLong known.text (held_text found (before ++ part ∷ [])) in
     let Q : Option PlacedText → Type 0 = λ held. IsAsLong (known_after (known_of before) part).text held in
     subst P (sym (known_after_part before part n))
     (subst Q (sym (held_more found before (part ∷ []))) (as_long_step found before part h))
@@ -71,11 +71,11 @@ unfolding held_text
 as_long_first found = tt
 
 -- where the second pass stands, the text that it holds is as long as the rules know
-pub held_is_last : (plan : Planned) (before : List Part) (state : Emitting) → EmitStands plan before state
+pub held_is_last : (plan : PlanTables) (before : List Part) (state : EmitState) → EmitStands plan before state
     → HoldsLastText state
 held_is_last plan before state stands =
     let found = planned plan in
-    let P : Known → Type 0 = λ known. IsAsLong known.text state.reporting.held in
+    let P : RulesState → Type 0 = λ known. IsAsLong known.text state.reporting.held in
     let Q : Option PlacedText → Type 0 = λ held. IsAsLong (known_of before).text held in
     subst P (sym stands.known) (subst Q (sym stands.held)
     (walked 0 (λ these g. AsLongAfter found these) (as_long_on found) [] before nothing_gathered stands.sound
@@ -95,7 +95,7 @@ stored_of other relocation (Some count) stored e =
     let is = same_stored stored (in_text relocation count) e in
     (ap (λ (s : InText). Some s.text_length) (sym is), ap (λ (s : InText). s.relocation) is)
 
-pub stored_as : (found : Findings) (now later : Reporting) (relocation : Relocation) (text : Option ℕ) (stored : InText)
+pub stored_as : (found : Findings) (now later : ReporterState) (relocation : Relocation) (text : Option ℕ) (stored : InText)
     → Some stored ≡ stored_in relocation text
     → (IsAsLong (Some stored.text_length) now.held → later ≡ with_held (held_with found now.held stored.relocation) now)
     → IsAsLong text now.held → later ≡ with_held (held_with found now.held relocation) now
@@ -115,28 +115,28 @@ same_held found (Some placed) relocation text e holds =
     (modulo (placed.address + (relocation.displacement - 4))) (length placed.bytes) relocation.is_byte relocation
     relocation.target (sym (subst P holds e))))
 
-pub nothing_changed : (found : Findings) (now : Reporting) (relocation : Relocation) (text : Option ℕ)
+pub nothing_changed : (found : Findings) (now : ReporterState) (relocation : Relocation) (text : Option ℕ)
     → None ≡ stored_in relocation text → IsAsLong text now.held
     → now ≡ with_held (held_with found now.held relocation) now
 nothing_changed found now relocation text e holds =
     ap (λ held. with_held held now) (sym (same_held found now.held relocation text e holds))
 
 -- the beginning of a record leaves the text that was held as the last one
-pub stored_after : {seen : Emitting} (state : Emitting) (begun : Known) (done : Unit {0}) (later : Reporting)
+pub stored_after : {seen : EmitState} (state : EmitState) (begun : RulesState) (done : Unit {0}) (later : ReporterState)
     (relocations : List Relocation) (result : Result (Result (Unit {0}) ModuleFault) RecordFault) → seen ≡ state
     → TakesOne seen.known begun Relocations (Ok done)
     → IfOk result (λ judged. IfOk judged (λ _. IsAsLong begun.text seen.reporting.held → later ≡ relocating relocations seen.reporting))
     → IfOk result (λ judged. IfOk judged (λ _. HoldsLastText state → later ≡ relocating relocations state.reporting))
 unfolding TakesOne known_after
 stored_after {seen} state begun done later relocations (Ok (Ok stored)) is h go = λ holds.
-    let P : Known → Type 0 = λ known. IsAsLong known.text seen.reporting.held in
-    let Q : Emitting → Type 0 = λ x. later ≡ relocating relocations x.reporting in
+    let P : RulesState → Type 0 = λ known. IsAsLong known.text seen.reporting.held in
+    let Q : EmitState → Type 0 = λ x. later ≡ relocating relocations x.reporting in
     subst Q is (go (subst P (sym h.1) (subst HoldsLastText (sym is) holds)))
 stored_after state begun done later relocations (Ok (Err fault)) is h go = tt
 stored_after state begun done later relocations (Err fault) is h go = tt
 
 -- after it the text that is held is still the last one
-pub holds_after : (old new : Emitting) (relocation : Relocation) (done : Unit {0})
+pub holds_after : (old new : EmitState) (relocation : Relocation) (done : Unit {0})
     → TakesOne old.known new.known (Relocated relocation) (Ok done)
     → new.reporting ≡ with_held (held_with (planned old.reporting.plan) old.reporting.held relocation) old.reporting
     → HoldsLastText old → HoldsLastText new
@@ -144,6 +144,6 @@ unfolding TakesOne
 holds_after old new relocation done h e holds =
     let found = planned old.reporting.plan in
     let P : Option ℕ → Type 0 = λ count. IsAsLong count new.reporting.held in
-    let Q : Reporting → Type 0 = λ t. IsAsLong old.known.text t.held in
-    subst P (sym (ap (λ (known : Known). known.text) h.1 ∙ relocated_leaves old.known relocation))
+    let Q : ReporterState → Type 0 = λ t. IsAsLong old.known.text t.held in
+    subst P (sym (ap (λ (known : RulesState). known.text) h.1 ∙ relocated_leaves old.known relocation))
     (subst Q (sym e) (as_long_with found old.known.text old.reporting.held relocation holds))

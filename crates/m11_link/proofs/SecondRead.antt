@@ -10,11 +10,11 @@ use Rattle.m11_link_modules.specs.declared.fault.ModuleFault.{ModuleFault}
 use Rattle.m11_link_modules.specs.Parts.{Part, EndOfFile, record_parts}
 use Rattle.m11_link_modules.specs.Rules.{fault_of, first_fault}
 use Rattle.m11_link_modules.specs.declared.fault.ModuleFault.TheVariants as rule
-use Rattle.m11_link_layout.specs.Plan.{Planned}
+use Rattle.m11_link_layout.specs.Plan.{PlanTables}
 use Rattle.m11_link_layout.specs.declared.fault.LinkFault.{LinkFault}
 use Rattle.m11_link_layout.specs.declared.fault.LinkFault.TheVariants as fault
 use Rattle.m11_link_layout.specs.declared.fault.LinkOutput.{LinkOutput}
-use Rattle.m11_link.specs.Emit.{EmitEnds, EmitStands, Emitting, GoesOn, TakesBlock, TakesParts, call_of, written}
+use Rattle.m11_link.specs.Emit.{EmitEnds, EmitStands, EmitState, GoesOn, TakesBlock, TakesParts, call_of, written}
 use Rattle.m11_link.specs.FirstPass.{of_block, pass_of}
 use Rattle.m11_link.specs.Objects.{◌>>=◌, AreItems, Item, BlockOf, ObjectEnds, Refused, GiveItems, GivesItems, taken, taken_item}
 use Rattle.m11_link.specs.Objects as objects
@@ -59,7 +59,7 @@ between_of : (first new : Outputs) (some all : List Write) → Gains first new s
 between_of first new some all g b = record { done = some; more = b.0; split = b.1; gains = g }
 
 -- what is written before anything stands is a beginning of what is written
-begins_all : (plan : Planned) (has_begun : Bool) (parts : List Part)
+begins_all : (plan : PlanTables) (has_begun : Bool) (parts : List Part)
     → Begins (written plan has_begun parts) (written plan true parts)
 begins_all plan false parts = (written plan true parts, refl)
 begins_all plan true parts = ([], sym (append-nil (written plan true parts)))
@@ -80,7 +80,7 @@ begun_on has_begun (x ∷ xs) ys = begun_still ys
 
 -- ---- where a pass stops, after more items
 
-module _ (plan : Planned) (b has_begun : Bool) (before : List Part) (items : List Item) (parts : List Part)
+module _ (plan : PlanTables) (b has_begun : Bool) (before : List Part) (items : List Item) (parts : List Part)
     (taken-is : taken before items ≡ Ok parts) (begun : has_begun ≡ begun_by b items) (first new : Outputs) where
   written_more : (own : List Item) → WrittenAfter plan has_begun parts own first new
       → WrittenAfter plan b before (items ++ own) first new
@@ -131,18 +131,18 @@ module _ (plan : Planned) (b has_begun : Bool) (before : List Part) (items : Lis
 -- ---- an item that stops the reading
 
 -- an item was taken, and it stops among what is written after it
-abbrev Within : Planned → Bool → List Part → Item → (List Write → Type 0) → Type 0
+abbrev Within : PlanTables → Bool → List Part → Item → (List Write → Type 0) → Type 0
 Within plan has_begun parts item Stop = (these : List Part) × (taken_item parts item ≡ Ok these)
     × GoesOn Stop (written plan has_begun parts) (written plan true these)
 
-abbrev Halts : Planned → Bool → List Part → Item → Outputs → Outputs → LinkFault → Type 0
+abbrev Halts : PlanTables → Bool → List Part → Item → Outputs → Outputs → LinkFault → Type 0
 Halts plan has_begun parts item now new (fault.Write output) = Within plan has_begun parts item (StopsIn output now new)
 Halts plan has_begun parts item now new fault.NoMemory =
     (new ≡ now) ⊎ Within plan has_begun parts item (StopsBetween now new)
 Halts plan has_begun parts item now new stopped = Decides parts (item ∷ []) stopped × (new ≡ now)
 
-module _ (plan : Planned) (parts : List Part) (sound : first_fault [] parts ≡ None) (now new : Outputs)
-    (emit emit' : Emitting) where
+module _ (plan : PlanTables) (parts : List Part) (sound : first_fault [] parts ≡ None) (now new : Outputs)
+    (emit emit' : EmitState) where
   within_block : (bytes : List ℕ) (Stop : List Write → Type 0) → IsRecord bytes
       → first_fault parts (record_parts bytes) ≡ None
       → GoesOn Stop (written plan emit.has_begun parts) (written plan true (parts ++ record_parts bytes))
@@ -189,8 +189,8 @@ refused_alone parts item stopped e = alone (taken_item parts item) e
     alone (Ok these) h = absurd cc
     alone (Err other) h = h
 
-module _ (text : Option FeedText) (faults faults' : ℕ) (plan : Planned) (b : Bool) (before : List Part)
-    (first now new : Outputs) (emit' : Emitting) (has_begun : Bool) (done : List Item) (item : Item) (more : List Item)
+module _ (text : Option FeedText) (faults faults' : ℕ) (plan : PlanTables) (b : Bool) (before : List Part)
+    (first now new : Outputs) (emit' : EmitState) (has_begun : Bool) (done : List Item) (item : Item) (more : List Item)
     (parts : List Part) (taken-is : taken before done ≡ Ok parts) (begun : has_begun ≡ begun_by b done)
     (gains : Gains first now (written plan has_begun parts))
     (same : faults' ≡ faults) (given : GivesItems text ((done ++ item ∷ []) ++ more)) where
@@ -266,8 +266,8 @@ module _ (text : Option FeedText) (faults faults' : ℕ) (plan : Planned) (b : B
 
 -- ---- one object
 
-pub record Sent (text text' : Option FeedText) (faults faults' room : ℕ) (plan : Planned) (b : Bool)
-    (before : List Part) (first now : Outputs) (emit : Emitting) : Type 0 where
+pub record Sent (text text' : Option FeedText) (faults faults' room : ℕ) (plan : PlanTables) (b : Bool)
+    (before : List Part) (first now : Outputs) (emit : EmitState) : Type 0 where
   pub done : List Item
   pub walked : Walked text text' faults faults' room done
   pub parts : List Part
@@ -276,8 +276,8 @@ pub record Sent (text text' : Option FeedText) (faults faults' room : ℕ) (plan
   pub begun : emit.has_begun ≡ begun_by b done
   pub gains : Gains first now (written plan emit.has_begun parts)
 
-pub sent_first : (text : Option FeedText) (faults : ℕ) (plan : Planned) (before : List Part) (first now : Outputs)
-    (emit : Emitting) → EmitStands plan before emit → Gains first now (written plan emit.has_begun before)
+pub sent_first : (text : Option FeedText) (faults : ℕ) (plan : PlanTables) (before : List Part) (first now : Outputs)
+    (emit : EmitState) → EmitStands plan before emit → Gains first now (written plan emit.has_begun before)
     → Sent text text faults faults most_bytes plan emit.has_begun before first now emit
 sent_first text faults plan before first now emit s g = record {
   done = [];
@@ -290,7 +290,7 @@ sent_first text faults plan before first now emit s g = record {
 }
 
 -- all that parts make was written, where the emitter has begun
-written_on : (first now new : Outputs) (plan : Planned) (parts more : List Part) (emit emit' : Emitting)
+written_on : (first now new : Outputs) (plan : PlanTables) (parts more : List Part) (emit emit' : EmitState)
     → Gains first now (written plan emit.has_begun parts)
     → (emit'.has_begun ≡ true)
     → GoesOn (Gains now new) (written plan emit.has_begun parts) (written plan true (parts ++ more))
@@ -299,9 +299,9 @@ written_on first now new plan parts more emit emit' g b o =
     let P : Bool → Type 0 = λ has_begun. Gains first new (written plan has_begun (parts ++ more)) in
     subst P (sym b) (gains_on first now new (written plan emit.has_begun parts) (written plan true (parts ++ more)) g o)
 
-module _ (text text1 : Option FeedText) (faults faults1 room1 : ℕ) (plan : Planned) (b : Bool) (before : List Part)
-    (first now : Outputs) (emit : Emitting) (l : Sent text text1 faults faults1 room1 plan b before first now emit)
-    (text2 : Option FeedText) (faults2 room2 : ℕ) (new : Outputs) (emit' : Emitting) where
+module _ (text text1 : Option FeedText) (faults faults1 room1 : ℕ) (plan : PlanTables) (b : Bool) (before : List Part)
+    (first now : Outputs) (emit : EmitState) (l : Sent text text1 faults faults1 room1 plan b before first now emit)
+    (text2 : Option FeedText) (faults2 room2 : ℕ) (new : Outputs) (emit' : EmitState) where
   module _ (content : List ℕ)
       (r : Reads first_block (position text1 faults1 room1) (position text2 faults2 room2) content) where
     walked : Walked text text2 faults faults2 room2 (l.done ++ BlockOf content ∷ [])
@@ -407,7 +407,7 @@ module _ (text text1 : Option FeedText) (faults faults1 room1 : ℕ) (plan : Pla
 -- ---- objects one after another
 
 pub record SentAll {F : Type 0} (text : F → Option FeedText) (faults : F → ℕ) (initial here : List F) (index : ℕ)
-    (plan : Planned) (b : Bool) (before : List Part) (first now : Outputs) (emit : Emitting) : Type 0 where
+    (plan : PlanTables) (b : Bool) (before : List Part) (first now : Outputs) (emit : EmitState) : Type 0 where
   pub sources : List (List ℕ)
   pub items : List Item
   pub feeds : SoFar text faults initial here index sources
@@ -415,7 +415,7 @@ pub record SentAll {F : Type 0} (text : F → Option FeedText) (faults : F → �
   pub emitted : Emitted plan b before items first now emit
 
 module _ {F : Type 0} (text : F → Option FeedText) (faults : F → ℕ) where
-  pub all_begin : (initial : List F) (plan : Planned) (before : List Part) (first now : Outputs) (emit : Emitting)
+  pub all_begin : (initial : List F) (plan : PlanTables) (before : List Part) (first now : Outputs) (emit : EmitState)
       → EmitStands plan before emit → fault_of before EndOfFile ≡ None
       → Gains first now (written plan emit.has_begun before)
       → SentAll text faults initial initial 0 plan emit.has_begun before first now emit
@@ -427,8 +427,8 @@ module _ {F : Type 0} (text : F → Option FeedText) (faults : F → ℕ) where
     emitted = record { parts = before; taken-is = refl; stands = s; between = b; begun = refl; gains = g };
   }
 
-  pub all_sent : (initial here : List F) (index : ℕ) (plan : Planned) (b : Bool) (before : List Part)
-      (first now : Outputs) (emit : Emitting) → SentAll text faults initial here index plan b before first now emit
+  pub all_sent : (initial here : List F) (index : ℕ) (plan : PlanTables) (b : Bool) (before : List Part)
+      (first now : Outputs) (emit : EmitState) → SentAll text faults initial here index plan b before first now emit
       → length here ≤ index
       → Emits (pass_of text faults initial here) (start_at plan b before first) now emit (Ok tt)
   all_sent initial here index plan b before first now emit l over =
@@ -436,8 +436,8 @@ module _ {F : Type 0} (text : F → Option FeedText) (faults : F → ℕ) where
       (all.0, l.items, record { sources = l.sources; given = all.1; are = l.are }, l.emitted)
 
   -- one more object
-  module _ (initial here : List F) (index : ℕ) (plan : Planned) (b : Bool) (before : List Part)
-      (first now new : Outputs) (emit emit' : Emitting)
+  module _ (initial here : List F) (index : ℕ) (plan : PlanTables) (b : Bool) (before : List Part)
+      (first now new : Outputs) (emit emit' : EmitState)
       (l : SentAll text faults initial here index plan b before first now emit)
       (inside : index < length here) (d x z : F) (x-is : x ≡ get_or here index d) where
     parts : List Part
@@ -520,12 +520,12 @@ module _ {F : Type 0} (text : F → Option FeedText) (faults : F → ℕ) where
 -- ---- the end
 
 -- an emitter that hasn't begun has written nothing
-pub nothing_written : (plan : Planned) (old : Outputs) (has_begun : Bool) → has_begun ≡ false
+pub nothing_written : (plan : PlanTables) (old : Outputs) (has_begun : Bool) → has_begun ≡ false
     → Gains old old (written plan has_begun [])
 nothing_written plan old has_begun e =
     let P : Bool → Type 0 = λ begun. Gains old old (written plan begun []) in subst P (sym e) (gains_nothing link old)
 
-module _ {F : Type 0} (text : F → Option FeedText) (faults : F → ℕ) (feeds feeds' : List F) (plan : Planned)
+module _ {F : Type 0} (text : F → Option FeedText) (faults : F → ℕ) (feeds feeds' : List F) (plan : PlanTables)
     (b : Bool) (fresh : b ≡ false) (old : Outputs) where
   stops_link : (stopped : LinkFault) (items : List Item) (now : Outputs) → StopsAt stopped plan b [] items old now
       → StopsLink stopped plan items old now
@@ -534,7 +534,7 @@ module _ {F : Type 0} (text : F → Option FeedText) (faults : F → ℕ) (feeds
   stops_link stopped items now s =
       let P : Bool → Type 0 = λ x. StopsBefore plan x [] items stopped old now in subst P fresh s
 
-  pub second_stops : (now : Outputs) (emit : Emitting) (stopped : LinkFault)
+  pub second_stops : (now : Outputs) (emit : EmitState) (stopped : LinkFault)
       → Emits (pass_of text faults feeds feeds') (start_at plan b [] old) now emit (Err stopped)
       → ReadsSecond (pass_of text faults feeds feeds') plan old now (Err stopped)
   second_stops now emit fault.Read h =
@@ -542,7 +542,7 @@ module _ {F : Type 0} (text : F → Option FeedText) (faults : F → ℕ) (feeds
       (h.0, h.1, (h.2.parts, h.2.taken-is), subst P fresh h.2)
   second_stops now emit stopped h = (h.0, h.1, h.2, h.3, stops_link stopped h.1 now h.4)
 
-  module _ (now new : Outputs) (emit : Emitting) (h : Emits (pass_of text faults feeds feeds') (start_at plan b [] old) now emit (Ok tt)) where
+  module _ (now new : Outputs) (emit : EmitState) (h : Emits (pass_of text faults feeds feeds') (start_at plan b [] old) now emit (Ok tt)) where
     pub second_ends : (result : Result LinkDone LinkFault) → EmitEnds plan h.3.parts now new emit result
         → ReadsSecond (pass_of text faults feeds feeds') plan old new result
     second_ends (Ok done) e = (

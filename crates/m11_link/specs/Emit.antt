@@ -10,10 +10,10 @@ use Rattle.m11_obj.specs.declared.gsd.GsdKind.{GsdKind}
 use Rattle.m11_obj.specs.declared.gsd.GsdKind.TheVariants.{GlobalSymbol}
 use Rattle.m11_obj.specs.declared.relocations.Relocation.{Relocation}
 use Rattle.m11_link_modules.specs.Parts.{Part, EndOfFile, Text, Relocations, Relocated, record_parts}
-use Rattle.m11_link_modules.specs.Positions.{Known, known_of, current_section, modules_in, this_module}
+use Rattle.m11_link_modules.specs.Positions.{RulesState, known_of, current_section, modules_in, this_module}
 use Rattle.m11_link_modules.specs.Rules.{StopsAtName, defines, fault_of, first_fault}
 use Rattle.m11_link_modules.specs.declared.fault.ModuleFault.TheVariants as rule
-use Rattle.m11_link_layout.specs.Plan.{Planned}
+use Rattle.m11_link_layout.specs.Plan.{PlanTables}
 use Rattle.m11_link_layout.specs.Layout.{FirstFault}
 use Rattle.m11_link_layout.specs.declared.fault.LinkFault.{LinkFault}
 use Rattle.m11_link_layout.specs.declared.fault.LinkFault.TheVariants as fault
@@ -26,18 +26,18 @@ use Rattle.m11_link.specs.Written.{PlacedText, placed_text, text_writes, with_re
 -- ---- what stands between two records
 
 -- the names defined so far, the text that may still be relocated, and the count of messages
-pub record Reporting : Type 0 where
-  pub plan : Planned
+pub record ReporterState : Type 0 where
+  pub plan : PlanTables
   pub defined : List Name
   pub held : Option PlacedText
   pub messages : ℕ
 
-abbrev pub with_count : List Write → Reporting → Reporting
+abbrev pub with_count : List Write → ReporterState → ReporterState
 with_count writes t = record t { messages = counted t.messages writes }
 
 -- ---- texts
 
-abbrev pub with_held : Option PlacedText → Reporting → Reporting
+abbrev pub with_held : Option PlacedText → ReporterState → ReporterState
 with_held held t = record t { held = held }
 
 abbrev pub held_writes : Option PlacedText → List Write
@@ -95,22 +95,22 @@ entries_writes found module_index defined [] = []
 entries_writes found module_index defined (entry ∷ entries) = entry_writes found module_index defined entry
     ++ entries_writes found module_index (defined_with defined entry) entries
 
-abbrev pub with_symbol : ℕ → GsdEntry → Reporting → Reporting
+abbrev pub with_symbol : ℕ → GsdEntry → ReporterState → ReporterState
 with_symbol module_index entry t = record t {
   defined = defined_if (defines entry) t.defined entry.name;
   messages = counted t.messages (symbol_writes (planned t.plan) module_index t.defined entry);
 }
 
-abbrev pub with_name : Name → Reporting → Reporting
+abbrev pub with_name : Name → ReporterState → ReporterState
 with_name name t = record t { defined = insert_key is_same_name t.defined name }
 
-abbrev pub with_entry : ℕ → GsdEntry → Reporting → Reporting
+abbrev pub with_entry : ℕ → GsdEntry → ReporterState → ReporterState
 with_entry module_index entry t = record t {
   defined = defined_with t.defined entry;
   messages = counted t.messages (entry_writes (planned t.plan) module_index t.defined entry);
 }
 
-abbrev pub with_entries : ℕ → List GsdEntry → Reporting → Reporting
+abbrev pub with_entries : ℕ → List GsdEntry → ReporterState → ReporterState
 with_entries module_index entries t = record t {
   defined = defined_with_all t.defined entries;
   messages = counted t.messages (entries_writes (planned t.plan) module_index t.defined entries);
@@ -123,17 +123,17 @@ abbrev pub relocated_parts : List Relocation → List Part
 relocated_parts relocations = map (λ relocation. Relocated relocation) relocations
 
 -- a text is held that counts from this section in the module of this index
-abbrev pub with_text : ℕ → Name → ℕ → Bytes → Reporting → Reporting
+abbrev pub with_text : ℕ → Name → ℕ → Bytes → ReporterState → ReporterState
 with_text module_index section address bytes t =
     with_held (Some (placed_text (planned t.plan) module_index section address bytes)) t
 
 -- a directory record in the module of this index ends a text that is held, and its entries may give messages
-abbrev pub directory_writes : ℕ → List GsdEntry → Reporting → List Write
+abbrev pub directory_writes : ℕ → List GsdEntry → ReporterState → List Write
 directory_writes module_index entries t =
     held_writes t.held ++ entries_writes (planned t.plan) module_index t.defined entries
 
 -- the state after a directory record
-abbrev pub with_directory : ℕ → List GsdEntry → Reporting → Reporting
+abbrev pub with_directory : ℕ → List GsdEntry → ReporterState → ReporterState
 with_directory module_index entries t = with_entries module_index entries (with_held None t)
 
 -- the writes were made and this stands after them; or they stopped
@@ -142,7 +142,7 @@ Goes old new writes state expected (Ok done) = Gains old new writes × (state �
 Goes old new writes state expected (Err stopped) = Stops old new writes stopped
 
 -- a name was kept, or memory was refused
-abbrev pub EmitKeeps : Reporting → Reporting → Result (Unit {0}) LinkFault → Type 0
+abbrev pub EmitKeeps : ReporterState → ReporterState → Result (Unit {0}) LinkFault → Type 0
 EmitKeeps state expected (Ok done) = state ≡ expected
 EmitKeeps state expected (Err fault.NoMemory) = ⊤
 EmitKeeps state expected (Err stopped) = ⊥
@@ -150,35 +150,35 @@ EmitKeeps state expected (Err stopped) = ⊥
 -- ---- calls
 
 -- a second pass between two calls
-pub record Emitting : Type 0 where
-  pub known : Known
-  pub reporting : Reporting
+pub record EmitState : Type 0 where
+  pub known : RulesState
+  pub reporting : ReporterState
   pub has_begun : Bool
   pub fault : Option LinkFault
 
 -- the rules and what is held speak of the same text
-abbrev pub HoldsLastText : Emitting → Type 0
+abbrev pub HoldsLastText : EmitState → Type 0
 HoldsLastText state = IsAsLong state.known.text state.reporting.held
 
 -- the messages on undefined globals and the map, where they were not written before
-abbrev pub begin_writes : Emitting → List Write
+abbrev pub begin_writes : EmitState → List Write
 begin_writes state = if state.has_begun then [] else front_writes (planned state.reporting.plan)
 
-abbrev pub begun_reporting : Emitting → Reporting
+abbrev pub begun_reporting : EmitState → ReporterState
 begun_reporting state =
     if state.has_begun then state.reporting else with_count (front_writes (planned state.reporting.plan)) state.reporting
 
-abbrev pub with_reporting : Reporting → Emitting → Emitting
+abbrev pub with_reporting : ReporterState → EmitState → EmitState
 with_reporting reporting state = record state { reporting = reporting; has_begun = true }
 
 -- what is written after these parts: nothing before the first call that isn't refused; else the messages on undefined
 -- globals, the map, and what the parts make, but for a text that hasn't ended
-abbrev pub written : Planned → Bool → List Part → List Write
+abbrev pub written : PlanTables → Bool → List Part → List Write
 written plan has_begun parts =
     if has_begun then front_writes (planned plan) ++ parts_writes (planned plan) parts else []
 
 -- a second pass stands after these parts, of which none has a fault
-pub record EmitStands (plan : Planned) (parts : List Part) (state : Emitting) : Type 0 where
+pub record EmitStands (plan : PlanTables) (parts : List Part) (state : EmitState) : Type 0 where
   pub sound : first_fault [] parts ≡ None
   pub known : state.known ≡ known_of parts
   pub planned_so : state.reporting.plan ≡ plan
@@ -198,16 +198,16 @@ pub record GoesOn (Went : List Write → Type 0) (so_far all : List Write) : Typ
 pub record Call : Type 0 where
   pub old : Outputs
   pub new : Outputs
-  pub stood : Emitting
-  pub stands : Emitting
+  pub stood : EmitState
+  pub stands : EmitState
 
-abbrev pub call_of : Outputs → Outputs → Emitting → Emitting → Call
+abbrev pub call_of : Outputs → Outputs → EmitState → EmitState → Call
 call_of old new stood stands = record { old = old; new = new; stood = stood; stands = stands }
 
 -- parts weren't taken: their first fault was returned, and nothing was written; or they have none, and an output failed,
 -- or memory was refused; or memory was refused before anything was written, at a part that adds a name, up to which none
 -- has a fault
-abbrev pub StopsInParts : Planned → List Part → Outputs → Outputs → Emitting → List Part → LinkFault → Type 0
+abbrev pub StopsInParts : PlanTables → List Part → Outputs → Outputs → EmitState → List Part → LinkFault → Type 0
 StopsInParts plan before old new state parts (fault.Write output) = (first_fault before parts ≡ None)
     × GoesOn (StopsIn output old new) (written plan state.has_begun before) (written plan true (before ++ parts))
 StopsInParts plan before old new state parts fault.NoMemory =
@@ -217,14 +217,14 @@ StopsInParts plan before old new state parts fault.NoMemory =
 StopsInParts plan before old new state parts stopped = FirstFault before parts stopped × (new ≡ old)
 
 -- parts were taken, and all that they make is written; or they weren't
-abbrev pub TakesParts : Planned → List Part → Call → List Part → Result (Unit {0}) LinkFault → Type 0
+abbrev pub TakesParts : PlanTables → List Part → Call → List Part → Result (Unit {0}) LinkFault → Type 0
 TakesParts plan before call parts (Ok done) = EmitStands plan (before ++ parts) call.stands
     × (call.stands.has_begun ≡ true)
     × GoesOn (Gains call.old call.new) (written plan call.stood.has_begun before) (written plan true (before ++ parts))
 TakesParts plan before call parts (Err stopped) = StopsInParts plan before call.old call.new call.stood parts stopped
 
 -- a block is no record, or its parts were taken
-abbrev pub TakesBlock : Planned → List Part → Call → Bytes → Result (Unit {0}) LinkFault → Type 0
+abbrev pub TakesBlock : PlanTables → List Part → Call → Bytes → Result (Unit {0}) LinkFault → Type 0
 TakesBlock plan before call bytes (Err (fault.Record inner)) = (content_of bytes ≡ Err inner) × (call.new ≡ call.old)
 TakesBlock plan before call bytes (Err (fault.Write output)) = IsRecord bytes
     × TakesParts plan before call (record_parts bytes) (Err (fault.Write output))
@@ -233,13 +233,13 @@ TakesBlock plan before call bytes (Err fault.NoMemory) = IsRecord bytes
 TakesBlock plan before call bytes result = TakesParts plan before call (record_parts bytes) result
 
 -- where a fault was returned, it is returned again, nothing changes and nothing is written
-abbrev pub FailsAgain : Emitting → Emitting → Outputs → Outputs → Result (Unit {0}) LinkFault → Type 0
+abbrev pub FailsAgain : EmitState → EmitState → Outputs → Outputs → Result (Unit {0}) LinkFault → Type 0
 FailsAgain state state' old new result = (stopped : LinkFault) → state.fault ≡ Some stopped
     → (result ≡ Err stopped) × (state' ≡ state) × (new ≡ old)
 
 -- the end of the second pass: the whole link is written, and the files hold nothing back; or the parts end inside a module,
 -- and nothing more was written; or they don't, and an output failed, perhaps at the flush, or memory was refused
-abbrev pub EmitEnds : Planned → List Part → Outputs → Outputs → Emitting → Result LinkDone LinkFault → Type 0
+abbrev pub EmitEnds : PlanTables → List Part → Outputs → Outputs → EmitState → Result LinkDone LinkFault → Type 0
 EmitEnds plan parts old new state (Ok done) = (fault_of parts EndOfFile ≡ None)
     × (done.messages ≡ counted 0 (link_writes (planned plan) parts))
     × GoesOn (Gains old new) (written plan state.has_begun parts) (link_writes (planned plan) parts) × AreFlushed new

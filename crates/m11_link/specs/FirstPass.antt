@@ -6,7 +6,7 @@ use Rattle.m11_obj_blocks.specs.declared.block_fault.BlockFault.{BlockFault}
 use Rattle.m11_obj_blocks.specs.declared.block_fault.BlockFault.TheVariants as block
 use Rattle.m11_link_modules.specs.Parts.{Part, EndOfFile}
 use Rattle.m11_link_modules.specs.Rules.{fault_of}
-use Rattle.m11_link_layout.specs.Plan.{Planned, IsPlanOf}
+use Rattle.m11_link_layout.specs.Plan.{PlanTables, IsPlanOf}
 use Rattle.m11_link_layout.specs.Layout.{LayoutState, LayoutStands}
 use Rattle.m11_link_layout.specs.declared.fault.LinkFault.{LinkFault}
 use Rattle.m11_link_layout.specs.declared.fault.LinkFault.TheVariants as fault
@@ -67,7 +67,7 @@ LaysOut pass bottom before layout (Err stopped) = NoneFailed pass.faults pass.ol
 
 -- the whole first pass: a plan of the parts that the objects yield; or their fault; or a feed failed, and what had
 -- come till then has no fault; or memory was refused
-abbrev pub ReadsFirst : {F : Type 0} → Pass F → ℕ → Result Planned LinkFault → Type 0
+abbrev pub ReadsFirst : {F : Type 0} → Pass F → ℕ → Result PlanTables LinkFault → Type 0
 ReadsFirst pass bottom (Ok plan) = NoneFailed pass.faults pass.old pass.new
     × (items : List Item) × GiveItems pass.text pass.old items
     × (parts : List Part) × (outcome bottom items ≡ Ok parts) × IsPlanOf bottom parts plan

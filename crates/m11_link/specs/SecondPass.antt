@@ -4,11 +4,11 @@ use Rattle.m11_base.specs.Devices.{Rises}
 use Rattle.m11_base.specs.Feed.{Text, NoneFailed}
 use Rattle.m11_link_modules.specs.Parts.{Part, EndOfFile}
 use Rattle.m11_link_modules.specs.Rules.{fault_of}
-use Rattle.m11_link_layout.specs.Plan.{Planned}
+use Rattle.m11_link_layout.specs.Plan.{PlanTables}
 use Rattle.m11_link_layout.specs.declared.fault.LinkFault.{LinkFault}
 use Rattle.m11_link_layout.specs.declared.fault.LinkFault.TheVariants as fault
 use Rattle.m11_link.specs.declared.emit.LinkDone.{LinkDone}
-use Rattle.m11_link.specs.Emit.{Emitting, EmitStands, written}
+use Rattle.m11_link.specs.Emit.{EmitState, EmitStands, written}
 use Rattle.m11_link_text.specs.Findings.{planned}
 use Rattle.m11_link.specs.FirstPass.{AreTaken, Pass, ReadsFirst}
 use Rattle.m11_link.specs.Objects.{Item, taken, taken_item, GivesItems, BeginsItems, GiveItems, FailAfter}
@@ -24,14 +24,14 @@ begun_by has_begun (item ∷ items) = true
 
 -- items have no fault, and exactly this is written after them: what stands before the parts, and what the parts make, but
 -- for a text that hasn't ended; nothing, where no item came
-pub record WrittenAfter (plan : Planned) (has_begun : Bool) (before : List Part) (items : List Item)
+pub record WrittenAfter (plan : PlanTables) (has_begun : Bool) (before : List Part) (items : List Item)
     (old new : Outputs) : Type 0 where
   pub parts : List Part
   pub taken-is : taken before items ≡ Ok parts
   pub gains : Gains old new (written plan (begun_by has_begun items) parts)
 
 -- one of the items is refused, none before it, and exactly this is written: what is written after those before it
-pub record StopsBefore (plan : Planned) (has_begun : Bool) (before : List Part) (items : List Item)
+pub record StopsBefore (plan : PlanTables) (has_begun : Bool) (before : List Part) (items : List Item)
     (stopped : LinkFault) (old new : Outputs) : Type 0 where
   pub done : List Item
   pub item : Item
@@ -41,7 +41,7 @@ pub record StopsBefore (plan : Planned) (has_begun : Bool) (before : List Part) 
   pub refused : taken_item exactly.parts item ≡ Err stopped
 
 -- the writes of items that stand before the first fault
-pub record StopsWithin (Stop : List Write → Type 0) (plan : Planned) (before : List Part) (items : List Item) : Type 0
+pub record StopsWithin (Stop : List Write → Type 0) (plan : PlanTables) (before : List Part) (items : List Item) : Type 0
   where
     pub done : List Item
     pub more : List Item
@@ -51,7 +51,7 @@ pub record StopsWithin (Stop : List Write → Type 0) (plan : Planned) (before :
     pub stops : Stop (written plan true parts)
 
 -- an output failed, or memory was refused, among the writes of items before the first fault; or an item was refused
-abbrev pub StopsAt : LinkFault → Planned → Bool → List Part → List Item → Outputs → Outputs → Type 0
+abbrev pub StopsAt : LinkFault → PlanTables → Bool → List Part → List Item → Outputs → Outputs → Type 0
 StopsAt (fault.Write output) plan has_begun before items old new =
     StopsWithin (StopsIn output old new) plan before items
 StopsAt fault.NoMemory plan has_begun before items old new = StopsWithin (StopsBetween old new) plan before items
@@ -66,8 +66,8 @@ IsOfItems before items stopped = taken before items ≡ Err stopped
 -- ---- one object, and several
 
 -- the items yielded parts after those before, the emitter stands after them, and all that they make is written
-pub record Emitted (plan : Planned) (has_begun : Bool) (before : List Part) (items : List Item) (first now : Outputs)
-    (emit : Emitting) : Type 0 where
+pub record Emitted (plan : PlanTables) (has_begun : Bool) (before : List Part) (items : List Item) (first now : Outputs)
+    (emit : EmitState) : Type 0 where
   pub parts : List Part
   pub taken-is : taken before items ≡ Ok parts
   pub stands : EmitStands plan parts emit
@@ -78,16 +78,16 @@ pub record Emitted (plan : Planned) (has_begun : Bool) (before : List Part) (ite
 -- where objects of a second pass begin: its plan, whether anything is written, the parts before them, and what the
 -- outputs were before all of them
 pub record Start : Type 0 where
-  pub plan : Planned
+  pub plan : PlanTables
   pub has_begun : Bool
   pub before : List Part
   pub first : Outputs
 
-abbrev pub start_at : Planned → Bool → List Part → Outputs → Start
+abbrev pub start_at : PlanTables → Bool → List Part → Outputs → Start
 start_at plan has_begun before first =
     record { plan = plan; has_begun = has_begun; before = before; first = first }
 
-abbrev pub EmittedFrom : Start → List Item → Outputs → Emitting → Type 0
+abbrev pub EmittedFrom : Start → List Item → Outputs → EmitState → Type 0
 EmittedFrom start items now emit = Emitted start.plan start.has_begun start.before items start.first now emit
 
 abbrev pub WrittenFrom : Start → List Item → Outputs → Type 0
@@ -96,7 +96,7 @@ WrittenFrom start items now = WrittenAfter start.plan start.has_begun start.befo
 abbrev pub StopsFrom : LinkFault → Start → List Item → Outputs → Type 0
 StopsFrom stopped start items now = StopsAt stopped start.plan start.has_begun start.before items start.first now
 
-abbrev pub EmitsObject : Option Text → ℕ → ℕ → Start → Outputs → Emitting → Result (Unit {0}) LinkFault → Type 0
+abbrev pub EmitsObject : Option Text → ℕ → ℕ → Start → Outputs → EmitState → Result (Unit {0}) LinkFault → Type 0
 EmitsObject text faults faults' start now emit (Ok done) = (faults' ≡ faults)
     × (items : List Item) × GivesItems text items × EmittedFrom start items now emit
 EmitsObject text faults faults' start now emit (Err fault.Read) = Rises faults faults'
@@ -105,7 +105,7 @@ EmitsObject text faults faults' start now emit (Err stopped) = (faults' ≡ faul
     × (items : List Item) × GivesItems text items × IsOfItems start.before items stopped
     × StopsFrom stopped start items now
 
-abbrev pub Emits : {F : Type 0} → Pass F → Start → Outputs → Emitting → Result (Unit {0}) LinkFault → Type 0
+abbrev pub Emits : {F : Type 0} → Pass F → Start → Outputs → EmitState → Result (Unit {0}) LinkFault → Type 0
 Emits pass start now emit (Ok done) = NoneFailed pass.faults pass.old pass.new
     × (items : List Item) × GiveItems pass.text pass.old items × EmittedFrom start items now emit
 Emits pass start now emit (Err fault.Read) =
@@ -117,13 +117,13 @@ Emits pass start now emit (Err stopped) = NoneFailed pass.faults pass.old pass.n
 -- ---- the whole second pass, and the run
 
 -- the items have no fault, and it stops among all that the link writes, or at the flush after it
-pub record StopsLast (Stop : List Write → Type 0) (plan : Planned) (items : List Item) : Type 0 where
+pub record StopsLast (Stop : List Write → Type 0) (plan : PlanTables) (items : List Item) : Type 0 where
   pub parts : List Part
   pub taken-is : taken [] items ≡ Ok parts
   pub stops : Stop (link_writes (planned plan) parts ++ flushes)
 
 -- where a second pass stops: as its items do, or at its end
-abbrev pub StopsLink : LinkFault → Planned → List Item → Outputs → Outputs → Type 0
+abbrev pub StopsLink : LinkFault → PlanTables → List Item → Outputs → Outputs → Type 0
 StopsLink (fault.Write output) plan items old new =
     StopsWithin (StopsIn output old new) plan [] items ⊎ StopsLast (StopsIn output old new) plan items
 StopsLink fault.NoMemory plan items old new =
@@ -133,7 +133,7 @@ StopsLink stopped plan items old new = StopsBefore plan false [] items stopped o
 -- the second pass by a plan: the items have no fault, all is written, and the files hold nothing back; or a feed failed, or an item was refused, and
 -- exactly what is written for the items before is there; or memory was refused between two writes for items before the
 -- first fault, or an output failed in one, and nothing was written after it
-abbrev pub ReadsSecond : {F : Type 0} → Pass F → Planned → Outputs → Outputs → Result LinkDone LinkFault → Type 0
+abbrev pub ReadsSecond : {F : Type 0} → Pass F → PlanTables → Outputs → Outputs → Result LinkDone LinkFault → Type 0
 ReadsSecond pass plan old new (Ok done) = NoneFailed pass.faults pass.old pass.new
     × (items : List Item) × GiveItems pass.text pass.old items
     × (parts : List Part) × (taken [] items ≡ Ok parts) × Gains old new (link_writes (planned plan) parts)
@@ -150,10 +150,10 @@ ReadsSecond pass plan old new (Err stopped) = NoneFailed pass.faults pass.old pa
 abbrev pub LinkRunsOr : {F : Type 0} → Type 0 → Pass F → Pass F → ℕ → Outputs → Outputs → Result LinkDone LinkFault
     → Type 0
 LinkRunsOr Untouched first second bottom old new (Ok done) =
-    (plan : Planned) × ReadsFirst first bottom (Ok plan) × ReadsSecond second plan old new (Ok done)
+    (plan : PlanTables) × ReadsFirst first bottom (Ok plan) × ReadsSecond second plan old new (Ok done)
 LinkRunsOr Untouched first second bottom old new (Err stopped) =
     (ReadsFirst first bottom (Err stopped) × (second.new ≡ second.old) × Untouched)
-    ⊎ ((plan : Planned) × ReadsFirst first bottom (Ok plan) × ReadsSecond second plan old new (Err stopped))
+    ⊎ ((plan : PlanTables) × ReadsFirst first bottom (Ok plan) × ReadsSecond second plan old new (Err stopped))
 
 -- a refused first pass writes nothing
 abbrev pub LinkRuns : {F : Type 0} → Pass F → Pass F → ℕ → Outputs → Outputs → Result LinkDone LinkFault → Type 0

@@ -9,7 +9,7 @@ ghost use Rattle.m11_obj_blocks.specs.Tapes.{tape_block};
 ghost use Rattle.m11_link_modules.specs.Grammar.{directory_parts};
 ghost use Rattle.m11_link_modules.specs.Parts.{Part, EndOfDirectory, EndOfFile, EndOfModule, Relocated, Relocations, Text};
 ghost use Rattle.m11_link_modules.specs.Steps.{RulesTake, TakesOne};
-ghost use Rattle.m11_link_layout.specs.Plan.{Planned};
+ghost use Rattle.m11_link_layout.specs.Plan.{PlanTables};
 ghost use Rattle.m11_link_layout.specs.declared.fault.LinkFault.{LinkFault};
 ghost use Rattle.m11_link.specs.Emit.{EmitEnds, EmitStands, FailsAgain, Goes, HoldsLastText, TakesBlock, TakesParts, begin_writes, begun_reporting, call_of, directory_writes, held_with, held_with_all, held_writes, relocated_parts, with_directory, with_held, with_reporting, with_text};
 ghost use Rattle.m11_link_text.specs.Findings.{planned};
@@ -46,9 +46,9 @@ pub struct Emit {
 }
 
 impl Model for Emit {
-    ghost use Rattle.m11_link.specs.Emit.{Emitting};
+    ghost use Rattle.m11_link.specs.Emit.{EmitState};
 
-    ghost Value = { Emitting };
+    ghost Value = { EmitState };
 
     ghost view = { λ e. record { known = e.rules; reporting = e.reporter; has_begun = e.has_begun; fault = e.fault } };
 }
@@ -80,7 +80,7 @@ impl Emit {
         map: &mut Option<T>,
         messages: &mut U,
     ) -> Result<(), LinkFault>
-        ensures takes { (plan : Planned) (before : List Part) → EmitStands plan before self.old
+        ensures takes { (plan : PlanTables) (before : List Part) → EmitStands plan before self.old
             → TakesBlock plan before (call_of
             (outputs_of S.Sink T.Sink U.Sink tape.old map.old messages.old)
             (outputs_of S.Sink T.Sink U.Sink tape.new map.new messages.new)
@@ -93,7 +93,7 @@ impl Emit {
         ensures stays { is_some map.new ≡ is_some map.old }
     {
         self.fault.check()?;
-        let taken = self.take_block(block, tape, map, messages);
+        let taken = self.accept_block(block, tape, map, messages);
         self.fault.keep(taken)
     }
 
@@ -105,7 +105,7 @@ impl Emit {
         map: &mut Option<T>,
         messages: &mut U,
     ) -> Result<(), LinkFault>
-        ensures takes { (plan : Planned) (before : List Part) → EmitStands plan before self.old
+        ensures takes { (plan : PlanTables) (before : List Part) → EmitStands plan before self.old
             → TakesParts plan before (call_of
             (outputs_of S.Sink T.Sink U.Sink tape.old map.old messages.old)
             (outputs_of S.Sink T.Sink U.Sink tape.new map.new messages.new)
@@ -119,7 +119,7 @@ impl Emit {
         ensures no_memory { self.old.fault ≡ None → IfErr result (λ fault. fault ≢ LinkFault.NoMemory) }
     {
         self.fault.check()?;
-        let taken = self.take_end(map, messages);
+        let taken = self.accept_end(map, messages);
         self.fault.keep(taken)
     }
 
@@ -133,7 +133,7 @@ impl Emit {
         map: &mut Option<T>,
         messages: &mut U,
     ) -> Result<LinkDone, LinkFault>
-        ensures ends { (plan : Planned) (before : List Part) → EmitStands plan before self → EmitEnds plan before
+        ensures ends { (plan : PlanTables) (before : List Part) → EmitStands plan before self → EmitEnds plan before
             (outputs_of S.Sink T.Sink U.Sink tape.old map.old messages.old)
             (outputs_of S.Sink T.Sink U.Sink tape.new map.new messages.new)
             self result }
@@ -142,20 +142,20 @@ impl Emit {
             ≡ outputs_of S.Sink T.Sink U.Sink tape.old map.old messages.old) }
         ensures stays { is_some map.new ≡ is_some map.old }
     {
-        let done = self.finish(tape, map, messages);
+        let done = self.end_in_place(tape, map, messages);
         // proof: where it goes in place, this function alone takes minutes to prove
         drop(self);
         done
     }
 
     // What `end` does, by a borrow: so that `end` can let the pass go in one call, whatever comes.
-    fn finish<S: Sink, T: Sink, U: Sink>(
+    fn end_in_place<S: Sink, T: Sink, U: Sink>(
         &mut self,
         tape: &mut S,
         map: &mut Option<T>,
         messages: &mut U,
     ) -> Result<LinkDone, LinkFault>
-        ensures ends { (plan : Planned) (before : List Part) → EmitStands plan before self.old → EmitEnds plan before
+        ensures ends { (plan : PlanTables) (before : List Part) → EmitStands plan before self.old → EmitEnds plan before
             (outputs_of S.Sink T.Sink U.Sink tape.old map.old messages.old)
             (outputs_of S.Sink T.Sink U.Sink tape.new map.new messages.new)
             self.old result }
@@ -170,14 +170,14 @@ impl Emit {
     }
 
     // What `feed` does where no fault came before.
-    fn take_block<S: Sink, T: Sink, U: Sink>(
+    fn accept_block<S: Sink, T: Sink, U: Sink>(
         &mut self,
         block: &Block,
         tape: &mut S,
         map: &mut Option<T>,
         messages: &mut U,
     ) -> Result<(), LinkFault>
-        ensures takes { (plan : Planned) (before : List Part) → EmitStands plan before self.old
+        ensures takes { (plan : PlanTables) (before : List Part) → EmitStands plan before self.old
             → TakesBlock plan before (call_of
             (outputs_of S.Sink T.Sink U.Sink tape.old map.old messages.old)
             (outputs_of S.Sink T.Sink U.Sink tape.new map.new messages.new)
@@ -187,25 +187,29 @@ impl Emit {
         ensures stays { is_some map.new ≡ is_some map.old }
     {
         match read_contents(block)? {
-            Contents::Directory(unread) => self.take_directory(&unread, tape, map, messages),
-            Contents::EndOfDirectory => self.take_end_of_directory(tape, map, messages),
-            Contents::Text(address, bytes) => self.take_text(address, bytes, tape, map, messages),
-            Contents::Relocations(mut unread) => self.take_relocations(&mut unread, map, messages),
+            Contents::Directory(unread) => self.accept_directory(&unread, tape, map, messages),
+            Contents::EndOfDirectory => self.accept_end_of_directory(tape, map, messages),
+            Contents::Text(address, bytes) => self.accept_text(address, bytes, tape, map, messages),
+            Contents::Relocations(mut unread) => self.accept_relocations(
+                &mut unread,
+                map,
+                messages,
+            ),
             Contents::InternalSymbols => self.begin(map, messages),
-            Contents::EndOfModule => self.take_end_of_module(tape, map, messages),
+            Contents::EndOfModule => self.accept_end_of_module(tape, map, messages),
         }
     }
 
     // Takes the entries of a directory record, which stand in a block of these bytes. All of them are read before one is
     // judged, since a fault of the record itself comes first.
-    fn take_directory<S: Sink, T: Sink, U: Sink>(
+    fn accept_directory<S: Sink, T: Sink, U: Sink>(
         &mut self,
         unread: &UnreadEntries<'_>,
         tape: &mut S,
         map: &mut Option<T>,
         messages: &mut U,
     ) -> Result<(), LinkFault>
-        ensures takes { (plan : Planned) (before : List Part) (bytes : List ℕ)
+        ensures takes { (plan : PlanTables) (before : List Part) (bytes : List ℕ)
             → EmitStands plan before self.old → content_of bytes ≡ unread_directory unread.now
             → TakesBlock plan before (call_of
             (outputs_of S.Sink T.Sink U.Sink tape.old map.old messages.old)
@@ -216,18 +220,18 @@ impl Emit {
         ensures stays { is_some map.new ≡ is_some map.old }
     {
         let entries = unread.read()?;
-        self.take_entries(entries.as_slice(), tape, map, messages)
+        self.accept_entries(entries.as_slice(), tape, map, messages)
     }
 
     // Takes a directory record of these entries. All of them are judged before anything is written.
-    fn take_entries<S: Sink, T: Sink, U: Sink>(
+    fn accept_entries<S: Sink, T: Sink, U: Sink>(
         &mut self,
         entries: &[GsdEntry],
         tape: &mut S,
         map: &mut Option<T>,
         messages: &mut U,
     ) -> Result<(), LinkFault>
-        ensures takes { (plan : Planned) (before : List Part) → EmitStands plan before self.old
+        ensures takes { (plan : PlanTables) (before : List Part) → EmitStands plan before self.old
             → TakesParts plan before (call_of
             (outputs_of S.Sink T.Sink U.Sink tape.old map.old messages.old)
             (outputs_of S.Sink T.Sink U.Sink tape.new map.new messages.new)
@@ -241,13 +245,13 @@ impl Emit {
     }
 
     // Takes the end of a directory.
-    fn take_end_of_directory<S: Sink, T: Sink, U: Sink>(
+    fn accept_end_of_directory<S: Sink, T: Sink, U: Sink>(
         &mut self,
         tape: &mut S,
         map: &mut Option<T>,
         messages: &mut U,
     ) -> Result<(), LinkFault>
-        ensures takes { (plan : Planned) (before : List Part) → EmitStands plan before self.old
+        ensures takes { (plan : PlanTables) (before : List Part) → EmitStands plan before self.old
             → TakesParts plan before (call_of
             (outputs_of S.Sink T.Sink U.Sink tape.old map.old messages.old)
             (outputs_of S.Sink T.Sink U.Sink tape.new map.new messages.new)
@@ -260,7 +264,7 @@ impl Emit {
     }
 
     // Takes a text. It is judged before anything is written.
-    fn take_text<S: Sink, T: Sink, U: Sink>(
+    fn accept_text<S: Sink, T: Sink, U: Sink>(
         &mut self,
         address: u16,
         bytes: &[u8],
@@ -269,7 +273,7 @@ impl Emit {
         messages: &mut U,
     ) -> Result<(), LinkFault>
         requires { length bytes.now ≤ content_limit }
-        ensures takes { (plan : Planned) (before : List Part) → EmitStands plan before self.old
+        ensures takes { (plan : PlanTables) (before : List Part) → EmitStands plan before self.old
             → TakesParts plan before (call_of
             (outputs_of S.Sink T.Sink U.Sink tape.old map.old messages.old)
             (outputs_of S.Sink T.Sink U.Sink tape.new map.new messages.new)
@@ -283,13 +287,13 @@ impl Emit {
     }
 
     // Takes the end of a module.
-    fn take_end_of_module<S: Sink, T: Sink, U: Sink>(
+    fn accept_end_of_module<S: Sink, T: Sink, U: Sink>(
         &mut self,
         tape: &mut S,
         map: &mut Option<T>,
         messages: &mut U,
     ) -> Result<(), LinkFault>
-        ensures takes { (plan : Planned) (before : List Part) → EmitStands plan before self.old
+        ensures takes { (plan : PlanTables) (before : List Part) → EmitStands plan before self.old
             → TakesParts plan before (call_of
             (outputs_of S.Sink T.Sink U.Sink tape.old map.old messages.old)
             (outputs_of S.Sink T.Sink U.Sink tape.new map.new messages.new)
@@ -303,13 +307,13 @@ impl Emit {
 
     // Takes the relocations of a record, which stand in a block of these bytes. They are stored while they are judged,
     // since the text that they change is held. Nothing is written before all of them are judged.
-    fn take_relocations<T: Sink, U: Sink>(
+    fn accept_relocations<T: Sink, U: Sink>(
         &mut self,
         unread: &mut UnreadRelocations<'_>,
         map: &mut Option<T>,
         messages: &mut U,
     ) -> Result<(), LinkFault>
-        ensures takes { (tape : Output) (plan : Planned) (before : List Part) (bytes : List ℕ)
+        ensures takes { (tape : Output) (plan : PlanTables) (before : List Part) (bytes : List ℕ)
             → EmitStands plan before self.old → content_of bytes ≡ unread_content unread.old
             → TakesBlock plan before (call_of
             (outputs tape (optional_output T.Sink map.old) (output_of U.Sink messages.old))
@@ -416,7 +420,7 @@ impl Emit {
     {
         self.begin(map, messages)?;
         self.reporter
-            .note_directory(module_index, entries, tape, messages)
+            .report_directory(module_index, entries, tape, messages)
     }
 
     // Writes the text that was held, and before it what is written first.
@@ -459,16 +463,16 @@ impl Emit {
         ensures stays { is_some map.new ≡ is_some map.old }
     {
         self.begin(map, messages)?;
-        self.reporter.note_text(location, address, bytes, tape)
+        self.reporter.hold_text(location, address, bytes, tape)
     }
 
     // What `end_file` does where no fault came before. After a whole module no text is held.
-    fn take_end<T: Sink, U: Sink>(
+    fn accept_end<T: Sink, U: Sink>(
         &mut self,
         map: &mut Option<T>,
         messages: &mut U,
     ) -> Result<(), LinkFault>
-        ensures takes { (tape : Output) (plan : Planned) (before : List Part) → EmitStands plan before self.old
+        ensures takes { (tape : Output) (plan : PlanTables) (before : List Part) → EmitStands plan before self.old
             → TakesParts plan before (call_of
             (outputs tape (optional_output T.Sink map.old) (output_of U.Sink messages.old))
             (outputs tape (optional_output T.Sink map.new) (output_of U.Sink messages.new))

@@ -2,7 +2,7 @@
 
 ghost use Rattle.std.specs.Prelude.{◌≡◌, ℕ, List};
 ghost use Rattle.m11_link_modules.specs.Parts.{Part};
-ghost use Rattle.m11_link_layout.specs.Plan.{IsPlanOf, Planned};
+ghost use Rattle.m11_link_layout.specs.Plan.{IsPlanOf, PlanTables};
 ghost use Rattle.m11_link_text.specs.Findings.{findings_of, planned};
 ghost use Rattle.m11_link.specs.Written.{link_writes};
 
@@ -10,6 +10,6 @@ ghost use Rattle.m11_link.specs.Written.{link_writes};
 /// sections and contributions lie, the values of globals, what the map lists.
 #[tactic(auto, using(crate::proofs::Agreeing::written_by_definition))]
 pub fn plans_write_by_definition()
-    ensures { (bottom : ℕ) (parts others : List Part) (plan : Planned) → IsPlanOf bottom parts plan
+    ensures { (bottom : ℕ) (parts others : List Part) (plan : PlanTables) → IsPlanOf bottom parts plan
         → link_writes (planned plan) others ≡ link_writes (findings_of bottom parts) others }
 {}

@@ -40,9 +40,9 @@ pub(crate) struct Reporter {
 
 impl Model for Reporter {
     ghost use Rattle.std.specs.Prelude.{Some, None, if◌then◌else◌};
-    ghost use Rattle.m11_link.specs.Emit.{Reporting};
+    ghost use Rattle.m11_link.specs.Emit.{ReporterState};
 
-    ghost Value = { Reporting };
+    ghost Value = { ReporterState };
 
     ghost view = { λ t. record {
       plan = t.plan;
@@ -95,7 +95,7 @@ impl Reporter {
     /// may give messages.
     ///
     /// `Write` where an output failed; `NoMemory` where there is none for a block of the tape or a name.
-    pub(crate) fn note_directory<S: Sink, U: Sink>(
+    pub(crate) fn report_directory<S: Sink, U: Sink>(
         &mut self,
         module_index: usize,
         entries: &[GsdEntry],
@@ -109,13 +109,13 @@ impl Reporter {
             (with_directory module_index entries.now self.old) result }
     {
         self.end_text(tape)?;
-        self.note_entries(module_index, entries, messages)
+        self.report_entries(module_index, entries, messages)
     }
 
     /// Holds a text that stands at this location, since relocations may follow it. One that is held ends before it.
     ///
     /// `Write` where the tape failed; `NoMemory` where there is none for a block of it.
-    pub(crate) fn note_text<S: Sink>(
+    pub(crate) fn hold_text<S: Sink>(
         &mut self,
         location: ModuleSection,
         address: u16,
@@ -194,7 +194,7 @@ impl Reporter {
     }
 
     // Notes the entries of a directory record in their order, in which their messages come.
-    fn note_entries<U: Sink>(
+    fn report_entries<U: Sink>(
         &mut self,
         module_index: usize,
         entries: &[GsdEntry],
@@ -207,7 +207,7 @@ impl Reporter {
             self.new (with_entries module_index entries.now self.old) result }
     {
         'entries: for entry in entries {
-            match self.note_entry(module_index, entry, messages) {
+            match self.report_entry(module_index, entry, messages) {
                 Ok(()) => {}
                 Err(fault) => return Err(fault),
             }
@@ -216,7 +216,7 @@ impl Reporter {
     }
 
     // Notes an entry. Only sections and globals can be at odds with other modules, so others give no message.
-    fn note_entry<U: Sink>(
+    fn report_entry<U: Sink>(
         &mut self,
         module_index: usize,
         entry: &GsdEntry,
@@ -229,9 +229,9 @@ impl Reporter {
             (with_entry module_index entry.now self.old) result }
     {
         match entry.kind {
-            GsdKind::ControlSection => self.note_section(module_index, entry, messages),
-            GsdKind::ProgramSection => self.note_section(module_index, entry, messages),
-            GsdKind::GlobalSymbol => self.note_symbol(module_index, entry, messages),
+            GsdKind::ControlSection => self.report_section(module_index, entry, messages),
+            GsdKind::ProgramSection => self.report_section(module_index, entry, messages),
+            GsdKind::GlobalSymbol => self.report_symbol(module_index, entry, messages),
             GsdKind::ModuleName => Ok(()),
             GsdKind::InternalSymbol => Ok(()),
             GsdKind::TransferAddress => Ok(()),
@@ -240,7 +240,7 @@ impl Reporter {
     }
 
     // A section, which is reported where its attributes aren't those of its first entry.
-    fn note_section<U: Sink>(
+    fn report_section<U: Sink>(
         &mut self,
         module_index: usize,
         entry: &GsdEntry,
@@ -254,7 +254,7 @@ impl Reporter {
             self.old) result }
     {
         match section_attributes(entry) {
-            Some(attributes) => self.note_section_with(
+            Some(attributes) => self.report_section_with(
                 module_index,
                 entry.name,
                 attributes,
@@ -265,7 +265,7 @@ impl Reporter {
     }
 
     // Reports a section that is entered with these attributes, where those of its first entry are others.
-    fn note_section_with<U: Sink>(
+    fn report_section_with<U: Sink>(
         &mut self,
         module_index: usize,
         name: Name,
@@ -304,7 +304,7 @@ impl Reporter {
     }
 
     // A global, which is reported where it is defined again.
-    fn note_symbol<U: Sink>(
+    fn report_symbol<U: Sink>(
         &mut self,
         module_index: usize,
         entry: &GsdEntry,

@@ -4,7 +4,7 @@ ghost use Rattle.std.specs.Prelude.{◌≡◌, None, ℕ, List, is_some};
 ghost use Rattle.m11_link.specs.Objects.{AreItems, Item};
 ghost use Rattle.m11_link.specs.FirstPass.{LaysOut, LaysOutObject, ReadsFirst, StandsBetween, of_block, pass_of};
 ghost use Rattle.m11_link_layout.specs.Layout.{LayoutStands};
-ghost use Rattle.m11_link_layout.specs.Plan.{Planned};
+ghost use Rattle.m11_link_layout.specs.Plan.{PlanTables};
 ghost use Rattle.m11_link_modules.specs.Parts.{Part, EndOfFile};
 ghost use Rattle.m11_link_modules.specs.Rules.{fault_of};
 ghost use Rattle.m11_link.specs.Emit.{written};
@@ -152,7 +152,7 @@ fn emit_all<F: Feed, S: Sink, T: Sink, U: Sink>(
     map: &mut Option<T>,
     messages: &mut U,
 ) -> Result<(), LinkFault>
-    ensures emits { (plan : Planned) (before : List Part) (first : Outputs) → emitting.EmitStands plan before emit.old
+    ensures emits { (plan : PlanTables) (before : List Part) (first : Outputs) → emitting.EmitStands plan before emit.old
         → fault_of before EndOfFile ≡ None
         → Gains first
         (outputs_of S.Sink T.Sink U.Sink tape.old map.old messages.old)
@@ -178,7 +178,7 @@ fn emit_object<F: Feed, S: Sink, T: Sink, U: Sink>(
     map: &mut Option<T>,
     messages: &mut U,
 ) -> Result<(), LinkFault>
-    ensures emits { (plan : Planned) (before : List Part) (first : Outputs) → emitting.EmitStands plan before emit.old
+    ensures emits { (plan : PlanTables) (before : List Part) (first : Outputs) → emitting.EmitStands plan before emit.old
         → Gains first
         (outputs_of S.Sink T.Sink U.Sink tape.old map.old messages.old)
         (written plan emit.old.has_begun before)

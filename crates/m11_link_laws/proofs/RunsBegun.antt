@@ -4,7 +4,7 @@ use Rattle.m11_base.specs.Feed.{BeginsWith, HasBytes, OneFailed, Text}
 use Rattle.m11_obj_blocks.specs.Limited.{most_bytes}
 use Rattle.m11_obj_blocks.specs.Tapes.{tape_block}
 use Rattle.m11_link_modules.specs.Parts.{Part}
-use Rattle.m11_link_layout.specs.Plan.{Planned}
+use Rattle.m11_link_layout.specs.Plan.{PlanTables}
 use Rattle.m11_link_layout.specs.declared.fault.LinkFault.{LinkFault}
 use Rattle.m11_link_layout.specs.declared.fault.LinkFault.TheVariants as fault
 use Rattle.m11_link_text.specs.Findings.{Findings, planned}
@@ -134,7 +134,7 @@ parts_begin found these rest =
         → Begins (parts_writes found (these ++ rest)) (parts_writes found these)
     reported_from found these rest = (_, parts_more found these rest)
 
-written_begins : (plan : Planned) (has_begun : Bool) (parts these rest : List Part) → parts ≡ these ++ rest
+written_begins : (plan : PlanTables) (has_begun : Bool) (parts these rest : List Part) → parts ≡ these ++ rest
     → Begins (link_writes (planned plan) parts) (written plan has_begun these)
 written_begins plan false parts these rest split = (link_writes (planned plan) parts, refl)
 written_begins plan true parts these rest split =
@@ -165,7 +165,7 @@ nothing_begun old new all same =
     subst P (sym same) (λ output. ([], gained link output all, refl, keeps (old output).text))
 
 module _ {F : Type 0} (text : F → Option Text) (faults : F → ℕ) (feeds feeds' : List F) (sources : List (List ℕ))
-    (items : List Item) (are : AreItems sources items) (known : AreKnown text feeds sources) (plan : Planned)
+    (items : List Item) (are : AreItems sources items) (known : AreKnown text feeds sources) (plan : PlanTables)
     (parts : List Part) (taken-is : taken [] items ≡ Ok parts) (old new : Outputs) where
   abbrev Begun : Type 0
   Begun = LeavesBeginnings link old new (link_writes (planned plan) parts)

@@ -3,7 +3,7 @@ use Rattle.std.proofs.Common.{◌≡◌, ◌∙◌, ℕ, Bool, true, false, if�
 use Rattle.std.specs.Prelude.{⊤}
 use Rattle.m11_base.specs.Feed.{GiveAll, HasBytes, Text}
 use Rattle.m11_link_modules.specs.Parts.{Part}
-use Rattle.m11_link_layout.specs.Plan.{IsPlanOf, Planned}
+use Rattle.m11_link_layout.specs.Plan.{IsPlanOf, PlanTables}
 use Rattle.m11_link_layout.specs.Sections.{is_too_large}
 use Rattle.m11_link_layout.specs.declared.fault.LinkFault.{LinkFault}
 use Rattle.m11_link_layout.specs.declared.fault.LinkFault.TheVariants as fault
@@ -80,11 +80,11 @@ module _ {F : Type 0} (text : F → Option Text) (faults : F → ℕ) (bottom : 
     first_says fault.NoMemory h = inl tt
     first_says stopped h = inr (ap (outcome bottom) (sym (same_items first known h.1 h.2)) ∙ h.3)
 
-    first_plans : (plan : Planned) → ReadsFirst (pass_of text faults first first') bottom (Ok plan)
+    first_plans : (plan : PlanTables) → ReadsFirst (pass_of text faults first first') bottom (Ok plan)
         → (parts : List Part) × (outcome bottom items ≡ Ok parts) × IsPlanOf bottom parts plan
     first_plans plan h = (h.3, ap (outcome bottom) (sym (same_items first known h.1 h.2)) ∙ h.4, h.5)
 
-  module _ (second second' : List F) (known : AreKnown text second sources) (plan : Planned) (old new : Outputs) where
+  module _ (second second' : List F) (known : AreKnown text second sources) (plan : PlanTables) (old new : Outputs) where
     second_says : (stopped : LinkFault) → ReadsSecond (pass_of text faults second second') plan old new (Err stopped)
         → MayStop stopped ⊎ (taken [] items ≡ Err stopped)
     second_says fault.Read h = inl tt
@@ -150,7 +150,7 @@ module _ {F : Type 0} (text : F → Option Text) (faults : F → ℕ) (bottom : 
 
   module _ (first first' second second' : List F) (known : AreKnown text first sources)
       (again : AreKnown text second sources) (old new : Outputs) where
-    all_written : (parts : List Part) (done : LinkDone) → outcome bottom items ≡ Ok parts → (plan : Planned)
+    all_written : (parts : List Part) (done : LinkDone) → outcome bottom items ≡ Ok parts → (plan : PlanTables)
         → ReadsFirst (pass_of text faults first first') bottom (Ok plan)
         → ReadsSecond (pass_of text faults second second') plan old new (Ok done) → IsDecided bottom (Ok parts) old new (Ok done)
     all_written parts done e plan h k =
@@ -165,7 +165,7 @@ module _ {F : Type 0} (text : F → Option Text) (faults : F → ℕ) (bottom : 
         let G : List Write → Type 0 = λ these. Gains old new these in
         (subst G ws wrote.2, wrote.3 ∙ ap (λ these. counted 0 these) ws, wrote.4)
 
-    begun : (parts : List Part) → outcome bottom items ≡ Ok parts → (stopped : LinkFault) → (plan : Planned)
+    begun : (parts : List Part) → outcome bottom items ≡ Ok parts → (stopped : LinkFault) → (plan : PlanTables)
         → ReadsFirst (pass_of text faults first first') bottom (Ok plan) → taken [] items ≡ Ok parts
         → ReadsSecond (pass_of text faults second second') plan old new (Err stopped)
         → LeavesBeginnings link old new (link_writes (findings_of bottom parts) parts)

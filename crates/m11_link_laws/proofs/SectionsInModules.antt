@@ -10,13 +10,13 @@ use Rattle.m11_link_modules.specs.declared.stage.Stage.{Stage}
 use Rattle.m11_link_modules.specs.declared.stage.Stage.TheVariants.{Between, InDirectory, InBody}
 use Rattle.m11_link_modules.specs.Grammar.{FileEnds, Item, RecordOf, items_parts}
 use Rattle.m11_link_modules.specs.Parts.{Part, Directory, Entry, EndOfDirectory, Text, Relocations, Relocated, EndOfModule, EndOfFile, parts_of}
-use Rattle.m11_link_modules.specs.Positions.{Known, global_of, known_of, modules_in, section_names, sections_in, stage_after, this_module}
+use Rattle.m11_link_modules.specs.Positions.{RulesState, global_of, known_of, modules_in, section_names, sections_in, stage_after, this_module}
 use Rattle.m11_link_modules.specs.Rules.{InLimits, fault_of, first_fault, most_modules, most_sections}
 use Rattle.m11_link_modules.specs.Steps.{known_after, with_entry, with_optional_global}
 use Rattle.m11_link_modules.proofs.KnownAfter.{known_after_part}
 use Rattle.m11_link_layout.proofs.Walking.{head_none, rest_none}
 use Rattle.m11_link_laws.specs.Tables.{gathered_of}
-use Rattle.m11_link_layout.specs.Plan.{IsPlanOf, Planned}
+use Rattle.m11_link_layout.specs.Plan.{IsPlanOf, PlanTables}
 use Rattle.m11_link_layout.proofs.TablesBounded.{in_all, no_less, tables_of, entered_few}
 
 -- ---- entries stand after the beginning of a directory record
@@ -64,10 +64,10 @@ items_filled (FileEnds ∷ items) stage = items_filled items stage
 
 -- ---- between modules, no section was entered since the last end
 
-abbrev Entering : Known → Type 0
+abbrev Entering : RulesState → Type 0
 Entering known = known.stage ≡ Between → known.entered ≡ []
 
-entry_stage : (kind : GsdKind) (entry : GsdEntry) (known : Known) → (with_entry kind entry known).stage ≡ known.stage
+entry_stage : (kind : GsdKind) (entry : GsdEntry) (known : RulesState) → (with_entry kind entry known).stage ≡ known.stage
 entry_stage ControlSection entry known = refl
 entry_stage ProgramSection entry known = refl
 entry_stage GlobalSymbol entry known = refl
@@ -76,13 +76,13 @@ entry_stage InternalSymbol entry known = refl
 entry_stage TransferAddress entry known = refl
 entry_stage Identification entry known = refl
 
-global_alone : (global : Option (ℕ × ℕ)) (known : Known) → ((with_optional_global global known).stage ≡ known.stage)
+global_alone : (global : Option (ℕ × ℕ)) (known : RulesState) → ((with_optional_global global known).stage ≡ known.stage)
     × ((with_optional_global global known).entered ≡ known.entered)
 global_alone None known = (refl, refl)
 global_alone (Some name) known = (refl, refl)
 
 -- one more part, and those after it from there on
-entering_step : (known : Known) (part : Part) (parts : List Part) → Filled known.stage (part ∷ parts) → Entering known
+entering_step : (known : RulesState) (part : Part) (parts : List Part) → Filled known.stage (part ∷ parts) → Entering known
     → Entering (known_after known part) × Filled (known_after known part).stage parts
 unfolding known_after
 entering_step known Directory parts f h = ((λ e. absurd (in_directory e)), f)
@@ -109,7 +109,7 @@ entering_after before (part ∷ parts) n f h =
     let head = head_none (fault_of before part) (first_fault (before ++ part ∷ []) parts) n in
     let rest = rest_none (fault_of before part) (first_fault (before ++ part ∷ []) parts) n in
     let P : List Part → Type 0 = λ all. Entering (known_of all) in
-    let Q : Known → Type 0 = λ known. Entering known × Filled known.stage parts in
+    let Q : RulesState → Type 0 = λ known. Entering known × Filled known.stage parts in
     let step = subst Q (sym (known_after_part before part head)) (entering_step (known_of before) part parts f h) in
     subst P (append_snoc before part parts) (entering_after (before ++ part ∷ []) parts rest step.1 step.0)
 
@@ -161,7 +161,7 @@ records_contribute bottom items n =
     no_less (length (gathered_of bottom parts).contributions) (length (sections_in parts))
     (most_modules * most_sections) (tables_of bottom parts n).contributions (records_enter_few items n)
 
-pub whole_plan_contributes : (bottom : ℕ) (items : List Item) (plan : Planned) → first_fault [] (items_parts items) ≡ None
+pub whole_plan_contributes : (bottom : ℕ) (items : List Item) (plan : PlanTables) → first_fault [] (items_parts items) ≡ None
     → IsPlanOf bottom (items_parts items) plan
     → length plan.gathered.contributions ≤ most_modules * most_sections
 whole_plan_contributes bottom items plan n p =

@@ -3,11 +3,11 @@ use Rattle.std.specs.Prelude.{◌≡◌, ℕ, ◌+◌, ◌*◌, ◌≤◌, List,
 use Rattle.m11_link_modules.specs.Parts.{Part}
 use Rattle.m11_link_modules.specs.Positions.{global_names, known_of, modules_in, section_names, sections_in}
 use Rattle.m11_link_modules.specs.Rules.{most_globals, most_modules, most_sections}
-use Rattle.m11_link_layout.specs.Tables.{Gathered, gathered_after_all, nothing_gathered}
+use Rattle.m11_link_layout.specs.Tables.{LayoutTables, gathered_after_all, nothing_gathered}
 use Rattle.m11_link.specs.Written.{defined_names}
 
 -- what a layout gathers of parts
-abbrev pub gathered_of : ℕ → List Part → Gathered
+abbrev pub gathered_of : ℕ → List Part → LayoutTables
 gathered_of bottom parts = gathered_after_all bottom nothing_gathered parts
 
 -- a name for each module that ended

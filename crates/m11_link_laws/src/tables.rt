@@ -4,7 +4,7 @@ ghost use Rattle.std.specs.Prelude.{◌≡◌, ℕ, ◌*◌, ◌≤◌, List, []
 ghost use Rattle.m11_link_modules.specs.Grammar.{Item, items_parts};
 ghost use Rattle.m11_link_modules.specs.Parts.{Part};
 ghost use Rattle.m11_link_modules.specs.Rules.{first_fault, most_modules, most_sections};
-ghost use Rattle.m11_link_layout.specs.Plan.{IsPlanOf, Planned, TablesBounded, TablesGrow};
+ghost use Rattle.m11_link_layout.specs.Plan.{IsPlanOf, PlanTables, TablesBounded, TablesGrow};
 ghost use Rattle.m11_link_laws.specs.Tables.{ContributionsKept, GlobalsKept, ModulesKept, SectionsKept, gathered_of};
 
 /// The tables that a link keeps of objects without a fault grow with the names of modules, sections and globals, and
@@ -19,9 +19,9 @@ pub fn tables_grow_with_names_alone()
     ensures globals { (bottom : ℕ) (parts : List Part) → first_fault [] parts ≡ None → GlobalsKept bottom parts }
     ensures records { (bottom : ℕ) (items : List Item) → first_fault [] (items_parts items) ≡ None
         → length (gathered_of bottom (items_parts items)).contributions ≤ most_modules * most_sections }
-    ensures plans { (bottom : ℕ) (parts : List Part) (plan : Planned)
+    ensures plans { (bottom : ℕ) (parts : List Part) (plan : PlanTables)
         → IsPlanOf bottom parts plan → TablesGrow parts plan × TablesBounded plan }
-    ensures whole_plans { (bottom : ℕ) (items : List Item) (plan : Planned) → first_fault [] (items_parts items) ≡ None
+    ensures whole_plans { (bottom : ℕ) (items : List Item) (plan : PlanTables) → first_fault [] (items_parts items) ≡ None
         → IsPlanOf bottom (items_parts items) plan
         → length plan.gathered.contributions ≤ most_modules * most_sections }
 {}

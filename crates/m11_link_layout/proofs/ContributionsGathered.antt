@@ -13,7 +13,7 @@ use Rattle.m11_link_modules.specs.declared.fault.ModuleFault.TheVariants.{BadOrd
 use Rattle.m11_link_modules.specs.Parts.{Part, Directory, Entry, EndOfDirectory, Text, Relocations, Relocated, EndOfModule, EndOfFile}
 use Rattle.m11_link_modules.specs.Positions.{global_of, known_of, modules_in, section_by, section_in, sections_in, this_module}
 use Rattle.m11_link_modules.specs.Rules.{entry_fault, fault_known, fault_of, first_there, is_past, most_sections}
-use Rattle.m11_link_layout.specs.Tables.{Gathered, gathered_after, is_contribution, next_offset, nothing_gathered, with_entry}
+use Rattle.m11_link_layout.specs.Tables.{LayoutTables, gathered_after, is_contribution, next_offset, nothing_gathered, with_entry}
 use Rattle.m11_link_layout.specs.Modules.{module_at}
 use Rattle.m11_link_layout.specs.Sections.{attribute_bits, attributes_by, attributes_in, control_attributes}
 use Rattle.m11_link_layout.proofs.OneContribution.{contribution_entered, contribution_kept}
@@ -40,7 +40,7 @@ kept before part old new e a s c =
     let P : Contributions → Type 0 = λ contributions. ContributionsOf (before ++ part ∷ []) contributions in
     subst P (sym e) (λ index name. c index name ∙ sym (contribution_kept before part index name a s))
 
-entered : (before : List Part) (part : Part) (g : Gathered) (new : Contributions) (name : ℕ × ℕ) (attributes size : ℕ)
+entered : (before : List Part) (part : Part) (g : LayoutTables) (new : Contributions) (name : ℕ × ℕ) (attributes size : ℕ)
     → new ≡ insert_entry is_contribution g.contributions (length g.names, name)
     (next_offset (lookup (is_same_name name) g.sections))
     → filter_map attributes_in (part ∷ []) ≡ (name, attributes) ∷ []
@@ -63,10 +63,10 @@ none_there : (found : Option ℕ) (past : Bool) → first_there
 none_there None past e = refl
 none_there (Some size) past e = search
 
-abbrev contributions_reported : Gathered → Contributions
+abbrev contributions_reported : LayoutTables → Contributions
 contributions_reported g = g.contributions
 
-entry_step : (bottom : ℕ) (before : List Part) (g : Gathered) (kind : GsdKind) (entry : GsdEntry)
+entry_step : (bottom : ℕ) (before : List Part) (g : LayoutTables) (kind : GsdKind) (entry : GsdEntry)
     → filter_map attributes_in (Entry entry ∷ []) ≡ cons_option (attributes_by kind entry) []
     → filter_map section_in (Entry entry ∷ []) ≡ cons_option (section_by kind entry) []
     → entry_fault kind entry (sections_in (this_module before)) (known_of before).sections (known_of before).globals
@@ -96,7 +96,7 @@ pub no_fault : (before : List Part) (entry : GsdEntry) → fault_of before (Entr
 unfolding fault_known known_of
 no_fault before entry n = n
 
-pub contributions_step : (bottom : ℕ) (before : List Part) (g : Gathered) (part : Part) → fault_of before part ≡ None
+pub contributions_step : (bottom : ℕ) (before : List Part) (g : LayoutTables) (part : Part) → fault_of before part ≡ None
     → length g.names ≡ modules_in before → SectionsOf before g.sections → ContributionsOf before g.contributions
     → ContributionsOf (before ++ part ∷ []) (gathered_after bottom g part).contributions
 unfolding gathered_after

@@ -11,7 +11,7 @@ use Rattle.m11_link_modules.specs.Parts.{Part, Directory, Entry, EndOfDirectory,
 use Rattle.m11_link_modules.specs.Positions.{distinct, global_of, modules_in, this_module}
 use Rattle.m11_link_modules.specs.Rules.{defines}
 use Rattle.m11_obj.specs.Gsd.{has_bits}
-use Rattle.m11_link_layout.specs.Tables.{Gathered, gathered_after, nothing_gathered, with_definition, with_entry, with_first, with_reference, with_relocated, with_weak}
+use Rattle.m11_link_layout.specs.Tables.{LayoutTables, gathered_after, nothing_gathered, with_definition, with_entry, with_first, with_reference, with_relocated, with_weak}
 use Rattle.m11_link_layout.specs.Globals.{definition_by, definition_in, definitions_of, first_definition, last_section, location_of}
 use Rattle.m11_link_layout.specs.declared.definition.Definition.{Definition}
 use Rattle.std.specs.Option.{option_or}
@@ -94,7 +94,7 @@ pair_found pairs table (Some pair) name e =
     ∙ ap (λ found. option_or found (cond (is_same_name name pair.0) (Some pair.1) None)) e
     ∙ sym (lookup_append (is_same_name name) pairs (pair ∷ []))
 
-symbol_definitions : (b c : Bool) (entry : GsdEntry) (g : Gathered)
+symbol_definitions : (b c : Bool) (entry : GsdEntry) (g : LayoutTables)
     → (if b then with_definition entry g else if c then with_weak entry.name g else with_reference entry.name true
     g).definitions
     ≡ with_first g.definitions
@@ -104,7 +104,7 @@ symbol_definitions true c entry g = refl
 symbol_definitions false true entry g = refl
 symbol_definitions false false entry g = refl
 
-entry_definitions : (bottom : ℕ) (kind : GsdKind) (entry : GsdEntry) (g : Gathered)
+entry_definitions : (bottom : ℕ) (kind : GsdKind) (entry : GsdEntry) (g : LayoutTables)
     → (with_entry bottom kind entry g).definitions
     ≡ with_first g.definitions (definition_by kind entry (length g.names) g.section)
 entry_definitions bottom ControlSection entry g = refl
@@ -115,11 +115,11 @@ entry_definitions bottom TransferAddress entry g = refl
 entry_definitions bottom GlobalSymbol entry g = symbol_definitions (defines entry) (has_bits 1 entry.flags) entry g
 entry_definitions bottom Identification entry g = refl
 
-relocated_definitions : (global : Option (ℕ × ℕ)) (g : Gathered) → (with_relocated global g).definitions ≡ g.definitions
+relocated_definitions : (global : Option (ℕ × ℕ)) (g : LayoutTables) → (with_relocated global g).definitions ≡ g.definitions
 relocated_definitions None g = refl
 relocated_definitions (Some name) g = refl
 
-reported_definitions : (bottom : ℕ) (before : List Part) (g : Gathered) (part : Part) → length g.names ≡ modules_in before
+reported_definitions : (bottom : ℕ) (before : List Part) (g : LayoutTables) (part : Part) → length g.names ≡ modules_in before
     → g.section ≡ last_section (this_module before)
     → (gathered_after bottom g part).definitions ≡ with_first g.definitions (definition_in before part)
 unfolding gathered_after
@@ -134,7 +134,7 @@ reported_definitions bottom before g (Relocated relocation) l s = relocated_defi
 reported_definitions bottom before g EndOfModule l s = refl
 reported_definitions bottom before g EndOfFile l s = refl
 
-pub definitions_step : (bottom : ℕ) (before : List Part) (g : Gathered) (part : Part)
+pub definitions_step : (bottom : ℕ) (before : List Part) (g : LayoutTables) (part : Part)
     → length g.names ≡ modules_in before
     → g.section ≡ last_section (this_module before) → DefinitionsOf before g.definitions
     → DefinitionsOf (before ++ part ∷ []) (gathered_after bottom g part).definitions

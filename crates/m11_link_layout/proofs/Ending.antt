@@ -9,8 +9,8 @@ use Rattle.m11_link_modules.specs.declared.stage.Stage.TheVariants.{Between, InD
 use Rattle.m11_link_modules.specs.Parts.{Part, EndOfFile}
 use Rattle.m11_link_modules.specs.Positions.{known_of}
 use Rattle.m11_link_modules.specs.Rules.{fault_known, fault_of, first_fault, may_stand}
-use Rattle.m11_link_layout.specs.Tables.{Gathered, gathered_after, gathered_after_all, nothing_gathered}
-use Rattle.m11_link_layout.specs.Plan.{LayoutEnds, IsPlan, PlacesAll, Planned, Plans, StopsAtSection, bases_onto}
+use Rattle.m11_link_layout.specs.Tables.{LayoutTables, gathered_after, gathered_after_all, nothing_gathered}
+use Rattle.m11_link_layout.specs.Plan.{LayoutEnds, IsPlan, PlacesAll, PlanTables, Plans, StopsAtSection, bases_onto}
 use Rattle.m11_link_layout.specs.Layout.{FirstFault, LayoutState, LayoutStands}
 use Rattle.m11_link_layout.specs.declared.fault.LinkFault.{LinkFault}
 use Rattle.m11_link_layout.specs.declared.fault.LinkFault.TheVariants as fault
@@ -21,7 +21,7 @@ use Rattle.m11_link_layout.proofs.Walking.{head_none, rest_none}
 
 -- ---- a plan that isn't made
 
-pub plan_failed : (bottom : ℕ) (gathered : Gathered) (entries new : List ((ℕ × ℕ) × ℕ)) (said : LinkFault)
+pub plan_failed : (bottom : ℕ) (gathered : LayoutTables) (entries new : List ((ℕ × ℕ) × ℕ)) (said : LinkFault)
     → entries ≡ []
     → PlacesAll entries bottom gathered.sections new (Err said) → Plans bottom gathered (Err said)
 plan_failed bottom gathered entries new fault.TooLarge e h =
@@ -71,13 +71,13 @@ nothing_more : (bottom : ℕ) (before : List Part)
 unfolding gathered_after
 nothing_more bottom before = gathered_append bottom nothing_gathered before (EndOfFile ∷ [])
 
-planned : (bottom : ℕ) (before : List Part) (reading : LayoutState) (plan : Planned)
+planned : (bottom : ℕ) (before : List Part) (reading : LayoutState) (plan : PlanTables)
     → LayoutStands bottom (before ++ EndOfFile ∷ []) reading
     → Plans reading.bottom reading.gathered (Ok plan) → IsPlan bottom before plan
 planned bottom before reading plan s h =
-    let P : Gathered → Type 0 = λ g. plan.gathered ≡ g in
+    let P : LayoutTables → Type 0 = λ g. plan.gathered ≡ g in
     let Q : ℕ → Type 0 = λ n. plan.bottom ≡ n in
-    let R : Gathered → Type 0 = λ g. bases_onto [] reading.bottom g.sections
+    let R : LayoutTables → Type 0 = λ g. bases_onto [] reading.bottom g.sections
     ≡ Some (record { bases = plan.bases; top = plan.top }) in
     let S : ℕ → Type 0 = λ n. bases_onto [] n plan.gathered.sections
     ≡ Some (record { bases = plan.bases; top = plan.top }) in
@@ -91,12 +91,12 @@ too_large : (bottom : ℕ) (before : List Part) (reading : LayoutState) → Layo
     → bases_onto [] reading.bottom reading.gathered.sections ≡ None
     → bases_onto [] bottom (gathered_after_all bottom nothing_gathered before).sections ≡ None
 too_large bottom before reading s h =
-    let P : Gathered → Type 0 = λ g. bases_onto [] bottom g.sections ≡ None in
+    let P : LayoutTables → Type 0 = λ g. bases_onto [] bottom g.sections ≡ None in
     let S : ℕ → Type 0 = λ n. bases_onto [] n reading.gathered.sections ≡ None in
     subst P (nothing_more bottom before) (subst P s.gathered (subst S s.bottom_is h))
 
 -- the plan after the end of the last file
-pub ended : (bottom : ℕ) (before : List Part) (reading : LayoutState) (result : Result Planned LinkFault)
+pub ended : (bottom : ℕ) (before : List Part) (reading : LayoutState) (result : Result PlanTables LinkFault)
     → LayoutStands bottom (before ++ EndOfFile ∷ []) reading → Plans reading.bottom reading.gathered result
     → LayoutEnds bottom before result
 ended bottom before reading (Ok plan) s h = (
@@ -112,7 +112,7 @@ ended bottom before reading (Err fault.TooLarge) s h = (
 )
 ended bottom before reading (Err fault.NoMemory) s h = (
   end_sound [] before s.sound,
-  (let P : Gathered → Type 0 = λ g. StopsAtSection [] bottom g.sections in
+  (let P : LayoutTables → Type 0 = λ g. StopsAtSection [] bottom g.sections in
       let S : ℕ → Type 0 = λ n. StopsAtSection [] n reading.gathered.sections in
       subst P (nothing_more bottom before) (subst P s.gathered (subst S s.bottom_is h))),
 )
@@ -131,7 +131,7 @@ ended bottom before reading (Err fault.TooMuch) s h = absurd h
 ended bottom before reading (Err fault.TextOutside) s h = absurd h
 
 pub ended_seen : {seen : LayoutState} (bottom : ℕ) (before : List Part) (reading : LayoutState)
-    (result : Result Planned LinkFault) → seen ≡ reading
+    (result : Result PlanTables LinkFault) → seen ≡ reading
     → LayoutStands bottom (before ++ EndOfFile ∷ []) reading → Plans seen.bottom seen.gathered result
     → LayoutEnds bottom before result
 ended_seen {seen} bottom before reading result is s h =

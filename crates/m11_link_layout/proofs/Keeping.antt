@@ -3,10 +3,10 @@ use Rattle.std.proofs.Common.{◌≡◌, ℕ, Bool, true, false, if◌then◌els
 use Rattle.m11_obj.specs.declared.gsd.GsdEntry.{GsdEntry}
 use Rattle.m11_link_modules.specs.Rules.{defines}
 use Rattle.m11_obj.specs.Gsd.{has_bits}
-use Rattle.m11_link_layout.specs.Tables.{Gathered, with_definition, with_reference, with_relocated, with_symbol, with_weak}
+use Rattle.m11_link_layout.specs.Tables.{LayoutTables, with_definition, with_reference, with_relocated, with_symbol, with_weak}
 use Rattle.m11_link_layout.specs.declared.definition.Definition.{Definition}
 
-module _ {A : Type 0} (F : Gathered → A) (g : Gathered)
+module _ {A : Type 0} (F : LayoutTables → A) (g : LayoutTables)
     (keeps : (definitions : List ((ℕ × ℕ) × Definition)) (references : List ((ℕ × ℕ) × Bool)) (weak : List (ℕ × ℕ))
     → F (record g { definitions = definitions; references = references; weak = weak }) ≡ F g) where
   by_symbol : (b c : Bool) (entry : GsdEntry)

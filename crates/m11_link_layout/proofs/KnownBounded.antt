@@ -19,7 +19,7 @@ use Rattle.m11_link_modules.specs.declared.stage.Stage.{Stage}
 use Rattle.m11_link_modules.specs.declared.stage.Stage.TheVariants.{Between, InDirectory, InBody}
 use Rattle.m11_link_modules.specs.Names.{is_among}
 use Rattle.m11_link_modules.specs.Parts.{Part, Directory, Entry, EndOfDirectory, Text, Relocations, Relocated, EndOfModule, EndOfFile}
-use Rattle.m11_link_modules.specs.Positions.{Known}
+use Rattle.m11_link_modules.specs.Positions.{RulesState}
 use Rattle.m11_link_modules.specs.Rules.{InLimits, begin_fault, entering_fault, entry_fault, fault_known, first_there, global_fault, is_past, location_fault, may_stand, most_globals, most_modules, most_sections, relocation_by}
 use Rattle.m11_link_modules.specs.Steps.{known_after, with_entry, with_global, with_section, with_target}
 use Rattle.m11_link_layout.proofs.Finding.{Apart, apart_inserted}
@@ -36,7 +36,7 @@ pub record BoundsOf (stage : Stage) (count : ℕ) (names symbols : List (ℕ × 
   pub apart : Apart is_same_name (keys_of entered)
   pub within : Within (keys_of entered) names
 
-abbrev pub Bounded : Known → Type 0
+abbrev pub Bounded : RulesState → Type 0
 Bounded known = BoundsOf known.stage known.modules known.sections known.globals known.entered
 
 -- ---- there is no such fault
@@ -73,7 +73,7 @@ inserted_within names others name w other a =
     ∙ or_within (is_among names other) (is_among others other) (is_same_name other name || false) (w other)
     (sym (among_inserted names name other) ∙ a)
 
-section_bounded : (entry : GsdEntry) (known : Known) → entering_fault known.entered known.sections entry.name ≡ None
+section_bounded : (entry : GsdEntry) (known : RulesState) → entering_fault known.entered known.sections entry.name ≡ None
     → Bounded known → Bounded (with_section entry known)
 section_bounded entry known e b =
     let once = first_none (is_some (lookup (is_same_name entry.name) known.entered)) BadOrder
@@ -91,7 +91,7 @@ section_bounded entry known e b =
       within = subst Q (sym keys) (inserted_within (keys_of known.entered) known.sections entry.name b.within);
     }
 
-global_bounded : (name : ℕ × ℕ) (known : Known) → global_fault known.globals name ≡ None → Bounded known
+global_bounded : (name : ℕ × ℕ) (known : RulesState) → global_fault known.globals name ≡ None → Bounded known
     → Bounded (with_global name known)
 global_bounded name known e b =
     let room = first_none (is_past most_globals known.globals name) TooManyGlobals [] e in
@@ -105,7 +105,7 @@ global_bounded name known e b =
 
 -- ---- one more part
 
-entry_bounded : (kind : GsdKind) (entry : GsdEntry) (known : Known)
+entry_bounded : (kind : GsdKind) (entry : GsdEntry) (known : RulesState)
     → entry_fault kind entry known.entered known.sections known.globals ≡ None → Bounded known
     → Bounded (with_entry kind entry known)
 entry_bounded ControlSection entry known e b = section_bounded entry known e b
@@ -116,7 +116,7 @@ entry_bounded InternalSymbol entry known e b = b
 entry_bounded TransferAddress entry known e b = b
 entry_bounded Identification entry known e b = b
 
-target_bounded : (t : Target) (relocation : Relocation) (known : Known)
+target_bounded : (t : Target) (relocation : Relocation) (known : RulesState)
     → relocation_by t relocation known.entered known.text known.globals ≡ None → Bounded known
     → Bounded (with_target t known)
 target_bounded (target.Global name) relocation known e b =
@@ -171,7 +171,7 @@ module_ends InBody modules e l = omega (arith, l)
 none_within : (names : List (ℕ × ℕ)) → Within [] names
 none_within names name a = absurd (true≢false (sym a))
 
-pub bounded_step : (known : Known) (part : Part) → fault_known known part ≡ None → Bounded known
+pub bounded_step : (known : RulesState) (part : Part) → fault_known known part ≡ None → Bounded known
     → Bounded (known_after known part)
 unfolding known_after fault_known
 bounded_step known Directory e b = record {

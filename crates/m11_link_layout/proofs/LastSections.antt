@@ -10,7 +10,7 @@ use Rattle.m11_obj.specs.declared.gsd.GsdKind.TheVariants.{ModuleName, ControlSe
 use Rattle.m11_link_modules.specs.Parts.{Part, Directory, Entry, EndOfDirectory, Text, Relocations, Relocated, EndOfModule, EndOfFile}
 use Rattle.m11_link_modules.specs.Positions.{ends_module, global_of, section_by, section_in, sections_in, this_module}
 use Rattle.m11_link_modules.proofs.KnownAfter.{this_module_ended, this_module_goes_on}
-use Rattle.m11_link_layout.specs.Tables.{Gathered, gathered_after, nothing_gathered, with_entry}
+use Rattle.m11_link_layout.specs.Tables.{LayoutTables, gathered_after, nothing_gathered, with_entry}
 use Rattle.m11_link_layout.specs.Globals.{last_of, last_section}
 use Rattle.m11_link_layout.proofs.Keeping.{relocated_keeps, symbol_keeps}
 
@@ -46,10 +46,10 @@ section_entered before part name size e s =
     ∙ ap (λ reported. last_of (keys_of (filter_map section_in own) ++ keys_of reported)) (sym s)
     ∙ sym (last_section_more own part) ∙ ap (λ parts. last_section parts) (sym (this_module_goes_on before part e))
 
-abbrev section_reported : Gathered → Option (ℕ × ℕ)
+abbrev section_reported : LayoutTables → Option (ℕ × ℕ)
 section_reported g = g.section
 
-section_entry : (bottom : ℕ) (before : List Part) (g : Gathered) (kind : GsdKind) (entry : GsdEntry)
+section_entry : (bottom : ℕ) (before : List Part) (g : LayoutTables) (kind : GsdKind) (entry : GsdEntry)
     → filter_map section_in (Entry entry ∷ []) ≡ cons_option (section_by kind entry) []
     → g.section ≡ last_section (this_module before)
     → (with_entry bottom kind entry g).section ≡ last_section (this_module (before ++ Entry entry ∷ []))
@@ -69,7 +69,7 @@ section_ended : (before : List Part) → None ≡ last_section (this_module (bef
 unfolding last_section sections_in
 section_ended before = ap (λ parts. last_section parts) (sym (this_module_ended before))
 
-pub section_step : (bottom : ℕ) (before : List Part) (g : Gathered) (part : Part)
+pub section_step : (bottom : ℕ) (before : List Part) (g : LayoutTables) (part : Part)
     → g.section ≡ last_section (this_module before)
     → (gathered_after bottom g part).section ≡ last_section (this_module (before ++ part ∷ []))
 unfolding gathered_after

@@ -10,9 +10,9 @@ use Rattle.indexmap.specs.IndexMap.{insert_entry}
 use Rattle.m11_base.specs.Rad50.{is_same_name}
 use Rattle.m11_base.proofs.SameNames.{same_name_equal}
 use Rattle.m11_link_modules.proofs.Indexing.{drop_at}
-use Rattle.m11_link_layout.specs.Plan.{Agrees, Bases, Planned, Plans, StopsAtSection, after_offset, bases_onto, contribution_bases, defined_value, definition_values, placed, planned_base, planned_section_base, planned_value, value_at}
+use Rattle.m11_link_layout.specs.Plan.{Agrees, Bases, PlanTables, Plans, StopsAtSection, after_offset, bases_onto, contribution_bases, defined_value, definition_values, placed, planned_base, planned_section_base, planned_value, value_at}
 use Rattle.std.specs.Option.{unwrap_or}
-use Rattle.m11_link_layout.specs.Tables.{Gathered, StandsAt, is_contribution, with_reference}
+use Rattle.m11_link_layout.specs.Tables.{LayoutTables, StandsAt, is_contribution, with_reference}
 use Rattle.m11_link_layout.specs.declared.definition.Definition.{Definition}
 use Rattle.m11_link_layout.specs.declared.definition.Total.{Total}
 use Rattle.m11_link_layout.specs.declared.fault.LinkFault.{LinkFault}
@@ -59,27 +59,27 @@ strong_by : (found : Option Bool) → unwrap_or found false ≡ true → found �
 strong_by None e = absurd (true≢false (sym e))
 strong_by (Some b) e = ap (λ (x : Bool). Some x) e
 
-reference_same : (g : Gathered) (name : ℕ × ℕ) (is_strong : Bool)
+reference_same : (g : LayoutTables) (name : ℕ × ℕ) (is_strong : Bool)
     → unwrap_or (lookup (is_same_name name) g.references) false ≡ true → g ≡ with_reference name is_strong g
 reference_same g name is_strong e =
     let same = insert_same is_same_name g.references name true (strong_by (lookup (is_same_name name) g.references) e) in
-    let P : Bool → Type 0 = λ b. g ≡ (let all : Gathered = record g {
+    let P : Bool → Type 0 = λ b. g ≡ (let all : LayoutTables = record g {
       references = insert_entry is_same_name g.references name (b || is_strong);
     } in all) in
-    subst P (sym e) (ap (λ (r : List ((ℕ × ℕ) × Bool)). let all : Gathered = record g { references = r } in all) (sym same))
+    subst P (sym e) (ap (λ (r : List ((ℕ × ℕ) × Bool)). let all : LayoutTables = record g { references = r } in all) (sym same))
 
-pub reference_stays : {seen : Gathered} (g : Gathered) (name : ℕ × ℕ) (is_strong : Bool) → seen ≡ g
+pub reference_stays : {seen : LayoutTables} (g : LayoutTables) (name : ℕ × ℕ) (is_strong : Bool) → seen ≡ g
     → unwrap_or (lookup (is_same_name name) seen.references) false ≡ true → g ≡ with_reference name is_strong g
 reference_stays {seen} g name is_strong is e =
-    let P : Gathered → Type 0 = λ x. x ≡ with_reference name is_strong x in
+    let P : LayoutTables → Type 0 = λ x. x ≡ with_reference name is_strong x in
     subst P is (reference_same seen name is_strong e)
 
 -- where a contribution stands
-pub stands : {seen : Gathered} (g : Gathered) (key stored : ℕ × (ℕ × ℕ)) (index offset : ℕ) → seen ≡ g
+pub stands : {seen : LayoutTables} (g : LayoutTables) (key stored : ℕ × (ℕ × ℕ)) (index offset : ℕ) → seen ≡ g
     → slice_get seen.contributions index ≡ Some (stored, offset)
     → Some stored ≡ lookup_key (is_contribution key) seen.contributions → StandsAt key index offset g.contributions
 stands {seen} g key stored index offset is at found =
-    let P : Gathered → Type 0 = λ x. StandsAt key index offset x.contributions in
+    let P : LayoutTables → Type 0 = λ x. StandsAt key index offset x.contributions in
     subst P is (stored, at, found_key (is_contribution key) seen.contributions stored (sym found))
 
 -- ---- lists that agree
@@ -92,14 +92,14 @@ agrees_whole some all same = λ index value e. ap (λ (xs : List ℕ). slice_get
 
 -- ---- bases
 
-based : (plan : Planned) (module_index : ℕ) (section stored : ℕ × ℕ) (offset base : ℕ)
+based : (plan : PlanTables) (module_index : ℕ) (section stored : ℕ × ℕ) (offset base : ℕ)
     → (planned_section_base plan stored + offset) % 0o200000 ≡ base → is_same_name section stored ≡ true
     → base ≡ after_offset (Some offset) (planned_section_base plan section)
 based plan module_index section stored offset base e same =
     sym e ∙ ap (λ (name : ℕ × ℕ). (planned_section_base plan name + offset) % 0o200000)
     (sym (same_name_equal section stored same))
 
-pub base_listed : (plan : Planned) (module_index : ℕ) (section : ℕ × ℕ) (index offset base : ℕ)
+pub base_listed : (plan : PlanTables) (module_index : ℕ) (section : ℕ × ℕ) (index offset base : ℕ)
     → StandsAt (module_index, section) index offset plan.gathered.contributions
     → lookup (is_contribution (module_index, section)) plan.gathered.contributions ≡ Some offset
     → slice_get (contribution_bases plan) index ≡ Some base
@@ -115,13 +115,13 @@ base_listed plan module_index section index offset base at found e =
 
 -- ---- values
 
-valued : (plan : Planned) (entry : Option ((ℕ × ℕ) × Definition)) (found : Option Definition) (value : ℕ)
+valued : (plan : PlanTables) (entry : Option ((ℕ × ℕ) × Definition)) (found : Option Definition) (value : ℕ)
     → option_map (λ e. value_at plan e.1.module_index e.1.location) entry ≡ Some value
     → option_map (λ e. e.1) entry ≡ found → Some value ≡ defined_value plan found
 valued plan None found value e f = absurd (none_some value e)
 valued plan (Some entry) found value e f = sym e ∙ ap (λ (o : Option Definition). defined_value plan o) f
 
-pub value_listed : (plan : Planned) (name : ℕ × ℕ) (index value : ℕ)
+pub value_listed : (plan : PlanTables) (name : ℕ × ℕ) (index value : ℕ)
     → slice_get (map (λ entry. entry.1) plan.gathered.definitions) index
     ≡ lookup (is_same_name name) plan.gathered.definitions
     → slice_get (definition_values plan) index ≡ Some value → Some value ≡ planned_value plan name
@@ -138,14 +138,14 @@ shown xs ys index value same lt e =
     ap (λ (zs : List ℕ). slice_get zs index) (sym same) ∙ slice_get-get_or xs index value lt
     ∙ ap (λ (n : ℕ). Some n) (sym e)
 
-module _ {seen : Planned} (plan : Planned) (is : seen ≡ plan) where
+module _ {seen : PlanTables} (plan : PlanTables) (is : seen ≡ plan) where
   pub base_shown : (module_index : ℕ) (section : ℕ × ℕ) (index offset base : ℕ) (bases taken : List ℕ)
       → StandsAt (module_index, section) index offset seen.gathered.contributions
       → Some offset ≡ lookup (is_contribution (module_index, section)) seen.gathered.contributions
       → Agrees bases (contribution_bases seen) → taken ≡ bases → index < length taken → base ≡ get_or taken index base
       → base ≡ planned_base plan module_index section
   base_shown module_index section index offset base bases taken at found agrees same lt e =
-      let P : Planned → Type 0 = λ p. base ≡ planned_base p module_index section in
+      let P : PlanTables → Type 0 = λ p. base ≡ planned_base p module_index section in
       subst P is (base_listed seen module_index section index offset base at (sym found)
       (agrees index base (shown taken bases index base same lt e)))
 
@@ -158,13 +158,13 @@ module _ {seen : Planned} (plan : Planned) (is : seen ≡ plan) where
       → Agrees values (definition_values seen) → taken ≡ values → index < length taken → value ≡ get_or taken index value
       → Some value ≡ planned_value plan name
   value_shown name index value values taken at agrees same lt e =
-      let P : Planned → Type 0 = λ p. Some value ≡ planned_value p name in
+      let P : PlanTables → Type 0 = λ p. Some value ≡ planned_value p name in
       subst P is (value_listed seen name index value at (agrees index value (shown taken values index value same lt e)))
 
   pub value_found : (name : ℕ × ℕ) (index value : ℕ) → IsFoundAt name index
       → slice_get (definition_values plan) index ≡ Some value → Some value ≡ planned_value plan name
   value_found name index value at e =
-      let P : Planned → Type 0 = λ p. slice_get (map (λ entry. entry.1) p.gathered.definitions) index
+      let P : PlanTables → Type 0 = λ p. slice_get (map (λ entry. entry.1) p.gathered.definitions) index
       ≡ lookup (is_same_name name) p.gathered.definitions in
       value_listed plan name index value (subst P is at) e
 
@@ -180,18 +180,18 @@ pub listed_whole : (all done : List ℕ) (index : ℕ) → length all ≤ index 
 listed_whole all done index le so_far =
     sym (append-nil done) ∙ ap (λ (xs : List ℕ). done ++ xs) (sym (drop_all index all le)) ∙ so_far
 
-pub bases_counted : (plan : Planned) → length (contribution_bases plan) ≡ length plan.gathered.contributions
+pub bases_counted : (plan : PlanTables) → length (contribution_bases plan) ≡ length plan.gathered.contributions
 bases_counted plan = length-map plan.gathered.contributions
     (λ entry. after_offset (Some entry.1) (planned_section_base plan entry.0.1))
 
-pub values_counted : (plan : Planned) → length (definition_values plan) ≡ length plan.gathered.definitions
+pub values_counted : (plan : PlanTables) → length (definition_values plan) ≡ length plan.gathered.definitions
 values_counted plan =
     length-map plan.gathered.definitions (λ entry. value_at plan entry.1.module_index entry.1.location)
 
 abbrev section_and_offset : (ℕ × (ℕ × ℕ)) × ℕ → (ℕ × ℕ) × ℕ
 section_and_offset entry = (entry.0.1, entry.1)
 
-base_by : (plan : Planned) (entry : Option ((ℕ × (ℕ × ℕ)) × ℕ)) (section : ℕ × ℕ) (offset : ℕ)
+base_by : (plan : PlanTables) (entry : Option ((ℕ × (ℕ × ℕ)) × ℕ)) (section : ℕ × ℕ) (offset : ℕ)
     → option_map section_and_offset entry ≡ Some (section, offset)
     → option_map (λ e. after_offset (Some e.1) (planned_section_base plan e.0.1)) entry
     ≡ Some ((planned_section_base plan section + offset) % 0o200000)
@@ -201,12 +201,12 @@ base_by plan (Some entry) section offset e =
     (some_is (section_and_offset entry) (section, offset) e)
 
 -- the base of a contribution by its section and its offset
-pub base_made : {seen : Planned} (plan : Planned) (index : ℕ) (section : ℕ × ℕ) (offset base below : ℕ) → seen ≡ plan
+pub base_made : {seen : PlanTables} (plan : PlanTables) (index : ℕ) (section : ℕ × ℕ) (offset base below : ℕ) → seen ≡ plan
     → option_map section_and_offset (slice_get seen.gathered.contributions index) ≡ Some (section, offset)
     → below ≡ planned_section_base plan section → base ≡ (below + offset) % 0o200000
     → slice_get (contribution_bases plan) index ≡ Some base
 base_made plan index section offset base below is at under e =
-    let P : Planned → Type 0 = λ p. option_map section_and_offset (slice_get p.gathered.contributions index)
+    let P : PlanTables → Type 0 = λ p. option_map section_and_offset (slice_get p.gathered.contributions index)
     ≡ Some (section, offset) in
     slice_get-map (λ entry. after_offset (Some entry.1) (planned_section_base plan entry.0.1))
     plan.gathered.contributions index
@@ -235,7 +235,7 @@ stops_first next (section ∷ sections) all e lt = record {
   fits = first_placed (placed [] next section) (λ b. bases_onto b.bases b.top sections) all e;
 }
 
-pub plan_refused : (bottom : ℕ) (gathered : Gathered) (entries : List ((ℕ × ℕ) × ℕ)) (all : Bases) (said : LinkFault)
+pub plan_refused : (bottom : ℕ) (gathered : LayoutTables) (entries : List ((ℕ × ℕ) × ℕ)) (all : Bases) (said : LinkFault)
     → said ≡ NoMemory → entries ≡ [] → bases_onto entries bottom gathered.sections ≡ Some all
     → 0 < length gathered.sections → Plans bottom gathered (Err said)
 plan_refused bottom gathered entries all said is none e lt =

@@ -11,7 +11,7 @@ use Rattle.m11_obj.specs.declared.gsd.GsdKind.TheVariants.{ModuleName, ControlSe
 use Rattle.m11_link_modules.specs.Parts.{Part, Directory, Entry, EndOfDirectory, Text, Relocations, Relocated, EndOfModule, EndOfFile}
 use Rattle.m11_link_modules.specs.Positions.{ends_module, global_of, modules_in, this_module}
 use Rattle.m11_link_modules.proofs.KnownAfter.{this_module_ended, this_module_goes_on}
-use Rattle.m11_link_layout.specs.Tables.{Gathered, gathered_after, nothing_gathered, with_entry, with_relocated}
+use Rattle.m11_link_layout.specs.Tables.{LayoutTables, gathered_after, nothing_gathered, with_entry, with_relocated}
 use Rattle.m11_link_layout.specs.Modules.{first_of, module_at, module_name, name_at, name_by, name_in, name_reported}
 use Rattle.m11_link_layout.proofs.Keeping.{relocated_keeps, symbol_keeps}
 use Rattle.m11_link_layout.proofs.ModulesOfParts.{add_zero, one_ended, module_more, modules_are, modules_more, where_true}
@@ -113,13 +113,13 @@ ended before names name n = record {
 
 -- ---- one more part gathered
 
-abbrev names_reported : Gathered → List (ℕ × ℕ) × Option (ℕ × ℕ)
+abbrev names_reported : LayoutTables → List (ℕ × ℕ) × Option (ℕ × ℕ)
 names_reported g = (g.names, g.name)
 
-abbrev Named : List Part → Gathered → Type 0
+abbrev Named : List Part → LayoutTables → Type 0
 Named before g = NamesOf before g.names g.name
 
-kept : (before : List Part) (g new : Gathered) (part : Part) → ends_module part ≡ false → modules_in (part ∷ []) ≡ 0
+kept : (before : List Part) (g new : LayoutTables) (part : Part) → ends_module part ≡ false → modules_in (part ∷ []) ≡ 0
     → filter_map name_in (part ∷ []) ≡ [] → names_reported new ≡ names_reported g → Named before g
     → Named (before ++ part ∷ []) new
 kept before g new part e z none same n =
@@ -127,7 +127,7 @@ kept before g new part e z none same n =
     subst P (sym same) (goes_on before part g.names g.name g.name e z
     (sym (or_none g.name) ∙ ap (λ reported. option_or g.name (first_of reported)) (sym none)) n)
 
-entry_step : (bottom : ℕ) (before : List Part) (g : Gathered) (kind : GsdKind) (entry : GsdEntry)
+entry_step : (bottom : ℕ) (before : List Part) (g : LayoutTables) (kind : GsdKind) (entry : GsdEntry)
     → modules_in (Entry entry ∷ []) ≡ 0
     → filter_map name_in (Entry entry ∷ []) ≡ cons_option (name_by kind entry) [] → Named before g
     → Named (before ++ Entry entry ∷ []) (with_entry bottom kind entry g)
@@ -148,7 +148,7 @@ entry_step bottom before g GlobalSymbol entry z a n =
 entry_step bottom before g Identification entry z a n =
     kept before g (with_entry bottom Identification entry g) (Entry entry) refl z a refl n
 
-pub names_step : (bottom : ℕ) (before : List Part) (g : Gathered) (part : Part) → NamesOf before g.names g.name
+pub names_step : (bottom : ℕ) (before : List Part) (g : LayoutTables) (part : Part) → NamesOf before g.names g.name
     → NamesOf (before ++ part ∷ []) (gathered_after bottom g part).names (gathered_after bottom g part).name
 unfolding gathered_after modules_in
 names_step bottom before g Directory n = kept before g g Directory refl refl refl refl n

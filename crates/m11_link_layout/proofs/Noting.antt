@@ -6,21 +6,21 @@ use Rattle.m11_obj.specs.declared.relocations.Relocation.{Relocation}
 use Rattle.m11_link_modules.specs.Parts.{Part, Entry, Relocated}
 use Rattle.m11_link_modules.specs.Positions.{global_of}
 use Rattle.m11_link_modules.proofs.Indexing.{drop_at}
-use Rattle.m11_link_layout.specs.Tables.{Gathered, gathered_after, gathered_after_all, with_entry, with_relocated}
+use Rattle.m11_link_layout.specs.Tables.{LayoutTables, gathered_after, gathered_after_all, with_entry, with_relocated}
 
 module _ {X : Type 0} (bottom : ℕ) (make : X → Part) where
-  pub walk_noted : (old now later : Gathered) (items rest following : List X) (item : X) → rest ≡ item ∷ following
+  pub walk_noted : (old now later : LayoutTables) (items rest following : List X) (item : X) → rest ≡ item ∷ following
       → gathered_after_all bottom now (map make rest) ≡ gathered_after_all bottom old (map make items)
       → later ≡ gathered_after bottom now (make item)
       → gathered_after_all bottom later (map make following) ≡ gathered_after_all bottom old (map make items)
   walk_noted old now later items rest following item e i h =
       let P : List X → Type 0 = λ left. gathered_after_all bottom now (map make left)
       ≡ gathered_after_all bottom old (map make items) in
-      let Q : Gathered → Type 0 = λ g. gathered_after_all bottom g (map make following)
+      let Q : LayoutTables → Type 0 = λ g. gathered_after_all bottom g (map make following)
       ≡ gathered_after_all bottom old (map make items) in
       subst Q (sym h) (subst P e i)
 
-  pub walk_ended : (old now : Gathered) (items rest : List X) → rest ≡ []
+  pub walk_ended : (old now : LayoutTables) (items rest : List X) → rest ≡ []
       → gathered_after_all bottom now (map make rest) ≡ gathered_after_all bottom old (map make items)
       → now ≡ gathered_after_all bottom old (map make items)
   walk_ended old now items rest e i =
@@ -28,7 +28,7 @@ module _ {X : Type 0} (bottom : ℕ) (make : X → Part) where
       ≡ gathered_after_all bottom old (map make items) in
       subst P e i
 
-  pub item_noted : (old now later : Gathered) (items : List X) (index : ℕ) (item : X)
+  pub item_noted : (old now later : LayoutTables) (items : List X) (index : ℕ) (item : X)
       → slice_get items index ≡ Some item
       → gathered_after_all bottom now (map make (drop index items)) ≡ gathered_after_all bottom old (map make items)
       → later ≡ gathered_after bottom now (make item)
@@ -37,19 +37,19 @@ module _ {X : Type 0} (bottom : ℕ) (make : X → Part) where
   item_noted old now later items index item e i h =
       walk_noted old now later items (drop index items) (drop (index + 1) items) item (drop_at items index item e) i h
 
-  pub items_noted : (old now : Gathered) (items : List X) (index : ℕ) → length items ≤ index
+  pub items_noted : (old now : LayoutTables) (items : List X) (index : ℕ) → length items ≤ index
       → gathered_after_all bottom now (map make (drop index items)) ≡ gathered_after_all bottom old (map make items)
       → now ≡ gathered_after_all bottom old (map make items)
   items_noted old now items index le i = walk_ended old now items (drop index items) (drop_all index items le) i
 
 -- an entry and a relocation, by what they say
-pub entry_noted : (bottom : ℕ) (now later : Gathered) (entry : GsdEntry)
+pub entry_noted : (bottom : ℕ) (now later : LayoutTables) (entry : GsdEntry)
     → later ≡ with_entry bottom entry.kind entry now
     → later ≡ gathered_after bottom now (Entry entry)
 unfolding gathered_after
 entry_noted bottom now later entry e = e
 
-pub relocation_noted : (bottom : ℕ) (now later : Gathered) (relocation : Relocation)
+pub relocation_noted : (bottom : ℕ) (now later : LayoutTables) (relocation : Relocation)
     → later ≡ with_relocated (global_of relocation.target) now
     → later ≡ gathered_after bottom now (Relocated relocation)
 unfolding gathered_after

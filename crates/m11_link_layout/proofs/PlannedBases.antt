@@ -13,7 +13,7 @@ use Rattle.m11_link_modules.specs.Parts.{Part}
 use Rattle.m11_link_modules.specs.Positions.{known_of, modules_in, section_in, section_names}
 use Rattle.m11_link_layout.specs.Tables.{size_cap}
 use Rattle.m11_link_layout.specs.Modules.{modules_before}
-use Rattle.m11_link_layout.specs.Plan.{Planned, after_offset, planned_base}
+use Rattle.m11_link_layout.specs.Plan.{PlanTables, after_offset, planned_base}
 use Rattle.m11_link_layout.specs.Sections.{base_entered, contribution_base, ends_too_high, first_attributes, greatest, is_overlaid, is_relocatable, is_too_large, module_base, offset_after, rounded, section_base, section_size, size_under, sizes_of}
 use Rattle.m11_link_layout.specs.declared.definition.Total.{Total}
 use Rattle.m11_link_layout.proofs.ContributionsGathered.{ContributionsOf}
@@ -153,7 +153,7 @@ base_reported bottom parts sections index name (Some size) s n e =
     let offset = offset_uncapped bottom parts index name n t in
     λ j. (found j + offset j) % 0o200000
 
-pub base_planned : (bottom : ℕ) (parts : List Part) (plan : Planned) (index : ℕ) (name : ℕ × ℕ)
+pub base_planned : (bottom : ℕ) (parts : List Part) (plan : PlanTables) (index : ℕ) (name : ℕ × ℕ)
     → SectionsOf parts plan.gathered.sections
     → ContributionsOf parts plan.gathered.contributions → plan.bases ≡ bases_of bottom parts
     → is_too_large bottom parts ≡ false

@@ -12,7 +12,7 @@ use Rattle.m11_link_modules.specs.Positions.{section_names}
 use Rattle.m11_link_layout.specs.Tables.{size_cap}
 use Rattle.m11_link_layout.specs.Globals.{first_definition, global_defined, global_reported, globals_of, location_value}
 use Rattle.m11_link_layout.specs.Modules.{name_at}
-use Rattle.m11_link_layout.specs.Plan.{Planned, attributes_reported, global_planned, planned_attributes, planned_globals, planned_module, planned_section_base, planned_sections, section_planned, value_at}
+use Rattle.m11_link_layout.specs.Plan.{PlanTables, attributes_reported, global_planned, planned_attributes, planned_globals, planned_module, planned_section_base, planned_sections, section_planned, value_at}
 use Rattle.m11_link_layout.specs.Sections.{entered_attributes, first_attributes, flags_of, most_size, section_base, section_size, section_reported, sections_of, sizes_of}
 use Rattle.m11_link_layout.specs.declared.definition.Definition.{Definition}
 use Rattle.m11_link_layout.specs.declared.definition.GlobalLocation.{GlobalLocation}
@@ -27,22 +27,22 @@ use Rattle.m11_link_layout.proofs.Sizing.{attributes_found, total_from, total_in
 
 -- ---- what stands at an index
 
-pub sections_counted : (plan : Planned) → length (planned_sections plan) ≡ length plan.gathered.sections
+pub sections_counted : (plan : PlanTables) → length (planned_sections plan) ≡ length plan.gathered.sections
 unfolding planned_sections
 sections_counted plan = length-map plan.gathered.sections (section_planned plan)
 
-pub section_found : (plan : Planned) (index : ℕ) (section : (ℕ × ℕ) × Total)
+pub section_found : (plan : PlanTables) (index : ℕ) (section : (ℕ × ℕ) × Total)
     → slice_get plan.gathered.sections index ≡ Some section
     → slice_get (planned_sections plan) index ≡ Some (section_planned plan section)
 unfolding planned_sections
 section_found plan index section e =
     slice_get-map (section_planned plan) plan.gathered.sections index ∙ ap (λ o. option_map (section_planned plan) o) e
 
-pub globals_counted : (plan : Planned) → length (planned_globals plan) ≡ length plan.gathered.definitions
+pub globals_counted : (plan : PlanTables) → length (planned_globals plan) ≡ length plan.gathered.definitions
 unfolding planned_globals
 globals_counted plan = length-map plan.gathered.definitions (global_planned plan)
 
-pub global_found : (plan : Planned) (index : ℕ) (global : (ℕ × ℕ) × Definition)
+pub global_found : (plan : PlanTables) (index : ℕ) (global : (ℕ × ℕ) × Definition)
     → slice_get plan.gathered.definitions index ≡ Some global
     → slice_get (planned_globals plan) index ≡ Some (global_planned plan global)
 unfolding planned_globals
@@ -58,7 +58,7 @@ abbrev reported_so : (name : ℕ × ℕ) (base size attributes : ℕ) → Planne
 reported_so name base size attributes =
     record { name = name; base = base; size = size; attributes = flags_of attributes }
 
-sections_reported : (bottom : ℕ) (parts : List Part) (plan : Planned) (names : List (ℕ × ℕ))
+sections_reported : (bottom : ℕ) (parts : List Part) (plan : PlanTables) (names : List (ℕ × ℕ))
     → ((name : ℕ × ℕ) → list_any (is_same_name name) names ≡ true
     → planned_section_base plan name ≡ section_base bottom parts name)
     → map (section_planned plan) (map (λ name. (name, total_in parts name)) names)
@@ -72,7 +72,7 @@ sections_reported bottom parts plan (name ∷ names) h =
     (λ other t. h other (or_true (is_same_name other name) (list_any (is_same_name other) names) t)) in
     λ j. reported_so name (base j) (size j) (first_attributes parts name) ∷ rest j
 
-pub sections_listed : (bottom : ℕ) (parts : List Part) (plan : Planned) → SectionsOf parts plan.gathered.sections
+pub sections_listed : (bottom : ℕ) (parts : List Part) (plan : PlanTables) → SectionsOf parts plan.gathered.sections
     → plan.bases ≡ bases_of bottom parts → planned_sections plan ≡ sections_of bottom parts
 unfolding planned_sections sections_of
 sections_listed bottom parts plan s b =
@@ -85,7 +85,7 @@ attributes_from : (found : Option ℕ) (sizes : List ℕ) → attributes_reporte
 attributes_from None sizes = refl
 attributes_from (Some attributes) sizes = refl
 
-pub attributes_are : (parts : List Part) (plan : Planned) (name : ℕ × ℕ) → SectionsOf parts plan.gathered.sections
+pub attributes_are : (parts : List Part) (plan : PlanTables) (name : ℕ × ℕ) → SectionsOf parts plan.gathered.sections
     → planned_attributes plan name ≡ entered_attributes parts name
 unfolding entered_attributes
 attributes_are parts plan name s =
@@ -101,7 +101,7 @@ mapped_alike one other h (x ∷ xs) = λ j. h x j ∷ mapped_alike one other h x
 abbrev global_as : ℕ × ℕ → ℕ → ℕ × ℕ → PlannedGlobal
 global_as name value module_name = record { name = name; value = value; module_name = module_name }
 
-pub globals_listed : (bottom : ℕ) (parts : List Part) (plan : Planned) → DefinitionsOf parts plan.gathered.definitions
+pub globals_listed : (bottom : ℕ) (parts : List Part) (plan : PlanTables) → DefinitionsOf parts plan.gathered.definitions
     → ((index : ℕ) (location : GlobalLocation) → value_at plan index location ≡ location_value bottom parts index location)
     → ((index : ℕ) → planned_module plan index ≡ name_at parts index) → planned_globals plan ≡ globals_of bottom parts
 unfolding planned_globals globals_of

@@ -5,10 +5,10 @@ use Rattle.m11_base.specs.Rad50.{is_same_name}
 use Rattle.m11_link_modules.specs.Parts.{Part}
 use Rattle.m11_link_modules.specs.Positions.{global_names, known_of, modules_in, section_names, sections_in, stage_after, this_module}
 use Rattle.m11_link_modules.specs.Rules.{first_fault, most_globals, most_modules, most_sections}
-use Rattle.m11_link_layout.specs.Plan.{Bases, IsPlan, Planned, TablesBounded, TablesGrow, address_limit, bases_onto, placed}
+use Rattle.m11_link_layout.specs.Plan.{Bases, IsPlan, PlanTables, TablesBounded, TablesGrow, address_limit, bases_onto, placed}
 use Rattle.m11_link_layout.specs.Sections.{is_relocatable}
 use Rattle.m11_link_layout.specs.declared.definition.Total.{Total}
-use Rattle.m11_link_layout.specs.Tables.{Gathered}
+use Rattle.m11_link_layout.specs.Tables.{LayoutTables}
 use Rattle.m11_link_layout.proofs.KnownBounded.{modules_within}
 use Rattle.m11_link_layout.proofs.NamesReported.{weak_within}
 use Rattle.m11_link_layout.proofs.PlansOfParts.{Means, gathered_means}
@@ -72,7 +72,7 @@ all_placed bases next (section ∷ sections) found e =
     (placed_then (placed bases next section) (length bases) sections found (placed_few bases next section)
     (λ following. all_placed following.bases following.top sections found) e)
 
-bases_few : (parts : List Part) (plan : Planned) (bottom : ℕ) → IsPlan bottom parts plan → Means bottom parts plan.gathered
+bases_few : (parts : List Part) (plan : PlanTables) (bottom : ℕ) → IsPlan bottom parts plan → Means bottom parts plan.gathered
     → length plan.bases ≤ length (section_names parts)
 unfolding known_of
 bases_few parts plan bottom p m =
@@ -86,13 +86,13 @@ bases_few parts plan bottom p m =
 -- ---- the tables of a plan
 
 -- what is kept of parts, and what it means, for the tables that a plan has
-gathered_kept : (bottom : ℕ) (parts : List Part) (plan : Planned) → first_fault [] parts ≡ None
+gathered_kept : (bottom : ℕ) (parts : List Part) (plan : PlanTables) → first_fault [] parts ≡ None
     → IsPlan bottom parts plan → Tables parts plan.gathered × Means bottom parts plan.gathered
 gathered_kept bottom parts plan n p =
-    let P : Gathered → Type 0 = λ g. Tables parts g × Means bottom parts g in
+    let P : LayoutTables → Type 0 = λ g. Tables parts g × Means bottom parts g in
     subst P (sym p.gathered) (tables_of bottom parts n, gathered_means bottom parts n)
 
-pub plan_grows : (bottom : ℕ) (parts : List Part) (plan : Planned) → first_fault [] parts ≡ None
+pub plan_grows : (bottom : ℕ) (parts : List Part) (plan : PlanTables) → first_fault [] parts ≡ None
     → IsPlan bottom parts plan → TablesGrow parts plan
 plan_grows bottom parts plan n p =
     let k = gathered_kept bottom parts plan n p in
@@ -107,7 +107,7 @@ plan_grows bottom parts plan n p =
 no_more_than : (a b c : ℕ) → a ≡ b → b ≤ c → a ≤ c
 no_more_than a b c e h = omega (arith, e, h)
 
-pub plan_bounded : (bottom : ℕ) (parts : List Part) (plan : Planned) → first_fault [] parts ≡ None
+pub plan_bounded : (bottom : ℕ) (parts : List Part) (plan : PlanTables) → first_fault [] parts ≡ None
     → IsPlan bottom parts plan → TablesBounded plan
 unfolding known_of
 plan_bounded bottom parts plan n p =

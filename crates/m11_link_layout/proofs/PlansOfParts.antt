@@ -5,10 +5,10 @@ use Rattle.m11_base.specs.Rad50.{is_same_name}
 use Rattle.m11_link_modules.specs.Parts.{Part}
 use Rattle.m11_link_modules.specs.Positions.{known_of, section_names, this_module}
 use Rattle.m11_link_modules.specs.Rules.{fault_of, first_fault}
-use Rattle.m11_link_layout.specs.Tables.{Gathered, gathered_after, gathered_after_all, nothing_gathered}
+use Rattle.m11_link_layout.specs.Tables.{LayoutTables, gathered_after, gathered_after_all, nothing_gathered}
 use Rattle.m11_link_layout.specs.Globals.{definition_value, first_definition, global_value, last_section, location_value}
 use Rattle.m11_link_layout.specs.Modules.{name_at}
-use Rattle.m11_link_layout.specs.Plan.{Bases, IsPlan, IsPlanOf, Planned, TablesBounded, TablesGrow, bases_onto, defined_value, planned_base, planned_module, planned_value, value_at}
+use Rattle.m11_link_layout.specs.Plan.{Bases, IsPlan, IsPlanOf, PlanTables, TablesBounded, TablesGrow, bases_onto, defined_value, planned_base, planned_module, planned_value, value_at}
 use Rattle.m11_link_layout.specs.Sections.{is_too_large, module_base, top}
 use Rattle.m11_link_layout.specs.declared.definition.Definition.{Definition}
 use Rattle.m11_link_layout.specs.declared.definition.GlobalLocation.{GlobalLocation}
@@ -29,7 +29,7 @@ use Rattle.m11_link_layout.proofs.Walking.{walked}
 
 -- ---- what is gathered
 
-pub record Means (bottom : ℕ) (before : List Part) (g : Gathered) : Type 0 where
+pub record Means (bottom : ℕ) (before : List Part) (g : LayoutTables) : Type 0 where
   pub sections : SectionsOf before g.sections
   pub contributions : ContributionsOf before g.contributions
   pub names : NamesOf before g.names g.name
@@ -38,7 +38,7 @@ pub record Means (bottom : ℕ) (before : List Part) (g : Gathered) : Type 0 whe
   pub transfers : TransfersIn bottom before g
   pub references : ReferencesOf before g.references g.weak
 
-means_step : (bottom : ℕ) (before : List Part) (g : Gathered) (part : Part) → fault_of before part ≡ None
+means_step : (bottom : ℕ) (before : List Part) (g : LayoutTables) (part : Part) → fault_of before part ≡ None
     → Means bottom before g
     → Means bottom (before ++ part ∷ []) (gathered_after bottom g part)
 means_step bottom before g part n m = record {
@@ -100,23 +100,23 @@ too_large_is bottom parts n e =
 
 -- ---- values
 
-abbrev HasBases : ℕ → List Part → Planned → Type 0
+abbrev HasBases : ℕ → List Part → PlanTables → Type 0
 HasBases bottom parts plan =
     (index : ℕ) (name : ℕ × ℕ) → planned_base plan index name ≡ module_base bottom parts index name
 
-location_is : (bottom : ℕ) (parts : List Part) (plan : Planned) (index : ℕ) (location : GlobalLocation)
+location_is : (bottom : ℕ) (parts : List Part) (plan : PlanTables) (index : ℕ) (location : GlobalLocation)
     → HasBases bottom parts plan
     → value_at plan index location ≡ location_value bottom parts index location
 location_is bottom parts plan index (Absolute value) b = refl
 location_is bottom parts plan index (In section value) b = ap (λ base. (base + value) % 0o200000) (b index section)
 
-defined_is : (bottom : ℕ) (parts : List Part) (plan : Planned) (found : Option Definition) → HasBases bottom parts plan
+defined_is : (bottom : ℕ) (parts : List Part) (plan : PlanTables) (found : Option Definition) → HasBases bottom parts plan
     → defined_value plan found ≡ option_map (definition_value bottom parts) found
 defined_is bottom parts plan None b = refl
 defined_is bottom parts plan (Some definition) b =
     ap (λ n. Some n) (location_is bottom parts plan definition.module_index definition.location b)
 
-value_is : (bottom : ℕ) (parts : List Part) (plan : Planned) (name : ℕ × ℕ) → HasBases bottom parts plan
+value_is : (bottom : ℕ) (parts : List Part) (plan : PlanTables) (name : ℕ × ℕ) → HasBases bottom parts plan
     → DefinitionsOf parts plan.gathered.definitions → planned_value plan name ≡ global_value bottom parts name
 unfolding global_value
 value_is bottom parts plan name b d =
@@ -124,10 +124,10 @@ value_is bottom parts plan name b d =
 
 -- ---- a plan
 
-pub plan_is : (bottom : ℕ) (parts : List Part) (plan : Planned) → first_fault [] parts ≡ None
+pub plan_is : (bottom : ℕ) (parts : List Part) (plan : PlanTables) → first_fault [] parts ≡ None
     → IsPlan bottom parts plan → TablesGrow parts plan → TablesBounded plan → IsPlanOf bottom parts plan
 plan_is bottom parts plan n is grow bounded =
-    let P : Gathered → Type 0 = λ g. Means bottom parts g in
+    let P : LayoutTables → Type 0 = λ g. Means bottom parts g in
     let means = subst P (sym is.gathered) (gathered_means bottom parts n) in
     let reported : Bases = record { bases = plan.bases; top = plan.top } in
     let placed = there (is_too_large bottom parts) reported (bases_reported bottom parts)

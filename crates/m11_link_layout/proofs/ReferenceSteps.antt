@@ -18,7 +18,7 @@ use Rattle.m11_link_modules.specs.Positions.{ends_module, global_of, this_module
 use Rattle.m11_link_modules.specs.Rules.{defines}
 use Rattle.m11_obj.specs.Gsd.{has_bits}
 use Rattle.m11_link_modules.proofs.KnownAfter.{this_module_ended, this_module_goes_on}
-use Rattle.m11_link_layout.specs.Tables.{Gathered, gathered_after, nothing_gathered, with_definition, with_entry, with_reference, with_relocated, with_weak}
+use Rattle.m11_link_layout.specs.Tables.{LayoutTables, gathered_after, nothing_gathered, with_definition, with_entry, with_reference, with_relocated, with_weak}
 use Rattle.m11_link_layout.specs.Globals.{reference_by, reference_in, references_of, referred, relocated_reference, weak_by, weak_in, weak_names}
 use Rattle.m11_link_layout.proofs.ReferencesGathered.{TableOf, none_referred, one_referred, references_more, table_is}
 
@@ -88,7 +88,7 @@ pub record ReferencesOf (before : List Part) (references : List ((ℕ × ℕ) ×
   pub table : TableOf (references_of before) references
   pub weak_is : WeakOf before weak
 
-abbrev Referring : List Part → Gathered → Type 0
+abbrev Referring : List Part → LayoutTables → Type 0
 Referring before g = ReferencesOf before g.references g.weak
 
 table_kept : (before : List Part) (part : Part) (table : List ((ℕ × ℕ) × Bool)) → reference_in before part ≡ None
@@ -109,7 +109,7 @@ table_noted before part table name strong n t =
     subst P (sym (references_more before part ∙ ap (λ o. references_of before ++ cons_option o []) n))
     (one_referred (references_of before) table name strong t)
 
-kept : (before : List Part) (g : Gathered) (part : Part) (reported : Option (ℕ × ℕ)) → ends_module part ≡ false
+kept : (before : List Part) (g : LayoutTables) (part : Part) (reported : Option (ℕ × ℕ)) → ends_module part ≡ false
     → reference_in before part ≡ None
     → filter_map weak_in (part ∷ []) ≡ cons_option reported [] → reported ≡ None → Referring before g
     → Referring (before ++ part ∷ []) g
@@ -120,7 +120,7 @@ kept before g part reported e r w n t =
           weak_kept before part g.weak reported e w n t.weak_is;
     }
 
-symbol_step : (before : List Part) (g : Gathered) (entry : GsdEntry) (d w : Bool)
+symbol_step : (before : List Part) (g : LayoutTables) (entry : GsdEntry) (d w : Bool)
     → reference_in before (Entry entry) ≡ (if d then None else Some (entry.name, not w))
     → filter_map weak_in (Entry entry ∷ []) ≡ cons_option (if not d && w then Some entry.name else None) []
     → Referring before g
@@ -136,7 +136,7 @@ symbol_step before g entry false false r n t = record {
   weak_is = weak_kept before (Entry entry) g.weak None refl n refl t.weak_is;
 }
 
-entry_step : (bottom : ℕ) (before : List Part) (g : Gathered) (kind : GsdKind) (entry : GsdEntry)
+entry_step : (bottom : ℕ) (before : List Part) (g : LayoutTables) (kind : GsdKind) (entry : GsdEntry)
     → reference_in before (Entry entry) ≡ reference_by kind entry
     → filter_map weak_in (Entry entry ∷ []) ≡ cons_option (weak_by kind entry) [] → Referring before g
     → Referring (before ++ Entry entry ∷ []) (with_entry bottom kind entry g)
@@ -149,7 +149,7 @@ entry_step bottom before g InternalSymbol entry r n t = kept before g (Entry ent
 entry_step bottom before g TransferAddress entry r n t = kept before g (Entry entry) None refl r n refl t
 entry_step bottom before g Identification entry r n t = kept before g (Entry entry) None refl r n refl t
 
-relocated_step : (before : List Part) (g : Gathered) (part : Part) (global : Option (ℕ × ℕ)) → ends_module part ≡ false
+relocated_step : (before : List Part) (g : LayoutTables) (part : Part) (global : Option (ℕ × ℕ)) → ends_module part ≡ false
     → reference_in before part ≡ relocated_reference (weak_names (this_module before)) global
     → filter_map weak_in (part ∷ []) ≡ []
     → Referring before g → Referring (before ++ part ∷ []) (with_relocated global g)
@@ -160,7 +160,7 @@ relocated_step before g part (Some name) e r n t = record {
   weak_is = weak_kept before part g.weak None e n refl t.weak_is;
 }
 
-pub references_step : (bottom : ℕ) (before : List Part) (g : Gathered) (part : Part)
+pub references_step : (bottom : ℕ) (before : List Part) (g : LayoutTables) (part : Part)
     → ReferencesOf before g.references g.weak
     → ReferencesOf (before ++ part ∷ []) (gathered_after bottom g part).references (gathered_after bottom g part).weak
 unfolding gathered_after

@@ -14,12 +14,12 @@ use Rattle.m11_obj.specs.declared.gsd.GsdEntry.{GsdEntry}
 use Rattle.m11_obj.specs.declared.gsd.GsdKind.{GsdKind}
 use Rattle.m11_obj.specs.declared.gsd.GsdKind.TheVariants.{ModuleName, ControlSection, InternalSymbol, TransferAddress, GlobalSymbol, ProgramSection, Identification}
 use Rattle.m11_link_modules.specs.Parts.{Part, Directory, Entry, EndOfDirectory, Text, Relocations, Relocated, EndOfModule, EndOfFile}
-use Rattle.m11_link_modules.specs.Positions.{Known, distinct, global_of, known_of, section_by, section_in, section_names, sections_in}
+use Rattle.m11_link_modules.specs.Positions.{RulesState, distinct, global_of, known_of, section_by, section_in, section_names, sections_in}
 use Rattle.m11_link_modules.specs.Rules.{fault_of, first_fault}
 use Rattle.m11_link_modules.specs.Steps.{known_after}
 use Rattle.m11_link_modules.specs.Steps as steps
 use Rattle.m11_link_modules.proofs.KnownAfter.{known_after_part}
-use Rattle.m11_link_layout.specs.Tables.{Gathered, gathered_after, gathered_after_all, nothing_gathered, size_cap, total_after, with_entry}
+use Rattle.m11_link_layout.specs.Tables.{LayoutTables, gathered_after, gathered_after_all, nothing_gathered, size_cap, total_after, with_entry}
 use Rattle.m11_link_layout.specs.Sections.{attribute_bits, attributes_by, attributes_in, control_attributes, first_attributes, flags_of, section_size, sizes_of, total}
 use Rattle.m11_link_layout.specs.declared.definition.Total.{Total}
 use Rattle.m11_link_layout.proofs.Finding.{Apart, apart_inserted, lookup_inserted, pairs_found}
@@ -68,10 +68,10 @@ entered before part old new name attributes size e k a f n s =
           ∙ sym (total_entered before part other name attributes size a f);
     })
 
-abbrev sections_reported : Gathered → Sections
+abbrev sections_reported : LayoutTables → Sections
 sections_reported g = g.sections
 
-entry_step : (bottom : ℕ) (before : List Part) (g : Gathered) (kind : GsdKind) (entry : GsdEntry)
+entry_step : (bottom : ℕ) (before : List Part) (g : LayoutTables) (kind : GsdKind) (entry : GsdEntry)
     → (known_after (known_of before) (Entry entry)).sections ≡ (steps.with_entry kind entry (known_of before)).sections
     → filter_map attributes_in (Entry entry ∷ []) ≡ cons_option (attributes_by kind entry) []
     → filter_map section_in (Entry entry ∷ []) ≡ cons_option (section_by kind entry) []
@@ -89,12 +89,12 @@ entry_step bottom before g GlobalSymbol entry k a f n s =
     (λ definitions references weak. refl) entry) k a f n s
 entry_step bottom before g Identification entry k a f n s = kept before (Entry entry) g.sections _ refl k a f n s
 
-target_known : (global : Option (ℕ × ℕ)) (known : Known)
+target_known : (global : Option (ℕ × ℕ)) (known : RulesState)
     → (steps.with_optional_global global known).sections ≡ known.sections
 target_known None known = refl
 target_known (Some name) known = refl
 
-pub sections_step : (bottom : ℕ) (before : List Part) (g : Gathered) (part : Part) → fault_of before part ≡ None
+pub sections_step : (bottom : ℕ) (before : List Part) (g : LayoutTables) (part : Part) → fault_of before part ≡ None
     → SectionsOf before g.sections → SectionsOf (before ++ part ∷ []) (gathered_after bottom g part).sections
 unfolding gathered_after known_after
 sections_step bottom before g Directory n s = kept before Directory g.sections _ refl refl refl refl n s

@@ -10,11 +10,11 @@ use Rattle.m11_link_modules.proofs.KnownAfter.{taken_after}
 use Rattle.m11_link_modules.specs.Grammar.{directory_parts}
 use Rattle.m11_link_modules.specs.Laws.{TakesAfter}
 use Rattle.m11_link_modules.specs.Parts.{Part, Entry, EndOfDirectory, EndOfFile, EndOfModule, Text, record_parts}
-use Rattle.m11_link_modules.specs.Positions.{Known, known_of}
+use Rattle.m11_link_modules.specs.Positions.{RulesState, known_of}
 use Rattle.m11_link_modules.specs.Rules.{fault_of, first_fault}
 use Rattle.m11_link_modules.specs.Steps.{RulesTake}
 use Rattle.m11_link_layout.specs.Fault.{of_module}
-use Rattle.m11_link_layout.specs.Tables.{Gathered, gathered_after, gathered_after_all, nothing_gathered, with_end}
+use Rattle.m11_link_layout.specs.Tables.{LayoutTables, gathered_after, gathered_after_all, nothing_gathered, with_end}
 use Rattle.m11_link_layout.specs.Layout.{FirstFault, LayoutState, LayoutStands, TakesBlock, TakesParts}
 use Rattle.m11_link_layout.specs.declared.fault.LinkFault.{LinkFault}
 use Rattle.m11_link_layout.specs.declared.fault.LinkFault.TheVariants.{NoMemory, Record}
@@ -45,7 +45,7 @@ sound_after done (part ∷ before) parts e f =
     joined_none (fault_of done part) (first_fault (done ++ part ∷ []) (before ++ parts)) n.0
     (sound_after (done ++ part ∷ []) before parts n.1 (subst P (sym (append_snoc done part before)) f))
 
-pub gathered_append : (bottom : ℕ) (g : Gathered) (before parts : List Part)
+pub gathered_append : (bottom : ℕ) (g : LayoutTables) (before parts : List Part)
     → gathered_after_all bottom g (before ++ parts)
     ≡ gathered_after_all bottom (gathered_after_all bottom g before) parts
 gathered_append bottom g [] parts = refl
@@ -57,8 +57,8 @@ pub goes_on : (bottom : ℕ) (before parts : List Part) (old new : LayoutState) 
     → new.bottom ≡ old.bottom → new.fault ≡ old.fault → LayoutStands bottom (before ++ parts) new
 goes_on bottom before parts old new s t g b f =
     let P : ℕ → Type 0 = λ n. new.gathered ≡ gathered_after_all n old.gathered parts in
-    let Q : Gathered → Type 0 = λ h. new.gathered ≡ gathered_after_all bottom h parts in
-    let R : Gathered → Type 0 = λ h. new.gathered ≡ h in
+    let Q : LayoutTables → Type 0 = λ h. new.gathered ≡ gathered_after_all bottom h parts in
+    let R : LayoutTables → Type 0 = λ h. new.gathered ≡ h in
     let S : ℕ → Type 0 = λ n. new.bottom ≡ n in
     let T : Option LinkFault → Type 0 = λ o. new.fault ≡ o in
     record {
@@ -82,7 +82,7 @@ parts_taken {seen} {new} bottom before parts old is s t g b f =
     goes_on bottom before parts seen new s' (t s'.known) g b f
 
 -- a fault of parts, found by what is known before them
-pub fault_found : (before parts : List Part) (old new : Known) (broken : ModuleFault) → old ≡ known_of before
+pub fault_found : (before parts : List Part) (old new : RulesState) (broken : ModuleFault) → old ≡ known_of before
     → RulesTake old new parts (Err broken) → FirstFault before parts (of_module broken)
 fault_found before parts old new rule.NoMemory is h = inl (taken_after before old new parts (Err rule.NoMemory) is h)
 fault_found before parts old new rule.BadOrder is h =
@@ -102,7 +102,7 @@ fault_found before parts old new rule.TooManySections is h =
 fault_found before parts old new rule.TooManyModules is h =
     (rule.TooManyModules, taken_after before old new parts (Err rule.TooManyModules) is h, refl)
 
-pub fault_reported : (before parts : List Part) (old new : Known) (broken : ModuleFault) (state : LayoutState) (bottom : ℕ)
+pub fault_reported : (before parts : List Part) (old new : RulesState) (broken : ModuleFault) (state : LayoutState) (bottom : ℕ)
     (result : Result (Unit {0}) LinkFault) → old ≡ known_of before
     → RulesTake old new parts (Err broken) → IsErrAnd result (λ e. e ≡ of_module broken)
     → TakesParts bottom before state parts result
@@ -112,7 +112,7 @@ fault_reported before parts old new broken state bottom (Err stopped) is h e =
     subst P (sym e) (fault_found before parts old new broken is h)
 
 -- parts were judged, and memory was refused for what they say
-pub memory_refused : {seen : LayoutState} (bottom : ℕ) (before parts : List Part) (old state : LayoutState) (new : Known)
+pub memory_refused : {seen : LayoutState} (bottom : ℕ) (before parts : List Part) (old state : LayoutState) (new : RulesState)
     (result : Result (Unit {0}) LinkFault) → seen ≡ old → LayoutStands bottom before old
     → RulesTake seen.known new parts (Ok tt) → IsErrAnd result (λ e. e ≡ NoMemory) → TakesParts bottom before state parts result
 memory_refused {seen} bottom before parts old state new (Ok done) is s h e = absurd e
@@ -150,31 +150,31 @@ block_taken bottom before parts new bytes result e h =
     of_record bottom before new bytes result (subst P (sym e) h)
 
 -- nothing is noted of a text
-pub text_noted : (bottom address : ℕ) (bytes : List ℕ) (g : Gathered)
+pub text_noted : (bottom address : ℕ) (bytes : List ℕ) (g : LayoutTables)
     → g ≡ gathered_after_all bottom g (Text address bytes ∷ [])
 unfolding gathered_after
 text_noted bottom address bytes g = refl
 
 -- nor of the end of a directory
-pub end_of_directory_noted : (bottom : ℕ) (g : Gathered) → g ≡ gathered_after_all bottom g (EndOfDirectory ∷ [])
+pub end_of_directory_noted : (bottom : ℕ) (g : LayoutTables) → g ≡ gathered_after_all bottom g (EndOfDirectory ∷ [])
 unfolding gathered_after
 end_of_directory_noted bottom g = refl
 
 -- the end of a module is noted
-pub end_of_module_noted : (bottom : ℕ) (g later : Gathered) → later ≡ with_end g
+pub end_of_module_noted : (bottom : ℕ) (g later : LayoutTables) → later ≡ with_end g
     → later ≡ gathered_after_all bottom g (EndOfModule ∷ [])
 unfolding gathered_after
 end_of_module_noted bottom g later e = e
 
 -- and so are the entries of a directory record
-pub directory_noted : (bottom : ℕ) (entries : List GsdEntry) (g later : Gathered)
+pub directory_noted : (bottom : ℕ) (entries : List GsdEntry) (g later : LayoutTables)
     → later ≡ gathered_after_all bottom g (map (λ entry. Entry entry) entries)
     → later ≡ gathered_after_all bottom g (directory_parts entries)
 unfolding gathered_after
 directory_noted bottom entries g later e = e
 
 -- the end of a file was taken
-nothing_noted : (bottom : ℕ) (g : Gathered) → g ≡ gathered_after_all bottom g (EndOfFile ∷ [])
+nothing_noted : (bottom : ℕ) (g : LayoutTables) → g ≡ gathered_after_all bottom g (EndOfFile ∷ [])
 unfolding gathered_after
 nothing_noted bottom g = refl
 
@@ -185,7 +185,7 @@ pub end_taken : {seen new : LayoutState} (bottom : ℕ) (before : List Part) (ol
     → LayoutStands bottom (before ++ EndOfFile ∷ []) new
 end_taken {seen} {new} bottom before old is s t g b f =
     let P : LayoutState → Type 0 = λ reading. LayoutStands bottom before reading in
-    let Q : Gathered → Type 0 = λ h. new.gathered ≡ h in
+    let Q : LayoutTables → Type 0 = λ h. new.gathered ≡ h in
     let s' = subst P (sym is) s in
     goes_on bottom before (EndOfFile ∷ []) seen new s' (t s'.known)
     (subst Q (nothing_noted seen.bottom seen.gathered) g) b f

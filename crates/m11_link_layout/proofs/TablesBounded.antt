@@ -13,11 +13,11 @@ use Rattle.m11_obj.specs.declared.gsd.GsdKind.{GsdKind}
 use Rattle.m11_obj.specs.declared.gsd.GsdKind.TheVariants.{ModuleName, ControlSection, InternalSymbol, TransferAddress, GlobalSymbol, ProgramSection, Identification}
 use Rattle.m11_link_modules.specs.Names.{is_among}
 use Rattle.m11_link_modules.specs.Parts.{Part, Directory, Entry, EndOfDirectory, Text, Relocations, Relocated, EndOfModule, EndOfFile}
-use Rattle.m11_link_modules.specs.Positions.{Known, distinct, ends_module, global_in, global_names, global_of, known_of, modules_in, section_by, section_in, section_names, sections_in, stage_after, this_module}
+use Rattle.m11_link_modules.specs.Positions.{RulesState, distinct, ends_module, global_in, global_names, global_of, known_of, modules_in, section_by, section_in, section_names, sections_in, stage_after, this_module}
 use Rattle.m11_link_modules.specs.Rules.{defines, fault_of, first_fault}
 use Rattle.m11_obj.specs.Gsd.{has_bits}
 use Rattle.m11_link_modules.proofs.KnownAfter.{known_after_part, this_module_goes_on}
-use Rattle.m11_link_layout.specs.Tables.{Gathered, gathered_after, gathered_after_all, is_contribution, nothing_gathered, with_definition, with_entry, with_reference, with_relocated, with_weak}
+use Rattle.m11_link_layout.specs.Tables.{LayoutTables, gathered_after, gathered_after_all, is_contribution, nothing_gathered, with_definition, with_entry, with_reference, with_relocated, with_weak}
 use Rattle.m11_link_layout.proofs.Finding.{Apart, apart_inserted}
 use Rattle.m11_link_layout.proofs.Keeping.{relocated_keeps, symbol_keeps}
 use Rattle.m11_link_layout.proofs.ModulesOfParts.{modules_more, one_ended}
@@ -37,7 +37,7 @@ module _ {K V : Type 0} (eq : K → K → Bool) where
       by true h = omega arith
       by false h = omega (arith, h)
 
-abbrev contributions_reported : Gathered → List ((ℕ × (ℕ × ℕ)) × ℕ)
+abbrev contributions_reported : LayoutTables → List ((ℕ × (ℕ × ℕ)) × ℕ)
 contributions_reported g = g.contributions
 
 -- a part that leaves them alone
@@ -50,7 +50,7 @@ left_alone old new entered e =
     more : (m n : ℕ) → m ≤ m + n
     more m n = omega arith
 
-entry_contributes : (bottom : ℕ) (kind : GsdKind) (entry : GsdEntry) (g : Gathered)
+entry_contributes : (bottom : ℕ) (kind : GsdKind) (entry : GsdEntry) (g : LayoutTables)
     → length (with_entry bottom kind entry g).contributions
     ≤ length g.contributions + length (cons_option (section_by kind entry) [])
 entry_contributes bottom ControlSection entry g =
@@ -65,7 +65,7 @@ entry_contributes bottom GlobalSymbol entry g =
     (symbol_keeps contributions_reported g (λ definitions references weak. refl) entry)
 entry_contributes bottom Identification entry g = left_alone g.contributions _ [] refl
 
-contributes : (bottom : ℕ) (g : Gathered) (part : Part)
+contributes : (bottom : ℕ) (g : LayoutTables) (part : Part)
     → length (gathered_after bottom g part).contributions
     ≤ length g.contributions + length (filter_map section_in (part ∷ []))
 unfolding gathered_after
@@ -191,17 +191,17 @@ few_step before EndOfFile b h = few_on before EndOfFile refl h
 
 -- ---- weak names stand once
 
-abbrev Once : Gathered → Type 0
+abbrev Once : LayoutTables → Type 0
 Once g = Apart is_same_name g.weak
 
-symbol_once : (b c : Bool) (entry : GsdEntry) (g : Gathered) → Once g
+symbol_once : (b c : Bool) (entry : GsdEntry) (g : LayoutTables) → Once g
     → Once (if b then with_definition entry g else if c then with_weak entry.name g else with_reference entry.name
     true g)
 symbol_once true c entry g d = d
 symbol_once false true entry g d = apart_inserted is_same_name same_name_equal same_name_itself g.weak entry.name d
 symbol_once false false entry g d = d
 
-entry_once : (bottom : ℕ) (kind : GsdKind) (entry : GsdEntry) (g : Gathered) → Once g
+entry_once : (bottom : ℕ) (kind : GsdKind) (entry : GsdEntry) (g : LayoutTables) → Once g
     → Once (with_entry bottom kind entry g)
 entry_once bottom GlobalSymbol entry g d = symbol_once (defines entry) (has_bits 1 entry.flags) entry g d
 entry_once bottom ModuleName entry g d = d
@@ -211,11 +211,11 @@ entry_once bottom TransferAddress entry g d = d
 entry_once bottom ProgramSection entry g d = d
 entry_once bottom Identification entry g d = d
 
-relocated_once : (global : Option (ℕ × ℕ)) (g : Gathered) → Once g → Once (with_relocated global g)
+relocated_once : (global : Option (ℕ × ℕ)) (g : LayoutTables) → Once g → Once (with_relocated global g)
 relocated_once None g d = d
 relocated_once (Some name) g d = d
 
-once_step : (bottom : ℕ) (g : Gathered) (part : Part) → Once g → Once (gathered_after bottom g part)
+once_step : (bottom : ℕ) (g : LayoutTables) (part : Part) → Once g → Once (gathered_after bottom g part)
 unfolding gathered_after
 once_step bottom g Directory d = d
 once_step bottom g (Entry entry) d = entry_once bottom entry.kind entry g d
@@ -228,7 +228,7 @@ once_step bottom g EndOfFile d = d
 
 -- ---- all of them, part by part
 
-pub record Tables (before : List Part) (g : Gathered) : Type 0 where
+pub record Tables (before : List Part) (g : LayoutTables) : Type 0 where
   pub known : Bounded (known_of before)
   pub weak : Apart is_same_name g.weak
   pub contributions : length g.contributions ≤ length (sections_in before)
@@ -238,10 +238,10 @@ one_part : (old new sections sections' more : ℕ) → new ≤ old + more → se
     → new ≤ sections'
 one_part old new sections sections' more n s h = omega (arith, n, s, h)
 
-tables_step : (bottom : ℕ) (before : List Part) (g : Gathered) (part : Part) → fault_of before part ≡ None
+tables_step : (bottom : ℕ) (before : List Part) (g : LayoutTables) (part : Part) → fault_of before part ≡ None
     → Tables before g → Tables (before ++ part ∷ []) (gathered_after bottom g part)
 tables_step bottom before g part n t =
-    let P : Known → Type 0 = λ known. Bounded known in
+    let P : RulesState → Type 0 = λ known. Bounded known in
     record {
       known = subst P (sym (known_after_part before part n)) (bounded_step (known_of before) part n t.known);
       weak = once_step bottom g part t.weak;

@@ -12,8 +12,8 @@ use Rattle.m11_link_modules.specs.declared.fault.ModuleFault.TheVariants.{Unknow
 use Rattle.m11_link_modules.specs.Parts.{Part, Directory, Entry, EndOfDirectory, Text, Relocations, Relocated, EndOfModule, EndOfFile}
 use Rattle.m11_link_modules.specs.Positions.{global_of, known_of, modules_in, sections_in, this_module}
 use Rattle.m11_link_modules.specs.Rules.{entry_fault, fault_of, first_there}
-use Rattle.m11_link_layout.specs.Tables.{Gathered, gathered_after, is_even_after, nothing_gathered, with_entry, with_relocated}
-use Rattle.m11_link_layout.specs.Plan.{Planned, planned_base, planned_transfer, transfer_at}
+use Rattle.m11_link_layout.specs.Tables.{LayoutTables, gathered_after, is_even_after, nothing_gathered, with_entry, with_relocated}
+use Rattle.m11_link_layout.specs.Plan.{PlanTables, planned_base, planned_transfer, transfer_at}
 use Rattle.m11_link_layout.specs.Sections.{module_base}
 use Rattle.m11_link_layout.specs.Transfers.{is_even, transfer_address, transfer_by, transfer_in, transfer_value, transfers_of}
 use Rattle.m11_link_layout.specs.declared.definition.Transfer.{Transfer}
@@ -29,17 +29,17 @@ use Rattle.m11_link_layout.proofs.TransfersGathered.{TransfersOf, possible_befor
 
 -- ---- one more part gathered
 
-abbrev pub TransfersIn : ℕ → List Part → Gathered → Type 0
+abbrev pub TransfersIn : ℕ → List Part → LayoutTables → Type 0
 TransfersIn bottom before g = TransfersOf bottom before g.transfer g.moved
 
-abbrev transfers_reported : Gathered → Option Transfer × Option Transfer
+abbrev transfers_reported : LayoutTables → Option Transfer × Option Transfer
 transfers_reported g = (g.transfer, g.moved)
 
 no_end : (before : List Part) (part : Part) → modules_in (part ∷ []) ≡ 0
     → modules_in (before ++ part ∷ []) ≡ modules_in before
 no_end before part z = modules_more before part ∙ ap (λ n. modules_in before + n) z ∙ add_zero (modules_in before)
 
-kept : (bottom : ℕ) (before : List Part) (g new : Gathered) (part : Part) → modules_in (part ∷ []) ≡ 0
+kept : (bottom : ℕ) (before : List Part) (g new : LayoutTables) (part : Part) → modules_in (part ∷ []) ≡ 0
     → transfer_in before part ≡ None
     → transfers_reported new ≡ transfers_reported g → TransfersIn bottom before g → TransfersIn bottom (before ++ part ∷ []) new
 kept bottom before g new part z e same t =
@@ -67,7 +67,7 @@ section_known before name e =
     (modules_are before).this
     ∙ known_from (lookup (is_same_name name) (sections_in (this_module before))) (is_same_name name absolute_name) e
 
-entry_step : (bottom : ℕ) (before : List Part) (g : Gathered) (kind : GsdKind) (entry : GsdEntry)
+entry_step : (bottom : ℕ) (before : List Part) (g : LayoutTables) (kind : GsdKind) (entry : GsdEntry)
     → modules_in (Entry entry ∷ []) ≡ 0
     → transfer_in before (Entry entry) ≡ transfer_by kind entry (modules_in before)
     → entry_fault kind entry (sections_in (this_module before)) (known_of before).sections (known_of before).globals
@@ -90,7 +90,7 @@ entry_step bottom before g GlobalSymbol entry z e n l s c t =
     (symbol_keeps transfers_reported g (λ definitions references weak. refl) entry) t
 entry_step bottom before g Identification entry z e n l s c t = kept bottom before g g (Entry entry) z e refl t
 
-pub transfers_step : (bottom : ℕ) (before : List Part) (g : Gathered) (part : Part) → fault_of before part ≡ None
+pub transfers_step : (bottom : ℕ) (before : List Part) (g : LayoutTables) (part : Part) → fault_of before part ≡ None
     → length g.names ≡ modules_in before → SectionsOf before g.sections → ContributionsOf before g.contributions
     → TransfersIn bottom before g → TransfersIn bottom (before ++ part ∷ []) (gathered_after bottom g part)
 unfolding gathered_after modules_in
@@ -127,13 +127,13 @@ find_mapped {X} {Y} p f (x ∷ xs) = by (p (f x)) (f x) x _ _ (find_mapped p f x
     by true y x more rest e h = ap (λ z. Some z) (sym h)
     by false y x more rest e h = e
 
-at_is : (bottom : ℕ) (parts : List Part) (plan : Planned) (found : Option Transfer)
+at_is : (bottom : ℕ) (parts : List Part) (plan : PlanTables) (found : Option Transfer)
     → ((index : ℕ) (name : ℕ × ℕ) → planned_base plan index name ≡ module_base bottom parts index name)
     → transfer_at plan found ≡ unwrap_or (option_map (transfer_value bottom parts) found) 1
 at_is bottom parts plan None b = refl
 at_is bottom parts plan (Some one) b = ap (λ base. (base + one.value) % 0o200000) (b one.module_index one.section)
 
-pub transfer_planned : (bottom : ℕ) (parts : List Part) (plan : Planned) → length plan.gathered.names ≡ modules_in parts
+pub transfer_planned : (bottom : ℕ) (parts : List Part) (plan : PlanTables) → length plan.gathered.names ≡ modules_in parts
     → SectionsOf parts plan.gathered.sections → ContributionsOf parts plan.gathered.contributions
     → TransfersIn bottom parts plan.gathered
     → ((index : ℕ) (name : ℕ × ℕ) → planned_base plan index name ≡ module_base bottom parts index name)

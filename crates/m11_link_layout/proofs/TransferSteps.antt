@@ -8,7 +8,7 @@ use Rattle.m11_base.specs.Names.{absolute_name}
 use Rattle.m11_obj.specs.declared.gsd.GsdEntry.{GsdEntry}
 use Rattle.m11_link_modules.specs.Parts.{Part, EndOfModule}
 use Rattle.m11_link_modules.specs.Positions.{modules_in}
-use Rattle.m11_link_layout.specs.Tables.{Gathered, entered_total, is_even_after, is_relocated, settled, transfer_after, with_transfer}
+use Rattle.m11_link_layout.specs.Tables.{LayoutTables, entered_total, is_even_after, is_relocated, settled, transfer_after, with_transfer}
 use Rattle.m11_link_layout.specs.Sections.{first_attributes, is_relocatable}
 use Rattle.m11_link_layout.specs.Transfers.{transfer_in, transfers_of}
 use Rattle.m11_link_layout.specs.declared.definition.Transfer.{Transfer}
@@ -33,7 +33,7 @@ known_here : (later now known : Bool) → now ≡ true → known ≡ true → (l
 known_here true now known n k = refl
 known_here false now known n k = let P : Bool → Type 0 = λ b. (b && known) ≡ true in subst P (sym n) k
 
-pub transfer_entered : (bottom : ℕ) (before : List Part) (g : Gathered) (entry : GsdEntry) (part : Part)
+pub transfer_entered : (bottom : ℕ) (before : List Part) (g : LayoutTables) (entry : GsdEntry) (part : Part)
     → modules_in (before ++ part ∷ []) ≡ modules_in before
     → transfer_in before part
     ≡ Some (record { module_index = modules_in before; section = entry.name; value = entry.value })
@@ -69,7 +69,7 @@ transfer_entered bottom before g entry part m e k l s c p t =
 
 -- ---- what is settled
 
-absolute_relocated : (before : List Part) (g : Gathered) → length g.names ≡ modules_in before
+absolute_relocated : (before : List Part) (g : LayoutTables) → length g.names ≡ modules_in before
     → SectionsOf before g.sections
     → ContributionsOf before g.contributions → is_relocated (entered_total g absolute_name) false
     ≡ relocated_at before (modules_in before) absolute_name
@@ -102,7 +102,7 @@ under_settled before assumed one a =
     by true false e f = refl
     by false b e f = refl
 
-pub settled_is : (bottom : ℕ) (before : List Part) (g : Gathered) → length g.names ≡ modules_in before
+pub settled_is : (bottom : ℕ) (before : List Part) (g : LayoutTables) → length g.names ≡ modules_in before
     → SectionsOf before g.sections
     → ContributionsOf before g.contributions → TransfersOf bottom before g.transfer g.moved
     → settled g ≡ find (λ one. is_even_after (relocated_at before one.module_index one.section) bottom one.value)
@@ -133,7 +133,7 @@ same_slot : (assumed : Bool) (transfer : Option Transfer) → slot assumed trans
 same_slot true transfer = refl
 same_slot false transfer = refl
 
-pub transfers_ended : (bottom : ℕ) (before : List Part) (g : Gathered) → length g.names ≡ modules_in before
+pub transfers_ended : (bottom : ℕ) (before : List Part) (g : LayoutTables) → length g.names ≡ modules_in before
     → SectionsOf before g.sections
     → ContributionsOf before g.contributions → TransfersOf bottom before g.transfer g.moved
     → TransfersOf bottom (before ++ EndOfModule ∷ []) (settled g) (settled g)

@@ -8,7 +8,7 @@ use Rattle.m11_base.proofs.SameNames.{same_name_equal}
 use Rattle.m11_base.specs.Names.{absolute_name}
 use Rattle.m11_link_modules.specs.Parts.{Part}
 use Rattle.m11_link_modules.specs.Positions.{modules_in}
-use Rattle.m11_link_layout.specs.Tables.{Gathered, entered_total, is_contribution, is_even_after, is_relocated}
+use Rattle.m11_link_layout.specs.Tables.{LayoutTables, entered_total, is_contribution, is_even_after, is_relocated}
 use Rattle.m11_link_layout.specs.Sections.{first_attributes, is_relocatable, sizes_of}
 use Rattle.m11_link_layout.specs.Transfers.{transfer_in, transfers_of}
 use Rattle.m11_link_layout.specs.declared.definition.Transfer.{Transfer}
@@ -90,7 +90,7 @@ entered_by None found sizes offset assumed h = refl
 entered_by (Some size) None sizes offset assumed h = absurd (true≢false (ap is_some (h refl)))
 entered_by (Some size) (Some attributes) sizes offset assumed h = refl
 
-pub relocated_is : (before : List Part) (g : Gathered) (name : ℕ × ℕ) (assumed : Bool)
+pub relocated_is : (before : List Part) (g : LayoutTables) (name : ℕ × ℕ) (assumed : Bool)
     → length g.names ≡ modules_in before
     → SectionsOf before g.sections → ContributionsOf before g.contributions
     → is_relocated (entered_total g name) assumed

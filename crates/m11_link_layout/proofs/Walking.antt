@@ -5,7 +5,7 @@ use Rattle.std.proofs.Math.Seq.{append_snoc}
 use Rattle.m11_link_modules.specs.declared.fault.ModuleFault.{ModuleFault}
 use Rattle.m11_link_modules.specs.Parts.{Part}
 use Rattle.m11_link_modules.specs.Rules.{fault_of, first_fault}
-use Rattle.m11_link_layout.specs.Tables.{Gathered, gathered_after, gathered_after_all}
+use Rattle.m11_link_layout.specs.Tables.{LayoutTables, gathered_after, gathered_after_all}
 
 pub head_none : (first rest : Option ModuleFault) → option_or first rest ≡ None → first ≡ None
 head_none None rest e = refl
@@ -16,10 +16,10 @@ rest_none None rest e = e
 rest_none (Some said) rest e = search
 
 -- parts without a fault, and what is gathered of them
-pub walked : (bottom : ℕ) (P : List Part → Gathered → Type 0)
-    → ((before : List Part) (g : Gathered) (part : Part) → fault_of before part ≡ None → P before g
+pub walked : (bottom : ℕ) (P : List Part → LayoutTables → Type 0)
+    → ((before : List Part) (g : LayoutTables) (part : Part) → fault_of before part ≡ None → P before g
     → P (before ++ part ∷ []) (gathered_after bottom g part))
-    → (before parts : List Part) (g : Gathered) → first_fault before parts ≡ None → P before g
+    → (before parts : List Part) (g : LayoutTables) → first_fault before parts ≡ None → P before g
     → P (before ++ parts) (gathered_after_all bottom g parts)
 unfolding first_fault
 walked bottom P step before [] g n p =

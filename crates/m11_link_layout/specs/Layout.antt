@@ -4,18 +4,18 @@ use Rattle.m11_base.specs.Devices.{Bytes}
 use Rattle.m11_obj.specs.Reading.{content_of}
 use Rattle.m11_link_modules.specs.declared.fault.ModuleFault.{ModuleFault}
 use Rattle.m11_link_modules.specs.Parts.{Part}
-use Rattle.m11_link_modules.specs.Positions.{Known, known_of}
+use Rattle.m11_link_modules.specs.Positions.{RulesState, known_of}
 use Rattle.m11_link_modules.specs.Rules.{StopsAtName, first_fault}
 use Rattle.m11_link_modules.specs.Parts.{record_parts}
 use Rattle.m11_link_layout.specs.Fault.{of_module}
-use Rattle.m11_link_layout.specs.Tables.{Gathered, gathered_after_all, nothing_gathered}
+use Rattle.m11_link_layout.specs.Tables.{LayoutTables, gathered_after_all, nothing_gathered}
 use Rattle.m11_link_layout.specs.declared.fault.LinkFault.{LinkFault}
 use Rattle.m11_link_layout.specs.declared.fault.LinkFault.TheVariants.{Record, NoMemory}
 
 -- a layout between two calls
 pub record LayoutState : Type 0 where
-  pub known : Known
-  pub gathered : Gathered
+  pub known : RulesState
+  pub gathered : LayoutTables
   pub bottom : ℕ
   pub fault : Option LinkFault
 

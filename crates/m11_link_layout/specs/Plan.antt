@@ -6,7 +6,7 @@ use Rattle.std.specs.Option.{is_some, unwrap_or}
 use Rattle.indexmap.specs.IndexMap.{insert_entry}
 use Rattle.m11_base.specs.Names.{blank_name}
 use Rattle.m11_base.specs.Rad50.{Name, is_same_name}
-use Rattle.m11_link_layout.specs.Tables.{Gathered, gathered_after_all, is_contribution, nothing_gathered, settled}
+use Rattle.m11_link_layout.specs.Tables.{LayoutTables, gathered_after_all, is_contribution, nothing_gathered, settled}
 use Rattle.m11_link_layout.specs.Globals.{definitions_of, first_definition, global_value, globals_of, referred}
 use Rattle.m11_link_layout.specs.Modules.{name_at}
 use Rattle.m11_link_layout.specs.Sections.{entered_attributes, is_relocatable, is_too_large, module_base, most_size, sections_of, top}
@@ -74,14 +74,14 @@ PlacesAll bases next sections new (Err fault) = ⊥
 
 -- ---- what a plan reports
 
-pub record Planned : Type 0 where
-  pub gathered : Gathered
+pub record PlanTables : Type 0 where
+  pub gathered : LayoutTables
   pub bases : List (Name × ℕ)
   pub bottom : ℕ
   pub top : ℕ
 
 -- the base of a section; 0 where there is none of that name
-abbrev pub planned_section_base : Planned → Name → ℕ
+abbrev pub planned_section_base : PlanTables → Name → ℕ
 planned_section_base plan name = unwrap_or (lookup (is_same_name name) plan.bases) 0
 
 abbrev pub after_offset : Option ℕ → ℕ → ℕ
@@ -89,43 +89,43 @@ after_offset None base = 0
 after_offset (Some offset) base = (base + offset) % 0o200000
 
 -- the base of a module's contribution; 0 where it has none
-abbrev pub planned_base : Planned → ℕ → Name → ℕ
+abbrev pub planned_base : PlanTables → ℕ → Name → ℕ
 planned_base plan module_index name = after_offset
     (lookup (is_contribution (module_index, name)) plan.gathered.contributions)
     (planned_section_base plan name)
 
 -- the bases of all contributions, in order
-abbrev pub contribution_bases : Planned → List ℕ
+abbrev pub contribution_bases : PlanTables → List ℕ
 contribution_bases plan = map (λ entry. after_offset (Some entry.1) (planned_section_base plan entry.0.1))
     plan.gathered.contributions
 
-abbrev pub value_at : Planned → ℕ → GlobalLocation → ℕ
+abbrev pub value_at : PlanTables → ℕ → GlobalLocation → ℕ
 value_at plan module_index (Absolute value) = value
 value_at plan module_index (In section value) = (planned_base plan module_index section + value) % 0o200000
 
 -- the values of all globals that are defined, in order
-abbrev pub definition_values : Planned → List ℕ
+abbrev pub definition_values : PlanTables → List ℕ
 definition_values plan = map (λ entry. value_at plan entry.1.module_index entry.1.location) plan.gathered.definitions
 
-abbrev pub defined_value : Planned → Option Definition → Option ℕ
+abbrev pub defined_value : PlanTables → Option Definition → Option ℕ
 defined_value plan None = None
 defined_value plan (Some definition) = Some (value_at plan definition.module_index definition.location)
 
 -- the value of a global, where it is defined
-abbrev pub planned_value : Planned → Name → Option ℕ
+abbrev pub planned_value : PlanTables → Name → Option ℕ
 planned_value plan name = defined_value plan (lookup (is_same_name name) plan.gathered.definitions)
 
 -- without an even transfer address it is 1, which starts nothing
-abbrev pub transfer_at : Planned → Option Transfer → ℕ
+abbrev pub transfer_at : PlanTables → Option Transfer → ℕ
 transfer_at plan None = 1
 transfer_at plan (Some transfer) =
     (planned_base plan transfer.module_index transfer.section + transfer.value) % 0o200000
 
-abbrev pub planned_transfer : Planned → ℕ
+abbrev pub planned_transfer : PlanTables → ℕ
 planned_transfer plan = transfer_at plan (settled plan.gathered)
 
 -- the name of the module of an index, blank past the last
-abbrev pub planned_module : Planned → ℕ → Name
+abbrev pub planned_module : PlanTables → ℕ → Name
 planned_module plan module_index = get_or plan.gathered.names module_index blank_name
 
 abbrev pub attributes_reported : Option Total → Option ℕ
@@ -133,10 +133,10 @@ attributes_reported None = None
 attributes_reported (Some total) = Some total.attributes.0
 
 -- the attributes of a section, where there is one of that name
-abbrev pub planned_attributes : Planned → Name → Option ℕ
+abbrev pub planned_attributes : PlanTables → Name → Option ℕ
 planned_attributes plan name = attributes_reported (lookup (is_same_name name) plan.gathered.sections)
 
-abbrev pub section_planned : Planned → Name × Total → PlannedSection
+abbrev pub section_planned : PlanTables → Name × Total → PlannedSection
 section_planned plan section = record {
   name = section.0;
   base = planned_section_base plan section.0;
@@ -145,7 +145,7 @@ section_planned plan section = record {
 }
 
 -- the sections in order of first appearance
-unfoldable pub planned_sections : Planned → List PlannedSection
+unfoldable pub planned_sections : PlanTables → List PlannedSection
 planned_sections plan = map (section_planned plan) plan.gathered.sections
 
 -- what stands in the first list stands in the second one, at the same index
@@ -153,11 +153,11 @@ abbrev pub Agrees : List ℕ → List ℕ → Type 0
 Agrees some all = (index value : ℕ) → slice_get some index ≡ Some value → slice_get all index ≡ Some value
 
 -- bases of contributions and values of globals that a plan has listed
-pub record Lists (plan : Planned) (bases values : List ℕ) : Type 0 where
+pub record Lists (plan : PlanTables) (bases values : List ℕ) : Type 0 where
   pub bases_agree : Agrees bases (contribution_bases plan)
   pub values_agree : Agrees values (definition_values plan)
 
-abbrev pub global_planned : Planned → Name × Definition → PlannedGlobal
+abbrev pub global_planned : PlanTables → Name × Definition → PlannedGlobal
 global_planned plan global = record {
   name = global.0;
   value = value_at plan global.1.module_index global.1.location;
@@ -165,21 +165,21 @@ global_planned plan global = record {
 }
 
 -- the globals in order of first definition
-unfoldable pub planned_globals : Planned → List PlannedGlobal
+unfoldable pub planned_globals : PlanTables → List PlannedGlobal
 planned_globals plan = map (global_planned plan) plan.gathered.definitions
 
 -- ---- how large its tables are
 
 -- the tables grow with the names in parts alone: a contribution at most for each entry of a section, the name of each module
 -- that ended, no more weak names than globals, a base at most for each section
-pub record TablesGrow (parts : List Part) (plan : Planned) : Type 0 where
+pub record TablesGrow (parts : List Part) (plan : PlanTables) : Type 0 where
   pub contributions : length plan.gathered.contributions ≤ length (sections_in parts)
   pub names : length plan.gathered.names ≡ modules_in parts
   pub weak : length plan.gathered.weak ≤ length (global_names parts)
   pub bases : length plan.bases ≤ length (section_names parts)
 
 -- the tables grow no further than the limits of a link, which count the module that may not have ended
-pub record TablesBounded (plan : Planned) : Type 0 where
+pub record TablesBounded (plan : PlanTables) : Type 0 where
   pub contributions : length plan.gathered.contributions ≤ (most_modules + 1) * most_sections
   pub names : length plan.gathered.names ≤ most_modules
   pub weak : length plan.gathered.weak ≤ most_globals
@@ -188,7 +188,7 @@ pub record TablesBounded (plan : Planned) : Type 0 where
 -- ---- the end of the first pass
 
 -- a plan of all parts
-pub record IsPlan (bottom : ℕ) (parts : List Part) (plan : Planned) : Type 0 where
+pub record IsPlan (bottom : ℕ) (parts : List Part) (plan : PlanTables) : Type 0 where
   pub gathered : plan.gathered ≡ gathered_after_all bottom nothing_gathered parts
   pub bases : bases_onto [] bottom plan.gathered.sections ≡ Some (record { bases = plan.bases; top = plan.top })
   pub bottom_is : plan.bottom ≡ bottom
@@ -197,7 +197,7 @@ pub record IsPlan (bottom : ℕ) (parts : List Part) (plan : Planned) : Type 0 w
 -- contribution to each section; the value of each global; the transfer address; the sections and globals, in order; the
 -- attributes of each section; definitions and references, in order; the modules' names; the addresses between which
 -- relocatable sections lie; and how large its tables are
-pub record IsPlanOf (bottom : ℕ) (parts : List Part) (plan : Planned) : Type 0 where
+pub record IsPlanOf (bottom : ℕ) (parts : List Part) (plan : PlanTables) : Type 0 where
   pub fits : is_too_large bottom parts ≡ false
   pub bases : (module_index : ℕ) (name : Name)
       → planned_base plan module_index name ≡ module_base bottom parts module_index name
@@ -215,7 +215,7 @@ pub record IsPlanOf (bottom : ℕ) (parts : List Part) (plan : Planned) : Type 0
   pub bounded : TablesBounded plan
 
 -- a plan of what was gathered
-abbrev pub Plans : ℕ → Gathered → Result Planned LinkFault → Type 0
+abbrev pub Plans : ℕ → LayoutTables → Result PlanTables LinkFault → Type 0
 Plans bottom gathered (Ok plan) = (plan.gathered ≡ gathered) × (plan.bottom ≡ bottom)
     × (bases_onto [] bottom gathered.sections ≡ Some (record { bases = plan.bases; top = plan.top }))
 Plans bottom gathered (Err TooLarge) = bases_onto [] bottom gathered.sections ≡ None
@@ -224,7 +224,7 @@ Plans bottom gathered (Err fault) = ⊥
 
 -- what the reading of all parts yields: a plan; an end inside a module, and only then a section that ends too high; or
 -- memory was refused for the base of a section that doesn't, as none before it does
-abbrev pub LayoutEnds : ℕ → List Part → Result Planned LinkFault → Type 0
+abbrev pub LayoutEnds : ℕ → List Part → Result PlanTables LinkFault → Type 0
 LayoutEnds bottom parts (Ok plan) = (fault_of parts EndOfFile ≡ None) × IsPlanOf bottom parts plan
 LayoutEnds bottom parts (Err BadOrder) = fault_of parts EndOfFile ≡ Some rule.BadOrder
 LayoutEnds bottom parts (Err TooLarge) = (fault_of parts EndOfFile ≡ None) × (is_too_large bottom parts ≡ true)

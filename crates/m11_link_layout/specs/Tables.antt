@@ -23,7 +23,7 @@ use Rattle.m11_link_layout.specs.Sections.{is_relocatable, is_overlaid, rounded,
 use Rattle.m11_link_layout.specs.Transfers.{is_even}
 use Rattle.m11_link_layout.specs.Globals.{location_of}
 
-pub record Gathered : Type 0 where
+pub record LayoutTables : Type 0 where
   -- sections, in order of first appearance
   pub sections : List (Name × Total)
   -- the offsets of contributions, by the module's index and the section
@@ -81,25 +81,25 @@ abbrev pub StandsAt : ℕ × Name → ℕ → ℕ → List ((ℕ × Name) × ℕ
 StandsAt key index offset contributions = (stored : ℕ × Name)
     × (slice_get contributions index ≡ Some (stored, offset)) × (is_contribution key stored ≡ true)
 
-abbrev pub with_total : Name → Total → Gathered → Gathered
+abbrev pub with_total : Name → Total → LayoutTables → LayoutTables
 with_total name total g = record g { sections = insert_entry is_same_name g.sections name total }
 
-abbrev pub with_contribution : Name → ℕ → Gathered → Gathered
+abbrev pub with_contribution : Name → ℕ → LayoutTables → LayoutTables
 with_contribution name offset g = record g {
   contributions = insert_entry is_contribution g.contributions (length g.names, name) offset;
   section = Some name;
 }
 
-abbrev pub with_section_after : Option Total → GsdEntry → ℕ → Gathered → Gathered
+abbrev pub with_section_after : Option Total → GsdEntry → ℕ → LayoutTables → LayoutTables
 with_section_after found entry attributes g = with_contribution entry.name (next_offset found)
     (with_total entry.name (total_after found attributes entry.value) g)
 
-abbrev pub with_section : GsdEntry → ℕ → Gathered → Gathered
+abbrev pub with_section : GsdEntry → ℕ → LayoutTables → LayoutTables
 with_section entry attributes g = with_section_after (lookup (is_same_name entry.name) g.sections) entry attributes g
 
 -- ---- globals
 
-abbrev pub with_reference : Name → Bool → Gathered → Gathered
+abbrev pub with_reference : Name → Bool → LayoutTables → LayoutTables
 with_reference name is_strong g = record g {
   references = insert_entry is_same_name g.references name
       (unwrap_or (lookup (is_same_name name) g.references) false || is_strong);
@@ -111,21 +111,21 @@ with_first found None = found
 with_first found (Some pair) =
     if is_some (lookup (is_same_name pair.0) found) then found else insert_entry is_same_name found pair.0 pair.1
 
-abbrev pub with_definition : GsdEntry → Gathered → Gathered
+abbrev pub with_definition : GsdEntry → LayoutTables → LayoutTables
 with_definition entry g = record g {
   definitions = with_first g.definitions
       (Some (entry.name, record { module_index = length g.names; location = location_of g.section entry }));
 }
 
-abbrev pub with_weak : Name → Gathered → Gathered
+abbrev pub with_weak : Name → LayoutTables → LayoutTables
 with_weak name g = record (with_reference name false g) { weak = insert_key is_same_name g.weak name }
 
-abbrev pub with_symbol : GsdEntry → Gathered → Gathered
+abbrev pub with_symbol : GsdEntry → LayoutTables → LayoutTables
 with_symbol entry g =
     if defines entry then with_definition entry g
     else if has_bits 1 entry.flags then with_weak entry.name g else with_reference entry.name true g
 
-abbrev pub with_relocated : Option Name → Gathered → Gathered
+abbrev pub with_relocated : Option Name → LayoutTables → LayoutTables
 with_relocated None g = g
 with_relocated (Some name) g = with_reference name (not (is_among g.weak name)) g
 
@@ -142,7 +142,7 @@ is_relocated None assumed = assumed
 is_relocated (Some total) assumed = is_relocatable total.attributes.0
 
 -- the section, where the module entered it
-abbrev pub entered_total : Gathered → Name → Option Total
+abbrev pub entered_total : LayoutTables → Name → Option Total
 entered_total g name =
     if is_some (lookup (is_contribution (length g.names, name)) g.contributions)
     then lookup (is_same_name name) g.sections else None
@@ -151,7 +151,7 @@ abbrev pub transfer_after : Option Transfer → Bool → Transfer → Option Tra
 transfer_after (Some transfer) is_even other = Some transfer
 transfer_after None is_even other = if is_even then Some other else None
 
-abbrev pub with_transfer : ℕ → GsdEntry → Gathered → Gathered
+abbrev pub with_transfer : ℕ → GsdEntry → LayoutTables → LayoutTables
 with_transfer bottom entry g = record g {
   transfer = transfer_after g.transfer
       (is_even_after (is_relocated (entered_total g entry.name) false) bottom entry.value)
@@ -162,18 +162,18 @@ with_transfer bottom entry g = record g {
 }
 
 -- the transfer address by what this module entered
-abbrev pub settled : Gathered → Option Transfer
+abbrev pub settled : LayoutTables → Option Transfer
 settled g = if is_relocated (entered_total g absolute_name) false then g.moved else g.transfer
 
-abbrev pub with_settled : Gathered → Gathered
+abbrev pub with_settled : LayoutTables → LayoutTables
 with_settled g = record g { transfer = settled g; moved = settled g }
 
 -- ---- parts
 
-abbrev pub with_name : Name → Gathered → Gathered
+abbrev pub with_name : Name → LayoutTables → LayoutTables
 with_name name g = record g { name = option_or g.name (Some name) }
 
-abbrev pub with_entry : ℕ → GsdKind → GsdEntry → Gathered → Gathered
+abbrev pub with_entry : ℕ → GsdKind → GsdEntry → LayoutTables → LayoutTables
 with_entry bottom ModuleName entry g = with_name entry.name g
 with_entry bottom ControlSection entry g = with_section entry (control_attributes entry.name) g
 with_entry bottom ProgramSection entry g = with_section entry (bit_and entry.flags attribute_bits) g
@@ -181,7 +181,7 @@ with_entry bottom TransferAddress entry g = with_transfer bottom entry g
 with_entry bottom GlobalSymbol entry g = with_symbol entry g
 with_entry bottom kind entry g = g
 
-abbrev pub with_end : Gathered → Gathered
+abbrev pub with_end : LayoutTables → LayoutTables
 with_end g = record g {
   names = g.names ++ unwrap_or g.name blank_name ∷ [];
   name = None;
@@ -191,18 +191,18 @@ with_end g = record g {
   moved = settled g;
 }
 
-unfoldable pub gathered_after : ℕ → Gathered → Part → Gathered
+unfoldable pub gathered_after : ℕ → LayoutTables → Part → LayoutTables
 gathered_after bottom g (Entry entry) = with_entry bottom entry.kind entry g
 gathered_after bottom g (Relocated relocation) = with_relocated (global_of relocation.target) g
 gathered_after bottom g EndOfModule = with_end g
 gathered_after bottom g part = g
 
-abbrev pub gathered_after_all : ℕ → Gathered → List Part → Gathered
+abbrev pub gathered_after_all : ℕ → LayoutTables → List Part → LayoutTables
 gathered_after_all bottom g [] = g
 gathered_after_all bottom g (part ∷ parts) = gathered_after_all bottom (gathered_after bottom g part) parts
 
 -- before any part
-abbrev pub nothing_gathered : Gathered
+abbrev pub nothing_gathered : LayoutTables
 nothing_gathered = record {
   sections = [];
   contributions = [];
@@ -217,6 +217,6 @@ nothing_gathered = record {
 }
 
 -- the tables are these, or memory was refused
-abbrev pub TablesKeep : {A E : Type 0} → Gathered → Gathered → Result A E → Type 0
+abbrev pub TablesKeep : {A E : Type 0} → LayoutTables → LayoutTables → Result A E → Type 0
 TablesKeep new kept (Ok done) = new ≡ kept
 TablesKeep new kept (Err refused) = ⊤

@@ -70,7 +70,7 @@ impl Layout {
         ensures kept { self.new.fault ≡ result_err result }
     {
         self.fault.check()?;
-        let taken = self.take_block(block);
+        let taken = self.accept_block(block);
         self.fault.keep(taken)
     }
 
@@ -84,7 +84,7 @@ impl Layout {
         ensures kept { self.new.fault ≡ result_err result }
     {
         self.fault.check()?;
-        let taken = self.take_end();
+        let taken = self.accept_end();
         self.fault.keep(taken)
     }
 
@@ -97,7 +97,7 @@ impl Layout {
         ensures again { (fault : LinkFault) → self.fault ≡ Some fault → result ≡ Err fault }
     {
         let mut layout = self;
-        match layout.finish() {
+        match layout.end_in_place() {
             Ok(()) => {
                 // proof: where it goes in place, this function alone takes minutes to prove
                 drop(layout.rules);
@@ -111,18 +111,18 @@ impl Layout {
     }
 
     // Takes the end of the last object, or returns the fault that came before.
-    fn finish(&mut self) -> Result<(), LinkFault>
+    fn end_in_place(&mut self) -> Result<(), LinkFault>
         ensures takes { (bottom : ℕ) (before : List Part) → LayoutStands bottom before self.old
             → TakesParts bottom before self.new (EndOfFile ∷ []) result }
         ensures inside { self.old.fault ≡ None → IfErr result (λ fault. fault ≡ LinkFault.BadOrder) }
         ensures again { (fault : LinkFault) → self.old.fault ≡ Some fault → result ≡ Err fault }
     {
         self.fault.check()?;
-        self.take_end()
+        self.accept_end()
     }
 
     // Takes the end of an object where no fault came before.
-    fn take_end(&mut self) -> Result<(), LinkFault>
+    fn accept_end(&mut self) -> Result<(), LinkFault>
         ensures takes { (bottom : ℕ) (before : List Part) → LayoutStands bottom before self.old
             → TakesParts bottom before self.new (EndOfFile ∷ []) result }
         ensures inside { IfErr result (λ fault. fault ≡ LinkFault.BadOrder) }
@@ -133,47 +133,47 @@ impl Layout {
     }
 
     // Takes one block where no fault came before.
-    fn take_block(&mut self, block: &Block) -> Result<(), LinkFault>
+    fn accept_block(&mut self, block: &Block) -> Result<(), LinkFault>
         ensures takes { (bottom : ℕ) (before : List Part) → LayoutStands bottom before self.old
             → TakesBlock bottom before self.new block.now.items result }
         ensures is_record { IfOk result (λ _. IsRecord block.now.items) }
         ensures kept { self.new.fault ≡ self.old.fault }
     {
         match read_contents(block)? {
-            Contents::Directory(unread) => self.take_directory(&unread),
-            Contents::EndOfDirectory => self.take_end_of_directory(),
-            Contents::Text(address, bytes) => self.take_text(address, bytes),
-            Contents::Relocations(mut unread) => self.take_relocations(&mut unread),
+            Contents::Directory(unread) => self.accept_directory(&unread),
+            Contents::EndOfDirectory => self.accept_end_of_directory(),
+            Contents::Text(address, bytes) => self.accept_text(address, bytes),
+            Contents::Relocations(mut unread) => self.accept_relocations(&mut unread),
             Contents::InternalSymbols => Ok(()),
-            Contents::EndOfModule => self.take_end_of_module(),
+            Contents::EndOfModule => self.accept_end_of_module(),
         }
     }
 
     // Takes the entries of a directory record, which stand in a block of these bytes. All of them are read before one is
     // judged, since a fault of the record itself comes first.
-    fn take_directory(&mut self, unread: &UnreadEntries<'_>) -> Result<(), LinkFault>
+    fn accept_directory(&mut self, unread: &UnreadEntries<'_>) -> Result<(), LinkFault>
         ensures takes { (bottom : ℕ) (before : List Part) (bytes : List ℕ) → LayoutStands bottom before self.old
             → content_of bytes ≡ unread_directory unread.now → TakesBlock bottom before self.new bytes result }
         ensures are { IfOk result (λ _. AreEntries unread.now) }
         ensures kept { self.new.fault ≡ self.old.fault }
     {
         let entries = unread.read()?;
-        self.take_entries(entries.as_slice())
+        self.accept_entries(entries.as_slice())
     }
 
     // Takes a directory record of these entries: they are judged, and then noted.
-    fn take_entries(&mut self, entries: &[GsdEntry]) -> Result<(), LinkFault>
+    fn accept_entries(&mut self, entries: &[GsdEntry]) -> Result<(), LinkFault>
         ensures takes { (bottom : ℕ) (before : List Part) → LayoutStands bottom before self.old
             → TakesParts bottom before self.new (directory_parts entries.now) result }
         ensures kept { self.new.fault ≡ self.old.fault }
     {
         self.rules.directory(entries)?;
-        self.tables.note_entries(self.bottom, entries)?;
+        self.tables.add_entries(self.bottom, entries)?;
         Ok(())
     }
 
     // Takes the end of a directory, of which nothing is noted.
-    fn take_end_of_directory(&mut self) -> Result<(), LinkFault>
+    fn accept_end_of_directory(&mut self) -> Result<(), LinkFault>
         ensures takes { (bottom : ℕ) (before : List Part) → LayoutStands bottom before self.old
             → TakesParts bottom before self.new (EndOfDirectory ∷ []) result }
         ensures kept { self.new.fault ≡ self.old.fault }
@@ -183,7 +183,7 @@ impl Layout {
     }
 
     // Takes a text, of which nothing is noted.
-    fn take_text(&mut self, address: u16, bytes: &[u8]) -> Result<(), LinkFault>
+    fn accept_text(&mut self, address: u16, bytes: &[u8]) -> Result<(), LinkFault>
         ensures takes { (bottom : ℕ) (before : List Part) → LayoutStands bottom before self.old
             → TakesParts bottom before self.new (Text address bytes.now ∷ []) result }
         ensures kept { self.new.fault ≡ self.old.fault }
@@ -193,31 +193,31 @@ impl Layout {
     }
 
     // Takes the end of a module: it is judged, and then noted.
-    fn take_end_of_module(&mut self) -> Result<(), LinkFault>
+    fn accept_end_of_module(&mut self) -> Result<(), LinkFault>
         ensures takes { (bottom : ℕ) (before : List Part) → LayoutStands bottom before self.old
             → TakesParts bottom before self.new (EndOfModule ∷ []) result }
         ensures kept { self.new.fault ≡ self.old.fault }
     {
         self.rules.end_of_module()?;
-        self.tables.note_end()?;
+        self.tables.end_module()?;
         Ok(())
     }
 
     // Takes the relocations of a record, which stand in a block of these bytes.
-    fn take_relocations(&mut self, unread: &mut UnreadRelocations<'_>) -> Result<(), LinkFault>
+    fn accept_relocations(&mut self, unread: &mut UnreadRelocations<'_>) -> Result<(), LinkFault>
         ensures takes { (bottom : ℕ) (before : List Part) (bytes : List ℕ) → LayoutStands bottom before self.old
             → content_of bytes ≡ unread_content unread.old → TakesBlock bottom before self.new bytes result }
         ensures are { IfOk result (λ _. AreRelocations unread.old) }
         ensures kept { self.new.fault ≡ self.old.fault }
     {
-        self.note_relocations(unread)??;
+        self.add_relocations(unread)??;
         Ok(())
     }
 
     // Reads, judges and notes the relocations of a record, by what is known before it. What is wrong with one of them is
     // returned where all of them are relocations.
     #[tactic(auto, using(m11_link_modules::proofs::Taking::taken_then, m11_link_modules::proofs::Taking::refused_first), unfolding(crate::specs::Tables::gathered_after))]
-    fn note_relocations(
+    fn add_relocations(
         &mut self,
         unread: &mut UnreadRelocations<'_>,
     ) -> Result<Result<(), ModuleFault>, RecordFault>
@@ -231,13 +231,13 @@ impl Layout {
         ensures kept { self.new.fault ≡ self.old.fault }
     {
         match self.rules.begin_relocations() {
-            Ok(()) => self.note_each_relocation(unread),
+            Ok(()) => self.add_each_relocation(unread),
             Err(fault) => refuse(unread, fault),
         }
     }
 
     // Reads, judges and notes the relocations of a record in one walk.
-    fn note_each_relocation(
+    fn add_each_relocation(
         &mut self,
         unread: &mut UnreadRelocations<'_>,
     ) -> Result<Result<(), ModuleFault>, RecordFault>
@@ -252,7 +252,7 @@ impl Layout {
     {
         'relocations: loop {
             match unread.read_next() {
-                Ok(Some(relocation)) => match self.note_relocation(relocation) {
+                Ok(Some(relocation)) => match self.add_relocation(relocation) {
                     Ok(()) => {}
                     Err(fault) => return refuse(unread, fault),
                 },
@@ -264,7 +264,7 @@ impl Layout {
 
     // Judges and notes a relocation.
     #[tactic(auto, unfolding(m11_link_modules::specs::Steps::TakesOne))]
-    fn note_relocation(&mut self, relocation: Relocation) -> Result<(), ModuleFault>
+    fn add_relocation(&mut self, relocation: Relocation) -> Result<(), ModuleFault>
         ensures judged { TakesOne self.old.known self.new.known (Relocated relocation) result }
         ensures noted { IfOk result (λ _. self.new.gathered ≡ with_relocated (global_of relocation.target) self.old.gathered) }
         ensures bottom { self.new.bottom ≡ self.old.bottom }
@@ -272,7 +272,7 @@ impl Layout {
     {
         let target = relocation.target;
         self.rules.relocation(relocation)?;
-        self.tables.note_target(target)?;
+        self.tables.add_target(target)?;
         Ok(())
     }
 }

@@ -30,9 +30,9 @@ pub struct Plan {
 }
 
 impl Model for Plan {
-    ghost use Rattle.m11_link_layout.specs.Plan.{Planned, Lists};
+    ghost use Rattle.m11_link_layout.specs.Plan.{PlanTables, Lists};
 
-    ghost Value = { Planned };
+    ghost Value = { PlanTables };
 
     ghost view = { λ p. record { gathered = p.tables; bases = p.bases.entries; bottom = p.bottom; top = p.top } };
 
@@ -180,7 +180,9 @@ impl Plan {
     {
         match location {
             GlobalLocation::Absolute(value) => value,
-            GlobalLocation::In(section, value) => self.base(module_index, section).wrapping_add(value),
+            GlobalLocation::In(section, value) => self
+                .base(module_index, section)
+                .wrapping_add(value),
         }
     }
 

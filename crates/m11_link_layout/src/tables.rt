@@ -36,9 +36,9 @@ pub(crate) struct Tables {
 }
 
 impl Model for Tables {
-    ghost use Rattle.m11_link_layout.specs.Tables.{Gathered};
+    ghost use Rattle.m11_link_layout.specs.Tables.{LayoutTables};
 
-    ghost Value = { Gathered };
+    ghost Value = { LayoutTables };
 
     ghost view = { λ t. record {
       sections = t.sections.entries;
@@ -298,7 +298,7 @@ impl Tables {
     }
 
     /// Notes the entries of a directory record, which the rules have taken.
-    pub(crate) fn note_entries(
+    pub(crate) fn add_entries(
         &mut self,
         bottom: u16,
         entries: &[GsdEntry],
@@ -306,7 +306,7 @@ impl Tables {
         ensures { TablesKeep self.new (gathered_after_all bottom self.old (map (λ entry. Entry entry) entries.now)) result }
     {
         'entries: for entry in entries {
-            match self.note_entry(bottom, entry) {
+            match self.add_entry(bottom, entry) {
                 Ok(()) => {}
                 Err(refused) => return Err(refused),
             }
@@ -315,7 +315,7 @@ impl Tables {
     }
 
     // A section after one more contribution.
-    fn note_total(&mut self, name: Name, total: Total) -> Result<(), AllocError>
+    fn add_total(&mut self, name: Name, total: Total) -> Result<(), AllocError>
         ensures { TablesKeep self.new (with_total name total self.old) result }
     {
         self.sections.insert(name, total)?;
@@ -323,7 +323,7 @@ impl Tables {
     }
 
     // The contribution of this module to a section.
-    fn note_contribution(&mut self, name: Name, offset: u32) -> Result<(), AllocError>
+    fn add_contribution(&mut self, name: Name, offset: u32) -> Result<(), AllocError>
         ensures { TablesKeep self.new (with_contribution name offset self.old) result }
     {
         self.contributions.insert((self.names.len(), name), offset)?;
@@ -332,16 +332,16 @@ impl Tables {
     }
 
     // A section's entry.
-    fn note_section(&mut self, entry: &GsdEntry, attributes: SectionFlags) -> Result<(), AllocError>
+    fn add_section(&mut self, entry: &GsdEntry, attributes: SectionFlags) -> Result<(), AllocError>
         ensures { TablesKeep self.new (with_section entry.now attributes.0 self.old) result }
     {
         let found = self.total(entry.name);
-        self.note_total(entry.name, total_after(found, attributes, entry.value))?;
-        self.note_contribution(entry.name, next_offset(found))
+        self.add_total(entry.name, total_after(found, attributes, entry.value))?;
+        self.add_contribution(entry.name, next_offset(found))
     }
 
     // A reference to a global. One that is strong stays so.
-    fn note_reference(&mut self, name: Name, is_strong: bool) -> Result<(), AllocError>
+    fn add_reference(&mut self, name: Name, is_strong: bool) -> Result<(), AllocError>
         ensures { TablesKeep self.new (with_reference name is_strong self.old) result }
     {
         let was_strong = self.references.get(&name).copied().unwrap_or(false);
@@ -353,7 +353,7 @@ impl Tables {
     }
 
     // A definition of a global, of which the first counts.
-    fn note_definition(&mut self, entry: &GsdEntry) -> Result<(), AllocError>
+    fn add_definition(&mut self, entry: &GsdEntry) -> Result<(), AllocError>
         ensures { TablesKeep self.new (with_definition entry.now self.old) result }
     {
         match self.definitions.get(&entry.name) {
@@ -370,25 +370,25 @@ impl Tables {
     }
 
     // A weak reference to a global by an entry.
-    fn note_weak(&mut self, name: Name) -> Result<(), AllocError>
+    fn add_weak(&mut self, name: Name) -> Result<(), AllocError>
         ensures { TablesKeep self.new (with_weak name self.old) result }
     {
-        self.note_reference(name, false)?;
+        self.add_reference(name, false)?;
         self.weak.insert(name)?;
         Ok(())
     }
 
     // A global symbol's entry.
-    fn note_symbol(&mut self, entry: &GsdEntry) -> Result<(), AllocError>
+    fn add_symbol(&mut self, entry: &GsdEntry) -> Result<(), AllocError>
         ensures { TablesKeep self.new (with_symbol entry.now self.old) result }
     {
         let flags = SymbolFlags::from_bits_retain(entry.flags);
         if flags.contains(SymbolFlags::DEFINED) {
-            self.note_definition(entry)
+            self.add_definition(entry)
         } else if flags.contains(SymbolFlags::WEAK) {
-            self.note_weak(entry.name)
+            self.add_weak(entry.name)
         } else {
-            self.note_reference(entry.name, true)
+            self.add_reference(entry.name, true)
         }
     }
 
@@ -403,7 +403,7 @@ impl Tables {
     }
 
     // A transfer address, of which the first even one counts.
-    fn note_transfer(&mut self, bottom: u16, entry: &GsdEntry)
+    fn add_transfer(&mut self, bottom: u16, entry: &GsdEntry)
         ensures { self.new ≡ with_transfer bottom entry.now self.old }
     {
         let total = self.entered_total(entry.name);
@@ -438,7 +438,7 @@ impl Tables {
     }
 
     // The module's name, of which the first counts.
-    fn note_name(&mut self, name: Name)
+    fn add_name(&mut self, name: Name)
         ensures { self.new ≡ with_name name self.old }
     {
         if self.name.is_none() {
@@ -447,50 +447,50 @@ impl Tables {
     }
 
     // An entry of a directory.
-    fn note_entry(&mut self, bottom: u16, entry: &GsdEntry) -> Result<(), AllocError>
+    fn add_entry(&mut self, bottom: u16, entry: &GsdEntry) -> Result<(), AllocError>
         ensures { TablesKeep self.new (with_entry bottom entry.now.kind entry.now self.old) result }
     {
         match entry.kind {
             GsdKind::ModuleName => {
-                self.note_name(entry.name);
+                self.add_name(entry.name);
                 Ok(())
             }
-            GsdKind::ControlSection => self.note_section(entry, control_attributes(entry.name)),
-            GsdKind::ProgramSection => self.note_section(entry, attributes_in(entry.flags)),
+            GsdKind::ControlSection => self.add_section(entry, control_attributes(entry.name)),
+            GsdKind::ProgramSection => self.add_section(entry, attributes_in(entry.flags)),
             GsdKind::TransferAddress => {
-                self.note_transfer(bottom, entry);
+                self.add_transfer(bottom, entry);
                 Ok(())
             }
-            GsdKind::GlobalSymbol => self.note_symbol(entry),
+            GsdKind::GlobalSymbol => self.add_symbol(entry),
             GsdKind::InternalSymbol => Ok(()),
             GsdKind::Identification => Ok(()),
         }
     }
 
     /// The target of a relocation, which may refer to a global.
-    pub(crate) fn note_target(&mut self, target: Target) -> Result<(), AllocError>
+    pub(crate) fn add_target(&mut self, target: Target) -> Result<(), AllocError>
         ensures noted { TablesKeep self.new (with_relocated (global_of target) self.old) result }
         ensures adds { IfErr result (λ _. is_some (global_of target) ≡ true) }
     {
         match target {
-            Target::Global(name) => self.note_relocated(name),
-            Target::GlobalDisplaced(name) => self.note_relocated(name),
-            Target::GlobalAdditive(name, _) => self.note_relocated(name),
-            Target::GlobalAdditiveDisplaced(name, _) => self.note_relocated(name),
+            Target::Global(name) => self.add_relocated(name),
+            Target::GlobalDisplaced(name) => self.add_relocated(name),
+            Target::GlobalAdditive(name, _) => self.add_relocated(name),
+            Target::GlobalAdditiveDisplaced(name, _) => self.add_relocated(name),
             _ => Ok(()),
         }
     }
 
     // A relocation's reference to a global: weak where an entry of this module is.
-    fn note_relocated(&mut self, name: Name) -> Result<(), AllocError>
+    fn add_relocated(&mut self, name: Name) -> Result<(), AllocError>
         ensures { TablesKeep self.new (with_relocated (Some name) self.old) result }
     {
         let is_weak = self.weak.contains(&name);
-        self.note_reference(name, !is_weak)
+        self.add_reference(name, !is_weak)
     }
 
     /// The end of a module.
-    pub(crate) fn note_end(&mut self) -> Result<(), AllocError>
+    pub(crate) fn end_module(&mut self) -> Result<(), AllocError>
         ensures { TablesKeep self.new (with_end self.old) result }
     {
         let name = match self.name {

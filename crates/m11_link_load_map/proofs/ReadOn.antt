@@ -7,7 +7,7 @@ use Rattle.m11_obj_blocks.specs.Limited.{EndsBetween, Reads, Stops, most_bytes, 
 use Rattle.m11_link_modules.specs.Parts.{Part, EndOfFile, record_parts}
 use Rattle.m11_obj.specs.Reading.{IsRecord}
 use Rattle.m11_link_layout.specs.Layout.{LayoutState, LayoutStands, TakesBlock, TakesParts}
-use Rattle.m11_link_layout.specs.Plan.{LayoutEnds, Planned}
+use Rattle.m11_link_layout.specs.Plan.{LayoutEnds, PlanTables}
 use Rattle.m11_link_layout.specs.declared.fault.LinkFault.{LinkFault}
 use Rattle.m11_link_layout.specs.declared.fault.LinkFault.TheVariants as fault
 use Rattle.m11_link.specs.FirstPass.{StandsBetween, pass_of}
@@ -18,19 +18,19 @@ use Rattle.m11_link.proofs.ItemsTaken.{bind_on, block_taken, end_taken, ends_aga
 use Rattle.m11_link.proofs.ObjectsRead.{walk_begins, walk_ends, walk_more}
 use Rattle.m11_link_load_map.specs.Noted.{noted_of}
 use Rattle.m11_link_load_map.specs.Reading.{NotedBetween, NotesAll, NotesObject, NotesObjects, Stands}
-use Rattle.m11_link_load_map.specs.declared.noted.Noted.{Noted}
+use Rattle.m11_link_load_map.specs.declared.noted.MapFact.{MapFact}
 use Rattle.m11_link_load_map.proofs.NotedParts.{noted-append, noted_end}
 
 -- ---- one block
 
 -- a block that a layout took, and that was noted
-pub block_noted : (bottom : ℕ) (before : List Part) (bytes : List ℕ) (layout layout' : LayoutState) (noted noted' : List Noted)
+pub block_noted : (bottom : ℕ) (before : List Part) (bytes : List ℕ) (layout layout' : LayoutState) (noted noted' : List MapFact)
     → Stands bottom before layout noted → LayoutStands bottom (before ++ record_parts bytes) layout'
     → noted' ≡ noted ++ noted_of (record_parts bytes)
     → Stands bottom (before ++ record_parts bytes) layout' noted'
 block_noted bottom before bytes layout layout' noted noted' s laid e = record {
   laid = laid;
-  noted-are = e ∙ ap (λ (these : List Noted). these ++ noted_of (record_parts bytes)) s.noted-are
+  noted-are = e ∙ ap (λ (these : List MapFact). these ++ noted_of (record_parts bytes)) s.noted-are
       ∙ sym (noted-append before (record_parts bytes));
 }
 
@@ -44,11 +44,11 @@ block_lost bottom before bytes layout s = inr (rest_sound [] before (record_part
 
 -- the feed has come after blocks, whose parts were taken and noted
 pub record Seen (text text' : Option Text) (faults faults' room bottom : ℕ) (before : List Part) (layout : LayoutState)
-    (noted : List Noted) : Type 0 where
+    (noted : List MapFact) : Type 0 where
   pub laid : Laid text text' faults faults' room bottom before layout
   pub noted-are : noted ≡ noted_of laid.parts
 
-pub seen_first : (text : Option Text) (faults bottom : ℕ) (before : List Part) (layout : LayoutState) (noted : List Noted)
+pub seen_first : (text : Option Text) (faults bottom : ℕ) (before : List Part) (layout : LayoutState) (noted : List MapFact)
     → Stands bottom before layout noted → Seen text text faults faults most_bytes bottom before layout noted
 seen_first text faults bottom before layout noted s = record {
   laid = record {
@@ -62,7 +62,7 @@ seen_first text faults bottom before layout noted s = record {
 }
 
 pub stands_here : (text text' : Option Text) (faults faults' room bottom : ℕ) (before : List Part) (layout : LayoutState)
-    (noted : List Noted) (l : Seen text text' faults faults' room bottom before layout noted)
+    (noted : List MapFact) (l : Seen text text' faults faults' room bottom before layout noted)
     → Stands bottom l.laid.parts layout noted
 stands_here text text' faults faults' room bottom before layout noted l = record {
   laid = l.laid.stands;
@@ -70,8 +70,8 @@ stands_here text text' faults faults' room bottom before layout noted l = record
 }
 
 module _ (text text1 : Option Text) (faults faults1 room1 bottom : ℕ) (before : List Part) (layout1 : LayoutState)
-    (noted1 : List Noted) (l : Seen text text1 faults faults1 room1 bottom before layout1 noted1) (text2 : Option Text)
-    (faults2 room2 : ℕ) (layout2 : LayoutState) (noted2 : List Noted) where
+    (noted1 : List MapFact) (l : Seen text text1 faults faults1 room1 bottom before layout1 noted1) (text2 : Option Text)
+    (faults2 room2 : ℕ) (layout2 : LayoutState) (noted2 : List MapFact) where
   pub seen_more : (content : List ℕ) → Reads first_block (position text1 faults1 room1) (position text2 faults2 room2) content
       → Stands bottom (l.laid.parts ++ record_parts content) layout2 noted2 → IsRecord content
       → Seen text text2 faults faults2 room2 bottom before layout2 noted2
@@ -112,12 +112,12 @@ module _ (text text1 : Option Text) (faults faults1 room1 bottom : ℕ) (before 
 -- ---- objects one after another
 
 pub record SeenAll {F : Type 0} (text : F → Option Text) (faults : F → ℕ) (initial now : List F) (index : ℕ)
-    (bottom : ℕ) (before : List Part) (layout : LayoutState) (noted : List Noted) : Type 0 where
+    (bottom : ℕ) (before : List Part) (layout : LayoutState) (noted : List MapFact) : Type 0 where
   pub laid : LaidAll text faults initial now index bottom before layout
   pub noted-are : noted ≡ noted_of laid.reaches.parts
 
 module _ {F : Type 0} (text : F → Option Text) (faults : F → ℕ) where
-  pub seen_begin : (initial : List F) (bottom : ℕ) (before : List Part) (layout : LayoutState) (noted : List Noted)
+  pub seen_begin : (initial : List F) (bottom : ℕ) (before : List Part) (layout : LayoutState) (noted : List MapFact)
       → NotedBetween bottom before layout noted
       → SeenAll text faults initial initial 0 bottom before layout noted
   seen_begin initial bottom before layout noted s = record {
@@ -131,7 +131,7 @@ module _ {F : Type 0} (text : F → Option Text) (faults : F → ℕ) where
     noted-are = s.noted-are;
   }
 
-  pub all_seen : (initial now : List F) (index bottom : ℕ) (before : List Part) (layout : LayoutState) (noted : List Noted)
+  pub all_seen : (initial now : List F) (index bottom : ℕ) (before : List Part) (layout : LayoutState) (noted : List MapFact)
       → SeenAll text faults initial now index bottom before layout noted → length now ≤ index
       → NotesObjects (pass_of text faults initial now) bottom before layout noted (Ok tt)
   all_seen initial now index bottom before layout noted l over =
@@ -142,7 +142,7 @@ module _ {F : Type 0} (text : F → Option Text) (faults : F → ℕ) where
         record { reaches = l.laid.reaches; noted-are = l.noted-are },
       )
 
-  pub stands_now : (initial now : List F) (index bottom : ℕ) (before : List Part) (layout : LayoutState) (noted : List Noted)
+  pub stands_now : (initial now : List F) (index bottom : ℕ) (before : List Part) (layout : LayoutState) (noted : List MapFact)
       (l : SeenAll text faults initial now index bottom before layout noted)
       → Stands bottom l.laid.reaches.parts layout noted
   stands_now initial now index bottom before layout noted l = record {
@@ -151,7 +151,7 @@ module _ {F : Type 0} (text : F → Option Text) (faults : F → ℕ) where
   }
 
   -- one more object
-  pub object_seen : (initial now : List F) (index bottom : ℕ) (before : List Part) (layout new : LayoutState) (noted noted' : List Noted)
+  pub object_seen : (initial now : List F) (index bottom : ℕ) (before : List Part) (layout new : LayoutState) (noted noted' : List MapFact)
       (l : SeenAll text faults initial now index bottom before layout noted)
       (inside : index < length now) (d x z : F) (x-is : x ≡ get_or now index d)
       → NotesObject (text x) (faults x) (faults z) bottom l.laid.reaches.parts new noted' (Ok tt)
@@ -174,13 +174,13 @@ module _ {F : Type 0} (text : F → Option Text) (faults : F → ℕ) where
 -- ---- all objects
 
 module _ {F : Type 0} (text : F → Option Text) (faults : F → ℕ) (feeds feeds' : List F) (bottom : ℕ)
-    (layout : LayoutState) (noted : List Noted) where
+    (layout : LayoutState) (noted : List MapFact) where
   pub all_stop : (stopped : LinkFault) → NotesObjects (pass_of text faults feeds feeds') bottom [] layout noted (Err stopped)
       → NotesAll (pass_of text faults feeds feeds') bottom noted (Err stopped)
   all_stop stopped h = reading_stops text faults feeds feeds' bottom layout stopped h
 
   pub all_end : (l : NotesObjects (pass_of text faults feeds feeds') bottom [] layout noted (Ok tt))
-      (result : Result Planned LinkFault) → LayoutEnds bottom l.3.reaches.parts result
+      (result : Result PlanTables LinkFault) → LayoutEnds bottom l.3.reaches.parts result
       → NotesAll (pass_of text faults feeds feeds') bottom noted result
   all_end l (Ok plan) e = (
     l.0,
@@ -195,7 +195,7 @@ module _ {F : Type 0} (text : F → Option Text) (faults : F → ℕ) (feeds fee
   all_end l (Err stopped) e =
       reading_ends text faults feeds feeds' bottom layout (l.0, l.1, l.2, l.3.reaches) (Err stopped) e
 
-pub noted_begins : (bottom : ℕ) (layout : LayoutState) (noted : List Noted) → StandsBetween bottom [] layout → noted ≡ []
+pub noted_begins : (bottom : ℕ) (layout : LayoutState) (noted : List MapFact) → StandsBetween bottom [] layout → noted ≡ []
     → NotedBetween bottom [] layout noted
 unfolding noted_of
 noted_begins bottom layout noted s e = record { between = s; noted-are = e }

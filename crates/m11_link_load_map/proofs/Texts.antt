@@ -4,13 +4,13 @@ use Rattle.std.specs.List.{flat_map}
 use Rattle.std.proofs.lemmas.List.{drop_all, drop_more}
 use Rattle.m11_link_modules.proofs.Indexing.{drop_at}
 use Rattle.m11_link_modules.specs.Parts.{Part}
-use Rattle.m11_link_layout.specs.Plan.{IsPlanOf, Planned}
+use Rattle.m11_link_layout.specs.Plan.{IsPlanOf, PlanTables}
 use Rattle.m11_link_layout.specs.declared.planned.PlannedGlobal.{PlannedGlobal}
 use Rattle.m11_link_load_map.specs.LoadMap.{IsByValue, IsLoadMap, map_text}
 use Rattle.m11_link_load_map.specs.Noted.{contributions_from, index_after, noted_of}
 use Rattle.m11_link_load_map.specs.Run.{IsMapBy}
-use Rattle.m11_link_load_map.specs.declared.noted.Noted.{Noted}
-use Rattle.m11_link_load_map.specs.declared.noted.Noted.TheVariants.{Section, ModuleEnd}
+use Rattle.m11_link_load_map.specs.declared.noted.MapFact.{MapFact}
+use Rattle.m11_link_load_map.specs.declared.noted.MapFact.TheVariants.{Section, ModuleEnd}
 use Rattle.m11_link_load_map.proofs.Shown.{noted_contributions}
 
 -- ---- lines one after another
@@ -61,28 +61,28 @@ five_put a b c d e one two three four five p q r s t =
 
 -- ---- contributions that are noted
 
-one_from : (index : ℕ) (item : Noted) (rest : List Noted)
+one_from : (index : ℕ) (item : MapFact) (rest : List MapFact)
     → contributions_from index (item ∷ rest) ≡ contributions_from index (item ∷ []) ++ contributions_from (index_after index item) rest
 one_from index (Section name size) rest = refl
 one_from index ModuleEnd rest = refl
 
-pub noted_left : (index at : ℕ) (noted : List Noted) (item : Noted) → slice_get noted at ≡ Some item
+pub noted_left : (index at : ℕ) (noted : List MapFact) (item : MapFact) → slice_get noted at ≡ Some item
     → contributions_from index (drop at noted)
     ≡ contributions_from index (item ∷ []) ++ contributions_from (index_after index item) (drop (at + 1) noted)
 noted_left index at noted item e =
-    ap (λ (these : List Noted). contributions_from index these) (drop_at noted at item e)
+    ap (λ (these : List MapFact). contributions_from index these) (drop_at noted at item e)
     ∙ one_from index item (drop (at + 1) noted)
 
-pub noted_over : (index at : ℕ) (noted : List Noted) → length noted ≤ at → contributions_from index (drop at noted) ≡ []
-noted_over index at noted le = ap (λ (these : List Noted). contributions_from index these) (drop_all at noted le)
+pub noted_over : (index at : ℕ) (noted : List MapFact) → length noted ≤ at → contributions_from index (drop at noted) ≡ []
+noted_over index at noted le = ap (λ (these : List MapFact). contributions_from index these) (drop_all at noted le)
 
 -- ---- the map by a plan is that by the definitions
 
-pub map_is : (bottom : ℕ) (parts : List Part) (plan : Planned) (noted : List Noted) (text : List ℕ)
+pub map_is : (bottom : ℕ) (parts : List Part) (plan : PlanTables) (noted : List MapFact) (text : List ℕ)
     → IsPlanOf bottom parts plan → noted ≡ noted_of parts → IsMapBy plan noted text → IsLoadMap bottom parts text
 map_is bottom parts plan noted text p n m =
     let P : List PlannedGlobal → Type 0 = λ globals. IsByValue globals m.0 in
-    let contributions = ap (λ (these : List Noted). contributions_from 0 these) n ∙ noted_contributions parts in (
+    let contributions = ap (λ (these : List MapFact). contributions_from 0 these) n ∙ noted_contributions parts in (
       m.0,
       subst P p.globals m.1,
       m.2 ∙ (λ j. map_text (λ index name. p.bases index name j) (λ index. p.names index j) (p.limits.0 j) (p.limits.1 j)

@@ -5,49 +5,49 @@ use Rattle.m11_base.specs.Devices.{Bytes}
 use Rattle.m11_base.specs.Feed.{Text, NoneFailed}
 use Rattle.m11_link_modules.specs.Parts.{Part, record_parts}
 use Rattle.m11_link_layout.specs.Layout.{LayoutState, LayoutStands, TakesBlock}
-use Rattle.m11_link_layout.specs.Plan.{Planned, IsPlanOf}
+use Rattle.m11_link_layout.specs.Plan.{PlanTables, IsPlanOf}
 use Rattle.m11_link_layout.specs.declared.fault.LinkFault.{LinkFault}
 use Rattle.m11_link.specs.FirstPass.{LaysOut, LaysOutObject, Pass, Reaches, ReadsFirst, StandsBetween}
 use Rattle.m11_link.specs.Objects.{Item, GiveItems, GivesItems, outcome}
 use Rattle.m11_link_load_map.specs.Noted.{noted_of}
-use Rattle.m11_link_load_map.specs.declared.noted.Noted.{Noted}
+use Rattle.m11_link_load_map.specs.declared.noted.MapFact.{MapFact}
 
 -- a layout stands after these parts, and they are noted
-pub record Stands (bottom : ℕ) (parts : List Part) (layout : LayoutState) (noted : List Noted) : Type 0 where
+pub record Stands (bottom : ℕ) (parts : List Part) (layout : LayoutState) (noted : List MapFact) : Type 0 where
   pub laid : LayoutStands bottom parts layout
   pub noted-are : noted ≡ noted_of parts
 
 -- a block was taken and noted; or a link refuses it, or memory was refused
-abbrev pub NotesBlock : ℕ → List Part → LayoutState → List Noted → Bytes → Result (Unit {0}) LinkFault → Type 0
+abbrev pub NotesBlock : ℕ → List Part → LayoutState → List MapFact → Bytes → Result (Unit {0}) LinkFault → Type 0
 NotesBlock bottom before layout noted bytes (Ok done) = Stands bottom (before ++ record_parts bytes) layout noted
 NotesBlock bottom before layout noted bytes (Err stopped) = TakesBlock bottom before layout bytes (Err stopped)
 
 -- the items yielded parts after those before, which were taken and noted
-pub record ReachesNoted (bottom : ℕ) (before : List Part) (items : List Item) (layout : LayoutState) (noted : List Noted)
+pub record ReachesNoted (bottom : ℕ) (before : List Part) (items : List Item) (layout : LayoutState) (noted : List MapFact)
     : Type 0 where
   pub reaches : Reaches bottom before items layout
   pub noted-are : noted ≡ noted_of reaches.parts
 
 -- one object was taken and noted; or it ended as the first pass of a link does
-abbrev pub NotesObject : Option Text → ℕ → ℕ → ℕ → List Part → LayoutState → List Noted → Result (Unit {0}) LinkFault → Type 0
+abbrev pub NotesObject : Option Text → ℕ → ℕ → ℕ → List Part → LayoutState → List MapFact → Result (Unit {0}) LinkFault → Type 0
 NotesObject text faults faults' bottom before layout noted (Ok done) =
     (faults' ≡ faults) × (items : List Item) × GivesItems text items × ReachesNoted bottom before items layout noted
 NotesObject text faults faults' bottom before layout noted (Err stopped) =
     LaysOutObject text faults faults' bottom before layout (Err stopped)
 
 -- a layout stands between objects, whose parts are noted
-pub record NotedBetween (bottom : ℕ) (parts : List Part) (layout : LayoutState) (noted : List Noted) : Type 0 where
+pub record NotedBetween (bottom : ℕ) (parts : List Part) (layout : LayoutState) (noted : List MapFact) : Type 0 where
   pub between : StandsBetween bottom parts layout
   pub noted-are : noted ≡ noted_of parts
 
 -- several objects were taken and noted; or they ended as the first pass of a link does
-abbrev pub NotesObjects : {F : Type 0} → Pass F → ℕ → List Part → LayoutState → List Noted → Result (Unit {0}) LinkFault → Type 0
+abbrev pub NotesObjects : {F : Type 0} → Pass F → ℕ → List Part → LayoutState → List MapFact → Result (Unit {0}) LinkFault → Type 0
 NotesObjects pass bottom before layout noted (Ok done) = NoneFailed pass.faults pass.old pass.new
     × (items : List Item) × GiveItems pass.text pass.old items × ReachesNoted bottom before items layout noted
 NotesObjects pass bottom before layout noted (Err stopped) = LaysOut pass bottom before layout (Err stopped)
 
 -- all objects were taken: the plan is that of their parts, which are noted; or they are refused as a link refuses them
-abbrev pub NotesAll : {F : Type 0} → Pass F → ℕ → List Noted → Result Planned LinkFault → Type 0
+abbrev pub NotesAll : {F : Type 0} → Pass F → ℕ → List MapFact → Result PlanTables LinkFault → Type 0
 NotesAll pass bottom noted (Ok plan) = NoneFailed pass.faults pass.old pass.new
     × (items : List Item) × GiveItems pass.text pass.old items
     × (parts : List Part) × (outcome bottom items ≡ Ok parts) × IsPlanOf bottom parts plan × (noted ≡ noted_of parts)

@@ -5,7 +5,7 @@ use Rattle.m11_base.specs.Devices.{Bytes, Rises}
 use Rattle.m11_base.specs.Feed.{NoneFailed}
 use Rattle.m11_base.specs.Sink.{AppendsBeginning}
 use Rattle.m11_link_modules.specs.Parts.{Part}
-use Rattle.m11_link_layout.specs.Plan.{Planned}
+use Rattle.m11_link_layout.specs.Plan.{PlanTables}
 use Rattle.m11_link_layout.specs.declared.fault.LinkFault.{LinkFault}
 use Rattle.m11_link_layout.specs.declared.planned.PlannedGlobal.{PlannedGlobal}
 use Rattle.m11_link_layout.specs.Plan.{planned_base, planned_globals, planned_module}
@@ -15,7 +15,7 @@ use Rattle.m11_link_load_map.specs.LoadMap.{Contribution, IsByValue, IsLoadMap, 
 use Rattle.m11_link_load_map.specs.Noted.{contributions_from}
 use Rattle.m11_link_load_map.specs.declared.fault.LoadMapFault.{LoadMapFault}
 use Rattle.m11_link_load_map.specs.declared.fault.LoadMapFault.TheVariants.{Objects, Write}
-use Rattle.m11_link_load_map.specs.declared.noted.Noted.{Noted}
+use Rattle.m11_link_load_map.specs.declared.noted.MapFact.{MapFact}
 use Rattle.m11_base_writes.specs.Outputs.{Output}
 
 -- the objects that the feeds gave have parts that a link takes, and this is their map
@@ -41,11 +41,11 @@ LoadMapRuns pass bottom out out' (Err Write) =
 -- ---- by a plan
 
 -- the line of a contribution where a plan puts it
-abbrev pub planned_line : Planned → Contribution → Bytes
+abbrev pub planned_line : PlanTables → Contribution → Bytes
 planned_line plan = contribution_line (λ index name. planned_base plan index name) (λ index. planned_module plan index)
 
 -- the map by a plan, and by what is noted of the parts
-abbrev pub IsMapBy : Planned → List Noted → Bytes → Type 0
+abbrev pub IsMapBy : PlanTables → List MapFact → Bytes → Type 0
 IsMapBy plan noted text = (order : List PlannedGlobal) × IsByValue (planned_globals plan) order
     × (text ≡ map_text (λ index name. planned_base plan index name) (λ index. planned_module plan index) plan.bottom plan.top
     (contributions_from 0 noted) order)

@@ -4,7 +4,7 @@ ghost use Rattle.std.specs.Prelude.{◌≡◌};
 ghost use Rattle.m11_link_load_map.specs.LoadMap as spec;
 
 use m11_base::{Name, octal6};
-use m11_obj_print::{Line, ended, put};
+use m11_obj_print::{Line, add_bytes, ended};
 
 /// What a module has in a section: its address and its size, the section and the module.
 #[tactic(auto, using(m11_obj_print::proofs::Trimming::line_at))]
@@ -12,14 +12,14 @@ pub(crate) fn section_line(base: u16, size: u16, section: Name, module_name: Nam
     ensures { result.items ≡ spec.section_line base size section module_name }
 {
     let mut line = Line::new();
-    put(&mut line, b"  ");
-    put(&mut line, &octal6(base));
-    put(&mut line, b" ");
-    put(&mut line, &octal6(size));
-    put(&mut line, b" ");
-    put(&mut line, &section.characters());
-    put(&mut line, b" ");
-    put(&mut line, &module_name.characters());
+    add_bytes(&mut line, b"  ");
+    add_bytes(&mut line, &octal6(base));
+    add_bytes(&mut line, b" ");
+    add_bytes(&mut line, &octal6(size));
+    add_bytes(&mut line, b" ");
+    add_bytes(&mut line, &section.characters());
+    add_bytes(&mut line, b" ");
+    add_bytes(&mut line, &module_name.characters());
     ended(line)
 }
 
@@ -29,11 +29,11 @@ pub(crate) fn global_line(value: u16, name: Name, module_name: Name) -> Line
     ensures { result.items ≡ spec.global_line value name module_name }
 {
     let mut line = Line::new();
-    put(&mut line, b"  ");
-    put(&mut line, &octal6(value));
-    put(&mut line, b" ");
-    put(&mut line, &name.characters());
-    put(&mut line, b" ");
-    put(&mut line, &module_name.characters());
+    add_bytes(&mut line, b"  ");
+    add_bytes(&mut line, &octal6(value));
+    add_bytes(&mut line, b" ");
+    add_bytes(&mut line, &name.characters());
+    add_bytes(&mut line, b" ");
+    add_bytes(&mut line, &module_name.characters());
     ended(line)
 }

@@ -12,7 +12,7 @@ use std::alloc::AllocError;
 
 /// What is noted of a record.
 #[derive(Clone, Copy)]
-pub(crate) enum Noted {
+pub(crate) enum MapFact {
     /// A section that a module enters, and its size in that module.
     Section(Name, u16),
     /// The end of a module.
@@ -21,17 +21,17 @@ pub(crate) enum Noted {
 
 /// Notes what the map needs of a block; of one that is no record that is nothing. Error: memory was refused.
 #[tactic(auto, using(crate::proofs::NotedParts::of_text, crate::proofs::NotedParts::of_relocations, crate::proofs::NotedParts::of_none, crate::proofs::NotedParts::of_directory_end, crate::proofs::NotedParts::of_symbols, crate::proofs::NotedParts::of_module_end))]
-pub(crate) fn note(noted: &mut Vec<Noted>, block: &Block) -> Result<(), AllocError>
+pub(crate) fn add_block(noted: &mut Vec<MapFact>, block: &Block) -> Result<(), AllocError>
     ensures { OnOk result (noted.new.items ≡ noted.old.items ++ noted_of (record_parts block.now.items)) }
 {
     match read_contents(block) {
-        Ok(Contents::Directory(unread)) => note_directory(noted, &unread),
+        Ok(Contents::Directory(unread)) => add_directory(noted, &unread),
         Ok(Contents::EndOfDirectory) => Ok(()),
         Ok(Contents::Text(_, _)) => Ok(()),
         Ok(Contents::Relocations(_)) => Ok(()),
         Ok(Contents::InternalSymbols) => Ok(()),
         Ok(Contents::EndOfModule) => {
-            noted.push(Noted::ModuleEnd)?;
+            noted.push(MapFact::ModuleEnd)?;
             Ok(())
         }
         Err(_) => Ok(()),
@@ -40,22 +40,22 @@ pub(crate) fn note(noted: &mut Vec<Noted>, block: &Block) -> Result<(), AllocErr
 
 // Notes what the map needs of a directory record, which stands in a block of these bytes.
 #[tactic(auto, using(crate::proofs::NotedParts::of_directory, crate::proofs::NotedParts::of_bad_directory))]
-fn note_directory(noted: &mut Vec<Noted>, unread: &UnreadEntries<'_>) -> Result<(), AllocError>
+fn add_directory(noted: &mut Vec<MapFact>, unread: &UnreadEntries<'_>) -> Result<(), AllocError>
     ensures { (bytes : List ℕ) → content_of bytes ≡ unread_directory unread.now
         → OnOk result (noted.new.items ≡ noted.old.items ++ noted_of (record_parts bytes)) }
 {
     match unread.read() {
-        Ok(entries) => note_entries(noted, entries.as_slice()),
+        Ok(entries) => add_entries(noted, entries.as_slice()),
         Err(_) => Ok(()),
     }
 }
 
 // Notes the sections that the entries of a directory enter.
-fn note_entries(noted: &mut Vec<Noted>, entries: &[GsdEntry]) -> Result<(), AllocError>
+fn add_entries(noted: &mut Vec<MapFact>, entries: &[GsdEntry]) -> Result<(), AllocError>
     ensures { OnOk result (noted.new.items ≡ noted.old.items ++ noted_of (map (λ entry. Entry entry) entries.now)) }
 {
     'entries: for entry in entries {
-        match note_entry(noted, entry) {
+        match add_entry(noted, entry) {
             Ok(()) => {}
             Err(refused) => return Err(refused),
         }
@@ -64,13 +64,13 @@ fn note_entries(noted: &mut Vec<Noted>, entries: &[GsdEntry]) -> Result<(), Allo
 }
 
 // Notes the section that an entry enters, if it enters one.
-#[tactic(auto, unfolding(crate::specs::Noted::noted_of))]
-fn note_entry(noted: &mut Vec<Noted>, entry: &GsdEntry) -> Result<(), AllocError>
+#[tactic(auto, unfolding(crate::specs::MapFact::noted_of))]
+fn add_entry(noted: &mut Vec<MapFact>, entry: &GsdEntry) -> Result<(), AllocError>
     ensures { OnOk result (noted.new.items ≡ noted.old.items ++ noted_of (Entry entry.now ∷ [])) }
 {
     match entry.kind {
         GsdKind::ControlSection | GsdKind::ProgramSection => {
-            noted.push(Noted::Section(entry.name, entry.value))?;
+            noted.push(MapFact::Section(entry.name, entry.value))?;
             Ok(())
         }
         _ => Ok(()),

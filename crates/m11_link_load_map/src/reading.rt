@@ -7,7 +7,7 @@ ghost use Rattle.m11_link_load_map.specs.Reading.{NotedBetween, NotesAll, NotesB
 ghost use Rattle.m11_link_modules.specs.Parts.{Part};
 ghost use Rattle.m11_obj.specs.Reading.{IsRecord};
 
-use crate::noted::{Noted, note};
+use crate::noted::{MapFact, add_block};
 use m11_base::Feed;
 use m11_link_layout::{Layout, LinkFault, Plan};
 use m11_obj::{Block, BlockFault, BlockReader};
@@ -25,13 +25,17 @@ fn block_fault(fault: BlockFault) -> LinkFault
 }
 
 // Takes one block, and notes what the map needs of it.
-fn take_block(layout: &mut Layout, noted: &mut Vec<Noted>, block: &Block) -> Result<(), LinkFault>
+fn accept_block(
+    layout: &mut Layout,
+    noted: &mut Vec<MapFact>,
+    block: &Block,
+) -> Result<(), LinkFault>
     ensures notes { (bottom : ℕ) (before : List Part) → Stands bottom before layout.old noted.old.items
         → NotesBlock bottom before layout.new noted.new.items block.now.items result }
     ensures is_record { IfOk result (λ _. IsRecord block.now.items) }
 {
     match layout.block(block) {
-        Ok(()) => match note(noted, block) {
+        Ok(()) => match add_block(noted, block) {
             Ok(()) => Ok(()),
             Err(_) => Err(LinkFault::NoMemory),
         },
@@ -43,7 +47,7 @@ fn take_block(layout: &mut Layout, noted: &mut Vec<Noted>, block: &Block) -> Res
 fn read_object<F: Feed>(
     feed: &mut F,
     layout: &mut Layout,
-    noted: &mut Vec<Noted>,
+    noted: &mut Vec<MapFact>,
 ) -> Result<(), LinkFault>
     ensures { (bottom : ℕ) (before : List Part) → Stands bottom before layout.old noted.old.items
         → NotesObject (F.text feed.old) (F.faults feed.old) (F.faults feed.new) bottom before layout.new noted.new.items result }
@@ -52,7 +56,7 @@ fn read_object<F: Feed>(
     let mut block = Block::new();
     'items: loop {
         match reader.next_into(feed, &mut block) {
-            Ok(true) => match take_block(layout, noted, &block) {
+            Ok(true) => match accept_block(layout, noted, &block) {
                 Ok(()) => {}
                 Err(fault) => return Err(fault),
             },
@@ -66,7 +70,7 @@ fn read_object<F: Feed>(
 fn read_objects<F: Feed>(
     feeds: &mut [F],
     layout: &mut Layout,
-    noted: &mut Vec<Noted>,
+    noted: &mut Vec<MapFact>,
 ) -> Result<(), LinkFault>
     ensures { (bottom : ℕ) (before : List Part) → NotedBetween bottom before layout.old noted.old.items
         → NotesObjects (pass_of F.text F.faults feeds.old feeds.new) bottom before layout.new noted.new.items result }
@@ -86,7 +90,7 @@ pub(crate) fn read_all<F: Feed>(
     alloc: Global,
     feeds: &mut [F],
     bottom: u16,
-    noted: &mut Vec<Noted>,
+    noted: &mut Vec<MapFact>,
 ) -> Result<Plan, LinkFault>
     requires { noted.old.items ≡ [] }
     ensures { NotesAll (pass_of F.text F.faults feeds.old feeds.new) bottom noted.new.items result }

@@ -2,24 +2,24 @@
 
 ghost use Rattle.std.specs.Prelude.{◌≡◌, ◌++◌, ◌<◌, ◌+◌, ◌∷◌, [], IfOk, OnOk};
 ghost use Rattle.std.specs.List.{flat_map};
-ghost use Rattle.m11_link_layout.specs.Plan.{Planned, planned_base, planned_globals, planned_module};
+ghost use Rattle.m11_link_layout.specs.Plan.{PlanTables, planned_base, planned_globals, planned_module};
 ghost use Rattle.m11_link_load_map.specs.LoadMap.{IsByValue, contribution_line, line_of_global};
 ghost use Rattle.m11_link_load_map.specs.Noted.{contributions_from, index_after};
 ghost use Rattle.m11_link_load_map.specs.Run.{IsMapBy, planned_line};
 
 use crate::lines::{global_line, section_line};
-use crate::noted::Noted;
+use crate::noted::MapFact;
 use m11_link_layout::{Plan, PlannedGlobal};
 use m11_link_text::limit_line;
 use std::alloc::{AllocError, Global};
 
 // Adds the line of a section that a module enters, or nothing for the end of a module; returns the index of the module that
 // stands after it.
-fn put_noted(
+fn add_fact(
     text: &mut Vec<u8>,
     plan: &Plan,
     module_index: usize,
-    noted: Noted,
+    noted: MapFact,
 ) -> Result<usize, AllocError>
     requires { module_index < usize.MAX }
     ensures text { OnOk result (text.new.items
@@ -27,24 +27,24 @@ fn put_noted(
     ensures index { IfOk result (λ index. index ≡ index_after module_index noted) }
 {
     match noted {
-        Noted::Section(section, size) => {
+        MapFact::Section(section, size) => {
             let base = plan.base(module_index, section);
             let module_name = plan.module_name(module_index);
             text.extend_from_slice(&section_line(base, size, section, module_name))?;
             Ok(module_index)
         }
-        Noted::ModuleEnd => Ok(module_index + 1),
+        MapFact::ModuleEnd => Ok(module_index + 1),
     }
 }
 
 // Adds the lines of all sections that modules enter, in order.
-fn put_contributions(text: &mut Vec<u8>, plan: &Plan, noted: &[Noted]) -> Result<(), AllocError>
+fn put_contributions(text: &mut Vec<u8>, plan: &Plan, noted: &[MapFact]) -> Result<(), AllocError>
     ensures { OnOk result (text.new.items
         ≡ text.old.items ++ flat_map (planned_line plan.now) (contributions_from 0 noted.now)) }
 {
     let mut module_index = 0;
     'noted: for item in noted {
-        match put_noted(text, plan, module_index, *item) {
+        match add_fact(text, plan, module_index, *item) {
             Ok(index) => module_index = index,
             Err(refused) => return Err(refused),
         }
@@ -84,7 +84,7 @@ fn put_globals(text: &mut Vec<u8>, globals: &[PlannedGlobal]) -> Result<(), Allo
 }
 
 /// The load map by a plan, and by what is noted of the parts that it plans. Error: memory was refused.
-pub(crate) fn map_text(alloc: Global, plan: &Plan, noted: &[Noted]) -> Result<Vec<u8>, AllocError>
+pub(crate) fn map_text(alloc: Global, plan: &Plan, noted: &[MapFact]) -> Result<Vec<u8>, AllocError>
     ensures { IfOk result (λ text. IsMapBy plan.now noted.now text.items) }
 {
     let globals = globals_by_value(alloc, plan)?;

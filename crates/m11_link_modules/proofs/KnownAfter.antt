@@ -22,7 +22,7 @@ use Rattle.m11_link_modules.specs.declared.fault.ModuleFault.TheVariants.{BadOrd
 use Rattle.m11_link_modules.specs.Rules.{first_there, entry_fault, is_past, most_sections, fault_known, fault_of, first_fault}
 use Rattle.m11_link_modules.specs.Laws.{TakesAfter}
 use Rattle.m11_link_modules.specs.Steps.{known_after, known_after_all, first_known_fault, RulesTake, with_entry, with_end, with_optional_global}
-use Rattle.m11_link_modules.specs.Positions.{global_of, section_by, global_by, this_module, ends_module, modules_in, stage_from, stage_after, section_in, sections_in, selected_by, section_after, current_section, length_after, text_length, distinct, distinct_after, global_in, global_names, section_names, Known, known_of}
+use Rattle.m11_link_modules.specs.Positions.{global_of, section_by, global_by, this_module, ends_module, modules_in, stage_from, stage_after, section_in, sections_in, selected_by, section_after, current_section, length_after, text_length, distinct, distinct_after, global_in, global_names, section_names, RulesState, known_of}
 
 -- ---- the parts of the module
 
@@ -153,7 +153,7 @@ none_there None faults e = refl
 none_there (Some x) faults e = search
 
 -- a part that ends no module
-abbrev going_on : Known → Part → Known
+abbrev going_on : RulesState → Part → RulesState
 going_on known part = record {
   stage = stage_from known.stage (part ∷ []);
   modules = known.modules + modules_in (part ∷ []);
@@ -171,7 +171,7 @@ known_goes_on before part e =
     rw (stage_append Between before (part ∷ []), modules_append before part, section_names_append before part, globals_append before part, this_module_goes_on before part e, sections_append (this_module before) part, section_append absolute_name (this_module before) part, length_append None (this_module before) part)
 
 -- what a part leaves alone
-abbrev with_parts : Known → Stage → List (ℕ × ℕ) → List (ℕ × ℕ) → ℕ × ℕ → Option ℕ → ℕ → List ((ℕ × ℕ) × ℕ) → Known
+abbrev with_parts : RulesState → Stage → List (ℕ × ℕ) → List (ℕ × ℕ) → ℕ × ℕ → Option ℕ → ℕ → List ((ℕ × ℕ) × ℕ) → RulesState
 with_parts known stage sections globals section text modules entered = record {
   stage = stage;
   modules = modules;
@@ -182,18 +182,18 @@ with_parts known stage sections globals section text modules entered = record {
   text = text;
 }
 
-enters_none : (known : Known) (stage : Stage) (sections globals : List (ℕ × ℕ)) (section : ℕ × ℕ) (text : Option ℕ)
+enters_none : (known : RulesState) (stage : Stage) (sections globals : List (ℕ × ℕ)) (section : ℕ × ℕ) (text : Option ℕ)
     → with_parts known stage sections globals section text (known.modules + 0) (known.entered ++ [])
     ≡ with_parts known stage sections globals section text known.modules known.entered
 enters_none known stage sections globals section text = rw (add_zero known.modules, append-nil known.entered)
 
 -- a section that is entered for the first time in its module
-enters : (known : Known) (entry : GsdEntry) → first_there ((is_some (lookup (is_same_name entry.name) known.entered), BadOrder) ∷ (is_past most_sections known.sections entry.name, TooManySections) ∷ []) ≡ None
+enters : (known : RulesState) (entry : GsdEntry) → first_there ((is_some (lookup (is_same_name entry.name) known.entered), BadOrder) ∷ (is_past most_sections known.sections entry.name, TooManySections) ∷ []) ≡ None
     → known.entered ++ (entry.name, entry.value) ∷ [] ≡ insert_entry is_same_name known.entered entry.name entry.value
 enters known entry e = sym (insert_entry-absent is_same_name entry.name entry.value known.entered
     (absent_from_lookup (is_same_name entry.name) known.entered (none_there (lookup (is_same_name entry.name) known.entered) ((is_past most_sections known.sections entry.name, TooManySections) ∷ []) e)))
 
-entry_after : (kind : GsdKind) (entry : GsdEntry) (known : Known) → entry_fault kind entry known.entered known.sections known.globals ≡ None
+entry_after : (kind : GsdKind) (entry : GsdEntry) (known : RulesState) → entry_fault kind entry known.entered known.sections known.globals ≡ None
     → with_parts known known.stage (distinct_after known.sections (keys_of (cons_option (section_by kind entry) [])))
     (distinct_after known.globals (cons_option (global_by kind entry) [])) known.section known.text
     (known.modules + 0) (known.entered ++ cons_option (section_by kind entry) [])
@@ -207,7 +207,7 @@ entry_after GlobalSymbol entry known e =
     enters_none known known.stage known.sections (insert_key is_same_name known.globals entry.name) known.section known.text
 entry_after Identification entry known e = enters_none known known.stage known.sections known.globals known.section known.text
 
-target_after : (global : Option (ℕ × ℕ)) (section : ℕ × ℕ) (known : Known)
+target_after : (global : Option (ℕ × ℕ)) (section : ℕ × ℕ) (known : RulesState)
     → with_parts known known.stage known.sections (distinct_after known.globals (cons_option global [])) section known.text
     (known.modules + 0) (known.entered ++ [])
     ≡ with_optional_global global (record known { section = section })
@@ -215,7 +215,7 @@ target_after None section known = enters_none known known.stage known.sections k
 target_after (Some name) section known =
     enters_none known known.stage known.sections (insert_key is_same_name known.globals name) section known.text
 
-part_after : (known : Known) (part : Part) → ends_module part ≡ false → fault_known known part ≡ None → going_on known part ≡ known_after known part
+part_after : (known : RulesState) (part : Part) → ends_module part ≡ false → fault_known known part ≡ None → going_on known part ≡ known_after known part
 unfolding known_after modules_in fault_known
 part_after known Directory e n = enters_none known InDirectory known.sections known.globals known.section known.text
 part_after known (Entry entry) e n = entry_after entry.kind entry known n
@@ -236,7 +236,7 @@ module_ended before =
 goes : (before : List Part) (part : Part) → ends_module part ≡ false → fault_of before part ≡ None
     → known_of (before ++ part ∷ []) ≡ known_after (known_of before) part
 goes before part e n =
-    let P : Known → Type 0 = λ known. known_of (before ++ part ∷ []) ≡ known in
+    let P : RulesState → Type 0 = λ known. known_of (before ++ part ∷ []) ≡ known in
     subst P (part_after (known_of before) part e n) (known_goes_on before part e)
 
 pub known_after_part : (before : List Part) (part : Part) → fault_of before part ≡ None
@@ -262,7 +262,7 @@ head_fault (Some fault) before part parts e h =
     ≡ option_or f (first_known_fault (known_after (known_of before) part) parts) in
     subst P (sym e) refl
 head_fault None before part parts e h =
-    let P : Known → Type 0 = λ known. option_or (fault_of before part) (first_fault (before ++ part ∷ []) parts)
+    let P : RulesState → Type 0 = λ known. option_or (fault_of before part) (first_fault (before ++ part ∷ []) parts)
     ≡ option_or (fault_of before part) (first_known_fault known parts) in
     let Q : Option ModuleFault → Type 0 = λ f. option_or (fault_of before part) (first_fault (before ++ part ∷ []) parts)
     ≡ option_or (fault_of before part) f in
@@ -290,29 +290,29 @@ known_after_parts before [] n = rw (append-nil before)
 known_after_parts before (part ∷ parts) n =
     let first = head_none (fault_of before part) (first_known_fault (known_after (known_of before) part) parts) n in
     let rest = rest_none (fault_of before part) (first_known_fault (known_after (known_of before) part) parts) n in
-    let P : Known → Type 0 = λ known. first_known_fault known parts ≡ None in
-    let Q : Known → Type 0 = λ known. known_of ((before ++ part ∷ []) ++ parts) ≡ known_after_all known parts in
+    let P : RulesState → Type 0 = λ known. first_known_fault known parts ≡ None in
+    let Q : RulesState → Type 0 = λ known. known_of ((before ++ part ∷ []) ++ parts) ≡ known_after_all known parts in
     let R : List Part → Type 0 = λ all. known_of all ≡ known_after_all (known_after (known_of before) part) parts in
     subst R (append_snoc before part parts)
     (subst Q (known_after_part before part first) (known_after_parts (before ++ part ∷ []) parts (subst P (sym (known_after_part before part first)) rest)))
 
-fault_after : (before : List Part) (old : Known) (parts : List Part) (fault : Option ModuleFault) → old ≡ known_of before
+fault_after : (before : List Part) (old : RulesState) (parts : List Part) (fault : Option ModuleFault) → old ≡ known_of before
     → first_known_fault old parts ≡ fault → first_fault before parts ≡ fault
 fault_after before old parts fault is h =
-    let P : Known → Type 0 = λ known. first_known_fault known parts ≡ fault in
+    let P : RulesState → Type 0 = λ known. first_known_fault known parts ≡ fault in
     let Q : Option ModuleFault → Type 0 = λ f. f ≡ fault in
     subst Q (sym (faults_known before parts)) (subst P is h)
 
-all_after : (before : List Part) (old new : Known) (parts : List Part) → old ≡ known_of before
+all_after : (before : List Part) (old new : RulesState) (parts : List Part) → old ≡ known_of before
     → first_known_fault old parts ≡ None → new ≡ known_after_all old parts → new ≡ known_of (before ++ parts)
 all_after before old new parts is h e =
-    let P : Known → Type 0 = λ known. first_known_fault known parts ≡ None in
-    let Q : Known → Type 0 = λ known. new ≡ known_after_all known parts in
-    let R : Known → Type 0 = λ known. new ≡ known in
+    let P : RulesState → Type 0 = λ known. first_known_fault known parts ≡ None in
+    let Q : RulesState → Type 0 = λ known. new ≡ known_after_all known parts in
+    let R : RulesState → Type 0 = λ known. new ≡ known in
     subst R (sym (known_after_parts before parts (subst P is h))) (subst Q is e)
 
 -- what was taken by what is known was taken after the parts before
-pub taken_after : (before : List Part) (old new : Known) (parts : List Part) (result : Result (Unit {0}) ModuleFault)
+pub taken_after : (before : List Part) (old new : RulesState) (parts : List Part) (result : Result (Unit {0}) ModuleFault)
     → old ≡ known_of before → RulesTake old new parts result → TakesAfter before new parts result
 unfolding RulesTake
 taken_after before old new parts (Ok done) is h =

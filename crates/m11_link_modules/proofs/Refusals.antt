@@ -14,7 +14,7 @@ use Rattle.m11_link_modules.specs.declared.fault.ModuleFault.TheVariants.{BadOrd
 use Rattle.m11_link_modules.specs.declared.stage.Stage.{Stage}
 use Rattle.m11_link_modules.specs.declared.stage.Stage.TheVariants.{Between, InDirectory, InBody}
 use Rattle.m11_link_modules.specs.Parts.{Part, Directory, Entry, EndOfDirectory, Text, Relocated}
-use Rattle.m11_link_modules.specs.Positions.{Known}
+use Rattle.m11_link_modules.specs.Positions.{RulesState}
 use Rattle.m11_link_modules.specs.Rules.{begin_fault, entering_fault, entry_fault, fault_in_order, fault_known, first_there, global_fault, is_past, location_fault, may_stand, most_sections, relocation_by, section_fault, symbol_fault, target_fault}
 
 abbrev NotMemory : Option ModuleFault → Type 0
@@ -84,7 +84,7 @@ relocation_is (target.LocationCounterModification constant) relocation entered t
 relocation_is other relocation entered text globals =
     either _ _ (location_is relocation text) (target_is other entered globals)
 
-in_order_is : (known : Known) (part : Part) → NotMemory (fault_in_order known part)
+in_order_is : (known : RulesState) (part : Part) → NotMemory (fault_in_order known part)
 in_order_is known Directory = begin_is known.stage known.modules
 in_order_is known EndOfDirectory = begin_is known.stage known.modules
 in_order_is known (Entry entry) = entry_is entry.kind entry known.entered known.sections known.globals
@@ -92,11 +92,11 @@ in_order_is known (Text address bytes) = last_is _ TextOutside (λ e. cc)
 in_order_is known (Relocated relocation) = relocation_is relocation.target relocation known.entered known.text known.globals
 in_order_is known part = none_is
 
-chosen_is : (stands : Bool) (known : Known) (part : Part)
+chosen_is : (stands : Bool) (known : RulesState) (part : Part)
     → NotMemory (if stands then fault_in_order known part else Some BadOrder)
 chosen_is true known part e = in_order_is known part e
 chosen_is false known part e = cc
 
-pub no_memory : (known : Known) (part : Part) → fault_known known part ≡ Some NoMemory → ⊥
+pub no_memory : (known : RulesState) (part : Part) → fault_known known part ≡ Some NoMemory → ⊥
 unfolding fault_known
 no_memory known part e = chosen_is (may_stand part known.stage) known part e

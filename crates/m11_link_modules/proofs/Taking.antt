@@ -6,7 +6,7 @@ use Rattle.m11_link_modules.specs.declared.fault.ModuleFault.{ModuleFault}
 use Rattle.m11_link_modules.specs.declared.fault.ModuleFault.TheVariants.{BadOrder, NoText, BadDisplacement, UnknownSection, TextOutside, TooManyGlobals, TooManySections, TooManyModules, NoMemory}
 use Rattle.m11_obj.specs.declared.relocations.Relocation.{Relocation}
 use Rattle.m11_link_modules.specs.Parts.{Part, Relocated}
-use Rattle.m11_link_modules.specs.Positions.{Known}
+use Rattle.m11_link_modules.specs.Positions.{RulesState}
 use Rattle.m11_link_modules.specs.Rules.{returned, fault_known, relocation_fault}
 use Rattle.m11_link_modules.specs.Steps.{RulesTake, TakesOne, known_after, known_after_all, first_known_fault}
 use Rattle.m11_link_modules.proofs.Indexing.{drop_at}
@@ -15,12 +15,12 @@ use Rattle.m11_link_modules.proofs.Refusals.{no_memory}
 abbrev pub Outcome : Type 0
 Outcome = Result (Unit {0}) ModuleFault
 
-pub none_taken : (known : Known) (done : Unit {0}) → RulesTake known known [] (Ok done)
+pub none_taken : (known : RulesState) (done : Unit {0}) → RulesTake known known [] (Ok done)
 unfolding RulesTake
 none_taken known done = (refl, refl)
 
 -- a part that has a fault ends the taking
-pub refused_first : (old new other : Known) (part : Part) (parts : List Part) (fault : ModuleFault)
+pub refused_first : (old new other : RulesState) (part : Part) (parts : List Part) (fault : ModuleFault)
     → TakesOne old other part (Err fault) → RulesTake old new (part ∷ parts) (Err fault)
 unfolding RulesTake TakesOne
 refused_first old new other part parts NoMemory h = record {
@@ -41,20 +41,20 @@ refused_first old new other part parts TooManySections h = rw h
 refused_first old new other part parts TooManyModules h = rw h
 
 -- a part is taken, and then the others
-then_fault : (old middle : Known) (part : Part) (parts : List Part) (fault : Option ModuleFault)
+then_fault : (old middle : RulesState) (part : Part) (parts : List Part) (fault : Option ModuleFault)
     → fault_known old part ≡ None → middle ≡ known_after old part → first_known_fault middle parts ≡ fault
     → first_known_fault old (part ∷ parts) ≡ fault
 then_fault old middle part parts fault none e h =
-    let P : Known → Type 0 = λ k. first_known_fault k parts ≡ fault in
+    let P : RulesState → Type 0 = λ k. first_known_fault k parts ≡ fault in
     let g : option_or None (first_known_fault (known_after old part) parts) ≡ fault = subst P e h in
     let Q : Option ModuleFault → Type 0 = λ o. option_or o (first_known_fault (known_after old part) parts) ≡ fault in
     subst Q (sym none) g
 
-pub taken_then : (old middle new : Known) (part : Part) (parts : List Part) (done : Unit {0}) (result : Outcome)
+pub taken_then : (old middle new : RulesState) (part : Part) (parts : List Part) (done : Unit {0}) (result : Outcome)
     → TakesOne old middle part (Ok done) → RulesTake middle new parts result → RulesTake old new (part ∷ parts) result
 unfolding RulesTake TakesOne
 taken_then old middle new part parts done (Ok x) h k =
-    let P : Known → Type 0 = λ m. new ≡ known_after_all m parts in
+    let P : RulesState → Type 0 = λ m. new ≡ known_after_all m parts in
     (then_fault old middle part parts None h.0 h.1 k.0, subst P h.1 k.1)
 taken_then old middle new part parts done (Err NoMemory) h k = record {
   taken = part ∷ k.taken;
@@ -74,27 +74,27 @@ taken_then old middle new part parts done (Err TooManySections) h k = then_fault
 taken_then old middle new part parts done (Err TooManyModules) h k = then_fault old middle part parts (Some TooManyModules) h.0 h.1 k
 
 -- one part alone
-pub taken_one : (old new : Known) (part : Part) (result : Outcome) → TakesOne old new part result → RulesTake old new (part ∷ []) result
+pub taken_one : (old new : RulesState) (part : Part) (result : Outcome) → TakesOne old new part result → RulesTake old new (part ∷ []) result
 taken_one old new part (Ok done) h = taken_then old new new part [] done (Ok done) h (none_taken new done)
 taken_one old new part (Err fault) h = refused_first old new new part [] fault h
 
 -- ---- loops: what is left of the parts leads to all of them
 
-abbrev pub GoesOn : Known → Known → List Part → List Part → Type 0
-GoesOn old now rest all = (new : Known) (result : Outcome) → RulesTake now new rest result → RulesTake old new all result
+abbrev pub GoesOn : RulesState → RulesState → List Part → List Part → Type 0
+GoesOn old now rest all = (new : RulesState) (result : Outcome) → RulesTake now new rest result → RulesTake old new all result
 
-pub begins : (old : Known) (all : List Part) → GoesOn old old all all
+pub begins : (old : RulesState) (all : List Part) → GoesOn old old all all
 begins old all new result h = h
 
-pub goes_on : (old now later : Known) (part : Part) (rest all : List Part) (done : Unit {0})
+pub goes_on : (old now later : RulesState) (part : Part) (rest all : List Part) (done : Unit {0})
     → GoesOn old now (part ∷ rest) all → TakesOne now later part (Ok done) → GoesOn old later rest all
 goes_on old now later part rest all done i h new result k = i new result (taken_then now later new part rest done result h k)
 
-pub stops : (old now new other : Known) (part : Part) (rest all : List Part) (fault : ModuleFault)
+pub stops : (old now new other : RulesState) (part : Part) (rest all : List Part) (fault : ModuleFault)
     → GoesOn old now (part ∷ rest) all → TakesOne now other part (Err fault) → RulesTake old new all (Err fault)
 stops old now new other part rest all fault i h = i new (Err fault) (refused_first now new other part rest fault h)
 
-pub ends : (old now : Known) (all : List Part) (done : Unit {0}) → GoesOn old now [] all → RulesTake old now all (Ok done)
+pub ends : (old now : RulesState) (all : List Part) (done : Unit {0}) → GoesOn old now [] all → RulesTake old now all (Ok done)
 ends old now all done i = i now (Ok done) (none_taken now done)
 
 -- ---- refusals
@@ -104,7 +104,7 @@ returned_some None said e = search
 returned_some (Some fault) said e = search
 
 -- what a check returned is the fault of the part
-pub refused : (old new : Known) (part : Part) (fault : ModuleFault) → returned (fault_known old part) ≡ Err fault
+pub refused : (old new : RulesState) (part : Part) (fault : ModuleFault) → returned (fault_known old part) ≡ Err fault
     → TakesOne old new part (Err fault)
 unfolding TakesOne
 refused old new part NoMemory e = absurd (no_memory old part (returned_some (fault_known old part) NoMemory e))
@@ -117,56 +117,56 @@ refused old new part TooManyGlobals e = returned_some (fault_known old part) Too
 refused old new part TooManySections e = returned_some (fault_known old part) TooManySections e
 refused old new part TooManyModules e = returned_some (fault_known old part) TooManyModules e
 
-opened : (known : Known) (relocation : Relocation) (fault : ModuleFault)
+opened : (known : RulesState) (relocation : Relocation) (fault : ModuleFault)
     → returned (relocation_fault relocation known.entered known.text known.globals) ≡ Err fault
     → returned (fault_known known (Relocated relocation)) ≡ Err fault
 unfolding fault_known
 opened known relocation fault e = e
 
-pub relocation_refused : {seen : Known} (old new : Known) (relocation : Relocation) (fault : ModuleFault) → seen ≡ old
+pub relocation_refused : {seen : RulesState} (old new : RulesState) (relocation : Relocation) (fault : ModuleFault) → seen ≡ old
     → returned (relocation_fault relocation seen.entered seen.text seen.globals) ≡ Err fault
     → TakesOne old new (Relocated relocation) (Err fault)
 relocation_refused {seen} old new relocation fault is e =
-    let P : Known → Type 0 = λ known. TakesOne known new (Relocated relocation) (Err fault) in
+    let P : RulesState → Type 0 = λ known. TakesOne known new (Relocated relocation) (Err fault) in
     subst P is (refused seen new (Relocated relocation) fault (opened seen relocation fault e))
 
 -- ---- loops over the items of a record, each of which is one part
 
 module _ {X : Type 0} (make : X → Part) where
   -- items that are left, one of which is taken
-  pub walk_taken : (old now later : Known) (items rest following : List X) (item : X) (done : Unit {0}) → rest ≡ item ∷ following
+  pub walk_taken : (old now later : RulesState) (items rest following : List X) (item : X) (done : Unit {0}) → rest ≡ item ∷ following
       → GoesOn old now (map make rest) (map make items) → TakesOne now later (make item) (Ok done)
       → GoesOn old later (map make following) (map make items)
   walk_taken old now later items rest following item done e i h =
       let P : List X → Type 0 = λ left. GoesOn old now (map make left) (map make items) in
       goes_on old now later (make item) (map make following) (map make items) done (subst P e i) h
 
-  pub walk_refused : (old now new other : Known) (items rest following : List X) (item : X) (fault : ModuleFault) → rest ≡ item ∷ following
+  pub walk_refused : (old now new other : RulesState) (items rest following : List X) (item : X) (fault : ModuleFault) → rest ≡ item ∷ following
       → GoesOn old now (map make rest) (map make items) → TakesOne now other (make item) (Err fault)
       → RulesTake old new (map make items) (Err fault)
   walk_refused old now new other items rest following item fault e i h =
       let P : List X → Type 0 = λ left. GoesOn old now (map make left) (map make items) in
       stops old now new other (make item) (map make following) (map make items) fault (subst P e i) h
 
-  pub walk_ended : (old now : Known) (items rest : List X) (done : Unit {0}) → rest ≡ []
+  pub walk_ended : (old now : RulesState) (items rest : List X) (done : Unit {0}) → rest ≡ []
       → GoesOn old now (map make rest) (map make items) → RulesTake old now (map make items) (Ok done)
   walk_ended old now items rest done e i =
       let P : List X → Type 0 = λ left. GoesOn old now (map make left) (map make items) in
       ends old now (map make items) done (subst P e i)
 
   -- the same by an index
-  pub item_taken : (old now later : Known) (items : List X) (index : ℕ) (item : X) (done : Unit {0}) → slice_get items index ≡ Some item
+  pub item_taken : (old now later : RulesState) (items : List X) (index : ℕ) (item : X) (done : Unit {0}) → slice_get items index ≡ Some item
       → GoesOn old now (map make (drop index items)) (map make items) → TakesOne now later (make item) (Ok done)
       → GoesOn old later (map make (drop (index + 1) items)) (map make items)
   item_taken old now later items index item done e i h =
       walk_taken old now later items (drop index items) (drop (index + 1) items) item done (drop_at items index item e) i h
 
-  pub item_refused : (old now new other : Known) (items : List X) (index : ℕ) (item : X) (fault : ModuleFault) → slice_get items index ≡ Some item
+  pub item_refused : (old now new other : RulesState) (items : List X) (index : ℕ) (item : X) (fault : ModuleFault) → slice_get items index ≡ Some item
       → GoesOn old now (map make (drop index items)) (map make items) → TakesOne now other (make item) (Err fault)
       → RulesTake old new (map make items) (Err fault)
   item_refused old now new other items index item fault e i h =
       walk_refused old now new other items (drop index items) (drop (index + 1) items) item fault (drop_at items index item e) i h
 
-  pub items_taken : (old now : Known) (items : List X) (index : ℕ) (done : Unit {0}) → length items ≤ index
+  pub items_taken : (old now : RulesState) (items : List X) (index : ℕ) (done : Unit {0}) → length items ≤ index
       → GoesOn old now (map make (drop index items)) (map make items) → RulesTake old now (map make items) (Ok done)
   items_taken old now items index done le i = walk_ended old now items (drop index items) done (drop_all index items le) i

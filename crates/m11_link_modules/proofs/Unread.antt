@@ -8,7 +8,7 @@ use Rattle.m11_obj.specs.Records.{Content}
 use Rattle.m11_obj.proofs.Unread.{are_left, are_where_checked, checked_next, checked_none, left_next, left_none, record_read}
 use Rattle.m11_link_modules.specs.declared.fault.ModuleFault.{ModuleFault}
 use Rattle.m11_link_modules.specs.Parts.{Part, Relocated, Relocations, parts_in, record_parts}
-use Rattle.m11_link_modules.specs.Positions.{Known}
+use Rattle.m11_link_modules.specs.Positions.{RulesState}
 use Rattle.m11_link_modules.specs.Steps.{RulesTake, TakesOne}
 use Rattle.m11_link_modules.proofs.Taking.{GoesOn, Outcome, walk_ended, walk_refused, walk_taken}
 
@@ -17,7 +17,7 @@ abbrev pub parts_left : List ℕ → List Part
 parts_left bytes = map (λ relocation. Relocated relocation) (relocations_left bytes)
 
 -- what is left leads to all, where all are relocations
-abbrev pub LeadsOn : Known → Known → List ℕ → List ℕ → Type 0
+abbrev pub LeadsOn : RulesState → RulesState → List ℕ → List ℕ → Type 0
 LeadsOn old now bytes all = AreRelocations all → GoesOn old now (parts_left bytes) (parts_left all)
 
 -- the bytes that are left are relocations exactly where all are
@@ -36,12 +36,12 @@ module _ (all bytes rest : List ℕ) (relocation : Relocation) (same : SameRead 
   pub left_after : AreRelocations all → relocations_left bytes ≡ relocation ∷ relocations_left rest
   left_after are = left_next bytes rest relocation (are_left bytes all same are) first
 
-  pub one_taken : (old now later : Known) (done : Unit {0}) → LeadsOn old now bytes all
+  pub one_taken : (old now later : RulesState) (done : Unit {0}) → LeadsOn old now bytes all
       → TakesOne now later (Relocated relocation) (Ok done) → LeadsOn old later rest all
   one_taken old now later done i h = λ are. walk_taken (λ relocation. Relocated relocation) old now later
       (relocations_left all) (relocations_left bytes) (relocations_left rest) relocation done (left_after are) (i are) h
 
-  pub one_refused : (old now new other : Known) (fault : ModuleFault) → LeadsOn old now bytes all
+  pub one_refused : (old now new other : RulesState) (fault : ModuleFault) → LeadsOn old now bytes all
       → TakesOne now other (Relocated relocation) (Err fault) → AreRelocations all
       → RulesTake old new (parts_left all) (Err fault)
   one_refused old now new other fault i h are = walk_refused (λ relocation. Relocated relocation) old now new other
@@ -54,7 +54,7 @@ module _ (all bytes : List ℕ) (same : SameRead bytes all) (none : relocations_
   pub all_are : AreRelocations all
   all_are = are_where_checked all tt (sym all_read)
 
-  pub all_taken : (old now : Known) (done : Unit {0}) → LeadsOn old now bytes all → RulesTake old now (parts_left all) (Ok done)
+  pub all_taken : (old now : RulesState) (done : Unit {0}) → LeadsOn old now bytes all → RulesTake old now (parts_left all) (Ok done)
   all_taken old now done i = walk_ended (λ relocation. Relocated relocation) old now (relocations_left all)
       (relocations_left bytes) done (left_none bytes none) (i all_are)
 
@@ -73,12 +73,12 @@ record_of_parts bytes unread e are =
 abbrev pub Judged : Type 0
 Judged = Result Outcome RecordFault
 
-judged_by : (old new : Known) (all : List ℕ) (fault : ModuleFault) (outcome : Outcome) → outcome ≡ Err fault
+judged_by : (old new : RulesState) (all : List ℕ) (fault : ModuleFault) (outcome : Outcome) → outcome ≡ Err fault
     → RulesTake old new (parts_left all) (Err fault) → RulesTake old new (parts_left all) outcome
 judged_by old new all fault outcome e h =
     let P : Outcome → Type 0 = λ o. RulesTake old new (parts_left all) o in subst P (sym e) h
 
-pub refused_judged : (old new : Known) (all : List ℕ) (fault : ModuleFault) (result : Judged)
+pub refused_judged : (old new : RulesState) (all : List ℕ) (fault : ModuleFault) (result : Judged)
     → IfOk result (λ judged. judged ≡ Err fault) → checked result ≡ checked (relocations_of all)
     → (AreRelocations all → RulesTake old new (parts_left all) (Err fault))
     → IfOk result (λ judged. RulesTake old new (parts_left all) judged)

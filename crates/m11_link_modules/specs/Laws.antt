@@ -4,12 +4,12 @@ use Rattle.m11_link_modules.specs.declared.fault.ModuleFault.{ModuleFault}
 use Rattle.m11_link_modules.specs.declared.fault.ModuleFault.TheVariants.{NoMemory}
 use Rattle.m11_link_modules.specs.Grammar.{Module, files_parts}
 use Rattle.m11_link_modules.specs.Parts.{Part}
-use Rattle.m11_link_modules.specs.Positions.{Known, known_of, stage_after}
+use Rattle.m11_link_modules.specs.Positions.{RulesState, known_of, stage_after}
 use Rattle.m11_link_modules.specs.Rules.{StopsAtName, first_fault, may_stand}
 
 -- parts that come after others are taken, and then stand after them; or their first fault is returned; or memory was
 -- refused at a part that adds a name, up to which there is no fault
-abbrev pub TakesAfter : List Part → Known → List Part → Result (Unit {0}) ModuleFault → Type 0
+abbrev pub TakesAfter : List Part → RulesState → List Part → Result (Unit {0}) ModuleFault → Type 0
 TakesAfter before new parts (Ok done) = (first_fault before parts ≡ None) × (new ≡ known_of (before ++ parts))
 TakesAfter before new parts (Err NoMemory) = StopsAtName (first_fault before) parts
 TakesAfter before new parts (Err fault) = first_fault before parts ≡ Some fault

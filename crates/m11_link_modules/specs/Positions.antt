@@ -131,7 +131,7 @@ section_names parts = distinct (keys_of (sections_in parts))
 
 -- ---- all that a part is judged by
 
-pub record Known : Type 0 where
+pub record RulesState : Type 0 where
   pub stage : Stage
   -- the modules that ended
   pub modules : ℕ
@@ -145,7 +145,7 @@ pub record Known : Type 0 where
   -- the length of its last text
   pub text : Option ℕ
 
-unfoldable pub known_of : List Part → Known
+unfoldable pub known_of : List Part → RulesState
 known_of parts = record {
   stage = stage_after parts;
   modules = modules_in parts;

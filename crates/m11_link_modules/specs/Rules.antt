@@ -16,7 +16,7 @@ use Rattle.m11_link_modules.specs.declared.fault.ModuleFault.{ModuleFault}
 use Rattle.m11_link_modules.specs.declared.fault.ModuleFault.TheVariants.{BadOrder, NoText, BadDisplacement, UnknownSection, TextOutside, TooManyGlobals, TooManySections, TooManyModules}
 use Rattle.m11_link_modules.specs.Names.{is_among}
 use Rattle.m11_link_modules.specs.Parts.{Part, Directory, Entry, EndOfDirectory, Text, Relocations, Relocated, EndOfModule, EndOfFile}
-use Rattle.m11_link_modules.specs.Positions.{Known, adds_name, known_of, size_known}
+use Rattle.m11_link_modules.specs.Positions.{RulesState, adds_name, known_of, size_known}
 use Rattle.m11_link_modules.specs.declared.stage.Stage.{Stage}
 use Rattle.m11_link_modules.specs.declared.stage.Stage.TheVariants.{Between, InBody}
 
@@ -143,7 +143,7 @@ abbrev pub relocation_fault : Relocation → List (Name × ℕ) → Option ℕ �
 relocation_fault relocation entered text globals = relocation_by relocation.target relocation entered text globals
 
 -- what is wrong with a part that stands in the right order
-abbrev pub fault_in_order : Known → Part → Option ModuleFault
+abbrev pub fault_in_order : RulesState → Part → Option ModuleFault
 fault_in_order known Directory = begin_fault known.stage known.modules
 fault_in_order known EndOfDirectory = begin_fault known.stage known.modules
 fault_in_order known (Entry entry) = entry_fault entry.kind entry known.entered known.sections known.globals
@@ -154,7 +154,7 @@ fault_in_order known (Relocated relocation) =
 fault_in_order known part = None
 
 -- what is wrong with a part, by what is known before it
-unfoldable pub fault_known : Known → Part → Option ModuleFault
+unfoldable pub fault_known : RulesState → Part → Option ModuleFault
 fault_known known part = if may_stand part known.stage then fault_in_order known part else Some BadOrder
 
 -- what is wrong with a part after the parts before it, if anything is

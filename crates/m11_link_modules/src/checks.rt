@@ -151,7 +151,10 @@ fn check_global(globals: &IndexSet<Name>, name: Name) -> Result<(), ModuleFault>
 }
 
 // The location of a relocation has to lie within the text before it.
-fn check_location(relocation: &Relocation, text: Option<usize>) -> Result<TextRelocation, ModuleFault>
+fn check_location(
+    relocation: &Relocation,
+    text: Option<usize>,
+) -> Result<TextRelocation, ModuleFault>
     ensures judged { outcome_of result ≡ returned (location_fault relocation.now text) }
     ensures within { IfOk result (λ within. Some within ≡ in_text_before relocation.now text) }
 {

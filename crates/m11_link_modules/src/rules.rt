@@ -32,10 +32,10 @@ pub struct Rules {
 }
 
 impl Model for Rules {
-    ghost use Rattle.m11_link_modules.specs.Positions.{Known};
+    ghost use Rattle.m11_link_modules.specs.Positions.{RulesState};
     ghost use Rattle.m11_link_modules.specs.Rules.{InLimits};
 
-    ghost Value = { Known };
+    ghost Value = { RulesState };
 
     ghost view = { λ r. record {
       stage = r.stage;
@@ -91,7 +91,7 @@ impl Rules {
         ensures { (before : List Part) → self.old ≡ known_of before
             → TakesAfter before self.new (record_parts «record».now) result }
     {
-        self.take_record(record)
+        self.accept_record(record)
     }
 
     /// Takes the end of a file: `BadOrder` inside a module, and no other fault.
@@ -101,12 +101,12 @@ impl Rules {
             → TakesAfter before self.new (EndOfFile ∷ []) result }
         ensures inside { IfErr result (λ fault. fault ≡ ModuleFault.BadOrder) }
     {
-        self.take_end_of_file()
+        self.accept_end_of_file()
     }
 
     // Takes one record, by what is known before it.
     #[tactic(auto, using(crate::proofs::Taking::taken_one, crate::proofs::Taking::none_taken))]
-    fn take_record(&mut self, record: &Record<'_>) -> Result<(), ModuleFault>
+    fn accept_record(&mut self, record: &Record<'_>) -> Result<(), ModuleFault>
         ensures { RulesTake self.old self.new (record_parts «record».now) result }
     {
         match record.kind() {
@@ -121,7 +121,7 @@ impl Rules {
 
     // Takes the end of a file.
     #[tactic(auto, unfolding(crate::specs::Steps::TakesOne, crate::specs::Steps::known_after, crate::specs::Rules::fault_known))]
-    fn take_end_of_file(&mut self) -> Result<(), ModuleFault>
+    fn accept_end_of_file(&mut self) -> Result<(), ModuleFault>
         ensures takes { TakesOne self.old self.new EndOfFile result }
         ensures inside { IfErr result (λ fault. fault ≡ ModuleFault.BadOrder) }
     {
@@ -244,24 +244,24 @@ impl Rules {
         ensures { TakesOne self.old self.new (Entry entry.now) result }
     {
         check_entry(entry, &self.entered, &self.sections, &self.globals)?;
-        self.note_entry(entry)
+        self.add_entry(entry)
     }
 
     // Keeps what an entry says.
-    fn note_entry(&mut self, entry: &GsdEntry) -> Result<(), ModuleFault>
+    fn add_entry(&mut self, entry: &GsdEntry) -> Result<(), ModuleFault>
         ensures noted { Notes self.new (with_entry entry.now.kind entry.now self.old) result }
         ensures adds { IfErr result (λ _. adds_name (Entry entry.now) ≡ true) }
     {
         match entry.kind {
-            GsdKind::ControlSection => self.note_section(entry),
-            GsdKind::ProgramSection => self.note_section(entry),
-            GsdKind::GlobalSymbol => self.note_global(entry.name),
+            GsdKind::ControlSection => self.add_section(entry),
+            GsdKind::ProgramSection => self.add_section(entry),
+            GsdKind::GlobalSymbol => self.add_global(entry.name),
             _ => Ok(()),
         }
     }
 
     // Keeps a section and its size in this module.
-    fn note_section(&mut self, entry: &GsdEntry) -> Result<(), ModuleFault>
+    fn add_section(&mut self, entry: &GsdEntry) -> Result<(), ModuleFault>
         ensures { Notes self.new (with_section entry.now self.old) result }
     {
         self.sections.insert(entry.name)?;
@@ -270,7 +270,7 @@ impl Rules {
     }
 
     // Keeps the name of a global.
-    fn note_global(&mut self, name: Name) -> Result<(), ModuleFault>
+    fn add_global(&mut self, name: Name) -> Result<(), ModuleFault>
         ensures { Notes self.new (with_global name self.old) result }
     {
         self.globals.insert(name)?;
@@ -293,7 +293,7 @@ impl Rules {
     {
         match check_relocation(&relocation, &self.entered, self.text, &self.globals) {
             Ok(stored) => {
-                self.note_target(relocation.target)?;
+                self.add_target(relocation.target)?;
                 Ok(stored)
             }
             Err(fault) => Err(fault),
@@ -301,7 +301,7 @@ impl Rules {
     }
 
     // Keeps what a relocation names: a section that texts go to from now on, or a global.
-    fn note_target(&mut self, target: Target) -> Result<(), ModuleFault>
+    fn add_target(&mut self, target: Target) -> Result<(), ModuleFault>
         ensures noted { Notes self.new (with_target target self.old) result }
         ensures adds { IfErr result (λ _. is_some (global_of target) ≡ true) }
     {
@@ -310,10 +310,10 @@ impl Rules {
                 self.section = name;
                 Ok(())
             }
-            Target::Global(name) => self.note_global(name),
-            Target::GlobalDisplaced(name) => self.note_global(name),
-            Target::GlobalAdditive(name, _) => self.note_global(name),
-            Target::GlobalAdditiveDisplaced(name, _) => self.note_global(name),
+            Target::Global(name) => self.add_global(name),
+            Target::GlobalDisplaced(name) => self.add_global(name),
+            Target::GlobalAdditive(name, _) => self.add_global(name),
+            Target::GlobalAdditiveDisplaced(name, _) => self.add_global(name),
             _ => Ok(()),
         }
     }

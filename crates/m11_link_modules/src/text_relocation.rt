@@ -73,6 +73,6 @@ fn width_of(relocation: &Relocation) -> usize
 fn lies_within(relocation: &Relocation, count: usize) -> bool
     ensures { result ≡ lies_within relocation.now count }
 {
-    let location = usize::from(relocation.displacement);
-    location >= 4 && location + width_of(relocation) - 4 <= count
+    let displacement = usize::from(relocation.displacement);
+    displacement >= 4 && displacement + width_of(relocation) - 4 <= count
 }

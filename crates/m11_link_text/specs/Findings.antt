@@ -6,7 +6,7 @@ use Rattle.m11_base.specs.Rad50.{Name}
 use Rattle.m11_link_modules.specs.Parts.{Part}
 use Rattle.m11_link_layout.specs.Globals.{global_value, globals_of, referred}
 use Rattle.m11_link_layout.specs.Modules.{name_at}
-use Rattle.m11_link_layout.specs.Plan.{Planned, planned_base, planned_value, planned_transfer, planned_attributes, planned_module, planned_sections, planned_globals}
+use Rattle.m11_link_layout.specs.Plan.{PlanTables, planned_base, planned_value, planned_transfer, planned_attributes, planned_module, planned_sections, planned_globals}
 use Rattle.m11_link_layout.specs.Sections.{entered_attributes, module_base, sections_of, top}
 use Rattle.m11_link_layout.specs.Transfers.{transfer_address}
 use Rattle.m11_link_layout.specs.declared.planned.PlannedGlobal.{PlannedGlobal}
@@ -44,7 +44,7 @@ findings_of bottom parts = record {
 }
 
 -- what a first pass found, by its plan
-abbrev pub planned : Planned → Findings
+abbrev pub planned : PlanTables → Findings
 planned plan = record {
   base = λ module_index name. planned_base plan module_index name;
   value = λ name. planned_value plan name;

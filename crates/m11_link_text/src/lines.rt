@@ -7,7 +7,7 @@ ghost use Rattle.arrayvec.specs.ArrayVec.{array_vec_len};
 ghost use Rattle.m11_link_text.specs.Lines as spec;
 
 use m11_base::Name;
-use m11_obj_print::{Line, ended, put};
+use m11_obj_print::{Line, add_bytes, ended};
 
 /// The message that a global is referred to and defined nowhere.
 #[tactic(auto, using(m11_obj_print::proofs::Trimming::line_at))]
@@ -15,8 +15,8 @@ pub fn undefined_line(name: Name) -> Line
     ensures { result.items ≡ spec.undefined_line name }
 {
     let mut line = Line::new();
-    put(&mut line, b"UNDEFINED GLOBAL ");
-    put(&mut line, &name.characters());
+    add_bytes(&mut line, b"UNDEFINED GLOBAL ");
+    add_bytes(&mut line, &name.characters());
     ended(line)
 }
 
@@ -27,10 +27,10 @@ fn in_module(words: &[u8], name: Name, module_name: Name) -> Line
     ensures room { array_vec_len result < 175 }
 {
     let mut line = Line::new();
-    put(&mut line, words);
-    put(&mut line, &name.characters());
-    put(&mut line, b" IN MODULE ");
-    put(&mut line, &module_name.characters());
+    add_bytes(&mut line, words);
+    add_bytes(&mut line, &name.characters());
+    add_bytes(&mut line, b" IN MODULE ");
+    add_bytes(&mut line, &module_name.characters());
     line
 }
 

@@ -6,7 +6,7 @@ ghost use Rattle.m11_link_text.specs.Lines as spec;
 
 use m11_base::{Name, octal6};
 use m11_obj::SectionFlags;
-use m11_obj_print::{Line, ended, put, put_attributes};
+use m11_obj_print::{Line, add_attributes, add_bytes, ended};
 
 // A name and two words, with a blank after each but the last.
 fn columns(name: Name, first: u16, second: u16) -> Line
@@ -14,12 +14,12 @@ fn columns(name: Name, first: u16, second: u16) -> Line
     ensures room { array_vec_len result ≤ 21 }
 {
     let mut line = Line::new();
-    put(&mut line, &name.characters());
-    put(&mut line, b" ");
-    put(&mut line, &octal6(first));
-    put(&mut line, b" ");
-    put(&mut line, &octal6(second));
-    put(&mut line, b" ");
+    add_bytes(&mut line, &name.characters());
+    add_bytes(&mut line, b" ");
+    add_bytes(&mut line, &octal6(first));
+    add_bytes(&mut line, b" ");
+    add_bytes(&mut line, &octal6(second));
+    add_bytes(&mut line, b" ");
     line
 }
 
@@ -28,7 +28,7 @@ pub fn section_line(name: Name, base: u16, size: u16, attributes: SectionFlags) 
     ensures { result.items ≡ spec.section_line name base size attributes.0 }
 {
     let mut line = columns(name, base, size);
-    put_attributes(&mut line, attributes);
+    add_attributes(&mut line, attributes);
     ended(line)
 }
 
@@ -37,11 +37,11 @@ pub fn global_line(name: Name, value: u16, module_name: Name) -> Line
     ensures { result.items ≡ spec.global_line name value module_name }
 {
     let mut line = Line::new();
-    put(&mut line, &name.characters());
-    put(&mut line, b" ");
-    put(&mut line, &octal6(value));
-    put(&mut line, b" ");
-    put(&mut line, &module_name.characters());
+    add_bytes(&mut line, &name.characters());
+    add_bytes(&mut line, b" ");
+    add_bytes(&mut line, &octal6(value));
+    add_bytes(&mut line, b" ");
+    add_bytes(&mut line, &module_name.characters());
     ended(line)
 }
 
@@ -50,7 +50,7 @@ pub fn name_line(global: Name) -> Line
     ensures { result.items ≡ spec.name_line global }
 {
     let mut line = Line::new();
-    put(&mut line, &global.characters());
+    add_bytes(&mut line, &global.characters());
     ended(line)
 }
 
@@ -59,8 +59,8 @@ pub fn transfer_line(address: u16) -> Line
     ensures { result.items ≡ spec.transfer_line address }
 {
     let mut line = Line::new();
-    put(&mut line, b"TRANSFER ");
-    put(&mut line, &octal6(address));
+    add_bytes(&mut line, b"TRANSFER ");
+    add_bytes(&mut line, &octal6(address));
     ended(line)
 }
 
@@ -69,9 +69,9 @@ pub fn limit_line(bottom: u16, top: u16) -> Line
     ensures { result.items ≡ spec.limit_line bottom top }
 {
     let mut line = Line::new();
-    put(&mut line, b"LIMIT ");
-    put(&mut line, &octal6(bottom));
-    put(&mut line, b" ");
-    put(&mut line, &octal6(top));
+    add_bytes(&mut line, b"LIMIT ");
+    add_bytes(&mut line, &octal6(bottom));
+    add_bytes(&mut line, b" ");
+    add_bytes(&mut line, &octal6(top));
     ended(line)
 }

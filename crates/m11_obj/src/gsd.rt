@@ -78,7 +78,7 @@ impl Default for GsdEntry {
 pub type Entries = ArrayVec<GsdEntry, 63>;
 
 // Adds a word to a block's content.
-pub(crate) fn put_word(content: &mut Block, word: u16)
+pub(crate) fn add_word(content: &mut Block, word: u16)
     requires { array_vec_len content.old + 2 ≤ content_limit }
     ensures { content.new.items ≡ content.old.items ++ word_bytes word }
 {
@@ -89,24 +89,24 @@ pub(crate) fn put_word(content: &mut Block, word: u16)
 }
 
 // Adds a name's two words to a block's content.
-pub(crate) fn put_name(content: &mut Block, name: Name)
+pub(crate) fn add_name(content: &mut Block, name: Name)
     requires { array_vec_len content.old + 4 ≤ content_limit }
     ensures bytes { content.new.items ≡ content.old.items ++ name_bytes name }
     ensures fits { IsName name }
 {
     let (first, second) = name.words();
-    put_word(content, first);
-    put_word(content, second);
+    add_word(content, first);
+    add_word(content, second);
 }
 
 // Adds an entry's eight bytes to a block's content.
-pub(crate) fn put_entry(content: &mut Block, entry: &GsdEntry)
+pub(crate) fn add_entry(content: &mut Block, entry: &GsdEntry)
     requires { array_vec_len content.old + 8 ≤ content_limit }
     ensures bytes { content.new.items ≡ content.old.items ++ entry_bytes entry.now }
     ensures fits { EntryFits entry.now }
 {
-    put_name(content, entry.name);
+    add_name(content, entry.name);
     content.push(entry.flags);
     content.push(entry.kind.code());
-    put_word(content, entry.value);
+    add_word(content, entry.value);
 }

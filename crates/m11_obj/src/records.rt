@@ -9,10 +9,10 @@ ghost use Rattle.m11_obj.specs.Records.{Content, IsRecordOf};
 ghost use Rattle.m11_obj.specs.Relocations.{relocations_bytes, relocation_limit, FormExists};
 
 use crate::fault::RecordFault;
-use crate::gsd::{GsdEntry, put_entry, put_word};
+use crate::gsd::{GsdEntry, add_entry, add_word};
 use crate::reading::{check_record, first_entry, first_type, first_word};
 use crate::relocation_walk;
-use crate::relocations::{Relocation, put_relocation};
+use crate::relocations::{Relocation, add_relocation};
 use m11_obj_blocks::Block;
 use std::alloc::{AllocError, Global};
 use std::marker::Model;
@@ -56,7 +56,7 @@ fn with_type(code: u16) -> Block
     ensures { result.items ≡ word_bytes code }
 {
     let mut content = Block::new();
-    put_word(&mut content, code);
+    add_word(&mut content, code);
     content
 }
 
@@ -73,7 +73,7 @@ impl Record<'_> {
     {
         let mut content = with_type(1);
         for entry in entries {
-            put_entry(&mut content, entry);
+            add_entry(&mut content, entry);
         }
         content
     }
@@ -94,7 +94,7 @@ impl Record<'_> {
         ensures means { content_of result.items ≡ Ok (Text address bytes.now) }
     {
         let mut content = with_type(3);
-        put_word(&mut content, address);
+        add_word(&mut content, address);
         content.try_extend_from_slice(bytes).unwrap();
         content
     }
@@ -109,7 +109,7 @@ impl Record<'_> {
     {
         let mut content = with_type(4);
         for relocation in relocations {
-            put_relocation(&mut content, relocation);
+            add_relocation(&mut content, relocation);
         }
         content
     }

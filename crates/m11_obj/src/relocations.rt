@@ -7,7 +7,7 @@ ghost use Rattle.m11_base.specs.Rad50.{IsName};
 ghost use Rattle.m11_obj_blocks.specs.Frames.{content_limit};
 ghost use Rattle.m11_obj.specs.Relocations.{parts_of, optional_name, optional_word, relocation_bytes, FormExists, RelocationFits};
 
-use crate::gsd::{put_name, put_word};
+use crate::gsd::{add_name, add_word};
 use m11_base::Name;
 use m11_obj_blocks::Block;
 
@@ -114,28 +114,28 @@ impl Relocation {
     }
 }
 
-fn put_optional_name(content: &mut Block, name: Option<Name>)
+fn add_optional_name(content: &mut Block, name: Option<Name>)
     requires { array_vec_len content.old + length (optional_name name) ≤ content_limit }
     ensures bytes { content.new.items ≡ content.old.items ++ optional_name name }
     ensures fits { IfSome name IsName }
 {
     if let Some(name) = name {
-        put_name(content, name);
+        add_name(content, name);
     }
 }
 
-fn put_optional_word(content: &mut Block, word: Option<u16>)
+fn add_optional_word(content: &mut Block, word: Option<u16>)
     requires { array_vec_len content.old + length (optional_word word) ≤ content_limit }
     ensures bytes { content.new.items ≡ content.old.items ++ optional_word word }
     ensures fits { IfSome word (λ w. w < 2 ^ 16) }
 {
     if let Some(word) = word {
-        put_word(content, word);
+        add_word(content, word);
     }
 }
 
 // Adds a relocation's bytes to a block's content.
-pub(crate) fn put_relocation(content: &mut Block, relocation: &Relocation)
+pub(crate) fn add_relocation(content: &mut Block, relocation: &Relocation)
     requires room { array_vec_len content.old + length (relocation_bytes relocation.now) ≤ content_limit }
     requires form { FormExists relocation.now.is_byte relocation.now.target }
     ensures bytes { content.new.items ≡ content.old.items ++ relocation_bytes relocation.now }
@@ -148,6 +148,6 @@ pub(crate) fn put_relocation(content: &mut Block, relocation: &Relocation)
         parts.command
     });
     content.push(relocation.displacement);
-    put_optional_name(content, parts.name);
-    put_optional_word(content, parts.constant);
+    add_optional_name(content, parts.name);
+    add_optional_word(content, parts.constant);
 }

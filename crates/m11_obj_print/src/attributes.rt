@@ -4,7 +4,7 @@ ghost use Rattle.std.specs.Prelude.{◌≡◌, ◌≤◌, ◌+◌, ◌++◌, len
 ghost use Rattle.arrayvec.specs.ArrayVec.{array_vec_len};
 ghost use Rattle.m11_obj_print.specs.Attributes as spec;
 
-use crate::lines::{Line, put};
+use crate::lines::{Line, add_bytes};
 use bitflags::Flags;
 use m11_obj::SectionFlags;
 
@@ -81,15 +81,15 @@ fn saved(attributes: SectionFlags) -> &'static [u8]
 }
 
 /// Adds the attributes of a section, as `RW,I,LCL,REL,CON`, with `,SAV` where the section is saved.
-pub fn put_attributes(line: &mut Line, attributes: SectionFlags)
+pub fn add_attributes(line: &mut Line, attributes: SectionFlags)
     requires { array_vec_len line.old ≤ 155 }
     ensures text { line.new.items ≡ line.old.items ++ spec.attributes_text (spec.bits_of attributes) }
     ensures room { array_vec_len line.new ≤ array_vec_len line.old + 20 }
 {
-    put(line, access(attributes));
-    put(line, content(attributes));
-    put(line, scope(attributes));
-    put(line, relocation(attributes));
-    put(line, allocation(attributes));
-    put(line, saved(attributes));
+    add_bytes(line, access(attributes));
+    add_bytes(line, content(attributes));
+    add_bytes(line, scope(attributes));
+    add_bytes(line, relocation(attributes));
+    add_bytes(line, allocation(attributes));
+    add_bytes(line, saved(attributes));
 }

@@ -5,5 +5,5 @@
 mod attributes;
 mod lines;
 
-pub use attributes::put_attributes;
-pub use lines::{Line, ended, put};
+pub use attributes::add_attributes;
+pub use lines::{Line, add_bytes, ended};

@@ -11,7 +11,7 @@ use arrayvec::ArrayVec;
 pub type Line = ArrayVec<u8, 175>;
 
 /// Adds bytes to a line.
-pub fn put(line: &mut Line, bytes: &[u8])
+pub fn add_bytes(line: &mut Line, bytes: &[u8])
     requires { array_vec_len line.old + length bytes.now ≤ 175 }
     ensures items { line.new.items ≡ line.old.items ++ bytes.now }
     ensures size { array_vec_len line.new ≡ array_vec_len line.old + length bytes.now }

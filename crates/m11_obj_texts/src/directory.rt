@@ -156,7 +156,7 @@ impl OpenDirectory {
     }
 
     /// Takes a row. Where the record is full, it is handed out and is to be written as a block; the row then begins another one.
-    pub fn take(&mut self, row: &DirectoryRow) -> Option<Block>
+    pub fn accept(&mut self, row: &DirectoryRow) -> Option<Block>
         ensures { (rows : List DirectoryRow) (written : List Content) → IsOpenDirectory rows written self.old
             → (more : List Content) × IsOpenDirectory (rows ++ row.now ∷ []) (written ++ more) self.new
             × AreRecords (option_to_list result) more }

@@ -6,7 +6,7 @@
 mod pieces;
 mod relocation_list;
 
-pub use pieces::{Piece, PieceContent, RelocationKind, Stored};
+pub use pieces::{Piece, PieceContent, RelocationKind, StoredConstant};
 
 // The texts that pieces are cut into.
 mod open_text;

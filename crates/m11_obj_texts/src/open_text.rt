@@ -36,7 +36,7 @@ impl OpenText {
 
     /// Takes a piece into the open text, if that can hold it too, and returns whether it did. It is what `take` does then, and takes less
     /// time, since no text is handed out.
-    pub fn take_within(&mut self, piece: &Piece) -> bool
+    pub fn accept_within(&mut self, piece: &Piece) -> bool
         ensures takes { result ≡ true → (pieces : List Piece) (written : List Content) → IsOpenText pieces written self.old
             → IsOpenText (pieces ++ piece.now ∷ []) (written ++ records_in None) self.new }
         ensures unchanged { result ≡ false → self.new ≡ self.old }
@@ -44,7 +44,7 @@ impl OpenText {
         let Some(text) = &mut self.text else {
             return false;
         };
-        if text.takes(piece) {
+        if text.fits(piece) {
             text.push(piece);
             return true;
         }
@@ -53,7 +53,7 @@ impl OpenText {
 
     /// Takes a piece. Where the open text can't hold it too, that text is handed out and is to be written; the piece opens another
     /// one.
-    pub fn take(&mut self, piece: &Piece) -> Option<Text>
+    pub fn accept(&mut self, piece: &Piece) -> Option<Text>
         ensures { (pieces : List Piece) (written : List Content) → IsOpenText pieces written self.old
             → IsOpenText (pieces ++ piece.now ∷ []) (written ++ records_in result) self.new }
     {
@@ -61,7 +61,7 @@ impl OpenText {
             self.text = Some(Text::start(None, piece));
             return None;
         };
-        if text.takes(piece) {
+        if text.fits(piece) {
             text.push(piece);
             return None;
         }

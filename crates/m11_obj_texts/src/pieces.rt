@@ -36,7 +36,7 @@ pub enum RelocationKind {
 
 /// A constant and what becomes of it.
 #[derive(Clone, Copy, Debug, PartialEq, Eq)]
-pub struct Stored {
+pub struct StoredConstant {
     /// A word; of a byte its low half counts.
     pub constant: u16,
     /// How a linker changes it.
@@ -47,9 +47,9 @@ pub struct Stored {
 #[derive(Clone, Copy, Debug, PartialEq, Eq)]
 pub enum PieceContent {
     /// The low byte of a number.
-    Byte(Stored),
+    Byte(StoredConstant),
     /// A word, low byte first.
-    Word(Stored),
+    Word(StoredConstant),
     /// Command 11: the two limits of the program, in four bytes.
     Limits,
 }
@@ -65,7 +65,7 @@ pub struct Piece {
     pub content: PieceContent,
 }
 
-impl Stored {
+impl StoredConstant {
     // What a linker stores, if the constant is relocated. An addition of 0 isn't written.
     fn target(&self) -> Option<Target>
         ensures target { result ≡ target_of self.now.kind self.now.constant }

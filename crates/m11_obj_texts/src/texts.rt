@@ -92,7 +92,7 @@ impl Text {
     }
 
     /// Whether a piece goes into this text.
-    pub(crate) fn takes(&self, piece: &Piece) -> bool
+    pub(crate) fn fits(&self, piece: &Piece) -> bool
         ensures { result ≡ takes_in self.now piece.now }
     {
         let is_next = piece.section.is_same(self.section) && u32::from(piece.location) == self.next;

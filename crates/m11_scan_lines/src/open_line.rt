@@ -28,7 +28,7 @@ impl Model for OpenLine {
 
 /// How many bytes of a slice were taken, and whether the last of them is a line feed.
 #[derive(Clone, Copy)]
-pub(crate) struct Taken {
+pub(crate) struct ByteRun {
     pub(crate) count: usize,
     pub(crate) is_closed: bool,
 }
@@ -108,7 +108,7 @@ impl OpenLine {
     }
 
     /// Takes bytes up to the first line feed, which is counted, or all of them.
-    pub(crate) fn take(&mut self, bytes: &[u8]) -> Taken
+    pub(crate) fn take(&mut self, bytes: &[u8]) -> ByteRun
         ensures { TookOf bytes.now self.old self.new result.count result.is_closed }
     {
         let mut rest = bytes;
@@ -116,13 +116,13 @@ impl OpenLine {
             let count = plain_length(rest);
             self.push_plain(rest, count);
             let Some((byte, more)) = rest[count..].split_first() else {
-                return Taken {
+                return ByteRun {
                     count: bytes.len(),
                     is_closed: false,
                 };
             };
             if *byte == b'\n' {
-                return Taken {
+                return ByteRun {
                     count: bytes.len() - more.len(),
                     is_closed: true,
                 };

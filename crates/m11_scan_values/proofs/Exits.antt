@@ -5,7 +5,7 @@ use Rattle.m11_scan.specs.Expressions.{begin, sort_of}
 use Rattle.m11_scan.specs.declared.cutting.Token.{Token}
 use Rattle.m11_scan.specs.declared.radix.Radix.{Radix}
 use Rattle.m11_scan.specs.declared.sort.Sort.{Sort}
-use Rattle.m11_scan_values.specs.declared.expressions.Left.{Left}
+use Rattle.m11_scan_values.specs.declared.expressions.LeftOperand.{LeftOperand}
 use Rattle.m11_scan_values.specs.declared.expressions.Split.{Split}
 use Rattle.m11_scan_values.specs.declared.names.Symbol.{Symbol}
 use Rattle.m11_scan_values.specs.declared.prefixes.Prefix.{Prefix}
@@ -33,7 +33,7 @@ module _ (stands_for : Symbol → Quantity) (line : List ℕ) (radix : Radix) wh
       ∙ sym (drop-map (seen stands_for line) (suc n) tokens)
 
   -- the value so far, one term more, and its end
-  pub next_exit : (all tokens : List Token) (left : Option Left) (split : Split) (next : Left) (term : Quantity)
+  pub next_exit : (all tokens : List Token) (left : Option LeftOperand) (split : Split) (next : LeftOperand) (term : Quantity)
       → Carries radix (items_of stands_for line all) left (items_of stands_for line tokens)
       → Some split ≡ first_operator begin (map sort_of tokens)
       → term ≡ value_as_term radix (items_of stands_for line (take split.index tokens))
@@ -48,7 +48,7 @@ module _ (stands_for : Symbol → Quantity) (line : List ℕ) (radix : Radix) wh
       (value ∙ ap (λ (v : Quantity). carried left v) t
       ∙ ap (λ (l : List Item). carried left (value_as_term radix l)) (sym (take-map (seen stands_for line) split.index tokens))))
 
-  pub last_exit : (all tokens : List Token) (left : Option Left) (term result : Quantity)
+  pub last_exit : (all tokens : List Token) (left : Option LeftOperand) (term result : Quantity)
       → Carries radix (items_of stands_for line all) left (items_of stands_for line tokens)
       → None ≡ first_operator begin (map sort_of tokens)
       → term ≡ value_as_term radix (items_of stands_for line tokens)

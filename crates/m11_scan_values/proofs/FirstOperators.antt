@@ -5,7 +5,7 @@ use Rattle.m11_scan.specs.Expressions.{begin, role_of}
 use Rattle.m11_scan.specs.declared.expressions.Within.{Within}
 use Rattle.m11_scan.specs.declared.radix.Radix.{Radix}
 use Rattle.m11_scan.specs.declared.sort.Sort.{Sort}
-use Rattle.m11_scan_values.specs.declared.expressions.Left.{Left}
+use Rattle.m11_scan_values.specs.declared.expressions.LeftOperand.{LeftOperand}
 use Rattle.m11_scan_values.specs.declared.expressions.Split.{Split}
 use Rattle.m11_scan_values.specs.declared.operators.Operator.{Operator}
 use Rattle.m11_scan_values.specs.Laws.{IsOperator, within_after}
@@ -102,9 +102,9 @@ none_last within (sort ∷ sorts) is =
     (last_operator (after (role_of sort) within) sorts) is (λ e. none_last (after (role_of sort) within) sorts e)
 
 -- the value so far is that of all tokens before an operator
-pub data Carries (radix : Radix) : List Item → Option Left → List Item → Type 0 where
+pub data Carries (radix : Radix) : List Item → Option LeftOperand → List Item → Type 0 where
   Begins : (items : List Item) → Carries radix items None items
-  Goes : (front : List Item) (mark : Item) (rest : List Item) (left : Left) → quantity left.value ≡ value_of radix front
+  Goes : (front : List Item) (mark : Item) (rest : List Item) (left : LeftOperand) → quantity left.value ≡ value_of radix front
       → IsOperator left.operator front mark → Carries radix (front ++ mark ∷ rest) (Some left) rest
 
 as_term : (radix : Radix) (items : List Item) → last_operator begin (sorts_of items) ≡ None
@@ -112,7 +112,7 @@ as_term : (radix : Radix) (items : List Item) → last_operator begin (sorts_of 
 as_term radix items none =
     value_by_parts radix items ∙ ap (λ (s : Option Split). split_value value_of radix items s) none
 
-pub carries_end : (radix : Radix) {all : List Item} {left : Option Left} {rest : List Item} → Carries radix all left rest
+pub carries_end : (radix : Radix) {all : List Item} {left : Option LeftOperand} {rest : List Item} → Carries radix all left rest
     → None ≡ first_operator begin (sorts_of rest) → carried left (value_as_term radix rest) ≡ value_of radix all
 carries_end radix (Begins items) none = sym (as_term radix items (none_last begin (sorts_of items) none))
 carries_end radix (Goes front mark rest left value here) none =
@@ -122,7 +122,7 @@ carries_end radix (Goes front mark rest left value here) none =
     ∙ sym (joined_value radix front rest mark left.operator here term)
 
 -- one term more
-next_from : (radix : Radix) (all rest : List Item) (split : Split) (next : Left) (s : Splits begin rest split)
+next_from : (radix : Radix) (all rest : List Item) (split : Split) (next : LeftOperand) (s : Splits begin rest split)
     → (front : List Item) → all ≡ front ++ s.mark ∷ s.back → next.operator ≡ split.operator
     → quantity next.value ≡ value_of radix front
     → within_after begin (sorts_of front) ≡ within_after begin (sorts_of s.front)
@@ -134,7 +134,7 @@ next_from radix all rest split next s front whole op value within =
     let Q : List Item → Type 0 = λ r. Carries radix all (Some next) r in
     subst Q (sym s.dropped) (subst P (sym whole) (Goes front s.mark s.back next value here))
 
-pub carries_next : (radix : Radix) {all : List Item} {left : Option Left} {rest : List Item} (split : Split) (next : Left)
+pub carries_next : (radix : Radix) {all : List Item} {left : Option LeftOperand} {rest : List Item} (split : Split) (next : LeftOperand)
     → Carries radix all left rest → Some split ≡ first_operator begin (sorts_of rest) → next.operator ≡ split.operator
     → quantity next.value ≡ carried left (value_as_term radix (take split.index rest))
     → Carries radix all (Some next) (drop (suc split.index) rest)

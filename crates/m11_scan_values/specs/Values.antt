@@ -7,7 +7,7 @@ use Rattle.m11_scan.specs.Views.{lexeme}
 use Rattle.m11_scan.specs.declared.cutting.Token.{Token}
 use Rattle.m11_scan.specs.declared.radix.Radix.{Radix}
 use Rattle.m11_scan.specs.declared.sort.Sort.{Sort}
-use Rattle.m11_scan_values.specs.declared.expressions.Left.{Left}
+use Rattle.m11_scan_values.specs.declared.expressions.LeftOperand.{LeftOperand}
 use Rattle.m11_scan_values.specs.declared.expressions.Split.{Split}
 use Rattle.m11_scan_values.specs.declared.names.Symbol.{Symbol}
 use Rattle.m11_scan_values.specs.declared.prefixes.Prefix.{Prefix}
@@ -62,6 +62,6 @@ abbrev pub value_as_term : Radix → List Item → Quantity
 value_as_term radix items = split_value value_of radix items None
 
 -- a value joined to what stands before it
-abbrev pub carried : Option Left → Quantity → Quantity
+abbrev pub carried : Option LeftOperand → Quantity → Quantity
 carried None value = value
 carried (Some left) value = combined left.operator (quantity left.value) value

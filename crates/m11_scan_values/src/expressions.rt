@@ -42,7 +42,7 @@ pub fn term_value<N: Names>(token: &Token, line: &Line, names: &N) -> Value
 
 // What stands before a term: the value so far, and the operator that joins it.
 #[derive(Clone, Copy, PartialEq, Eq, Debug)]
-pub struct Left {
+pub struct LeftOperand {
     pub(crate) value: Value,
     pub(crate) operator: Operator,
 }
@@ -56,7 +56,7 @@ fn expression<N: Names>(tokens: &[Token], radix: Radix, line: &Line, names: &N) 
     let mut rest = tokens;
     'operators: while let Some(split) = first_operator(rest) {
         let value = term(&rest[..split.index], radix, line, names);
-        left = Some(Left {
+        left = Some(LeftOperand {
             value: joined(left, value),
             operator: split.operator,
         });
@@ -85,7 +85,7 @@ fn term<N: Names>(tokens: &[Token], radix: Radix, line: &Line, names: &N) -> Val
 }
 
 // A term joined to what stands before it, if something does.
-fn joined(left: Option<Left>, value: Value) -> Value
+fn joined(left: Option<LeftOperand>, value: Value) -> Value
     ensures { quantity result ≡ carried left (quantity value) }
 {
     match left {

@@ -9,10 +9,10 @@ use Rattle.m11_cpu_machine.specs.declared.stop.Turn.{Turn}
 use Rattle.m11_cpu_machine.specs.declared.stop.Turn.TheVariants.{Next, Stopped}
 use Rattle.m11_cpu.specs.Runs.{run_counted}
 use Rattle.m11_cpu.proofs.RunsDone.{GoesOn, begins, ends, goes_on, ran, stops}
-use Rattle.m11_trace.specs.Taken.{Follow, Taken, Yielded}
+use Rattle.m11_trace.specs.Taken.{Follow, TracedStep, Yielded}
 
 -- a run goes on after them
-pub gone : (limit : ℕ) (taken : List Taken) (m m' : Machine) (old new : Devices) → length taken ≤ limit → Follow m old taken m' new
+pub gone : (limit : ℕ) (taken : List TracedStep) (m m' : Machine) (old new : Devices) → length taken ≤ limit → Follow m old taken m' new
     → Yielded Next taken → GoesOn limit (length taken) m m' old new
 gone limit [] m m' old new le f next =
     let P : Machine → Type 0 = λ n. GoesOn limit 0 m n old new in
@@ -30,7 +30,7 @@ gone limit (last ∷ earlier) m m' old new le f next =
     subst P (sym f.4) (subst N one whole)
 
 -- all steps that were allowed
-pub runs_out : (taken : List Taken) (m m' : Machine) (old new : Devices) → Follow m old taken m' new → Yielded Next taken
+pub runs_out : (taken : List TracedStep) (m m' : Machine) (old new : Devices) → Follow m old taken m' new → Yielded Next taken
     → Does (run_counted (length taken) m) old new (ran Limit (length taken), m')
 runs_out taken m m' old new f next =
     ends (length taken) (length taken) m m' old new refl
@@ -40,7 +40,7 @@ no_stop : (stop : Stop) (X : Type 0) → Stopped stop ≡ Next → X
 no_stop stop X e = absurd cc
 
 -- up to one that stopped
-pub runs_stop : (limit : ℕ) (stop : Stop) (taken : List Taken) (m m' : Machine) (old new : Devices) → length taken ≤ limit
+pub runs_stop : (limit : ℕ) (stop : Stop) (taken : List TracedStep) (m m' : Machine) (old new : Devices) → length taken ≤ limit
     → Follow m old taken m' new → Yielded (Stopped stop) taken
     → Does (run_counted limit m) old new (ran stop (length taken), m')
 runs_stop limit stop [] m m' old new le f by = no_stop stop _ by

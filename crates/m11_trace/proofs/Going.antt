@@ -20,7 +20,7 @@ use Rattle.m11_cpu_machine.specs.declared.stop.Turn.TheVariants.{Next, Stopped}
 use Rattle.m11_trace.specs.Lines.{step_line}
 use Rattle.m11_trace.specs.Shots.{is_at, shot_of}
 use Rattle.m11_trace.specs.Stepping.{StepsWithLines}
-use Rattle.m11_trace.specs.Taken.{Follow, Taken, Yielded, kept, line_from, lines_from}
+use Rattle.m11_trace.specs.Taken.{Follow, TracedStep, Yielded, kept, line_from, lines_from}
 use Rattle.m11_trace.specs.Tracing.{Goes, IsElsewhere}
 use Rattle.m11_trace.specs.declared.ending.Ending.{Ending}
 use Rattle.m11_trace.specs.declared.ending.Ending.TheVariants as ending
@@ -59,7 +59,7 @@ take_again {X = X} n x xs = ap (λ (t : List X). x ∷ t) (take_less n xs)
 -- ---- how far they have come
 
 -- these steps were made, the latest first, which yielded this
-pub record Going (limit count : ℕ) (places : List ℕ) (m m' : Machine) (old new : Devices) (turn : Turn) (taken : List Taken)
+pub record Going (limit count : ℕ) (places : List ℕ) (m m' : Machine) (old new : Devices) (turn : Turn) (taken : List TracedStep)
     : Type 0 where
   pub steps : Follow m old taken m' new
   pub yielded : Yielded turn taken
@@ -68,7 +68,7 @@ pub record Going (limit count : ℕ) (places : List ℕ) (m m' : Machine) (old n
   pub within : count ≤ limit
 
 -- the lines of some steps were put, and the last of them are kept
-pub record Shown (first : ℕ) (taken : List Taken) (recent : List Shot) (output output' : Output) : Type 0 where
+pub record Shown (first : ℕ) (taken : List TracedStep) (recent : List Shot) (output output' : Output) : Type 0 where
   pub kept : recent ≡ take 16 (map kept taken)
   pub text : Appends output.text output'.text (lines_from first taken)
   pub faults : output'.faults ≡ output.faults
@@ -85,10 +85,10 @@ none_made limit places m old = record {
 pub none_shown : (first : ℕ) (recent : List Shot) (output : Output) → recent ≡ [] → Shown first [] recent output output
 none_shown first recent output e = record { kept = e; text = appends_nothing output.text; faults = refl }
 
-abbrev pub made : Machine → Turn → Machine → Taken
+abbrev pub made : Machine → Turn → Machine → TracedStep
 made before turn later = record { before = before; turn = turn; later = later }
 
-module _ (limit count : ℕ) (places : List ℕ) (m m' : Machine) (old middle : Devices) (taken : List Taken)
+module _ (limit count : ℕ) (places : List ℕ) (m m' : Machine) (old middle : Devices) (taken : List TracedStep)
     (g : Going limit count places m m' old middle Next taken) where
   -- one more step
   pub one_made : (m'' : Machine) (new : Devices) (turn : Turn) → count < limit → is_at places m' ≡ false
@@ -122,7 +122,7 @@ module _ (limit count : ℕ) (places : List ℕ) (m m' : Machine) (old middle : 
     runs = runs_out taken m m' old middle g.steps g.yielded;
   }
 
-pub at_stop : (limit count : ℕ) (places : List ℕ) (m m' : Machine) (old new : Devices) (stop : Stop) (taken : List Taken)
+pub at_stop : (limit count : ℕ) (places : List ℕ) (m m' : Machine) (old new : Devices) (stop : Stop) (taken : List TracedStep)
     → Going limit count places m m' old new (Stopped stop) taken → Goes (λ n. run_counted n m) limit places m old taken (ending.Stopped stop) m' new
 at_stop limit count places m m' old new stop taken g = record {
   steps = g.steps;
@@ -132,7 +132,7 @@ at_stop limit count places m m' old new stop taken g = record {
 }
 
 -- whatever the last step yielded, they are those of a run of as many steps
-pub at_any : (limit count : ℕ) (places : List ℕ) (m m' : Machine) (old new : Devices) (turn : Turn) (taken : List Taken)
+pub at_any : (limit count : ℕ) (places : List ℕ) (m m' : Machine) (old new : Devices) (turn : Turn) (taken : List TracedStep)
     → Going limit count places m m' old new turn taken
     → (most : ℕ) × (most ≤ limit) × (e : Ending) × Goes (λ n. run_counted n m) most places m old taken e m' new
 at_any limit count places m m' old new Next taken g =
@@ -149,7 +149,7 @@ at_any limit count places m m' old new (Stopped stop) taken g =
 
 -- ---- with their lines
 
-module _ (first : ℕ) (taken : List Taken) (recent : List Shot) (output middle : Output) (s : Shown first taken recent output middle) where
+module _ (first : ℕ) (taken : List TracedStep) (recent : List Shot) (output middle : Output) (s : Shown first taken recent output middle) where
   line_of : (m m'' : Machine) (turn : Turn) (count : ℕ) (line : List ℕ) → count ≡ length taken
       → line ≡ line_from first (count + 1) (step_line (count + 1) m m'')
       → lines_from first taken ++ line ≡ lines_from first (made m turn m'' ∷ taken)
@@ -188,7 +188,7 @@ module _ (first : ℕ) (taken : List Taken) (recent : List Shot) (output middle 
       )
 
 -- the line of a step was not put
-pub not_put : (limit count first : ℕ) (places : List ℕ) (m m' m'' : Machine) (old middle new : Devices) (taken : List Taken)
+pub not_put : (limit count first : ℕ) (places : List ℕ) (m m' m'' : Machine) (old middle new : Devices) (taken : List TracedStep)
     (recent : List Shot) (output held output' : Output) (turn : Turn) (line : List ℕ) (fault : SimFault)
     → Going limit count places m m' old middle Next taken → Shown first taken recent output held → count < limit
     → is_at places m' ≡ false → Does (step m') middle new (turn, m'')

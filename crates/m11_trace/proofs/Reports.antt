@@ -8,7 +8,7 @@ use Rattle.m11_cpu.specs.Messages.{PutsMessages}
 use Rattle.m11_cpu.specs.declared.fault.SimFault.{SimFault}
 use Rattle.m11_cpu.specs.declared.fault.SimFault.TheVariants.{Load, Write, NoMemory}
 use Rattle.m11_trace.specs.Lines.{short_line}
-use Rattle.m11_trace.specs.Taken.{Taken, kept, recent_lines, shots_text}
+use Rattle.m11_trace.specs.Taken.{TracedStep, kept, recent_lines, shots_text}
 use Rattle.m11_trace.specs.declared.shots.Shot.{Shot}
 use Rattle.m11_trace.proofs.Going.{begins_after, begins_whole}
 
@@ -31,7 +31,7 @@ puts_part a b f g first second (Load fault) p = absurd p
 -- ---- the last steps
 
 -- what is kept of the last 16 steps has their lines
-pub recent_are : (first count : ℕ) (taken : List Taken) (recent : List Shot) → count ≡ length taken
+pub recent_are : (first count : ℕ) (taken : List TracedStep) (recent : List Shot) → count ≡ length taken
     → recent ≡ take 16 (map kept taken)
     → cond (nat_lt count first) (shots_text count recent) [] ≡ recent_lines first taken
 recent_are first count taken recent long is =

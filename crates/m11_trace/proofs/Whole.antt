@@ -22,7 +22,7 @@ use Rattle.m11_cpu_machine.proofs.Dialogues.{comes}
 use Rattle.m11_trace.specs.Messages.{ending_text}
 use Rattle.m11_trace.specs.Ranges.{ranges_text}
 use Rattle.m11_trace.specs.Stepping.{StepsWithLines, end_text}
-use Rattle.m11_trace.specs.Taken.{Follow, Taken, begun, lines_from, recent_lines}
+use Rattle.m11_trace.specs.Taken.{Follow, TracedStep, begun, lines_from, recent_lines}
 use Rattle.m11_trace.specs.Tracing.{Goes, HasTraced, Traces, limit_by, ran_by}
 use Rattle.m11_trace.specs.declared.ending.Ending.{Ending}
 use Rattle.m11_trace.specs.declared.ending.Ending.TheVariants.{Stopped}
@@ -58,7 +58,7 @@ nothing_started address limit first places m d output steps odd ending count rec
     ([], subst P (sym ending) goes, count, recent, appends_nothing output.text, refl)
 
 module _ (address limit : ℕ) (places : List ℕ) (m m' : Machine) (old new : Devices) (even : (address % 2 == 1) ≡ false) where
-  goes_started : (most : ℕ) (taken : List Taken) (ending : Ending)
+  goes_started : (most : ℕ) (taken : List TracedStep) (ending : Ending)
       → Goes (λ n. run_counted n (with_register Pc address m)) most places (with_register Pc address m) old taken ending m' new
       → Goes (λ n. started address n m) most places (begun address m) old taken ending m' new
   goes_started most taken ending g =
@@ -100,7 +100,7 @@ module _ (request : Request) (first : ℕ) (places : List ℕ) (ranges : List Ra
     (transfer address : ℕ) (new : machine ≡ new_machine request.words)
     (loads : LoadsInto before.tape.text after.tape.text before.tape.faults after.tape.faults machine loaded (Ok transfer))
     (start : address ≡ unwrap_or request.start transfer) where
-  has_traced : (limit : ℕ) (taken : List Taken) (ending : Ending)
+  has_traced : (limit : ℕ) (taken : List TracedStep) (ending : Ending)
       → Goes (λ n. started address n loaded) limit places (begun address loaded) before.console taken ending m after.console
       → HasTraced (record request { limit = limit }) places before after taken ending m
   has_traced limit taken ending g =

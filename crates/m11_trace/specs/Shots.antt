@@ -6,7 +6,7 @@ use Rattle.m11_base.specs.Devices.{Bytes}
 use Rattle.m11_cpu_machine.specs.Machine.{psw_in}
 use Rattle.m11_cpu_machine.specs.Memory.{word_at}
 use Rattle.m11_cpu_machine.specs.declared.machine.Machine.{Machine}
-use Rattle.m11_trace.specs.declared.shots.Fetched.{Fetched}
+use Rattle.m11_trace.specs.declared.shots.InstructionWords.{InstructionWords}
 use Rattle.m11_trace.specs.declared.shots.Shot.{Shot}
 use Rattle.m11_trace.specs.declared.shots.View.{View}
 
@@ -27,7 +27,7 @@ word_past memory location distance =
     if nat_lt (location + distance) (length memory) then Some (word_at memory (location + distance)) else None
 
 -- the words that an instruction at a location may have; none at an odd one
-abbrev pub fetched_at : Bytes → ℕ → Fetched
+abbrev pub fetched_at : Bytes → ℕ → InstructionWords
 fetched_at memory location =
     if location % 2 == 1 then record { first = None; second = None; third = None }
     else record {
@@ -43,7 +43,7 @@ words_by (Some first) None third = first ∷ []
 words_by (Some first) (Some second) None = first ∷ second ∷ []
 words_by (Some first) (Some second) (Some third) = first ∷ second ∷ third ∷ []
 
-abbrev pub words_in : Fetched → List ℕ
+abbrev pub words_in : InstructionWords → List ℕ
 words_in fetched = words_by fetched.first fetched.second fetched.third
 
 -- what of a machine can change in a line

@@ -10,7 +10,7 @@ use Rattle.m11_cpu_machine.specs.Dialogue.{Devices, Dialogue, Output}
 use Rattle.m11_cpu_machine.specs.declared.machine.Machine.{Machine}
 use Rattle.m11_trace.specs.Messages.{ending_text}
 use Rattle.m11_trace.specs.Ranges.{ranges_text}
-use Rattle.m11_trace.specs.Taken.{Taken, kept, lines_from, shots_text}
+use Rattle.m11_trace.specs.Taken.{TracedStep, kept, lines_from, shots_text}
 use Rattle.m11_trace.specs.Tracing.{Goes}
 use Rattle.m11_trace.specs.declared.ending.Ending.{Ending}
 use Rattle.m11_trace.specs.declared.ranges.Range.{Range}
@@ -21,11 +21,11 @@ use Rattle.m11_trace.specs.declared.steps.Steps.{Steps}
 abbrev pub StepsWithLines : (ℕ → Dialogue (Ran × Machine)) → ℕ → ℕ → List ℕ → Machine → Machine → Devices → Devices
     → Output → Output → Result Steps SimFault → Type 0
 StepsWithLines run limit first places m m' old new output output' (Ok steps) =
-    (taken : List Taken) × Goes run limit places m old taken steps.ending m' new × (steps.count ≡ length taken)
+    (taken : List TracedStep) × Goes run limit places m old taken steps.ending m' new × (steps.count ≡ length taken)
     × (steps.recent.items ≡ take 16 (map kept taken))
     × Appends output.text output'.text (lines_from first taken) × (output'.faults ≡ output.faults)
 StepsWithLines run limit first places m m' old new output output' (Err Write) =
-    (most : ℕ) × (most ≤ limit) × (ending : Ending) × (taken : List Taken) × Goes run most places m old taken ending m' new
+    (most : ℕ) × (most ≤ limit) × (ending : Ending) × (taken : List TracedStep) × Goes run most places m old taken ending m' new
     × AppendsBeginning output.text output'.text (lines_from first taken) × Rises output.faults output'.faults
 StepsWithLines run limit first places m m' old new output output' (Err NoMemory) = ⊥
 StepsWithLines run limit first places m m' old new output output' (Err (Load fault)) = ⊥

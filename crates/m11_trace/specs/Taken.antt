@@ -13,18 +13,18 @@ use Rattle.m11_trace.specs.Shots.{shot_of}
 use Rattle.m11_trace.specs.declared.shots.Shot.{Shot}
 
 -- a step that was made: the machine before it, what it yielded, and the machine after it
-pub record Taken : Type 0 where
+pub record TracedStep : Type 0 where
   pub before : Machine
   pub turn : Turn
   pub later : Machine
 
 -- the latest of some steps yielded this; before the first one the machine can go on
-abbrev pub Yielded : Turn → List Taken → Type 0
+abbrev pub Yielded : Turn → List TracedStep → Type 0
 Yielded turn [] = turn ≡ Next
 Yielded turn (taken ∷ earlier) = taken.turn ≡ turn
 
 -- steps, the latest first, from one machine to another: each was made where the one before it had gone on
-abbrev pub Follow : Machine → Devices → List Taken → Machine → Devices → Type 0
+abbrev pub Follow : Machine → Devices → List TracedStep → Machine → Devices → Type 0
 Follow m old [] m' new = (m' ≡ m) × (new ≡ old)
 Follow m old (taken ∷ earlier) m' new = (middle : Devices) × Follow m old earlier taken.before middle × Yielded Next earlier
     × Does (step taken.before) middle new (taken.turn, taken.later) × (m' ≡ taken.later)
@@ -34,7 +34,7 @@ abbrev pub begun : ℕ → Machine → Machine
 begun address m = if address % 2 == 1 then m else with_register Pc address m
 
 -- what is kept of a step for its line
-abbrev pub kept : Taken → Shot
+abbrev pub kept : TracedStep → Shot
 kept taken = shot_of taken.before taken.later
 
 -- a line, from the one of a number on
@@ -42,7 +42,7 @@ abbrev pub line_from : ℕ → ℕ → Bytes → Bytes
 line_from first number line = if nat_le first number then line else []
 
 -- the lines of steps, the latest first, from the one of a number on. The first step has number 1
-abbrev pub lines_from : ℕ → List Taken → Bytes
+abbrev pub lines_from : ℕ → List TracedStep → Bytes
 lines_from first [] = []
 lines_from first (taken ∷ earlier) =
     lines_from first earlier ++ line_from first (suc (length earlier)) (step_line (suc (length earlier)) taken.before taken.later)
@@ -53,6 +53,6 @@ shots_text number [] = []
 shots_text number (shot ∷ earlier) = shots_text (number - 1) earlier ++ short_line number shot
 
 -- the lines of the last 16 steps, where no line of a step was shown
-abbrev pub recent_lines : ℕ → List Taken → Bytes
+abbrev pub recent_lines : ℕ → List TracedStep → Bytes
 recent_lines first taken =
     if nat_lt (length taken) first then shots_text (length taken) (take 16 (map kept taken)) else []

@@ -15,13 +15,13 @@ use Rattle.m11_cpu_machine.specs.declared.stop.Stop.TheVariants.{Limit}
 use Rattle.m11_trace.specs.Messages.{ending_text}
 use Rattle.m11_trace.specs.Ranges.{ranges_text}
 use Rattle.m11_trace.specs.Shots.{is_at}
-use Rattle.m11_trace.specs.Taken.{Follow, Taken, begun, lines_from, recent_lines}
+use Rattle.m11_trace.specs.Taken.{Follow, TracedStep, begun, lines_from, recent_lines}
 use Rattle.m11_trace.specs.declared.ending.Ending.{Ending}
 use Rattle.m11_trace.specs.declared.ending.Ending.TheVariants.{Stopped, Reached}
 use Rattle.m11_trace.specs.declared.ranges.Range.{Range}
 
 -- a step was made elsewhere than at these places
-abbrev pub IsElsewhere : List ℕ → Taken → Type 0
+abbrev pub IsElsewhere : List ℕ → TracedStep → Type 0
 IsElsewhere places taken = is_at places taken.before ≡ false
 
 -- the outcome of the run without lines: all of it; or where a place was reached, that of as many steps as were made
@@ -41,7 +41,7 @@ EndsAt Reached places steps limit m = (steps < limit) × (is_at places m ≡ tru
 -- from a machine on these steps were made, the latest first, up to this end, and none of them at one of the places; they are
 -- those of a run
 pub record Goes (run : ℕ → Dialogue (Ran × Machine)) (limit : ℕ) (places : List ℕ) (m : Machine) (old : Devices)
-    (taken : List Taken) (ending : Ending) (m' : Machine) (new : Devices) : Type 0 where
+    (taken : List TracedStep) (ending : Ending) (m' : Machine) (new : Devices) : Type 0 where
   pub steps : Follow m old taken m' new
   pub elsewhere : AllByRecursion (IsElsewhere places) taken
   pub ends : EndsAt ending places (length taken) limit m'
@@ -49,7 +49,7 @@ pub record Goes (run : ℕ → Dialogue (Ran × Machine)) (limit : ℕ) (places 
 
 -- a tape was loaded, and run from its start, or from the one that replaces it: machine, console and stop are those of a run of
 -- `m11 sim`, and these are its steps, the latest first
-pub record HasTraced (request : Request) (places : List ℕ) (before after : RunDevices) (taken : List Taken) (ending : Ending)
+pub record HasTraced (request : Request) (places : List ℕ) (before after : RunDevices) (taken : List TracedStep) (ending : Ending)
     (m : Machine) : Type 0 where
   pub run : HasRun (record request { limit = limit_by ending (length taken) request.limit }) before after
       (ran_by ending (length taken)) m
@@ -58,7 +58,7 @@ pub record HasTraced (request : Request) (places : List ℕ) (before after : Run
   pub ends : EndsAt ending places (length taken) request.limit m
 
 -- what is reported: the lines of steps, from the one of a number on, or of the last ones; the end; and parts of memory
-abbrev pub report : ℕ → List Range → List Taken → Ending → Machine → Bytes
+abbrev pub report : ℕ → List Range → List TracedStep → Ending → Machine → Bytes
 report first ranges taken ending m =
     lines_from first taken ++ (recent_lines first taken ++ (ending_text ending (length taken) m ++ ranges_text m.memory ranges))
 
@@ -67,14 +67,14 @@ report first ranges taken ending m =
 -- anything was read
 abbrev pub Traces : Request → ℕ → List ℕ → List Range → RunDevices → RunDevices → Result Ending SimFault → Type 0
 Traces request first places ranges before after (Ok ending) =
-    (m : Machine) × (taken : List Taken) × HasTraced request places before after taken ending m
+    (m : Machine) × (taken : List TracedStep) × HasTraced request places before after taken ending m
     × Appends before.messages.text after.messages.text (report first ranges taken ending m)
     × (after.messages.faults ≡ before.messages.faults)
 Traces request first places ranges before after (Err (Load fault)) =
     (m : Machine) × Loaded request.words before.tape after.tape m (Err fault) × (after.console ≡ before.console)
     × (after.messages ≡ before.messages)
 Traces request first places ranges before after (Err Write) =
-    (limit : ℕ) × (limit ≤ request.limit) × (ending : Ending) × (m : Machine) × (taken : List Taken)
+    (limit : ℕ) × (limit ≤ request.limit) × (ending : Ending) × (m : Machine) × (taken : List TracedStep)
     × HasTraced (record request { limit = limit }) places before after taken ending m
     × AppendsBeginning before.messages.text after.messages.text (report first ranges taken ending m)
     × Rises before.messages.faults after.messages.faults

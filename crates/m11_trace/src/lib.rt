@@ -6,7 +6,7 @@
 mod changes;
 mod shots;
 
-pub use shots::{Fetched, Shot, View};
+pub use shots::{InstructionWords, Shot, View};
 
 // The line of a step.
 mod line;

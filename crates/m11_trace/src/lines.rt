@@ -6,7 +6,7 @@ ghost use Rattle.m11_trace.specs.Shots.{words_in};
 ghost use Rattle.m11_trace.specs.Lines as spec;
 
 use crate::line::{Line, add, add_word};
-use crate::shots::{Fetched, Shot};
+use crate::shots::{InstructionWords, Shot};
 use itoa::Buffer;
 use m11_base_disassembly::disassembled;
 
@@ -21,7 +21,7 @@ fn add_words(line: &mut Line, location: u16, word: u16, more: &[u16])
 }
 
 // The instruction whose words lie at a location.
-fn add_source(line: &mut Line, location: u16, fetched: Fetched)
+fn add_source(line: &mut Line, location: u16, fetched: InstructionWords)
     requires { array_vec_len line.old ≤ 60 }
     ensures items { line.new.items ≡ line.old.items ++ spec.source_text location (words_in fetched) }
     ensures size { array_vec_len line.new ≤ array_vec_len line.old + 40 }
@@ -30,7 +30,12 @@ fn add_source(line: &mut Line, location: u16, fetched: Fetched)
         (None, _, _) => {}
         (Some(first), None, _) => add_words(line, location, first, &[]),
         (Some(first), Some(second), None) => add_words(line, location, first, &[second]),
-        (Some(first), Some(second), Some(third)) => add_words(line, location, first, &[second, third]),
+        (Some(first), Some(second), Some(third)) => add_words(
+            line,
+            location,
+            first,
+            &[second, third],
+        ),
     }
 }
 

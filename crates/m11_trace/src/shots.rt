@@ -7,7 +7,7 @@ use m11_cpu_machine::{Machine, Memory};
 
 /// The words that an instruction may have, as far as the memory has them.
 #[derive(Clone, Copy, Debug, Default)]
-pub struct Fetched {
+pub struct InstructionWords {
     /// The word at the program counter.
     pub first: Option<u16>,
     /// The next word.
@@ -29,7 +29,7 @@ pub struct View {
 #[derive(Clone, Copy, Debug, Default)]
 pub struct Shot {
     /// The words at the program counter before the step.
-    pub fetched: Fetched,
+    pub fetched: InstructionWords,
     /// The registers and the processor status before it.
     pub before: View,
     /// The registers and the processor status after it.
@@ -49,17 +49,17 @@ pub(crate) fn word_past(memory: &Memory, location: u16, distance: u16) -> Option
 }
 
 /// The words that an instruction at a location may have.
-pub(crate) fn fetched_at(memory: &Memory, location: u16) -> Fetched
+pub(crate) fn fetched_at(memory: &Memory, location: u16) -> InstructionWords
     ensures { result ≡ spec.fetched_at memory.now location }
 {
     if location % 2 == 1 {
-        return Fetched {
+        return InstructionWords {
             first: None,
             second: None,
             third: None,
         };
     }
-    Fetched {
+    InstructionWords {
         first: word_past(memory, location, 0),
         second: word_past(memory, location, 2),
         third: word_past(memory, location, 4),

@@ -2,8 +2,8 @@
 use Rattle.std.proofs.Common.{◌≡◌, ◌≤◌, ℕ, zero, suc, List, length, Option, Some, None, refl, arith}
 use Rattle.std.proofs.lemmas.List.{length-append}
 use Rattle.std.specs.Prelude.{true}
-use Rattle.m11_unfold_arguments.specs.Actuals.{Given, actuals_from, given_as, given_by, wanted_by}
-use Rattle.m11_unfold_arguments.specs.Expressions.{Known}
+use Rattle.m11_unfold_arguments.specs.Actuals.{ActualTexts, actuals_from, given_as, given_by, wanted_by}
+use Rattle.m11_unfold_arguments.specs.Expressions.{KnownSymbols}
 use Rattle.m11_unfold_arguments.specs.Macros.{FormalList, NextListed, Ending, Formally, formals_by, formals_within, header, listed_at, name_at, header_by}
 use Rattle.m11_unfold_arguments.specs.declared.macros.NameAt.{NameAt}
 use Rattle.m11_scan_lines.specs.Line.{line_limit}
@@ -14,22 +14,22 @@ use Rattle.m11_scan_statements.specs.declared.actuals.ActualKind.{ActualKind}
 use Rattle.m11_scan_statements.specs.declared.actuals.ActualKind.TheVariants.{Bare, Bracketed, Digits}
 use Rattle.m11_unfold.specs.Purposes.{IsFew}
 
-one_text : (known : Known) (line : List ℕ) (actual : Actual) (kind : ActualKind) → length (given_as known line actual kind).texts ≡ 1
+one_text : (known : KnownSymbols) (line : List ℕ) (actual : Actual) (kind : ActualKind) → length (given_as known line actual kind).texts ≡ 1
 one_text known line actual Bare = refl
 one_text known line actual Bracketed = refl
 one_text known line actual Digits = refl
 
-one_wanted : (known : Known) (line : List ℕ) (wanted : ℕ) (more : ℕ → Given) → ((next : ℕ) → length (more next).texts ≤ wanted)
+one_wanted : (known : KnownSymbols) (line : List ℕ) (wanted : ℕ) (more : ℕ → ActualTexts) → ((next : ℕ) → length (more next).texts ≤ wanted)
     → (actual : Option Actual) → length (wanted_by known line more actual).texts ≤ suc wanted
 one_wanted known line wanted more few None = omega arith
 one_wanted known line wanted more few (Some actual) =
-    let after : Given = more (separator_at line actual.end).end in
+    let after : ActualTexts = more (separator_at line actual.end).end in
     let one = one_text known line actual actual.kind in
     let all = length-append (given_by known line actual).texts after.texts in
     let rest = few (separator_at line actual.end).end in
     omega (arith, one, all, rest)
 
-pub few_actuals : (known : Known) (line : List ℕ) (wanted column : ℕ) → length (actuals_from known line wanted column).texts ≤ wanted
+pub few_actuals : (known : KnownSymbols) (line : List ℕ) (wanted column : ℕ) → length (actuals_from known line wanted column).texts ≤ wanted
 few_actuals known line zero column = omega arith
 few_actuals known line (suc wanted) column =
     one_wanted known line wanted (λ next. actuals_from known line wanted next) (λ next. few_actuals known line wanted next)

@@ -9,7 +9,7 @@ use Rattle.m11_unfold_arguments.specs.declared.directives.Directive.{Directive}
 use Rattle.m11_unfold_arguments.specs.declared.directives.Directive.TheVariants as word
 use Rattle.m11_unfold_bodies.specs.Bodies.{size_of}
 use Rattle.m11_unfold_bodies.specs.Conditions.{OpenConditions, unnested}
-use Rattle.m11_unfold_bodies.specs.Left.{Left, Line, End, depth, expanded, marks}
+use Rattle.m11_unfold_bodies.specs.Left.{RemainingItem, Line, End, depth, expanded, marks}
 use Rattle.m11_unfold_bodies.specs.declared.mark.Mark.{Mark}
 use Rattle.m11_unfold_bodies.proofs.Stacks.{marks-rounds}
 use Rattle.m11_scan_lines.specs.Line.{SourceLine}
@@ -98,7 +98,7 @@ little_skipped before text =
 
 -- ---- a line that is skipped or becomes live
 
-module _ (stage : Stage) (line : SourceLine) (left : List Left) (kept : IsKept (record stage { left = Line line ∷ left }))
+module _ (stage : Stage) (line : SourceLine) (left : List RemainingItem) (kept : IsKept (record stage { left = Line line ∷ left }))
     (room : stage.taken < most_lines) where
   kept_live : (skipped : Option OpenConditions) → Little stage.conditions skipped
       → Keeps (record stage { left = Line line ∷ left })
@@ -205,7 +205,7 @@ module _ (stage : Stage) (body : List (List ℕ)) (kept : IsKept stage)
 
 -- ---- moves
 
-module _ (stage : Stage) (line : SourceLine) (left : List Left) (kept : IsKept (record stage { left = Line line ∷ left }))
+module _ (stage : Stage) (line : SourceLine) (left : List RemainingItem) (kept : IsKept (record stage { left = Line line ∷ left }))
     (room : stage.taken < most_lines) where
   closing_alike : (purpose : Purpose) → closing_fault purpose (record stage { left = Line line ∷ left })
       ≡ closing_fault purpose (record stage { left = left; taken = stage.taken + 1; opening = None })
@@ -261,7 +261,7 @@ module _ (stage : Stage) (line : SourceLine) (left : List Left) (kept : IsKept (
   kept_line (Some opening) is fits =
       kept_body opening is (depth_after (nesting line.text) opening.taken.depth) fits
 
-kept_from : (left : List Left) (stage : Stage) → IsKept (record stage { left = left })
+kept_from : (left : List RemainingItem) (stage : Stage) → IsKept (record stage { left = left })
     → fault_from left (record stage { left = left }) ≡ None
     → Keeps (record stage { left = left }) (move_from left (record stage { left = left }))
 kept_from [] stage kept fits = tt

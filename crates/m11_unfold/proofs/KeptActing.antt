@@ -3,15 +3,15 @@ use Rattle.std.proofs.Common.{◌≡◌, ◌≤◌, ◌<◌, ◌+◌, ℕ, Bool,
 use Rattle.std.specs.Prelude.{if◌then◌else◌, nat_le, nat_lt, drop, map}
 use Rattle.std.proofs.lemmas.Bool.Decides.{nat_tests}
 use Rattle.m11_unfold_arguments.specs.Actuals.{actuals_from}
-use Rattle.m11_unfold_arguments.specs.Conditions.{Asked, condition}
-use Rattle.m11_unfold_arguments.specs.Expressions.{Known}
+use Rattle.m11_unfold_arguments.specs.Conditions.{ConditionResult, condition}
+use Rattle.m11_unfold_arguments.specs.Expressions.{KnownSymbols}
 use Rattle.m11_unfold_arguments.specs.Filling.{filled}
 use Rattle.m11_unfold_arguments.specs.Immediate as immediate
 use Rattle.m11_unfold_arguments.specs.Indefinite.{irpc, irp}
 use Rattle.m11_unfold_arguments.specs.Macros.{header}
 use Rattle.m11_unfold_arguments.specs.declared.directives.Directive.TheVariants as word
 use Rattle.m11_unfold_bodies.specs.Conditions.{OpenConditions, closed, has_none, most_conditions, switched, with_part, without_first}
-use Rattle.m11_unfold_bodies.specs.Left.{Left, Line, End, after_mark, conditions_open, depth, is_expanding, marks, most_expansions}
+use Rattle.m11_unfold_bodies.specs.Left.{RemainingItem, Line, End, after_mark, conditions_open, depth, is_expanding, marks, most_expansions}
 use Rattle.m11_unfold_bodies.specs.declared.conditions.OpenCondition.{OpenCondition}
 use Rattle.m11_unfold_bodies.specs.declared.conditions.Part.{Part}
 use Rattle.m11_unfold_bodies.specs.declared.conditions.Part.TheVariants as part
@@ -32,7 +32,7 @@ kept_if false one other first second = second refl
 below : (n most : ℕ) → nat_lt n most ≡ true → n < most
 below n most is = grind (arith, nat_tests, is)
 
-same_ends : (left : List Left) → marks (after_mark left) ≡ marks left
+same_ends : (left : List RemainingItem) → marks (after_mark left) ≡ marks left
 same_ends [] = refl
 same_ends (Line line ∷ left) = same_ends left
 same_ends (End mark ∷ left) = refl
@@ -64,7 +64,7 @@ module _ (stage : Stage) (kept : IsKept stage) where
         nested = omega (arith, nested, same);
       }
 
-  kept_condition : (text : List ℕ) (asked : Asked) → has_room stage ≡ true → IsKept (condition_opened text asked stage).after
+  kept_condition : (text : List ℕ) (asked : ConditionResult) → has_room stage ≡ true → IsKept (condition_opened text asked stage).after
   kept_condition text asked room =
       let one_more = below (length stage.conditions.entered + conditions_open stage.left) most_conditions room in
       with_conditions _ (omega (arith, one_more)) refl
@@ -96,7 +96,7 @@ module _ (stage : Stage) (kept : IsKept stage) where
       }
 
   -- other lines before the same ends
-  with_left : (left : List Left) → marks left ≡ marks stage.left → IsKept (record stage { left = left })
+  with_left : (left : List RemainingItem) → marks left ≡ marks stage.left → IsKept (record stage { left = left })
   with_left left same =
       record {
         lines = kept.lines;
@@ -137,7 +137,7 @@ module _ (stage : Stage) (kept : IsKept stage) where
     nested = kept.nested;
   }
 
-  kept_by : (known : Known) (text : List ℕ) (what : Operation) → fault_by stage what ≡ None
+  kept_by : (known : KnownSymbols) (text : List ℕ) (what : Operation) → fault_by stage what ≡ None
       → IsKept (acted_by known text stage what).after
   kept_by known text Foreign fits = kept
   kept_by known text (Calls macro column) fits =
@@ -172,11 +172,11 @@ module _ (stage : Stage) (kept : IsKept stage) where
   kept_by known text (OwnDirective word.End column) fits = kept_ended
 
   -- what the operator of a line leaves
-  pub kept_acts : (known : Known) (text : List ℕ) → act_fault stage text ≡ None → IsKept (act known stage text).after
+  pub kept_acts : (known : KnownSymbols) (text : List ℕ) → act_fault stage text ≡ None → IsKept (act known stage text).after
   kept_acts known text fits = kept_by known text (operation stage.conditions stage.macros text) fits
 
 -- what a call leaves that does it, or fails
-pub kept_acted : (before after : Stage) (acted : Result Bool UnfoldFault) (known : Known) (text : List ℕ) → IsKept before
+pub kept_acted : (before after : Stage) (acted : Result Bool UnfoldFault) (known : KnownSymbols) (text : List ℕ) → IsKept before
     → IfOk acted (λ _. act_fault before text ≡ None) → IfOk acted (λ _. after ≡ (act known before text).after)
     → IfErr acted (λ _. IsKept after) → IsKept after
 kept_acted before after (Ok is_own) known text kept fits goes fallen = subst IsKept (sym goes) (kept_acts before kept known text fits)

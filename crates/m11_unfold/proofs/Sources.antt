@@ -2,8 +2,8 @@
 use Rattle.std.proofs.Common.{◌≡◌, ◌∙◌, Bool, true, false, List, [], ◌∷◌, ◌++◌, append-nil, None, sym, ap, subst}
 use Rattle.std.specs.Prelude.{if◌then◌else◌, Result, Ok, Err}
 use Rattle.std.proofs.lemmas.List.{map-append}
-use Rattle.m11_unfold_arguments.specs.Expressions.{Known}
-use Rattle.m11_unfold_bodies.specs.Left.{Left}
+use Rattle.m11_unfold_arguments.specs.Expressions.{KnownSymbols}
+use Rattle.m11_unfold_bodies.specs.Left.{RemainingItem}
 use Rattle.m11_unfold_bodies.specs.Left as lefts
 use Rattle.m11_scan_lines.specs.Line.{SourceLine}
 use Rattle.m11_unfold_rules.proofs.Ending.{rests_after, stays_after}
@@ -13,7 +13,7 @@ use Rattle.m11_unfold_rules.specs.Acting.{act, act_fault}
 use Rattle.m11_unfold_rules.specs.Histories.{with_more}
 use Rattle.m11_unfold_rules.specs.Stages.{Stage, line_left, start}
 use Rattle.m11_unfold_rules.specs.Taking as taking
-use Rattle.m11_unfold_rules.specs.Unfolding.{Given, Leads, Unfolds, given}
+use Rattle.m11_unfold_rules.specs.Unfolding.{UnfoldedLine, Leads, Unfolds, given}
 use Rattle.m11_unfold_rules.specs.Unfolding as steps
 use Rattle.m11_unfold_rules.specs.declared.fault.UnfoldFault.{UnfoldFault}
 use Rattle.m11_unfold.specs.Sources.{IsAllTaken, IsOver, Reaches, ReachesOn, Refuses, RefusesAt}
@@ -27,33 +27,33 @@ pub begins : Unfolds [] [] (start [])
 begins = steps.Leads.Stays
 
 -- a longer source begins with the same lines
-pub of_longer : (source more : List SourceLine) (done : List Given) (stage : Stage) → Unfolds source done stage
+pub of_longer : (source more : List SourceLine) (done : List UnfoldedLine) (stage : Stage) → Unfolds source done stage
     → Unfolds (source ++ more) done (with_more more stage)
 of_longer source more done stage stands =
-    let P : List Left → Type 0 = λ l. Leads (record (start []) { left = l }) done (with_more more stage) in
+    let P : List RemainingItem → Type 0 = λ l. Leads (record (start []) { left = l }) done (with_more more stage) in
     subst P (sym (map-append line_left source more)) (leads_on more (start source) stage done stands)
 
-pub feeds : (source : List SourceLine) (line : SourceLine) (done : List Given) (stage : Stage) → Unfolds source done stage
+pub feeds : (source : List SourceLine) (line : SourceLine) (done : List UnfoldedLine) (stage : Stage) → Unfolds source done stage
     → stage.left ≡ [] → Unfolds (source ++ line ∷ []) done (record stage { left = lefts.Line line ∷ [] })
 feeds source line done stage stands none =
-    let P : List Left → Type 0 = λ l. Unfolds (source ++ line ∷ []) done (record stage { left = l ++ lefts.Line line ∷ [] }) in
+    let P : List RemainingItem → Type 0 = λ l. Unfolds (source ++ line ∷ []) done (record stage { left = l ++ lefts.Line line ∷ [] }) in
     subst P none (of_longer source (line ∷ []) done stage stands)
 
 -- moves that give no line
-passes_on : (source : List SourceLine) (done : List Given) (before after : Stage) → Unfolds source done before → Leads before [] after
+passes_on : (source : List SourceLine) (done : List UnfoldedLine) (before after : Stage) → Unfolds source done before → Leads before [] after
     → Unfolds source done after
 passes_on source done before after stands leads =
-    let P : List Given → Type 0 = λ ds. Unfolds source ds after in
+    let P : List UnfoldedLine → Type 0 = λ ds. Unfolds source ds after in
     subst P (append-nil done) (follows (start source) before after done [] stands leads)
 
-comes : (source : List SourceLine) (done : List Given) (before after : Stage) (live : taking.Live) (known : Known)
+comes : (source : List SourceLine) (done : List UnfoldedLine) (before after : Stage) (live : taking.Live) (known : KnownSymbols)
     → Unfolds source done before → Comes before live after → act_fault after live.line.text ≡ None
     → Unfolds source (done ++ given known live after ∷ []) (act known after live.line.text).after
 comes source done before after live known stands came acts =
     steps.Leads.Giving done came.middle after live known (passes_on source done before came.middle stands came.passing) came.is_within
     came.gives acts
 
-refuses : (source : List SourceLine) (done : List Given) (before : Stage) (fault : UnfoldFault) → Unfolds source done before
+refuses : (source : List SourceLine) (done : List UnfoldedLine) (before : Stage) (fault : UnfoldFault) → Unfolds source done before
     → Stops before fault → Refuses source done fault
 refuses source done before fault stands stops = record {
   stage = stops.middle;
@@ -62,13 +62,13 @@ refuses source done before fault stands stops = record {
 }
 
 -- nothing is taken where nothing is left, and after `.END`
-rests_without : (left : List Left) (stage : Stage) → left ≡ [] → stage.has_ended ≡ false
+rests_without : (left : List RemainingItem) (stage : Stage) → left ≡ [] → stage.has_ended ≡ false
     → (if stage.has_ended then taking.NothingLeft else taking.move_from left stage) ≡ taking.NothingLeft
 rests_without left stage none going =
     ap (λ (b : Bool). if b then taking.NothingLeft else taking.move_from left stage) going
-    ∙ ap (λ (l : List Left). taking.move_from l stage) none
+    ∙ ap (λ (l : List RemainingItem). taking.move_from l stage) none
 
-all_taken : (source : List SourceLine) (done : List Given) (before after : Stage) → Unfolds source done before
+all_taken : (source : List SourceLine) (done : List UnfoldedLine) (before after : Stage) → Unfolds source done before
     → Leads before [] after
     → after.left ≡ [] → after.has_ended ≡ false → IsAllTaken source done after
 all_taken source done before after stands leads none going = record {
@@ -77,7 +77,7 @@ all_taken source done before after stands leads none going = record {
   rests = rests_without after.left after none going;
 }
 
-over : (source : List SourceLine) (done : List Given) (before after : Stage) → Unfolds source done before → Leads before [] after
+over : (source : List SourceLine) (done : List UnfoldedLine) (before after : Stage) → Unfolds source done before → Leads before [] after
     → after.has_ended ≡ true → IsOver source done after
 over source done before after stands leads ended = record {
   unfolds = passes_on source done before after stands leads;
@@ -85,7 +85,7 @@ over source done before after stands leads ended = record {
   no_more = λ more later stage leads'. (stays_after (with_more more after) stage later ended leads').0;
 }
 
-pub reaches : (source : List SourceLine) (done : List Given) (before after : Stage) (line : SourceLine) (result : Result Step UnfoldFault)
+pub reaches : (source : List SourceLine) (done : List UnfoldedLine) (before after : Stage) (line : SourceLine) (result : Result Step UnfoldFault)
     → Unfolds source done before → Steps before after line result → Reaches source done after line result
 reaches source done before after line (Ok NeedLine) stands stepped
     = all_taken source done before after stands stepped.0 stepped.1 stepped.2
@@ -96,8 +96,8 @@ reaches source done before after line (Err fault) stands stepped = refuses sourc
 
 -- ---- the operator of a live line
 
-module _ (source : List SourceLine) (done : List Given) (before live_stage after : Stage) (line : SourceLine) (is_expanded : Bool)
-    (known : Known) (stands : Unfolds source done before) (came : Comes before (live_of line is_expanded) live_stage) where
+module _ (source : List SourceLine) (done : List UnfoldedLine) (before live_stage after : Stage) (line : SourceLine) (is_expanded : Bool)
+    (known : KnownSymbols) (stands : Unfolds source done before) (came : Comes before (live_of line is_expanded) live_stage) where
   refuses_at : (fault : UnfoldFault) → Fails (act_fault live_stage line.text) fault
       → RefusesAt source done (live_of line is_expanded) fault
   refuses_at fault fails = record {
@@ -117,9 +117,9 @@ module _ (source : List SourceLine) (done : List Given) (before live_stage after
       (subst P (sym acts.1) next, acts.2, acts.3, acts.4)
   reaches_on (Err fault) acts = refuses_at fault acts
 
-pub acts_on : (source : List SourceLine) (done : List Given) (before live_stage after : Stage) (line : SourceLine)
+pub acts_on : (source : List SourceLine) (done : List UnfoldedLine) (before live_stage after : Stage) (line : SourceLine)
     (is_expanded : Bool)
-    (known : Known) (result : Result Act UnfoldFault) → Unfolds source done before
+    (known : KnownSymbols) (result : Result Act UnfoldFault) → Unfolds source done before
     → Steps before live_stage line (Ok (Line is_expanded))
     → Acts known line.text live_stage after result
     → ReachesOn source done known (live_of line is_expanded) live_stage after result

@@ -1,13 +1,13 @@
 -- What an unfolder has given of a source, whatever lines of it are still to be fed. (This project's own.)
 use Rattle.std.specs.Prelude.{◌≡◌, List, [], ◌∷◌, ◌++◌, None, Result, Ok, Err}
-use Rattle.m11_unfold_arguments.specs.Expressions.{Known}
+use Rattle.m11_unfold_arguments.specs.Expressions.{KnownSymbols}
 use Rattle.m11_scan_lines.specs.Line.{SourceLine}
 use Rattle.m11_unfold_rules.specs.Acting.{act, act_fault}
 use Rattle.m11_unfold_rules.specs.Limits.{next_fault}
 use Rattle.m11_unfold_rules.specs.Stages.{Stage}
 use Rattle.m11_unfold_rules.specs.Histories.{with_more}
 use Rattle.m11_unfold_rules.specs.Taking.{Gives, Live, NothingLeft, move}
-use Rattle.m11_unfold_rules.specs.Unfolding.{Given, Leads, Unfolds, given}
+use Rattle.m11_unfold_rules.specs.Unfolding.{UnfoldedLine, Leads, Unfolds, given}
 use Rattle.m11_unfold_rules.specs.declared.fault.UnfoldFault.{UnfoldFault}
 use Rattle.m11_unfold.specs.Steps.{Fails, FailsMoving, grows}
 use Rattle.m11_unfold.specs.Unfolder.{live_of}
@@ -16,35 +16,35 @@ use Rattle.m11_unfold.specs.declared.steps.Step.{Step}
 use Rattle.m11_unfold.specs.declared.steps.Step.TheVariants.{NeedLine, End, Line}
 
 -- after these lines, and before a further one, the unfolding passes a limit; or it passes none, and memory is refused for a body
-pub record Refuses (source : List SourceLine) (done : List Given) (fault : UnfoldFault) : Type 0 where
+pub record Refuses (source : List SourceLine) (done : List UnfoldedLine) (fault : UnfoldFault) : Type 0 where
   pub stage : Stage
   pub unfolds : Unfolds source done stage
   pub passes : FailsMoving (next_fault stage) (grows stage) fault
 
 -- all lines of the source were taken, and a further one is needed
-pub record IsAllTaken (source : List SourceLine) (done : List Given) (after : Stage) : Type 0 where
+pub record IsAllTaken (source : List SourceLine) (done : List UnfoldedLine) (after : Stage) : Type 0 where
   pub unfolds : Unfolds source done after
   pub none_left : after.left ≡ []
   pub rests : move after ≡ NothingLeft
 
 -- `.END` became live: whatever lines follow in the source, nothing is taken, and none becomes live
-pub record IsOver (source : List SourceLine) (done : List Given) (after : Stage) : Type 0 where
+pub record IsOver (source : List SourceLine) (done : List UnfoldedLine) (after : Stage) : Type 0 where
   pub unfolds : Unfolds source done after
   pub rests : (more : List SourceLine) → move (with_more more after) ≡ NothingLeft
-  pub no_more : (more : List SourceLine) (later : List Given) (stage : Stage) → Leads (with_more more after) later stage
+  pub no_more : (more : List SourceLine) (later : List UnfoldedLine) (stage : Stage) → Leads (with_more more after) later stage
       → later ≡ []
 
 -- after a step: the lines so far are those of the unfolding, and a line that became live is the next one of it, once its operator
 -- is done
-abbrev pub Reaches : List SourceLine → List Given → Stage → SourceLine → Result Step UnfoldFault → Type 0
+abbrev pub Reaches : List SourceLine → List UnfoldedLine → Stage → SourceLine → Result Step UnfoldFault → Type 0
 Reaches source done after line (Ok NeedLine) = IsAllTaken source done after
 Reaches source done after line (Ok End) = IsOver source done after
-Reaches source done after line (Ok (Line is_expanded)) = (known : Known) → act_fault after line.text ≡ None
+Reaches source done after line (Ok (Line is_expanded)) = (known : KnownSymbols) → act_fault after line.text ≡ None
     → Unfolds source (done ++ given known (live_of line is_expanded) after ∷ []) (act known after line.text).after
 Reaches source done after line (Err fault) = Refuses source done fault
 
 -- after these lines, where the operator of the next one is done, the unfolding passes a limit; or it passes none, and memory is refused
-pub record RefusesAt (source : List SourceLine) (done : List Given) (live : Live) (fault : UnfoldFault) : Type 0 where
+pub record RefusesAt (source : List SourceLine) (done : List UnfoldedLine) (live : Live) (fault : UnfoldFault) : Type 0 where
   pub stage : Stage
   pub after : Stage
   pub unfolds : Unfolds source done stage
@@ -53,8 +53,8 @@ pub record RefusesAt (source : List SourceLine) (done : List Given) (live : Live
   pub passes : Fails (act_fault after live.line.text) fault
 
 -- after the operator of a live line is done: the line is the next one of the unfolding, with what its operator gave
-abbrev pub ReachesOn : List SourceLine → List Given → Known → Live → Stage → Stage → Result Act UnfoldFault → Type 0
+abbrev pub ReachesOn : List SourceLine → List UnfoldedLine → KnownSymbols → Live → Stage → Stage → Result Act UnfoldFault → Type 0
 ReachesOn source done known live before after (Ok acted) =
     Unfolds source (done ++ given known live before ∷ []) after × (acted.is_own ≡ (given known live before).is_own)
-    × (acted.notes ≡ (given known live before).notes) × (acted.arguments ≡ (given known live before).arguments)
+    × (acted.remarks ≡ (given known live before).remarks) × (acted.arguments ≡ (given known live before).arguments)
 ReachesOn source done known live before after (Err fault) = RefusesAt source done live fault

@@ -2,7 +2,7 @@
 use Rattle.std.specs.Prelude.{◌≡◌, Bool, true, false, is_some, List, [], ◌∷◌, Option, Some, None, Result, Ok, Err}
 use Rattle.m11_base.specs.Devices.{Bytes}
 use Rattle.m11_unfold_bodies.specs.Bodies.{depth_after}
-use Rattle.m11_unfold_bodies.specs.Left.{Left, Line, End}
+use Rattle.m11_unfold_bodies.specs.Left.{RemainingItem, Line, End}
 use Rattle.m11_scan_lines.specs.Line.{SourceLine}
 use Rattle.m11_unfold_rules.specs.Limits.{body_fault, closing_fault, next_fault}
 use Rattle.m11_unfold_rules.specs.Stages.{Opening, Purpose, Stage}
@@ -10,8 +10,8 @@ use Rattle.m11_unfold_rules.specs.Taking as taking
 use Rattle.m11_unfold_rules.specs.Taking.{Move, into_body, move, nesting, used}
 use Rattle.m11_unfold_rules.specs.declared.fault.UnfoldFault.{UnfoldFault}
 use Rattle.m11_unfold_rules.specs.declared.fault.UnfoldFault.TheVariants.{NoMemory}
-use Rattle.m11_unfold.specs.declared.taking.Moved.{Moved}
-use Rattle.m11_unfold.specs.declared.taking.Moved.TheVariants.{NothingLeft, Passes, Gives}
+use Rattle.m11_unfold.specs.declared.taking.MoveResult.{MoveResult}
+use Rattle.m11_unfold.specs.declared.taking.MoveResult.TheVariants.{NothingLeft, Passes, Gives}
 
 -- the fault of the limit that is passed, or want of memory where none is passed
 abbrev pub Fails : Option UnfoldFault → UnfoldFault → Type 0
@@ -19,7 +19,7 @@ Fails passed NoMemory = passed ≡ None
 Fails passed fault = passed ≡ Some fault
 
 -- whether a line is next that comes into a body, or closes it
-abbrev pub grows_from : List Left → Stage → Bool
+abbrev pub grows_from : List RemainingItem → Stage → Bool
 grows_from [] stage = false
 grows_from (End mark ∷ left) stage = false
 grows_from (Line line ∷ left) stage = is_some stage.opening
@@ -37,14 +37,14 @@ abbrev pub with_line : SourceLine → Stage → Stage
 with_line line stage = record stage { left = Line line ∷ stage.left }
 
 -- a move that passes no limit leads to the stage after, or fails
-abbrev pub Results : Option UnfoldFault → Bool → Move → Stage → SourceLine → Result Moved UnfoldFault → Type 0
+abbrev pub Results : Option UnfoldFault → Bool → Move → Stage → SourceLine → Result MoveResult UnfoldFault → Type 0
 Results passed grows move after line (Ok NothingLeft) = move ≡ taking.NothingLeft
 Results passed grows move after line (Ok Passes) = (passed ≡ None) × (move ≡ taking.Passes after)
 Results passed grows move after line (Ok (Gives is_expanded)) =
     (passed ≡ None) × (move ≡ taking.Gives (record { line = line; is_expanded = is_expanded }) after)
 Results passed grows move after line (Err fault) = FailsMoving passed grows fault
 
-abbrev pub Moves : Stage → Stage → SourceLine → Result Moved UnfoldFault → Type 0
+abbrev pub Moves : Stage → Stage → SourceLine → Result MoveResult UnfoldFault → Type 0
 Moves before after line (Ok NothingLeft) = (move before ≡ taking.NothingLeft) × (after ≡ before)
 Moves before after line (Ok Passes) = (next_fault before ≡ None) × (move before ≡ taking.Passes after)
 Moves before after line (Ok (Gives is_expanded)) =
@@ -52,7 +52,7 @@ Moves before after line (Ok (Gives is_expanded)) =
 Moves before after line (Err fault) = FailsMoving (next_fault before) (grows before) fault
 
 -- after a live line no statement stands before what is left
-abbrev pub IsFree : Bool → Result Moved UnfoldFault → Type 0
+abbrev pub IsFree : Bool → Result MoveResult UnfoldFault → Type 0
 IsFree has_statement (Ok NothingLeft) = Unit {0}
 IsFree has_statement (Ok Passes) = Unit {0}
 IsFree has_statement (Ok (Gives is_expanded)) = has_statement ≡ false

@@ -1,7 +1,7 @@
 -- What an unfolder's calls give, by the stages before and after them. (MACRO-11 Language Reference Manual, "Macro directives" and
 -- "Conditional assembly directives". The limits are this project's own.)
 use Rattle.std.specs.Prelude.{◌≡◌, Bool, true, false, [], Option, None, Result, Ok, Err, not, ◌&&◌}
-use Rattle.m11_unfold_arguments.specs.Expressions.{Known}
+use Rattle.m11_unfold_arguments.specs.Expressions.{KnownSymbols}
 use Rattle.m11_base.specs.Devices.{Bytes}
 use Rattle.m11_unfold_bodies.specs.Left.{argument_count, is_empty}
 use Rattle.m11_scan_lines.specs.Line.{SourceLine}
@@ -17,7 +17,7 @@ use Rattle.m11_unfold.specs.declared.steps.Step.{Step}
 use Rattle.m11_unfold.specs.declared.steps.Step.TheVariants.{NeedLine, End, Line}
 
 -- a stage, whether the statement of an `.IIF` is next, and the fault that ended the unfolding, if one did
-pub record Unfolding : Type 0 where
+pub record UnfolderState : Type 0 where
   pub stage : Stage
   pub has_statement : Bool
   pub fault : Option UnfoldFault
@@ -70,9 +70,9 @@ rested true = End
 rested false = NeedLine
 
 -- the operator of a line is done
-abbrev pub Acts : Known → Bytes → Stage → Stage → Result Act UnfoldFault → Type 0
+abbrev pub Acts : KnownSymbols → Bytes → Stage → Stage → Result Act UnfoldFault → Type 0
 Acts known text before after (Ok acted) =
     (act_fault before text ≡ None) × (after ≡ (act known before text).after)
-    × (acted.is_own ≡ (act known before text).is_own) × (acted.notes ≡ (act known before text).notes)
+    × (acted.is_own ≡ (act known before text).is_own) × (acted.remarks ≡ (act known before text).remarks)
     × (acted.arguments ≡ argument_count before.left)
 Acts known text before after (Err fault) = Fails (act_fault before text) fault

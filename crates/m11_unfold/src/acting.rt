@@ -7,7 +7,7 @@ ghost use Rattle.m11_unfold_arguments.specs.Expressions.{known_by};
 ghost use Rattle.m11_unfold_arguments.specs.Indefinite.{rounds_seen};
 ghost use Rattle.m11_unfold_arguments.specs.LeftOvers.{left_over as line_left_over};
 ghost use Rattle.m11_unfold_arguments.specs.Macros.{header, header_seen};
-ghost use Rattle.m11_unfold_arguments.specs.Notes.{joined};
+ghost use Rattle.m11_unfold_arguments.specs.Remarks.{joined};
 ghost use Rattle.m11_unfold_bodies.specs.Conditions.{closed, most_conditions, switched};
 ghost use Rattle.m11_unfold_bodies.specs.Left.{conditions_open};
 ghost use Rattle.m11_scan.specs.Views.{bits_of};
@@ -21,7 +21,7 @@ use crate::state::State;
 use m11_scan::{ErrorFlags, Line};
 use m11_scan_values::Names;
 use m11_unfold_arguments::{
-    Directive, Header, Notes, Rounds, condition, header_at, iif, irp, irpc, left_over, rept_count,
+    Directive, Header, Remarks, Rounds, condition, header_at, iif, irp, irpc, left_over, rept_count,
 };
 use m11_unfold_bodies::{CONDITION_LIMIT, Part};
 use std::alloc::{AllocError, Global};
@@ -36,7 +36,7 @@ impl State {
         directive: Directive,
         column: usize,
         names: &N,
-        notes: &mut Notes,
+        remarks: &mut Remarks,
     ) -> Result<bool, AllocError>
         requires within { column ≤ length line.now.text }
         requires room { length self.old.conditions.entered + conditions_open self.old.left.left ≤ most_conditions }
@@ -47,30 +47,30 @@ impl State {
         ensures after { IfOk result (λ _. stage_of self.new ≡ (spec.acted_by
             (known_by (N.base names.now) (N.stands_for names.now)) line.now.text (stage_of self.old)
             (spec.OwnDirective directive column)).after) }
-        ensures notes { IfOk result (λ _. notes.new ≡ joined notes.old (spec.acted_by
+        ensures remarks { IfOk result (λ _. remarks.new ≡ joined remarks.old (spec.acted_by
             (known_by (N.base names.now) (N.stands_for names.now)) line.now.text (stage_of self.old)
-            (spec.OwnDirective directive column)).notes) }
+            (spec.OwnDirective directive column)).remarks) }
         ensures unchanged { IfErr result (λ _. stage_of self.new ≡ stage_of self.old) }
     {
         match directive {
-            Directive::If => self.act_if(line, column, names, notes)?,
-            Directive::Iff => self.act_switch(line, column, Part::False, notes),
-            Directive::Ift => self.act_switch(line, column, Part::True, notes),
-            Directive::Iftf => self.act_switch(line, column, Part::Both, notes),
-            Directive::Endc => self.act_close(line, column, notes),
-            Directive::Iif => self.act_immediate(line, column, names, notes)?,
-            Directive::Macro => self.act_header(alloc, line, column, notes)?,
-            Directive::Endm | Directive::Endr => notes.add_flags(ErrorFlags::O),
-            Directive::Rept => self.act_repeat(alloc, line, column, names, notes)?,
+            Directive::If => self.act_if(line, column, names, remarks)?,
+            Directive::Iff => self.act_switch(line, column, Part::False, remarks),
+            Directive::Ift => self.act_switch(line, column, Part::True, remarks),
+            Directive::Iftf => self.act_switch(line, column, Part::Both, remarks),
+            Directive::Endc => self.act_close(line, column, remarks),
+            Directive::Iif => self.act_immediate(line, column, names, remarks)?,
+            Directive::Macro => self.act_header(alloc, line, column, remarks)?,
+            Directive::Endm | Directive::Endr => remarks.add_flags(ErrorFlags::O),
+            Directive::Rept => self.act_repeat(alloc, line, column, names, remarks)?,
             Directive::Irp => {
-                let rounds = irp(alloc, line, column, names, notes)?;
+                let rounds = irp(alloc, line, column, names, remarks)?;
                 self.act_repeated(alloc, rounds)?;
             }
             Directive::Irpc => {
-                let rounds = irpc(alloc, line, column, notes)?;
+                let rounds = irpc(alloc, line, column, remarks)?;
                 self.act_repeated(alloc, rounds)?;
             }
-            Directive::Mexit => self.act_exit(line, column, notes),
+            Directive::Mexit => self.act_exit(line, column, remarks),
             Directive::Narg | Directive::Nchr => return Ok(false),
             Directive::End => {
                 self.has_ended = true;
@@ -86,20 +86,20 @@ impl State {
         line: &Line,
         column: usize,
         names: &N,
-        notes: &mut Notes,
+        remarks: &mut Remarks,
     ) -> Result<(), AllocError>
         requires within { column ≤ length line.now.text }
         requires room { length self.old.conditions.entered + conditions_open self.old.left.left ≤ most_conditions }
         ensures after { IfOk result (λ _. stage_of self.new ≡ (spec.acted_if
             (known_by (N.base names.now) (N.stands_for names.now)) line.now.text column (stage_of self.old)).after) }
-        ensures notes { IfOk result (λ _. notes.new ≡ joined notes.old (spec.acted_if
-            (known_by (N.base names.now) (N.stands_for names.now)) line.now.text column (stage_of self.old)).notes) }
+        ensures remarks { IfOk result (λ _. remarks.new ≡ joined remarks.old (spec.acted_if
+            (known_by (N.base names.now) (N.stands_for names.now)) line.now.text column (stage_of self.old)).remarks) }
         ensures unchanged { IfErr result (λ _. stage_of self.new ≡ stage_of self.old) }
     {
         if self.conditions.count() + self.left.conditions_open() < CONDITION_LIMIT {
-            self.open_condition(line, column, names, notes)?;
+            self.open_condition(line, column, names, remarks)?;
         } else {
-            notes.add_flags(ErrorFlags::O);
+            remarks.add_flags(ErrorFlags::O);
             self.conditions.enter_past();
         }
         Ok(())
@@ -112,47 +112,47 @@ impl State {
         line: &Line,
         column: usize,
         names: &N,
-        notes: &mut Notes,
+        remarks: &mut Remarks,
     ) -> Result<(), AllocError>
         requires within { column ≤ length line.now.text }
         requires room { length self.old.conditions.entered < most_conditions }
         ensures after { IfOk result (λ _. stage_of self.new ≡ (spec.condition_opened line.now.text (asked_condition
             (known_by (N.base names.now) (N.stands_for names.now)) line.now.text column) (stage_of self.old)).after) }
-        ensures notes { IfOk result (λ _. notes.new ≡ joined notes.old (spec.condition_opened line.now.text (asked_condition
-            (known_by (N.base names.now) (N.stands_for names.now)) line.now.text column) (stage_of self.old)).notes) }
+        ensures remarks { IfOk result (λ _. remarks.new ≡ joined remarks.old (spec.condition_opened line.now.text (asked_condition
+            (known_by (N.base names.now) (N.stands_for names.now)) line.now.text column) (stage_of self.old)).remarks) }
         ensures unchanged { IfErr result (λ _. stage_of self.new ≡ stage_of self.old) }
     {
-        let verdict = condition(line, column, names, notes)?;
-        notes.add_flags(left_over(line, usize::from(verdict.end)));
+        let verdict = condition(line, column, names, remarks)?;
+        remarks.add_flags(left_over(line, usize::from(verdict.end)));
         self.conditions.enter(verdict.holds);
         Ok(())
     }
 
     // `.IFF`, `.IFT` or `.IFTF`: it needs a condition of its own expansion.
-    fn act_switch(&mut self, line: &Line, column: usize, part: Part, notes: &mut Notes)
+    fn act_switch(&mut self, line: &Line, column: usize, part: Part, remarks: &mut Remarks)
         requires { column ≤ length line.now.text }
         ensures after { stage_of self.new
             ≡ (spec.acted_within (switched part) line.now.text column (stage_of self.old)).after }
-        ensures notes { notes.new
-            ≡ joined notes.old (spec.acted_within (switched part) line.now.text column (stage_of self.old)).notes }
+        ensures remarks { remarks.new
+            ≡ joined remarks.old (spec.acted_within (switched part) line.now.text column (stage_of self.old)).remarks }
     {
         let has_none = self.conditions.is_empty();
-        notes.add_flags(flags_within(line, column, has_none));
+        remarks.add_flags(flags_within(line, column, has_none));
         if !has_none {
             self.conditions.switch(part);
         }
     }
 
     // `.ENDC`: it needs a condition of its own expansion.
-    fn act_close(&mut self, line: &Line, column: usize, notes: &mut Notes)
+    fn act_close(&mut self, line: &Line, column: usize, remarks: &mut Remarks)
         requires { column ≤ length line.now.text }
         ensures after { stage_of self.new
             ≡ (spec.acted_within closed line.now.text column (stage_of self.old)).after }
-        ensures notes { notes.new
-            ≡ joined notes.old (spec.acted_within closed line.now.text column (stage_of self.old)).notes }
+        ensures remarks { remarks.new
+            ≡ joined remarks.old (spec.acted_within closed line.now.text column (stage_of self.old)).remarks }
     {
         let has_none = self.conditions.is_empty();
-        notes.add_flags(flags_within(line, column, has_none));
+        remarks.add_flags(flags_within(line, column, has_none));
         if !has_none {
             self.conditions.close();
         }
@@ -164,17 +164,17 @@ impl State {
         line: &Line,
         column: usize,
         names: &N,
-        notes: &mut Notes,
+        remarks: &mut Remarks,
     ) -> Result<(), AllocError>
         requires within { column ≤ length line.now.text }
         requires free { self.old.left.has_statement ≡ false }
         ensures after { IfOk result (λ _. stage_of self.new ≡ (spec.acted_immediate
             (known_by (N.base names.now) (N.stands_for names.now)) line.now.text column (stage_of self.old)).after) }
-        ensures notes { IfOk result (λ _. notes.new ≡ joined notes.old (spec.acted_immediate
-            (known_by (N.base names.now) (N.stands_for names.now)) line.now.text column (stage_of self.old)).notes) }
+        ensures remarks { IfOk result (λ _. remarks.new ≡ joined remarks.old (spec.acted_immediate
+            (known_by (N.base names.now) (N.stands_for names.now)) line.now.text column (stage_of self.old)).remarks) }
         ensures unchanged { IfErr result (λ _. stage_of self.new ≡ stage_of self.old) }
     {
-        let immediate = iif(line, column, names, notes)?;
+        let immediate = iif(line, column, names, remarks)?;
         if immediate.holds
             && let Some(begin) = immediate.statement
         {
@@ -190,16 +190,16 @@ impl State {
         alloc: Global,
         line: &Line,
         column: usize,
-        notes: &mut Notes,
+        remarks: &mut Remarks,
     ) -> Result<(), AllocError>
         requires { column ≤ length line.now.text }
         ensures after { IfOk result (λ _. stage_of self.new
             ≡ (spec.acted_header (header line.now.text column) (stage_of self.old)).after) }
-        ensures notes { IfOk result (λ _. notes.new ≡ joined notes.old
-            (spec.acted_header (header line.now.text column) (stage_of self.old)).notes) }
+        ensures remarks { IfOk result (λ _. remarks.new ≡ joined remarks.old
+            (spec.acted_header (header line.now.text column) (stage_of self.old)).remarks) }
         ensures unchanged { IfErr result (λ _. stage_of self.new ≡ stage_of self.old) }
     {
-        let header = header_at(alloc, line, column, notes)?;
+        let header = header_at(alloc, line, column, remarks)?;
         self.open(alloc, defining(header));
         Ok(())
     }
@@ -211,16 +211,16 @@ impl State {
         line: &Line,
         column: usize,
         names: &N,
-        notes: &mut Notes,
+        remarks: &mut Remarks,
     ) -> Result<(), AllocError>
         requires { column ≤ length line.now.text }
         ensures after { IfOk result (λ _. stage_of self.new ≡ (spec.acted_repeat
             (known_by (N.base names.now) (N.stands_for names.now)) line.now.text column (stage_of self.old)).after) }
-        ensures notes { IfOk result (λ _. notes.new ≡ joined notes.old (spec.acted_repeat
-            (known_by (N.base names.now) (N.stands_for names.now)) line.now.text column (stage_of self.old)).notes) }
+        ensures remarks { IfOk result (λ _. remarks.new ≡ joined remarks.old (spec.acted_repeat
+            (known_by (N.base names.now) (N.stands_for names.now)) line.now.text column (stage_of self.old)).remarks) }
         ensures unchanged { IfErr result (λ _. stage_of self.new ≡ stage_of self.old) }
     {
-        let count = rept_count(line, column, names, notes)?;
+        let count = rept_count(line, column, names, remarks)?;
         let rounds = m11_unfold_bodies::Rounds::plain(alloc, count);
         self.open(alloc, Purpose::Repeats(Vec::new(alloc), rounds));
         Ok(())
@@ -253,14 +253,14 @@ impl State {
     }
 
     // `.MEXIT`: what is left up to the end of the innermost expansion isn't taken.
-    fn act_exit(&mut self, line: &Line, column: usize, notes: &mut Notes)
+    fn act_exit(&mut self, line: &Line, column: usize, remarks: &mut Remarks)
         requires { column ≤ length line.now.text }
         ensures after { stage_of self.new ≡ (spec.acted_exit line.now.text column (stage_of self.old)).after }
-        ensures notes { notes.new
-            ≡ joined notes.old (spec.acted_exit line.now.text column (stage_of self.old)).notes }
+        ensures remarks { remarks.new
+            ≡ joined remarks.old (spec.acted_exit line.now.text column (stage_of self.old)).remarks }
     {
         let is_expanding = self.left.is_expanding();
-        notes.add_flags(
+        remarks.add_flags(
             ErrorFlags::O
                 .when(!is_expanding)
                 .with(left_over(line, column)),

@@ -6,7 +6,7 @@ ghost use Rattle.std.specs.Option.{option_copied};
 ghost use Rattle.m11_unfold_arguments.specs.Actuals.{actuals_from};
 ghost use Rattle.m11_unfold_arguments.specs.Directives.{operator as line_operator};
 ghost use Rattle.m11_unfold_arguments.specs.Expressions.{known_by};
-ghost use Rattle.m11_unfold_arguments.specs.Notes.{joined};
+ghost use Rattle.m11_unfold_arguments.specs.Remarks.{joined};
 ghost use Rattle.m11_base.specs.NameCharacters.{six_of};
 ghost use Rattle.m11_base.specs.Rad50.{name_of};
 ghost use Rattle.m11_unfold_bodies.specs.Left.{depth, most_expansions};
@@ -23,7 +23,7 @@ use m11_base::Name;
 use m11_scan::{Line, read_name};
 use m11_scan_statements::{Span, labels_and_body_stand_in_order};
 use m11_scan_values::Names;
-use m11_unfold_arguments::{Notes, actuals_from, directive_named, fill};
+use m11_unfold_arguments::{Remarks, actuals_from, directive_named, fill};
 use m11_unfold_bodies::EXPANSION_LIMIT;
 use m11_unfold_rules::UnfoldFault;
 use std::alloc::{AllocError, Global};
@@ -37,7 +37,7 @@ impl State {
         line: &Line,
         operator: Option<Span>,
         names: &N,
-        notes: &mut Notes,
+        remarks: &mut Remarks,
     ) -> Result<bool, UnfoldFault>
         requires operator { operator ≡ line_operator line.now.text }
         requires kept { IsKept (stage_of self.old) }
@@ -46,8 +46,8 @@ impl State {
             (known_by (N.base names.now) (N.stands_for names.now)) (stage_of self.old) line.now.text).is_own) }
         ensures after { IfOk result (λ _. stage_of self.new ≡ (spec.act
             (known_by (N.base names.now) (N.stands_for names.now)) (stage_of self.old) line.now.text).after) }
-        ensures notes { IfOk result (λ _. notes.new ≡ joined notes.old (spec.act
-            (known_by (N.base names.now) (N.stands_for names.now)) (stage_of self.old) line.now.text).notes) }
+        ensures remarks { IfOk result (λ _. remarks.new ≡ joined remarks.old (spec.act
+            (known_by (N.base names.now) (N.stands_for names.now)) (stage_of self.old) line.now.text).remarks) }
         ensures within { IfOk result (λ _. spec.act_fault (stage_of self.old) line.now.text ≡ None) }
         ensures fails { IfErr result (λ fault. Fails (spec.act_fault (stage_of self.old) line.now.text) fault) }
         ensures kept { IfErr result (λ _. IsKept (stage_of self.new)) }
@@ -63,11 +63,11 @@ impl State {
                 return Err(UnfoldFault::TooDeep);
             }
             let called = named.handle()?;
-            self.call(alloc, called, line, column, names, notes)?;
+            self.call(alloc, called, line, column, names, remarks)?;
             return Ok(true);
         }
         match directive_named(name.text(line)) {
-            Some(directive) => Ok(self.direct(alloc, line, directive, column, names, notes)?),
+            Some(directive) => Ok(self.direct(alloc, line, directive, column, names, remarks)?),
             None => Ok(false),
         }
     }
@@ -103,7 +103,7 @@ impl State {
         line: &Line,
         column: usize,
         names: &N,
-        notes: &mut Notes,
+        remarks: &mut Remarks,
     ) -> Result<(), AllocError>
         requires within { column ≤ length line.now.text }
         requires room { depth self.old.left.left < most_expansions }
@@ -112,13 +112,13 @@ impl State {
         ensures after { IfOk result (λ _. stage_of self.new ≡ (spec.acted_call called (actuals_from
             (known_by (N.base names.now) (N.stands_for names.now)) line.now.text (length called.formals) column)
             (stage_of self.old)).after) }
-        ensures notes { IfOk result (λ _. notes.new ≡ joined notes.old (spec.acted_call called (actuals_from
+        ensures remarks { IfOk result (λ _. remarks.new ≡ joined remarks.old (spec.acted_call called (actuals_from
             (known_by (N.base names.now) (N.stands_for names.now)) line.now.text (length called.formals) column)
-            (stage_of self.old)).notes) }
+            (stage_of self.old)).remarks) }
         ensures kept { IfErr result (λ _. IsKept (stage_of self.new)) }
     {
         let wanted = called.formals().len();
-        let actuals = actuals_from(alloc, line, column, wanted, names, notes)?;
+        let actuals = actuals_from(alloc, line, column, wanted, names, remarks)?;
         let filled = fill(alloc, called.formals(), actuals.as_slice(), self.created)?;
         let count = actuals.len() as u16;
         let rounds = one_round(alloc, filled.texts.as_slice())?;

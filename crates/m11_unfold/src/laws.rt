@@ -1,12 +1,12 @@
 //! The law that an unfolder's calls together give the unfolding of a source. It is the contract of a function that does nothing.
 
 ghost use Rattle.std.specs.Prelude.{◌≡◌, ◌++◌, ◌∷◌, Bool, List, [], Result, Ok};
-ghost use Rattle.m11_unfold_arguments.specs.Expressions.{Known};
+ghost use Rattle.m11_unfold_arguments.specs.Expressions.{KnownSymbols};
 ghost use Rattle.m11_unfold_bodies.specs.Left.{Line};
 ghost use Rattle.m11_scan_lines.specs.Line.{SourceLine};
 ghost use Rattle.m11_unfold_rules.specs.Histories.{with_more};
 ghost use Rattle.m11_unfold_rules.specs.Stages.{Stage, start};
-ghost use Rattle.m11_unfold_rules.specs.Unfolding.{Given, Unfolds};
+ghost use Rattle.m11_unfold_rules.specs.Unfolding.{UnfoldedLine, Unfolds};
 ghost use Rattle.m11_unfold_rules.specs.declared.fault.UnfoldFault.{UnfoldFault};
 ghost use Rattle.m11_unfold.specs.Sources.{Reaches, ReachesOn};
 ghost use Rattle.m11_unfold.specs.Unfolder.{Acts, Steps, live_of};
@@ -21,15 +21,15 @@ ghost use Rattle.m11_unfold.specs.declared.steps.Step.TheVariants as step;
 /// the fault. Whatever lines follow in a longer source, the same lines became live.
 pub fn the_calls_unfold_the_source()
     ensures begins { Unfolds [] [] (start []) }
-    ensures feeds { (source : List SourceLine) (line : SourceLine) (done : List Given) (stage : Stage) → Unfolds source done stage
+    ensures feeds { (source : List SourceLine) (line : SourceLine) (done : List UnfoldedLine) (stage : Stage) → Unfolds source done stage
         → stage.left ≡ [] → Unfolds (source ++ line ∷ []) done (record stage { left = Line line ∷ [] }) }
-    ensures steps { (source : List SourceLine) (done : List Given) (before after : Stage) (line : SourceLine)
+    ensures steps { (source : List SourceLine) (done : List UnfoldedLine) (before after : Stage) (line : SourceLine)
         (result : Result Step UnfoldFault) → Unfolds source done before → Steps before after line result
         → Reaches source done after line result }
-    ensures acts { (source : List SourceLine) (done : List Given) (before live_stage after : Stage) (line : SourceLine)
-        (is_expanded : Bool) (known : Known) (result : Result Act UnfoldFault) → Unfolds source done before
+    ensures acts { (source : List SourceLine) (done : List UnfoldedLine) (before live_stage after : Stage) (line : SourceLine)
+        (is_expanded : Bool) (known : KnownSymbols) (result : Result Act UnfoldFault) → Unfolds source done before
         → Steps before live_stage line (Ok (step.Line is_expanded)) → Acts known line.text live_stage after result
         → ReachesOn source done known (live_of line is_expanded) live_stage after result }
-    ensures longer { (source more : List SourceLine) (done : List Given) (stage : Stage) → Unfolds source done stage
+    ensures longer { (source more : List SourceLine) (done : List UnfoldedLine) (stage : Stage) → Unfolds source done stage
         → Unfolds (source ++ more) done (with_more more stage) }
 {}

@@ -46,7 +46,7 @@ impl Model for Opening {
 
 // A body that is closed.
 #[derive(Drop)]
-pub(crate) struct Closed {
+pub(crate) struct ClosedBody {
     pub purpose: Purpose,
     pub body: Texts,
     pub bytes: u32,
@@ -96,13 +96,13 @@ impl Opening {
         Ok(())
     }
 
-    pub(crate) fn into_closed(self) -> Closed
+    pub(crate) fn into_closed(self) -> ClosedBody
         ensures purpose { purpose_of result.purpose ≡ self.purpose }
         ensures few { IsPurpose result.purpose }
         ensures body { result.body ≡ self.taken.body }
         ensures bytes { result.bytes ≡ size_of self.taken.body }
     {
-        Closed {
+        ClosedBody {
             purpose: self.purpose,
             body: self.taken.into_body(),
             bytes: self.bytes,

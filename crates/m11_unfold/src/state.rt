@@ -9,14 +9,14 @@ use crate::opening::Opening;
 use indexmap::IndexMap;
 use m11_base::Name;
 use m11_unfold_arguments::FIRST_CREATED;
-use m11_unfold_bodies::{Conditions, Remaining};
+use m11_unfold_bodies::{Conditions, RemainingLines};
 use std::alloc::Global;
 
 // A stage of an unfolding.
 #[derive(Drop)]
 pub struct State {
     // What is left of open expansions and of the line that was fed.
-    pub(crate) left: Remaining,
+    pub(crate) left: RemainingLines,
     // The conditions of the innermost expansion.
     pub(crate) conditions: Conditions,
     // What lines are taken for, if a body is open.
@@ -39,7 +39,7 @@ impl State {
         ensures free { result.left.has_statement ≡ false }
     {
         State {
-            left: Remaining::new(alloc),
+            left: RemainingLines::new(alloc),
             conditions: Conditions::new(),
             opening: None,
             macros: IndexMap::new(alloc),

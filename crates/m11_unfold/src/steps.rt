@@ -1,6 +1,6 @@
 //! What an unfolder's calls return.
 
-use m11_unfold_arguments::Notes;
+use m11_unfold_arguments::Remarks;
 
 /// What comes next of a source.
 #[derive(Clone, Copy, PartialEq, Eq, Debug)]
@@ -19,7 +19,7 @@ pub struct Act {
     /// Whether the line is unfolding's own: a call, or a directive of conditions, repeats and macros. Such a line places nothing.
     pub is_own: bool,
     /// The flags of the operator and its arguments, and the symbols that they read, in order.
-    pub notes: Notes,
+    pub remarks: Remarks,
     /// The number of actuals of the innermost call of a macro that is expanded around the line, if there is one.
     pub arguments: Option<u16>,
 }

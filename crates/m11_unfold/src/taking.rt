@@ -13,13 +13,13 @@ ghost use Rattle.m11_unfold.specs.Views.{stage_of};
 ghost use Rattle.m11_unfold.specs.Purposes.{IsPurpose, purpose_of};
 
 use crate::macros::Macro;
-use crate::opening::{Closed, Opening, Purpose};
+use crate::opening::{ClosedBody, Opening, Purpose};
 use crate::skipping::{nesting_of, skip};
 use crate::state::State;
 use m11_base::Name;
 use m11_scan::Line;
 use m11_unfold_arguments::MacroFormal;
-use m11_unfold_bodies::{Conditions, EXPANSION_LIMIT, Mark, Rounds, Taken, Template, Texts};
+use m11_unfold_bodies::{Conditions, EXPANSION_LIMIT, LineOrEnd, Mark, Rounds, Template, Texts};
 use m11_unfold_rules::UnfoldFault;
 use std::alloc::{AllocError, Global};
 use std::rc::Rc;
@@ -35,7 +35,7 @@ const MACRO_MOST: usize = 256;
 
 // What one move gives.
 #[derive(Clone, Copy)]
-pub enum Moved {
+pub enum MoveResult {
     // Nothing is left to take.
     NothingLeft,
     // Something was taken, and no line became live.
@@ -49,7 +49,7 @@ impl State {
     // takes less time.
     #[inline(always)]
     pub(crate) fn take_live_line(&mut self, line: &mut Line) -> bool
-        ensures moves { result ≡ true → Moves (stage_of self.old) (stage_of self.new) line.new (Ok (Moved.Gives false)) }
+        ensures moves { result ≡ true → Moves (stage_of self.old) (stage_of self.new) line.new (Ok (MoveResult.Gives false)) }
         ensures free { result ≡ true → self.new.left.has_statement ≡ false }
         ensures unchanged { result ≡ false → self.new ≡ self.old }
     {
@@ -64,21 +64,25 @@ impl State {
     }
 
     // Makes one move. A line that it takes is put into `line`.
-    pub(crate) fn advance(&mut self, alloc: Global, line: &mut Line) -> Result<Moved, UnfoldFault>
+    pub(crate) fn advance(
+        &mut self,
+        alloc: Global,
+        line: &mut Line,
+    ) -> Result<MoveResult, UnfoldFault>
         requires { IsKept (stage_of self.old) }
         ensures moves { Moves (stage_of self.old) (stage_of self.new) line.new result }
         ensures kept { IfErr result (λ _. IsKept (stage_of self.new)) }
         ensures free { IsFree self.new.left.has_statement result }
     {
         if self.has_ended {
-            return Ok(Moved::NothingLeft);
+            return Ok(MoveResult::NothingLeft);
         }
         // most lines are those of the source itself
         if self.left.take_source_line(line) {
             return self.take_line(alloc, line, false);
         }
         if self.left.is_empty() {
-            return Ok(Moved::NothingLeft);
+            return Ok(MoveResult::NothingLeft);
         }
         self.advance_within(alloc, line)
     }
@@ -86,7 +90,7 @@ impl State {
     // Makes one move, where an expansion may be open or a statement stand before what is left.
     // speed: a call, since the end of an expansion holds conditions, and room for them would be cleared for each line.
     #[inline(never)]
-    fn advance_within(&mut self, alloc: Global, line: &mut Line) -> Result<Moved, UnfoldFault>
+    fn advance_within(&mut self, alloc: Global, line: &mut Line) -> Result<MoveResult, UnfoldFault>
         requires kept { IsKept (stage_of self.old) }
         requires goes_on { self.old.has_ended ≡ false }
         ensures moves { Moves (stage_of self.old) (stage_of self.new) line.new result }
@@ -94,13 +98,13 @@ impl State {
         ensures free { IsFree self.new.left.has_statement result }
     {
         match self.left.take(line) {
-            Some(Taken::Line(is_expanded)) => self.take_line(alloc, line, is_expanded),
-            Some(Taken::End(mark)) => {
+            Some(LineOrEnd::Line(is_expanded)) => self.take_line(alloc, line, is_expanded),
+            Some(LineOrEnd::End(mark)) => {
                 self.opening = None;
                 self.conditions = mark.conditions;
-                Ok(Moved::Passes)
+                Ok(MoveResult::Passes)
             }
-            None => Ok(Moved::NothingLeft),
+            None => Ok(MoveResult::NothingLeft),
         }
     }
 
@@ -113,7 +117,7 @@ impl State {
         alloc: Global,
         line: &Line,
         is_expanded: bool,
-    ) -> Result<Moved, UnfoldFault>
+    ) -> Result<MoveResult, UnfoldFault>
         requires kept { IsKept (with_line line.now (stage_of self.old)) }
         requires free { self.old.left.has_statement ≡ false }
         requires expanded { is_expanded ≡ is_expanding self.old.left.left }
@@ -129,14 +133,14 @@ impl State {
         self.taken += 1;
         if self.opening.is_some() {
             return match self.take_body_line(alloc, line) {
-                Ok(()) => Ok(Moved::Passes),
+                Ok(()) => Ok(MoveResult::Passes),
                 Err(fault) => Err(fault),
             };
         }
         if skip(&mut self.conditions, line) {
-            Ok(Moved::Passes)
+            Ok(MoveResult::Passes)
         } else {
-            Ok(Moved::Gives(is_expanded))
+            Ok(MoveResult::Gives(is_expanded))
         }
     }
 
@@ -195,7 +199,7 @@ impl State {
     }
 
     // Closes a body: defines its macro, or puts its repeat before what is left.
-    fn close(&mut self, alloc: Global, closed: Closed) -> Result<(), UnfoldFault>
+    fn close(&mut self, alloc: Global, closed: ClosedBody) -> Result<(), UnfoldFault>
         requires few { IsPurpose closed.purpose }
         requires bytes { size_of closed.body ≡ closed.bytes }
         requires room { self.old.defined_bytes + closed.bytes ≤ most_bytes }
@@ -205,7 +209,7 @@ impl State {
         ensures kept { IfErr result (λ _. IsKept (stage_of self.new)) }
         ensures free { self.new.left.has_statement ≡ false }
     {
-        let Closed {
+        let ClosedBody {
             purpose,
             body,
             bytes,

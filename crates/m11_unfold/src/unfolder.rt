@@ -12,12 +12,12 @@ ghost use Rattle.m11_unfold.specs.Views.{stage_of};
 
 use crate::state::State;
 use crate::steps::{Act, Step};
-use crate::taking::Moved;
+use crate::taking::MoveResult;
 use m11_base::Latch;
 use m11_scan::Line;
 use m11_scan_statements::Span;
 use m11_scan_values::Names;
-use m11_unfold_arguments::Notes;
+use m11_unfold_arguments::Remarks;
 use m11_unfold_rules::UnfoldFault;
 use std::alloc::Global;
 use std::marker::Model;
@@ -37,7 +37,7 @@ impl Model for Unfolder {
     ghost use Rattle.m11_unfold.specs.Unfolder as spec;
     ghost use Rattle.m11_unfold.specs.Views.{stage_of};
 
-    ghost Value = { spec.Unfolding };
+    ghost Value = { spec.UnfolderState };
 
     ghost view = { λ u. record {
       stage = stage_of u.state;
@@ -126,14 +126,14 @@ impl Unfolder {
     {
         self.fault.check()?;
         let arguments = self.state.left.argument_count();
-        let mut notes = Notes::new(self.alloc);
+        let mut remarks = Remarks::new(self.alloc);
         let acted = self
             .state
-            .act(self.alloc, line, operator, names, &mut notes);
+            .act(self.alloc, line, operator, names, &mut remarks);
         let is_own = self.fault.keep(acted)?;
         Ok(Act {
             is_own,
-            notes,
+            remarks,
             arguments,
         })
     }
@@ -168,9 +168,9 @@ impl State {
     {
         'moves: loop {
             match self.advance(alloc, line)? {
-                Moved::Passes => {}
-                Moved::Gives(is_expanded) => return Ok(Step::Line(is_expanded)),
-                Moved::NothingLeft => return Ok(self.rested()),
+                MoveResult::Passes => {}
+                MoveResult::Gives(is_expanded) => return Ok(Step::Line(is_expanded)),
+                MoveResult::NothingLeft => return Ok(self.rested()),
             }
         }
     }

@@ -3,9 +3,9 @@ use Rattle.std.proofs.Common.{◌≡◌, ℕ, suc, true, List, Option, Some, Non
 use Rattle.m11_scan_statements.specs.Actuals.{next_actual, separator_at}
 use Rattle.m11_scan_statements.specs.declared.actuals.Actual.{Actual}
 use Rattle.m11_unfold_arguments.specs.Actuals.{actuals_from, followed_by, given_by, nothing_given, wanted_by}
-use Rattle.m11_unfold_arguments.specs.Expressions.{Known}
+use Rattle.m11_unfold_arguments.specs.Expressions.{KnownSymbols}
 
-module _ (known : Known) (line : List ℕ) (left next begin : ℕ) (is : left ≡ suc next) where
+module _ (known : KnownSymbols) (line : List ℕ) (left next begin : ℕ) (is : left ≡ suc next) where
   stands : (found : Option Actual) → next_actual line begin true ≡ found
       → actuals_from known line left begin ≡ wanted_by known line (λ n. actuals_from known line next n) found
   stands found same =

@@ -4,7 +4,7 @@ use Rattle.std.proofs.lemmas.Bool.{cases_lt, le-ltb, lt-ltb, ne_eqb}
 use Rattle.std.proofs.lemmas.List.Elements.{All-cons, All-map, All-nil, All-weaker}
 use Rattle.std.proofs.lemmas.List.Kept.{AllPairs-cons}
 use Rattle.m11_unfold_arguments.specs.Digits.{last_digits}
-use Rattle.m11_unfold_arguments.specs.Filling.{Filled, created_after, created_text, creates, filled, first_text, others_of, text_before}
+use Rattle.m11_unfold_arguments.specs.Filling.{FormalTexts, created_after, created_text, creates, filled, first_text, others_of, text_before}
 use Rattle.m11_unfold_arguments.specs.Laws.{Call, created_among, created_in, numbers_from}
 use Rattle.m11_unfold_arguments.specs.declared.macros.MacroFormal.{MacroFormal}
 
@@ -22,7 +22,7 @@ then_more number middle next texts more (NoSymbol n) rest = rest
 then_more number middle next texts more (OneMore n m others are) rest =
     OneMore n next (others ++ more) (then_more (created_after n) m next others more are rest)
 
-abbrev first_filled : Bool → List (List ℕ) → ℕ → (List (List ℕ) → ℕ → Filled) → Filled
+abbrev first_filled : Bool → List (List ℕ) → ℕ → (List (List ℕ) → ℕ → FormalTexts) → FormalTexts
 first_filled b actuals number more =
     if b then text_before (created_text number) (more (others_of actuals) (created_after number))
     else text_before (first_text actuals) (more (others_of actuals) number)

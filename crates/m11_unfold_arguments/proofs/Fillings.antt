@@ -1,7 +1,7 @@
 -- The texts of some formals, by the text of the first one.
 use Rattle.std.proofs.Common.{◌≡◌, ◌<◌, ℕ, suc, List, ◌∷◌, drop, get_or, length, sym, ap, ◌∙◌}
 use Rattle.std.proofs.Math.Seq.{drop-cons}
-use Rattle.m11_unfold_arguments.specs.Filling.{Filled, fill, filled, first_text, others_of, text_before}
+use Rattle.m11_unfold_arguments.specs.Filling.{FormalTexts, fill, filled, first_text, others_of, text_before}
 use Rattle.m11_unfold_arguments.specs.declared.macros.MacroFormal.{MacroFormal}
 
 module _ (formals : List MacroFormal) (index : ℕ) (formal : MacroFormal) (less : index < length formals)
@@ -10,7 +10,7 @@ module _ (formals : List MacroFormal) (index : ℕ) (formal : MacroFormal) (less
   rest_on = drop-cons formals index formal less ∙ ap (λ (f : MacroFormal). f ∷ drop (suc index) formals) (sym is)
 
   module _ (texts after : List (List ℕ)) (actual text : List ℕ) (created next later : ℕ) where
-    pub filled_on : ((more : ℕ → Filled) → fill formal actual created more ≡ text_before text (more next))
+    pub filled_on : ((more : ℕ → FormalTexts) → fill formal actual created more ≡ text_before text (more next))
         → actual ≡ first_text texts → after ≡ others_of texts → later ≡ suc index
         → filled (drop index formals) texts created ≡ text_before text (filled (drop later formals) after next)
     filled_on fills begins follows steps =

@@ -7,8 +7,8 @@ use Rattle.m11_scan_values.specs.Terms.{symbol_in}
 use Rattle.m11_unfold_arguments.specs.declared.definedness.Joint.{Joint}
 use Rattle.m11_unfold_arguments.specs.declared.definedness.JointAt.{JointAt}
 use Rattle.m11_unfold_arguments.specs.declared.definedness.SoFar.{SoFar}
-use Rattle.m11_unfold_arguments.specs.Expressions.{Known}
-use Rattle.m11_unfold_arguments.specs.Notes.{Notes, with_symbols}
+use Rattle.m11_unfold_arguments.specs.Expressions.{KnownSymbols}
+use Rattle.m11_unfold_arguments.specs.Remarks.{Remarks, with_symbols}
 use Rattle.m11_unfold_arguments.specs.Definedness.{Tested, after_joint, verdict_of, after_symbol, at_bad, at_last, joined_to, joining, joint_at, joint_in, names_in, symbol_first, tested}
 
 abbrev next_after : Bool → Option SoFar → Option JointAt → Option SoFar
@@ -54,44 +54,44 @@ module _ (test : Symbol → Bool) (size : ℕ) (before : Option SoFar) (name : L
         ∙ ap (λ (t : Tested). symbol_first symbol t) (further mark.end tokens (joining mark.sort) next some)
 
 -- what is left of a list of names leads to what the whole list says
-pub record Leads (notes begin : Notes) (left all : Tested) : Type 0 where
+pub record Leads (remarks begin : Remarks) (left all : Tested) : Type 0 where
   pub verdict : left.verdict ≡ all.verdict
   pub end : left.end ≡ all.end
-  pub symbols : with_symbols notes left.symbols ≡ with_symbols begin all.symbols
+  pub symbols : with_symbols remarks left.symbols ≡ with_symbols begin all.symbols
 
 -- what the list says where it ends
-pub record AreAsked (notes begin : Notes) (found : Option Bool) (column : ℕ) (all : Tested) : Type 0 where
+pub record AreAsked (remarks begin : Remarks) (found : Option Bool) (column : ℕ) (all : Tested) : Type 0 where
   pub verdict : found ≡ all.verdict
   pub end : column ≡ all.end
-  pub symbols : notes ≡ with_symbols begin all.symbols
+  pub symbols : remarks ≡ with_symbols begin all.symbols
 
-module _ (notes begin : Notes) (all left : Tested) (leads : Leads notes begin left all) where
-  pub found_so : (verdict : Option Bool) (end : ℕ) (after : Notes) → left ≡ record { verdict = verdict; end = end; symbols = [] }
-      → after ≡ with_symbols notes [] → AreAsked after begin verdict end all
+module _ (remarks begin : Remarks) (all left : Tested) (leads : Leads remarks begin left all) where
+  pub found_so : (verdict : Option Bool) (end : ℕ) (after : Remarks) → left ≡ record { verdict = verdict; end = end; symbols = [] }
+      → after ≡ with_symbols remarks [] → AreAsked after begin verdict end all
   found_so verdict end after is same = record {
     verdict = sym (ap (λ (t : Tested). t.verdict) is) ∙ leads.verdict;
     end = sym (ap (λ (t : Tested). t.end) is) ∙ leads.end;
-    symbols = same ∙ sym (ap (λ (t : Tested). with_symbols notes t.symbols) is) ∙ leads.symbols;
+    symbols = same ∙ sym (ap (λ (t : Tested). with_symbols remarks t.symbols) is) ∙ leads.symbols;
   }
 
-  pub found_last : (symbol : Symbol) (verdict : Bool) (end : ℕ) (after : Notes) → left ≡ symbol_first symbol (at_last verdict end)
-      → after ≡ with_symbols notes (symbol ∷ []) → AreAsked after begin (Some verdict) end all
+  pub found_last : (symbol : Symbol) (verdict : Bool) (end : ℕ) (after : Remarks) → left ≡ symbol_first symbol (at_last verdict end)
+      → after ≡ with_symbols remarks (symbol ∷ []) → AreAsked after begin (Some verdict) end all
   found_last symbol verdict end after is same = record {
     verdict = sym (ap (λ (t : Tested). t.verdict) is) ∙ leads.verdict;
     end = sym (ap (λ (t : Tested). t.end) is) ∙ leads.end;
-    symbols = same ∙ sym (ap (λ (t : Tested). with_symbols notes t.symbols) is) ∙ leads.symbols;
+    symbols = same ∙ sym (ap (λ (t : Tested). with_symbols remarks t.symbols) is) ∙ leads.symbols;
   }
 
-  pub leads_on : (symbol : Symbol) (more : Tested) (after : Notes) → left ≡ symbol_first symbol more
-      → after ≡ with_symbols notes (symbol ∷ []) → Leads after begin more all
+  pub leads_on : (symbol : Symbol) (more : Tested) (after : Remarks) → left ≡ symbol_first symbol more
+      → after ≡ with_symbols remarks (symbol ∷ []) → Leads after begin more all
   leads_on symbol more after is same = record {
     verdict = sym (ap (λ (t : Tested). t.verdict) is) ∙ leads.verdict;
     end = sym (ap (λ (t : Tested). t.end) is) ∙ leads.end;
     symbols =
-        ap (λ (n : Notes). with_symbols n more.symbols) same
-        ∙ ap (λ (l : List Symbol). record { flags = notes.flags; symbols = l })
-        (append_assoc notes.symbols (symbol ∷ []) more.symbols)
-        ∙ sym (ap (λ (t : Tested). with_symbols notes t.symbols) is) ∙ leads.symbols;
+        ap (λ (n : Remarks). with_symbols n more.symbols) same
+        ∙ ap (λ (l : List Symbol). record { flags = remarks.flags; symbols = l })
+        (append_assoc remarks.symbols (symbol ∷ []) more.symbols)
+        ∙ sym (ap (λ (t : Tested). with_symbols remarks t.symbols) is) ∙ leads.symbols;
   }
 
 abbrev verdict_or : Bool → Option Bool → Bool
@@ -99,32 +99,32 @@ verdict_or other None = other
 verdict_or other (Some verdict) = verdict
 
 -- a step from one name to what stands after it
-module _ (known : Known) (wants : Bool) (size : ℕ) (before : Option SoFar) (name : Lexeme) (here tokens : List Lexeme)
-    (notes after begin : Notes) (all : Tested) (begins : here ≡ name ∷ tokens)
-    (leads : Leads notes begin (names_in (tested known wants) size before here) all) where
-  moved : Leads notes begin (names_in (tested known wants) size before (name ∷ tokens)) all
+module _ (known : KnownSymbols) (wants : Bool) (size : ℕ) (before : Option SoFar) (name : Lexeme) (here tokens : List Lexeme)
+    (remarks after begin : Remarks) (all : Tested) (begins : here ≡ name ∷ tokens)
+    (leads : Leads remarks begin (names_in (tested known wants) size before here) all) where
+  moved : Leads remarks begin (names_in (tested known wants) size before (name ∷ tokens)) all
   moved =
-      let P : List Lexeme → Type 0 = λ ts. Leads notes begin (names_in (tested known wants) size before ts) all in
+      let P : List Lexeme → Type 0 = λ ts. Leads remarks begin (names_in (tested known wants) size before ts) all in
       subst P begins leads
 
   pub bad_exit : (symbol : Option Symbol) → symbol_in name.sort name.text ≡ symbol → verdict_of known wants symbol ≡ None
-      → after ≡ with_symbols notes (option_to_list symbol) → AreAsked after begin None size all
+      → after ≡ with_symbols remarks (option_to_list symbol) → AreAsked after begin None size all
   bad_exit None is none same =
-      found_so notes begin all _ moved None size after (bad_name (tested known wants) size before name tokens is) same
+      found_so remarks begin all _ moved None size after (bad_name (tested known wants) size before name tokens is) same
   bad_exit (Some symbol) is none same = absurd (cc)
 
   pub last_exit : (symbol : Option Symbol) (verdict : Bool) → symbol_in name.sort name.text ≡ symbol
-      → verdict_of known wants symbol ≡ Some verdict → after ≡ with_symbols notes (option_to_list symbol)
+      → verdict_of known wants symbol ≡ Some verdict → after ≡ with_symbols remarks (option_to_list symbol)
       → joint_in tokens ≡ None → AreAsked after begin (Some (joined_to before verdict)) name.end all
   last_exit None verdict is some same none = absurd (cc)
   last_exit (Some symbol) verdict is some same none =
       let P : Bool → Type 0 = λ a. AreAsked after begin (Some (joined_to before a)) name.end all in
       subst P (ap (λ (o : Option Bool). verdict_or verdict o) some)
-      (found_last notes begin all _ moved symbol (joined_to before (tested known wants symbol)) name.end after
+      (found_last remarks begin all _ moved symbol (joined_to before (tested known wants symbol)) name.end after
       (last_name (tested known wants) size before name symbol is tokens none) same)
 
   pub next_exit : (symbol : Option Symbol) (verdict : Bool) (next : JointAt) → symbol_in name.sort name.text ≡ symbol
-      → verdict_of known wants symbol ≡ Some verdict → after ≡ with_symbols notes (option_to_list symbol)
+      → verdict_of known wants symbol ≡ Some verdict → after ≡ with_symbols remarks (option_to_list symbol)
       → joint_in tokens ≡ Some next → (left : List Lexeme) → drop 1 tokens ≡ left → (holds : Bool) → holds ≡ joined_to before verdict
       → Leads after begin (names_in (tested known wants) size (Some (record { holds = holds; joint = next.joint })) left) all
   next_exit None verdict next is some same joint left rest holds joins = absurd (cc)
@@ -136,4 +136,4 @@ module _ (known : Known) (wants : Bool) (size : ℕ) (before : Option SoFar) (na
       (Some (record { holds = joined_to before (tested known wants symbol); joint = next.joint })) ts) all in
       subst P (ap (λ (o : Option Bool). joined_to before (verdict_or verdict o)) some ∙ sym joins)
       (subst Q rest
-      (leads_on notes begin all _ moved symbol _ after (next_name (tested known wants) size before name symbol is tokens next joint) same))
+      (leads_on remarks begin all _ moved symbol _ after (next_name (tested known wants) size before name symbol is tokens next joint) same))

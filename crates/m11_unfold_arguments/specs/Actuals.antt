@@ -14,54 +14,54 @@ use Rattle.m11_scan_statements.specs.declared.actuals.ActualKind.{ActualKind}
 use Rattle.m11_scan_statements.specs.declared.actuals.ActualKind.TheVariants.{Bare, Bracketed, Digits}
 use Rattle.m11_unfold_arguments.specs.Conditions.{actual_flags, text_of}
 use Rattle.m11_unfold_arguments.specs.Digits.{digits_of}
-use Rattle.m11_unfold_arguments.specs.Expressions.{Known, number_at, number_flags, symbols_at}
-use Rattle.m11_unfold_arguments.specs.Notes.{Notes, joined, no_notes, noting}
+use Rattle.m11_unfold_arguments.specs.Expressions.{KnownSymbols, number_at, number_flags, symbols_at}
+use Rattle.m11_unfold_arguments.specs.Remarks.{Remarks, joined, no_remarks, remarks_of}
 
 -- texts, and what reading them leaves
-pub record Given : Type 0 where
+pub record ActualTexts : Type 0 where
   pub texts : List Bytes
-  pub notes : Notes
+  pub remarks : Remarks
 
-abbrev pub nothing_given : Given
-nothing_given = record { texts = []; notes = no_notes }
+abbrev pub nothing_given : ActualTexts
+nothing_given = record { texts = []; remarks = no_remarks }
 
-abbrev pub given : Bytes → Notes → Given
-given text notes = record { texts = text ∷ []; notes = notes }
+abbrev pub given : Bytes → Remarks → ActualTexts
+given text remarks = record { texts = text ∷ []; remarks = remarks }
 
 -- texts before others
-abbrev pub followed_by : Given → Given → Given
-followed_by first more = record { texts = first.texts ++ more.texts; notes = joined first.notes more.notes }
+abbrev pub followed_by : ActualTexts → ActualTexts → ActualTexts
+followed_by first more = record { texts = first.texts ++ more.texts; remarks = joined first.remarks more.remarks }
 
 -- `\` and an expression are the digits of its number in the current radix
-abbrev pub numeral : Known → Bytes → ℕ → Given
+abbrev pub numeral : KnownSymbols → Bytes → ℕ → ActualTexts
 numeral known line column =
     given (digits_of (base_of known.radix) (number_at known line column))
-    (noting (number_flags known line column) (symbols_at line column))
+    (remarks_of (number_flags known line column) (symbols_at line column))
 
-abbrev pub characters : Bytes → Actual → Given
-characters line actual = given (text_of line actual) (noting (actual_flags actual) [])
+abbrev pub characters : Bytes → Actual → ActualTexts
+characters line actual = given (text_of line actual) (remarks_of (actual_flags actual) [])
 
-abbrev pub given_as : Known → Bytes → Actual → ActualKind → Given
+abbrev pub given_as : KnownSymbols → Bytes → Actual → ActualKind → ActualTexts
 given_as known line actual Bare = characters line actual
 given_as known line actual Bracketed = characters line actual
 given_as known line actual Digits = numeral known line actual.inside.start
 
 -- the text of an actual
-abbrev pub given_by : Known → Bytes → Actual → Given
+abbrev pub given_by : KnownSymbols → Bytes → Actual → ActualTexts
 given_by known line actual = given_as known line actual actual.kind
 
 -- an actual that is wanted, and those after it
-abbrev pub wanted_by : Known → Bytes → (ℕ → Given) → Option Actual → Given
+abbrev pub wanted_by : KnownSymbols → Bytes → (ℕ → ActualTexts) → Option Actual → ActualTexts
 wanted_by known line more None = nothing_given
 wanted_by known line more (Some actual) =
     followed_by (given_by known line actual) (more (separator_at line actual.end).end)
 
 -- an actual past those that are wanted is dropped, and what stands after it
-abbrev pub unwanted : Option Actual → Given
-unwanted actual = record { texts = []; notes = noting (flag_if (is_some actual) flag_Q) [] }
+abbrev pub unwanted : Option Actual → ActualTexts
+unwanted actual = record { texts = []; remarks = remarks_of (flag_if (is_some actual) flag_Q) [] }
 
 -- the actuals from a column of a line on, of which n are wanted
-abbrev pub actuals_from : Known → Bytes → ℕ → ℕ → Given
+abbrev pub actuals_from : KnownSymbols → Bytes → ℕ → ℕ → ActualTexts
 actuals_from known line zero column = unwanted (next_actual line column true)
 actuals_from known line (suc wanted) column =
     wanted_by known line (λ next. actuals_from known line wanted next) (next_actual line column true)

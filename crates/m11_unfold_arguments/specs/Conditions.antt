@@ -24,30 +24,30 @@ use Rattle.m11_scan_values.specs.declared.names.Symbol.{Symbol}
 use Rattle.m11_unfold_arguments.specs.declared.conditions.Verdict.{Verdict}
 use Rattle.m11_unfold_arguments.specs.declared.conditions.Finding.{Finding}
 use Rattle.m11_unfold_arguments.specs.Definedness.{Tested, is_as, names_at}
-use Rattle.m11_unfold_arguments.specs.Expressions.{Known, has_expression, number_at, number_flags, symbols_at}
+use Rattle.m11_unfold_arguments.specs.Expressions.{KnownSymbols, has_expression, number_at, number_flags, symbols_at}
 use Rattle.m11_unfold_arguments.specs.LeftOvers.{flags_before, skip_flags}
-use Rattle.m11_unfold_arguments.specs.Notes.{Notes, noting}
+use Rattle.m11_unfold_arguments.specs.Remarks.{Remarks, remarks_of}
 
 -- whether a condition holds, the column after it, its flags, and the symbols that it read
-pub record Asked : Type 0 where
+pub record ConditionResult : Type 0 where
   pub holds : Bool
   pub end : ℕ
   pub flags : ℕ
   pub symbols : List Symbol
 
 -- what the code finds of one, beside its symbols
-abbrev pub IsFound : Finding → Asked → Type 0
+abbrev pub IsFound : Finding → ConditionResult → Type 0
 IsFound finding asked =
     (finding.holds ≡ asked.holds) × (finding.end ≡ asked.end) × (bits_of finding.flags ≡ asked.flags)
 
-abbrev pub verdict_of : Asked → Verdict
+abbrev pub verdict_of : ConditionResult → Verdict
 verdict_of asked = record { holds = asked.holds; end = asked.end }
 
-abbrev pub notes_of : Asked → Notes
-notes_of asked = noting asked.flags asked.symbols
+abbrev pub remarks_in : ConditionResult → Remarks
+remarks_in asked = remarks_of asked.flags asked.symbols
 
 -- a condition that doesn't hold, since an argument is bad or missing
-abbrev pub refused : ℕ → Asked
+abbrev pub refused : ℕ → ConditionResult
 refused end = record { holds = false; end = end; flags = flag_A; symbols = [] }
 
 -- a number against 0, with its sign: those from 100000 on are negative
@@ -64,7 +64,7 @@ passes NotPositive number = number == 0 || is_negative number
 passes condition number = false
 
 -- EQ NE GT LT GE LE: the number of the expression at a column
-abbrev pub compared : Known → Bytes → ℕ → Condition → Asked
+abbrev pub compared : KnownSymbols → Bytes → ℕ → Condition → ConditionResult
 compared known line column condition = record {
   holds = passes condition (number_at known line column);
   end = expression_end line column;
@@ -72,12 +72,12 @@ compared known line column condition = record {
   symbols = symbols_at line column;
 }
 
-abbrev pub numeric : Known → Bytes → ℕ → Condition → Asked
+abbrev pub numeric : KnownSymbols → Bytes → ℕ → Condition → ConditionResult
 numeric known line column condition =
     if has_expression line column then compared known line column condition else refused column
 
 -- DF NDF: the verdict of names
-abbrev pub named : Bytes → ℕ → Option Bool → Tested → Asked
+abbrev pub named : Bytes → ℕ → Option Bool → Tested → ConditionResult
 named line column (Some verdict) names =
     record { holds = verdict; end = names.end; flags = skip_flags line column names.end; symbols = names.symbols }
 named line column None names = record {
@@ -87,10 +87,10 @@ named line column None names = record {
   symbols = names.symbols;
 }
 
-abbrev pub asked_names : Bytes → ℕ → Tested → Asked
+abbrev pub asked_names : Bytes → ℕ → Tested → ConditionResult
 asked_names line column names = named line column names.verdict names
 
-abbrev pub defined : Known → Bytes → ℕ → Bool → Asked
+abbrev pub defined : KnownSymbols → Bytes → ℕ → Bool → ConditionResult
 defined known line column wants_defined = asked_names line column (names_at known wants_defined line column)
 
 -- the characters of an argument
@@ -106,7 +106,7 @@ abbrev pub is_blank_text : Bytes → Bool
 is_blank_text text = prefix_len is_blank text == length text
 
 -- B NB: one argument, which is empty where it is missing
-abbrev pub blank_by : Bytes → ℕ → Bool → Option Actual → Asked
+abbrev pub blank_by : Bytes → ℕ → Bool → Option Actual → ConditionResult
 blank_by line column wants_blank None = record { holds = wants_blank; end = column; flags = 0; symbols = [] }
 blank_by line column wants_blank (Some actual) = record {
   holds = is_as wants_blank (is_blank_text (text_of line actual));
@@ -115,16 +115,16 @@ blank_by line column wants_blank (Some actual) = record {
   symbols = [];
 }
 
-abbrev pub blank : Bytes → ℕ → Bool → Asked
+abbrev pub blank : Bytes → ℕ → Bool → ConditionResult
 blank line column wants_blank = blank_by line column wants_blank (next_actual line column false)
 
 -- IDN DIF: two texts, byte for byte
-abbrev pub matched : Bool → Bytes → Bytes → ℕ → ℕ → Asked
+abbrev pub matched : Bool → Bytes → Bytes → ℕ → ℕ → ConditionResult
 matched wants_same first second end flags =
     record { holds = is_as wants_same (bytes_eq first second); end = end; flags = flags; symbols = [] }
 
 -- the second argument: after a comma it may be empty
-abbrev pub second_by : Bytes → Bool → Actual → Separator → Option Actual → Asked
+abbrev pub second_by : Bytes → Bool → Actual → Separator → Option Actual → ConditionResult
 second_by line wants_same first separator (Some second) =
     matched wants_same (text_of line first) (text_of line second) second.end
     (bit_or (actual_flags first) (actual_flags second))
@@ -132,19 +132,19 @@ second_by line wants_same first separator None =
     if separator.has_comma then matched wants_same (text_of line first) [] separator.end (actual_flags first)
     else refused separator.end
 
-abbrev pub second_at : Bytes → Bool → Actual → Separator → Asked
+abbrev pub second_at : Bytes → Bool → Actual → Separator → ConditionResult
 second_at line wants_same first separator =
     second_by line wants_same first separator (next_actual line separator.end false)
 
-abbrev pub first_by : Bytes → ℕ → Bool → Option Actual → Asked
+abbrev pub first_by : Bytes → ℕ → Bool → Option Actual → ConditionResult
 first_by line column wants_same None = refused column
 first_by line column wants_same (Some first) = second_at line wants_same first (separator_at line first.end)
 
-abbrev pub same : Bytes → ℕ → Bool → Asked
+abbrev pub same : Bytes → ℕ → Bool → ConditionResult
 same line column wants_same = first_by line column wants_same (next_actual line column false)
 
 -- what a condition asks of its arguments, which begin at a column
-abbrev pub asked : Known → Bytes → ℕ → Condition → Asked
+abbrev pub asked : KnownSymbols → Bytes → ℕ → Condition → ConditionResult
 asked known line column Defined = defined known line column true
 asked known line column NotDefined = defined known line column false
 asked known line column Blank = blank line column true
@@ -159,20 +159,20 @@ condition_of sorts.Name text = condition_named (six_of text)
 condition_of sort text = None
 
 -- an unknown one is false, and its arguments aren't looked at
-abbrev pub asked_by : Known → Bytes → ℕ → Option Condition → Asked
+abbrev pub asked_by : KnownSymbols → Bytes → ℕ → Option Condition → ConditionResult
 asked_by known line column (Some condition) = asked known line column condition
 asked_by known line column None = refused (length line)
 
 -- blanks, a comma or both stand after the name
-abbrev pub asked_at : Known → Bytes → Lexeme → Asked
+abbrev pub asked_at : KnownSymbols → Bytes → Lexeme → ConditionResult
 asked_at known line name =
     asked_by known line (separator_at line name.end).end (condition_of name.sort name.text)
 
-abbrev pub named_by : Known → Bytes → List Lexeme → Asked
+abbrev pub named_by : KnownSymbols → Bytes → List Lexeme → ConditionResult
 named_by known line [] = refused (length line)
 named_by known line (name ∷ tokens) = asked_at known line name
 
-abbrev pub with_earlier : ℕ → Asked → Asked
+abbrev pub with_earlier : ℕ → ConditionResult → ConditionResult
 with_earlier flags asked = record {
   holds = asked.holds;
   end = asked.end;
@@ -181,6 +181,6 @@ with_earlier flags asked = record {
 }
 
 -- the condition at a column, with I for a character that is skipped before its name
-abbrev pub condition : Known → Bytes → ℕ → Asked
+abbrev pub condition : KnownSymbols → Bytes → ℕ → ConditionResult
 condition known line column =
     with_earlier (flags_before line column) (named_by known line (tokens_from line column))

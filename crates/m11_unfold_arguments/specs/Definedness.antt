@@ -13,7 +13,7 @@ use Rattle.m11_unfold_arguments.specs.declared.definedness.Joint.{Joint}
 use Rattle.m11_unfold_arguments.specs.declared.definedness.Joint.TheVariants as joints
 use Rattle.m11_unfold_arguments.specs.declared.definedness.JointAt.{JointAt}
 use Rattle.m11_unfold_arguments.specs.declared.definedness.SoFar.{SoFar}
-use Rattle.m11_unfold_arguments.specs.Expressions.{Known}
+use Rattle.m11_unfold_arguments.specs.Expressions.{KnownSymbols}
 
 abbrev pub flag_U : ℕ
 flag_U = 0o20000
@@ -27,10 +27,10 @@ abbrev pub is_as : Bool → Bool → Bool
 is_as wanted found = if wanted then found else not found
 
 -- the verdict of one name, for DF or for NDF
-abbrev pub tested : Known → Bool → Symbol → Bool
+abbrev pub tested : KnownSymbols → Bool → Symbol → Bool
 tested known wants_defined symbol = is_as wants_defined (is_defined (known.stands_for symbol))
 
-abbrev pub verdict_of : Known → Bool → Option Symbol → Option Bool
+abbrev pub verdict_of : KnownSymbols → Bool → Option Symbol → Option Bool
 verdict_of known wants_defined (Some symbol) = Some (tested known wants_defined symbol)
 verdict_of known wants_defined None = None
 
@@ -93,6 +93,6 @@ names_in test size before (name ∷ (mark ∷ tokens)) =
     after_symbol size (symbol_in name.sort name.text) (λ symbol.
     after_joint (joined_to before (test symbol)) name.end (joining mark.sort) (λ next. names_in test size next tokens))
 
-abbrev pub names_at : Known → Bool → Bytes → ℕ → Tested
+abbrev pub names_at : KnownSymbols → Bool → Bytes → ℕ → Tested
 names_at known wants_defined line column =
     names_in (tested known wants_defined) (length line) None (tokens_from line column)

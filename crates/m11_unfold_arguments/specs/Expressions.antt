@@ -20,11 +20,11 @@ use Rattle.m11_scan_values.specs.Values.{value_of}
 use Rattle.m11_unfold_arguments.specs.LeftOvers.{has_token, skip_flags}
 
 -- what names say: the radix, and what each symbol stands for
-pub record Known : Type 0 where
+pub record KnownSymbols : Type 0 where
   pub radix : Radix
   pub stands_for : Symbol → Quantity
 
-abbrev pub known_by : Radix → (Symbol → Quantity) → Known
+abbrev pub known_by : Radix → (Symbol → Quantity) → KnownSymbols
 known_by radix stands_for = record { radix = radix; stands_for = stands_for }
 
 -- the expression that tokens begin with
@@ -35,7 +35,7 @@ expression_in tokens = take (expression_length (map sort_in tokens)) tokens
 abbrev pub has_expression : Bytes → ℕ → Bool
 has_expression line column = has_token (expression_in (tokens_from line column))
 
-abbrev pub value_in : Known → List Lexeme → Quantity
+abbrev pub value_in : KnownSymbols → List Lexeme → Quantity
 value_in known tokens = value_of known.radix (map (item known.stands_for) (expression_in tokens))
 
 -- the symbols that tokens read, in order
@@ -44,15 +44,15 @@ symbols_in [] = []
 symbols_in (token ∷ tokens) = with_symbol (symbol_in token.sort token.text) (symbols_in tokens)
 
 -- the value of the expression at a column
-abbrev pub value_at : Known → Bytes → ℕ → Quantity
+abbrev pub value_at : KnownSymbols → Bytes → ℕ → Quantity
 value_at known line column = value_in known (tokens_from line column)
 
 -- the number of the expression at a column, whatever its kind
-abbrev pub number_at : Known → Bytes → ℕ → ℕ
+abbrev pub number_at : KnownSymbols → Bytes → ℕ → ℕ
 number_at known line column = (value_at known line column).number
 
 -- the flags of the expression at a column: those of its value, that of a kind which isn't absolute, and I for a skipped character in it
-abbrev pub number_flags : Known → Bytes → ℕ → ℕ
+abbrev pub number_flags : KnownSymbols → Bytes → ℕ → ℕ
 number_flags known line column =
     bit_or (bit_or (value_at known line column).flags (absence (value_at known line column).kind))
     (skip_flags line column (expression_end line column))

@@ -18,7 +18,7 @@ abbrev pub created_text : ℕ → Bytes
 created_text number = digits_of 10 number ++ 0o44 ∷ []
 
 -- a text for each formal, and the number of the next symbol that is created
-pub record Filled : Type 0 where
+pub record FormalTexts : Type 0 where
   pub texts : List Bytes
   pub created : ℕ
 
@@ -26,14 +26,14 @@ abbrev pub is_empty : Bytes → Bool
 is_empty [] = true
 is_empty (byte ∷ text) = false
 
-abbrev pub text_before : Bytes → Filled → Filled
+abbrev pub text_before : Bytes → FormalTexts → FormalTexts
 text_before text more = record { texts = text ∷ more.texts; created = more.created }
 
 -- a symbol is created where a formal asks for one and its actual is empty
 abbrev pub creates : MacroFormal → Bytes → Bool
 creates formal text = formal.is_created && is_empty text
 
-abbrev pub fill : MacroFormal → Bytes → ℕ → (ℕ → Filled) → Filled
+abbrev pub fill : MacroFormal → Bytes → ℕ → (ℕ → FormalTexts) → FormalTexts
 fill formal text created more =
     if creates formal text then text_before (created_text created) (more (created_after created))
     else text_before text (more created)
@@ -48,7 +48,7 @@ others_of [] = []
 others_of (text ∷ texts) = texts
 
 -- the actual of each formal
-abbrev pub filled : List MacroFormal → List Bytes → ℕ → Filled
+abbrev pub filled : List MacroFormal → List Bytes → ℕ → FormalTexts
 filled [] texts created = record { texts = []; created = created }
 filled (formal ∷ formals) texts created =
     fill formal (first_text texts) created (λ next. filled formals (others_of texts) next)

@@ -7,10 +7,10 @@ use Rattle.m11_scan.specs.Cutting.{Lexeme, tokens_from}
 use Rattle.m11_scan.specs.ErrorFlags.{flag_A}
 use Rattle.m11_scan_statements.specs.Listed.{is_comma}
 use Rattle.m11_unfold_arguments.specs.declared.immediate.Immediate.{Immediate}
-use Rattle.m11_unfold_arguments.specs.Conditions.{Asked, condition}
-use Rattle.m11_unfold_arguments.specs.Expressions.{Known}
+use Rattle.m11_unfold_arguments.specs.Conditions.{ConditionResult, condition}
+use Rattle.m11_unfold_arguments.specs.Expressions.{KnownSymbols}
 use Rattle.m11_unfold_arguments.specs.LeftOvers.{left_over, skip_flags}
-use Rattle.m11_unfold_arguments.specs.Notes.{Notes, noting}
+use Rattle.m11_unfold_arguments.specs.Remarks.{Remarks, remarks_of}
 
 -- the column after the comma that stands next
 abbrev pub after_comma : List Lexeme → Option ℕ
@@ -26,19 +26,19 @@ abbrev pub comma_flags : Bytes → ℕ → Option ℕ → ℕ
 comma_flags line column (Some end) = skip_flags line column end
 comma_flags line column None = bit_or flag_A (left_over line column)
 
-abbrev pub statement_by : Bytes → Asked → Option ℕ → Immediate
+abbrev pub statement_by : Bytes → ConditionResult → Option ℕ → Immediate
 statement_by line asked column = record { holds = asked.holds; statement = column }
 
-abbrev pub immediate_of : Bytes → Asked → Immediate
+abbrev pub immediate_of : Bytes → ConditionResult → Immediate
 immediate_of line asked = statement_by line asked (statement_at line asked.end)
 
-abbrev pub immediate_notes : Bytes → Asked → Notes
-immediate_notes line asked =
-    noting (bit_or asked.flags (comma_flags line asked.end (statement_at line asked.end))) asked.symbols
+abbrev pub immediate_remarks : Bytes → ConditionResult → Remarks
+immediate_remarks line asked =
+    remarks_of (bit_or asked.flags (comma_flags line asked.end (statement_at line asked.end))) asked.symbols
 
 -- whether the condition holds, and where the statement begins
-abbrev pub immediate : Known → Bytes → ℕ → Immediate
+abbrev pub immediate : KnownSymbols → Bytes → ℕ → Immediate
 immediate known line column = immediate_of line (condition known line column)
 
-abbrev pub notes : Known → Bytes → ℕ → Notes
-notes known line column = immediate_notes line (condition known line column)
+abbrev pub remarks : KnownSymbols → Bytes → ℕ → Remarks
+remarks known line column = immediate_remarks line (condition known line column)

@@ -10,5 +10,5 @@ pub mod Indefinite
 pub mod Laws
 pub mod LeftOvers
 pub mod Macros
-pub mod Notes
+pub mod Remarks
 pub mod Repeats

@@ -17,8 +17,8 @@ use Rattle.m11_scan_statements.specs.declared.formals.Formal.{Formal}
 use Rattle.m11_scan_statements.specs.declared.formals.NextFormal.{NextFormal}
 use Rattle.m11_scan_statements.specs.declared.formals.NextFormal.TheVariants.{Ends, Bad, Named}
 use Rattle.m11_unfold_arguments.specs.declared.macros.Header.{Header}
-use Rattle.m11_unfold_arguments.specs.declared.macros.Listed.{Listed}
-use Rattle.m11_unfold_arguments.specs.declared.macros.Listed.TheVariants.{Last, More}
+use Rattle.m11_unfold_arguments.specs.declared.macros.FormalOrEnd.{FormalOrEnd}
+use Rattle.m11_unfold_arguments.specs.declared.macros.FormalOrEnd.TheVariants.{Last, More}
 use Rattle.m11_unfold_arguments.specs.declared.macros.MacroFormal.{MacroFormal}
 use Rattle.m11_unfold_arguments.specs.declared.macros.NameAt.{NameAt}
 use Rattle.m11_unfold_arguments.specs.LeftOvers.{bad_flags, flags_before, rest_flags, skip_flags}
@@ -121,10 +121,10 @@ header_seen (Some header) = Some (named_seen header)
 header_seen None = None
 
 -- what the code finds in a list of formals
-abbrev pub listed_seen : Listed → NextListed
+abbrev pub listed_seen : FormalOrEnd → NextListed
 listed_seen (Last flags) = Ending (bits_of flags)
 listed_seen (More found) = Formally found.formal (bits_of found.flags) found.end
 
-abbrev pub IsWithin : ℕ → Listed → Type 0
+abbrev pub IsWithin : ℕ → FormalOrEnd → Type 0
 IsWithin size (Last flags) = Unit {0}
 IsWithin size (More found) = found.end ≤ size

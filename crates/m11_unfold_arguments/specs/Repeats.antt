@@ -6,20 +6,20 @@ use Rattle.m11_base.specs.Devices.{Bytes}
 use Rattle.m11_scan.specs.Ends.{expression_end}
 use Rattle.m11_scan.specs.ErrorFlags.{flag_A}
 use Rattle.m11_unfold_arguments.specs.Conditions.{is_negative}
-use Rattle.m11_unfold_arguments.specs.Expressions.{Known, has_expression, number_at, number_flags, symbols_at}
+use Rattle.m11_unfold_arguments.specs.Expressions.{KnownSymbols, has_expression, number_at, number_flags, symbols_at}
 use Rattle.m11_unfold_arguments.specs.LeftOvers.{left_over}
-use Rattle.m11_unfold_arguments.specs.Notes.{Notes, noting}
+use Rattle.m11_unfold_arguments.specs.Remarks.{Remarks, remarks_of}
 
 -- a negative number of rounds is none
 abbrev pub rounds_of : ℕ → ℕ
 rounds_of number = if is_negative number then 0 else number
 
-abbrev pub rept_count : Known → Bytes → ℕ → ℕ
+abbrev pub rept_count : KnownSymbols → Bytes → ℕ → ℕ
 rept_count known line column =
     if has_expression line column then rounds_of (number_at known line column) else 0
 
-abbrev pub notes : Known → Bytes → ℕ → Notes
-notes known line column =
+abbrev pub remarks : KnownSymbols → Bytes → ℕ → Remarks
+remarks known line column =
     if has_expression line column then
-    noting (bit_or (number_flags known line column) (left_over line (expression_end line column))) (symbols_at line column)
-    else noting (bit_or flag_A (left_over line column)) []
+    remarks_of (bit_or (number_flags known line column) (left_over line (expression_end line column))) (symbols_at line column)
+    else remarks_of (bit_or flag_A (left_over line column)) []

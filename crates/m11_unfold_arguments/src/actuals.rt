@@ -7,12 +7,12 @@ ghost use Rattle.m11_scan_statements.specs.Actuals.{next_actual};
 ghost use Rattle.m11_unfold_arguments.specs.Actuals as spec;
 ghost use Rattle.m11_unfold_arguments.specs.Actuals.{texts_of};
 ghost use Rattle.m11_unfold_arguments.specs.Expressions.{known_by};
-ghost use Rattle.m11_unfold_arguments.specs.Notes.{joined};
+ghost use Rattle.m11_unfold_arguments.specs.Remarks.{joined};
 
 use crate::conditions::actual_flags;
 use crate::digits::digits_of;
 use crate::expressions::number_at;
-use crate::notes::Notes;
+use crate::remarks::Remarks;
 use m11_scan::{ErrorFlags, Line};
 use m11_scan_statements::{Actual, ActualKind, next_actual, separator_at};
 use m11_scan_values::Names;
@@ -27,13 +27,13 @@ pub fn actuals_from<N: Names>(
     column: usize,
     wanted: usize,
     names: &N,
-    notes: &mut Notes,
+    remarks: &mut Remarks,
 ) -> Result<Vec<Vec<u8>>, AllocError>
     requires { column ≤ length line.now.text }
     ensures texts { IfOk result (λ texts. texts_of texts.items ≡ (spec.actuals_from
         (known_by (N.base names.now) (N.stands_for names.now)) line.now.text wanted column).texts) }
-    ensures notes { IfOk result (λ _. notes.new ≡ joined notes.old (spec.actuals_from
-        (known_by (N.base names.now) (N.stands_for names.now)) line.now.text wanted column).notes) }
+    ensures remarks { IfOk result (λ _. remarks.new ≡ joined remarks.old (spec.actuals_from
+        (known_by (N.base names.now) (N.stands_for names.now)) line.now.text wanted column).remarks) }
 {
     let mut texts = Vec::new(alloc);
     let mut begin = column;
@@ -42,11 +42,11 @@ pub fn actuals_from<N: Names>(
         let Some(actual) = next_actual(line, begin, true) else {
             return Ok(texts);
         };
-        texts.push(text_of(alloc, line, &actual, names, notes)?)?;
+        texts.push(text_of(alloc, line, &actual, names, remarks)?)?;
         begin = usize::from(separator_at(line, usize::from(actual.end)).end);
         left -= 1;
     }
-    notes.add_flags(ErrorFlags::Q.when(has_actual(line, begin)));
+    remarks.add_flags(ErrorFlags::Q.when(has_actual(line, begin)));
     Ok(texts)
 }
 
@@ -67,17 +67,23 @@ pub(crate) fn text_of<N: Names>(
     line: &Line,
     actual: &Actual,
     names: &N,
-    notes: &mut Notes,
+    remarks: &mut Remarks,
 ) -> Result<Vec<u8>, AllocError>
     requires { actual.now.inside.start ≤ length line.now.text }
     ensures text { IfOk result (λ text. text.items ∷ [] ≡ (spec.given_by
         (known_by (N.base names.now) (N.stands_for names.now)) line.now.text actual.now).texts) }
-    ensures notes { IfOk result (λ _. notes.new ≡ joined notes.old (spec.given_by
-        (known_by (N.base names.now) (N.stands_for names.now)) line.now.text actual.now).notes) }
+    ensures remarks { IfOk result (λ _. remarks.new ≡ joined remarks.old (spec.given_by
+        (known_by (N.base names.now) (N.stands_for names.now)) line.now.text actual.now).remarks) }
 {
     match actual.kind {
-        ActualKind::Bare | ActualKind::Bracketed => characters(alloc, line, actual, notes),
-        ActualKind::Digits => numeral(alloc, line, usize::from(actual.inside.start), names, notes),
+        ActualKind::Bare | ActualKind::Bracketed => characters(alloc, line, actual, remarks),
+        ActualKind::Digits => numeral(
+            alloc,
+            line,
+            usize::from(actual.inside.start),
+            names,
+            remarks,
+        ),
     }
 }
 
@@ -86,13 +92,13 @@ fn characters(
     alloc: Global,
     line: &Line,
     actual: &Actual,
-    notes: &mut Notes,
+    remarks: &mut Remarks,
 ) -> Result<Vec<u8>, AllocError>
     ensures text { IfOk result (λ text. text.items ∷ [] ≡ (spec.characters line.now.text actual.now).texts) }
-    ensures notes { IfOk result (λ _. notes.new
-        ≡ joined notes.old (spec.characters line.now.text actual.now).notes) }
+    ensures remarks { IfOk result (λ _. remarks.new
+        ≡ joined remarks.old (spec.characters line.now.text actual.now).remarks) }
 {
-    notes.add_flags(actual_flags(actual));
+    remarks.add_flags(actual_flags(actual));
     actual.inside.text(line).to_vec(alloc)
 }
 
@@ -102,15 +108,15 @@ fn numeral<N: Names>(
     line: &Line,
     column: usize,
     names: &N,
-    notes: &mut Notes,
+    remarks: &mut Remarks,
 ) -> Result<Vec<u8>, AllocError>
     requires { column ≤ length line.now.text }
     ensures text { IfOk result (λ text. text.items ∷ [] ≡ (spec.numeral
         (known_by (N.base names.now) (N.stands_for names.now)) line.now.text column).texts) }
-    ensures notes { IfOk result (λ _. notes.new ≡ joined notes.old (spec.numeral
-        (known_by (N.base names.now) (N.stands_for names.now)) line.now.text column).notes) }
+    ensures remarks { IfOk result (λ _. remarks.new ≡ joined remarks.old (spec.numeral
+        (known_by (N.base names.now) (N.stands_for names.now)) line.now.text column).remarks) }
 {
-    let number = number_at(line, column, names, notes)?;
-    notes.add_flags(number.flags);
+    let number = number_at(line, column, names, remarks)?;
+    remarks.add_flags(number.flags);
     digits_of(alloc, names.radix().base(), number.value)
 }

@@ -5,15 +5,15 @@ ghost use Rattle.m11_scan.specs.Cutting.{tokens_from};
 ghost use Rattle.m11_scan.specs.Views.{bits_of, lexeme};
 ghost use Rattle.m11_scan_statements.specs.Actuals.{separator_at};
 ghost use Rattle.m11_unfold_arguments.specs.Conditions as spec;
-ghost use Rattle.m11_unfold_arguments.specs.Conditions.{IsFound, verdict_of, notes_of};
+ghost use Rattle.m11_unfold_arguments.specs.Conditions.{IsFound, verdict_of, remarks_in};
 ghost use Rattle.m11_unfold_arguments.specs.Expressions.{known_by};
-ghost use Rattle.m11_unfold_arguments.specs.Notes.{joined, with_symbols};
+ghost use Rattle.m11_unfold_arguments.specs.Remarks.{joined, with_symbols};
 
 use crate::definedness::{is_as, names_at};
 use crate::expression_ends::begins_expression;
 use crate::expressions::number_from;
 use crate::left_overs::{column_in, rest_flags, skip_flags};
-use crate::notes::Notes;
+use crate::remarks::Remarks;
 use m11_scan::{
     Condition, ErrorFlags, Line, Sort, Token, blanks_length, next_token, read_condition,
 };
@@ -39,22 +39,22 @@ pub struct Finding {
 }
 
 /// The condition whose name stands next in a line from a column on, under names. An unknown one, a bad name in DF and NDF, and a
-/// missing argument have A, and don't hold. The flags and the symbols of its arguments are noted. Error: memory may be refused.
+/// missing argument have A, and don't hold. The flags and the symbols of its arguments are added to the remarks. Error: memory may be refused.
 pub fn condition<N: Names>(
     line: &Line,
     column: usize,
     names: &N,
-    notes: &mut Notes,
+    remarks: &mut Remarks,
 ) -> Result<Verdict, AllocError>
     requires { column ≤ length line.now.text }
     ensures verdict { IfOk result (λ verdict. verdict ≡ verdict_of
         (spec.condition (known_by (N.base names.now) (N.stands_for names.now)) line.now.text column)) }
-    ensures notes { IfOk result (λ _. notes.new ≡ joined notes.old (notes_of
+    ensures remarks { IfOk result (λ _. remarks.new ≡ joined remarks.old (remarks_in
         (spec.condition (known_by (N.base names.now) (N.stands_for names.now)) line.now.text column))) }
     ensures most { IfOk result (λ verdict. verdict.end ≤ length line.now.text) }
 {
-    let finding = named_at(line, column, names, notes)?;
-    notes.add_flags(finding.flags);
+    let finding = named_at(line, column, names, remarks)?;
+    remarks.add_flags(finding.flags);
     Ok(Verdict {
         holds: finding.holds,
         end: finding.end,
@@ -66,19 +66,19 @@ fn named_at<N: Names>(
     line: &Line,
     column: usize,
     names: &N,
-    notes: &mut Notes,
+    remarks: &mut Remarks,
 ) -> Result<Finding, AllocError>
     requires { column ≤ length line.now.text }
     ensures found { IfOk result (λ finding. IsFound finding (spec.condition
         (known_by (N.base names.now) (N.stands_for names.now)) line.now.text column)) }
-    ensures notes { IfOk result (λ _. notes.new ≡ with_symbols notes.old (spec.condition
+    ensures remarks { IfOk result (λ _. remarks.new ≡ with_symbols remarks.old (spec.condition
         (known_by (N.base names.now) (N.stands_for names.now)) line.now.text column).symbols) }
     ensures most { IfOk result (λ finding. finding.end ≤ length line.now.text) }
 {
     match next_token(line, column) {
         Some(name) => {
             let before = skip_flags(line, column, usize::from(name.start));
-            let finding = asked_by(line, name, names, notes)?;
+            let finding = asked_by(line, name, names, remarks)?;
             Ok(Finding {
                 flags: before.with(finding.flags),
                 ..finding
@@ -99,18 +99,18 @@ fn asked_by<N: Names>(
     line: &Line,
     name: Token,
     names: &N,
-    notes: &mut Notes,
+    remarks: &mut Remarks,
 ) -> Result<Finding, AllocError>
     requires { name.end ≤ length line.now.text }
     ensures found { IfOk result (λ finding. IsFound finding (spec.asked_at
         (known_by (N.base names.now) (N.stands_for names.now)) line.now.text (lexeme line.now.text name))) }
-    ensures notes { IfOk result (λ _. notes.new ≡ with_symbols notes.old (spec.asked_at
+    ensures remarks { IfOk result (λ _. remarks.new ≡ with_symbols remarks.old (spec.asked_at
         (known_by (N.base names.now) (N.stands_for names.now)) line.now.text (lexeme line.now.text name)).symbols) }
     ensures most { IfOk result (λ finding. finding.end ≤ length line.now.text) }
 {
     let begin = separator_at(line, usize::from(name.end)).end;
     match condition_of(name.sort, name.text(line)) {
-        Some(condition) => asked(line, usize::from(begin), condition, names, notes),
+        Some(condition) => asked(line, usize::from(begin), condition, names, remarks),
         None => Ok(refused(column_in(line, line.text().len()))),
     }
 }
@@ -131,23 +131,23 @@ fn asked<N: Names>(
     column: usize,
     condition: Condition,
     names: &N,
-    notes: &mut Notes,
+    remarks: &mut Remarks,
 ) -> Result<Finding, AllocError>
     requires { column ≤ length line.now.text }
     ensures found { IfOk result (λ finding. IsFound finding (spec.asked
         (known_by (N.base names.now) (N.stands_for names.now)) line.now.text column condition)) }
-    ensures notes { IfOk result (λ _. notes.new ≡ with_symbols notes.old (spec.asked
+    ensures remarks { IfOk result (λ _. remarks.new ≡ with_symbols remarks.old (spec.asked
         (known_by (N.base names.now) (N.stands_for names.now)) line.now.text column condition).symbols) }
     ensures most { IfOk result (λ finding. finding.end ≤ length line.now.text) }
 {
     match condition {
-        Condition::Defined => defined(line, column, true, names, notes),
-        Condition::NotDefined => defined(line, column, false, names, notes),
+        Condition::Defined => defined(line, column, true, names, remarks),
+        Condition::NotDefined => defined(line, column, false, names, remarks),
         Condition::Blank => Ok(blank(line, column, true)),
         Condition::NotBlank => Ok(blank(line, column, false)),
         Condition::Identical => Ok(same(line, column, true)),
         Condition::Different => Ok(same(line, column, false)),
-        _ => numeric(line, column, condition, names, notes),
+        _ => numeric(line, column, condition, names, remarks),
     }
 }
 
@@ -169,18 +169,18 @@ fn numeric<N: Names>(
     column: usize,
     condition: Condition,
     names: &N,
-    notes: &mut Notes,
+    remarks: &mut Remarks,
 ) -> Result<Finding, AllocError>
     requires { column ≤ length line.now.text }
     ensures found { IfOk result (λ finding. IsFound finding (spec.numeric
         (known_by (N.base names.now) (N.stands_for names.now)) line.now.text column condition)) }
-    ensures notes { IfOk result (λ _. notes.new ≡ with_symbols notes.old (spec.numeric
+    ensures remarks { IfOk result (λ _. remarks.new ≡ with_symbols remarks.old (spec.numeric
         (known_by (N.base names.now) (N.stands_for names.now)) line.now.text column condition).symbols) }
     ensures most { IfOk result (λ finding. finding.end ≤ length line.now.text) }
 {
     match next_token(line, column) {
         Some(token) if begins_expression(token.sort) => {
-            let number = number_from(line, column, token, names, notes)?;
+            let number = number_from(line, column, token, names, remarks)?;
             Ok(Finding {
                 holds: passes(condition, number.value),
                 end: number.end,
@@ -219,16 +219,16 @@ fn defined<N: Names>(
     column: usize,
     wants_defined: bool,
     names: &N,
-    notes: &mut Notes,
+    remarks: &mut Remarks,
 ) -> Result<Finding, AllocError>
     requires { column ≤ length line.now.text }
     ensures found { IfOk result (λ finding. IsFound finding (spec.defined
         (known_by (N.base names.now) (N.stands_for names.now)) line.now.text column wants_defined)) }
-    ensures notes { IfOk result (λ _. notes.new ≡ with_symbols notes.old (spec.defined
+    ensures remarks { IfOk result (λ _. remarks.new ≡ with_symbols remarks.old (spec.defined
         (known_by (N.base names.now) (N.stands_for names.now)) line.now.text column wants_defined).symbols) }
     ensures most { IfOk result (λ finding. finding.end ≤ length line.now.text) }
 {
-    let tested = names_at(line, column, wants_defined, names, notes)?;
+    let tested = names_at(line, column, wants_defined, names, remarks)?;
     let skipped = skip_flags(line, column, usize::from(tested.end));
     match tested.verdict {
         Some(verdict) => Ok(Finding {

@@ -6,9 +6,9 @@ ghost use Rattle.m11_scan_values.specs.Quantities.{quantity};
 ghost use Rattle.m11_scan_values.specs.Terms.{symbol_in};
 ghost use Rattle.m11_unfold_arguments.specs.Definedness as spec;
 ghost use Rattle.m11_unfold_arguments.specs.Expressions.{known_by};
-ghost use Rattle.m11_unfold_arguments.specs.Notes.{with_symbols};
+ghost use Rattle.m11_unfold_arguments.specs.Remarks.{with_symbols};
 
-use crate::notes::Notes;
+use crate::remarks::Remarks;
 use bitflags::Flags;
 use m11_scan::{ErrorFlags, Line, Sort, Token, next_token};
 use m11_scan_values::{Names, Symbol, Value, next_symbol};
@@ -39,7 +39,7 @@ pub struct JointAt {
 
 // What names say.
 #[derive(Clone, Copy, PartialEq, Eq, Debug)]
-pub(crate) struct NamesAsked {
+pub(crate) struct NamesVerdict {
     // Their verdict, unless one of them is bad or missing.
     pub verdict: Option<bool>,
     // The column after them, or the line's end after a bad one.
@@ -52,8 +52,8 @@ pub(crate) fn names_at<N: Names>(
     column: usize,
     wants_defined: bool,
     names: &N,
-    notes: &mut Notes,
-) -> Result<NamesAsked, AllocError>
+    remarks: &mut Remarks,
+) -> Result<NamesVerdict, AllocError>
     requires { column ≤ length line.now.text }
     ensures verdict { IfOk result (λ tested. tested.verdict ≡ (spec.names_at
         (known_by (N.base names.now) (N.stands_for names.now)) wants_defined line.now.text column).verdict) }
@@ -61,18 +61,18 @@ pub(crate) fn names_at<N: Names>(
         (known_by (N.base names.now) (N.stands_for names.now)) wants_defined line.now.text column).end) }
     ensures least { IfOk result (λ tested. column ≤ tested.end) }
     ensures most { IfOk result (λ tested. tested.end ≤ length line.now.text) }
-    ensures notes { IfOk result (λ _. notes.new ≡ with_symbols notes.old (spec.names_at
+    ensures remarks { IfOk result (λ _. remarks.new ≡ with_symbols remarks.old (spec.names_at
         (known_by (N.base names.now) (N.stands_for names.now)) wants_defined line.now.text column).symbols) }
 {
     let mut before = None;
     let mut begin = column;
     'names: while let Some(name) = next_token(line, begin) {
-        let Some(verdict) = name_verdict(line, name, wants_defined, names, notes)? else {
+        let Some(verdict) = name_verdict(line, name, wants_defined, names, remarks)? else {
             return Ok(at_bad(line));
         };
         let verdict = joined_to(before, verdict);
         let Some(next) = joint_after(line, name) else {
-            return Ok(NamesAsked {
+            return Ok(NamesVerdict {
                 verdict: Some(verdict),
                 end: name.end,
             });
@@ -86,46 +86,46 @@ pub(crate) fn names_at<N: Names>(
     Ok(at_bad(line))
 }
 
-// The verdict of the name that a token is, if it is one. Its symbol is noted.
+// The verdict of the name that a token is, if it is one. Its symbol is added to the remarks.
 fn name_verdict<N: Names>(
     line: &Line,
     token: Token,
     wants_defined: bool,
     names: &N,
-    notes: &mut Notes,
+    remarks: &mut Remarks,
 ) -> Result<Option<bool>, AllocError>
     ensures verdict { IfOk result (λ verdict. verdict ≡ spec.verdict_of
         (known_by (N.base names.now) (N.stands_for names.now)) wants_defined
         (symbol_in token.sort (text_between line.now.text token.start token.end))) }
-    ensures notes { IfOk result (λ _. notes.new ≡ with_symbols notes.old
+    ensures remarks { IfOk result (λ _. remarks.new ≡ with_symbols remarks.old
         (option_to_list (symbol_in token.sort (text_between line.now.text token.start token.end)))) }
 {
     match symbol_of(line, token) {
-        Some(symbol) => Ok(Some(symbol_verdict(&symbol, wants_defined, names, notes)?)),
+        Some(symbol) => Ok(Some(symbol_verdict(&symbol, wants_defined, names, remarks)?)),
         None => Ok(None),
     }
 }
 
-// The verdict of a symbol, which is noted.
+// The verdict of a symbol, which is added to the remarks.
 fn symbol_verdict<N: Names>(
     symbol: &Symbol,
     wants_defined: bool,
     names: &N,
-    notes: &mut Notes,
+    remarks: &mut Remarks,
 ) -> Result<bool, AllocError>
     ensures verdict { IfOk result (λ verdict. verdict
         ≡ spec.tested (known_by (N.base names.now) (N.stands_for names.now)) wants_defined symbol.now) }
-    ensures notes { IfOk result (λ _. notes.new ≡ with_symbols notes.old (symbol.now ∷ [])) }
+    ensures remarks { IfOk result (λ _. remarks.new ≡ with_symbols remarks.old (symbol.now ∷ [])) }
 {
-    notes.add_symbol(*symbol)?;
+    remarks.add_symbol(*symbol)?;
     Ok(tested(names, *symbol, wants_defined))
 }
 
-fn at_bad(line: &Line) -> NamesAsked
+fn at_bad(line: &Line) -> NamesVerdict
     ensures verdict { result.verdict ≡ None }
     ensures end { result.end ≡ length line.now.text }
 {
-    NamesAsked {
+    NamesVerdict {
         verdict: None,
         end: line.text().len() as u8,
     }

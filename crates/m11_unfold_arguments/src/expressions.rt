@@ -6,11 +6,11 @@ ghost use Rattle.m11_scan.specs.Views.{bits_of};
 ghost use Rattle.m11_scan_values.specs.Quantities.{quantity};
 ghost use Rattle.m11_unfold_arguments.specs.Expressions as spec;
 ghost use Rattle.m11_unfold_arguments.specs.Expressions.{IsAlone, IsNext, known_by};
-ghost use Rattle.m11_unfold_arguments.specs.Notes.{with_symbols};
+ghost use Rattle.m11_unfold_arguments.specs.Remarks.{with_symbols};
 
 use crate::expression_ends::{SingleTerm, single_at, single_from, single_term};
 use crate::left_overs::{column_in, skip_flags};
-use crate::notes::Notes;
+use crate::remarks::Remarks;
 use m11_scan::{ErrorFlags, Line, Token, expression_at};
 use m11_scan_values::{Names, Value, expression_value, term_value};
 use std::alloc::AllocError;
@@ -26,12 +26,12 @@ pub(crate) struct Number {
     pub end: u8,
 }
 
-// The number of the expression at a column, where only an absolute one may stand. Its symbols are noted.
+// The number of the expression at a column, where only an absolute one may stand. Its symbols are added to the remarks.
 pub(crate) fn number_at<N: Names>(
     line: &Line,
     column: usize,
     names: &N,
-    notes: &mut Notes,
+    remarks: &mut Remarks,
 ) -> Result<Number, AllocError>
     requires { column ≤ length line.now.text }
     ensures value { IfOk result (λ number. number.value
@@ -41,9 +41,9 @@ pub(crate) fn number_at<N: Names>(
     ensures end { IfOk result (λ number. number.end ≡ expression_end line.now.text column) }
     ensures least { IfOk result (λ number. column ≤ number.end) }
     ensures most { IfOk result (λ number. number.end ≤ length line.now.text) }
-    ensures notes { IfOk result (λ _. notes.new ≡ with_symbols notes.old (spec.symbols_at line.now.text column)) }
+    ensures remarks { IfOk result (λ _. remarks.new ≡ with_symbols remarks.old (spec.symbols_at line.now.text column)) }
 {
-    number_by(line, column, single_at(line, column), names, notes)
+    number_by(line, column, single_at(line, column), names, remarks)
 }
 
 // The number at a column, whose first token was cut already.
@@ -54,7 +54,7 @@ pub(crate) fn number_from<N: Names>(
     column: usize,
     token: Token,
     names: &N,
-    notes: &mut Notes,
+    remarks: &mut Remarks,
 ) -> Result<Number, AllocError>
     requires token { IsNext line.now.text column token }
     requires least { column ≤ token.end }
@@ -66,9 +66,15 @@ pub(crate) fn number_from<N: Names>(
     ensures end { IfOk result (λ number. number.end ≡ expression_end line.now.text column) }
     ensures least { IfOk result (λ number. column ≤ number.end) }
     ensures most { IfOk result (λ number. number.end ≤ length line.now.text) }
-    ensures notes { IfOk result (λ _. notes.new ≡ with_symbols notes.old (spec.symbols_at line.now.text column)) }
+    ensures remarks { IfOk result (λ _. remarks.new ≡ with_symbols remarks.old (spec.symbols_at line.now.text column)) }
 {
-    number_by(line, column, single_from(line, column, token), names, notes)
+    number_by(
+        line,
+        column,
+        single_from(line, column, token),
+        names,
+        remarks,
+    )
 }
 
 // The number at a column, with its one term where it is one.
@@ -79,7 +85,7 @@ fn number_by<N: Names>(
     column: usize,
     single: Option<SingleTerm>,
     names: &N,
-    notes: &mut Notes,
+    remarks: &mut Remarks,
 ) -> Result<Number, AllocError>
     requires within { column ≤ length line.now.text }
     requires alone { IfSome single (λ single. IsAlone line.now.text column single.term) }
@@ -93,9 +99,9 @@ fn number_by<N: Names>(
     ensures end { IfOk result (λ number. number.end ≡ expression_end line.now.text column) }
     ensures least { IfOk result (λ number. column ≤ number.end) }
     ensures most { IfOk result (λ number. number.end ≤ length line.now.text) }
-    ensures notes { IfOk result (λ _. notes.new ≡ with_symbols notes.old (spec.symbols_at line.now.text column)) }
+    ensures remarks { IfOk result (λ _. remarks.new ≡ with_symbols remarks.old (spec.symbols_at line.now.text column)) }
 {
-    let read = read_expression(line, column, single, names, notes)?;
+    let read = read_expression(line, column, single, names, remarks)?;
     let value = read.value;
     let flags = value
         .flags
@@ -115,7 +121,7 @@ pub(crate) struct Reading {
     pub(crate) end: u8,
 }
 
-// Reads the expression at a column, with its one term where it is one. Its symbols are noted.
+// Reads the expression at a column, with its one term where it is one. Its symbols are added to the remarks.
 // speed: a call would hand tokens on by memory.
 #[inline(always)]
 fn read_expression<N: Names>(
@@ -123,7 +129,7 @@ fn read_expression<N: Names>(
     column: usize,
     single: Option<SingleTerm>,
     names: &N,
-    notes: &mut Notes,
+    remarks: &mut Remarks,
 ) -> Result<Reading, AllocError>
     requires within { column ≤ length line.now.text }
     requires alone { IfSome single (λ single. IsAlone line.now.text column single.term) }
@@ -135,17 +141,17 @@ fn read_expression<N: Names>(
     ensures end { IfOk result (λ read. read.end ≡ expression_end line.now.text column) }
     ensures least { IfOk result (λ read. column ≤ read.end) }
     ensures most { IfOk result (λ read. read.end ≤ length line.now.text) }
-    ensures notes { IfOk result (λ _. notes.new ≡ with_symbols notes.old (spec.symbols_at line.now.text column)) }
+    ensures remarks { IfOk result (λ _. remarks.new ≡ with_symbols remarks.old (spec.symbols_at line.now.text column)) }
 {
     match single {
         Some(single) => {
-            notes.add_symbols(&[single.term], line)?;
+            remarks.add_symbols(&[single.term], line)?;
             Ok(Reading {
                 value: term_value(&single.term, line, names),
                 end: single.term.end,
             })
         }
-        None => read_tokens(line, column, names, notes),
+        None => read_tokens(line, column, names, remarks),
     }
 }
 
@@ -156,7 +162,7 @@ fn read_tokens<N: Names>(
     line: &Line,
     column: usize,
     names: &N,
-    notes: &mut Notes,
+    remarks: &mut Remarks,
 ) -> Result<Reading, AllocError>
     requires { column ≤ length line.now.text }
     ensures value { IfOk result (λ read. quantity read.value
@@ -164,11 +170,11 @@ fn read_tokens<N: Names>(
     ensures end { IfOk result (λ read. read.end ≡ expression_end line.now.text column) }
     ensures least { IfOk result (λ read. column ≤ read.end) }
     ensures most { IfOk result (λ read. read.end ≤ length line.now.text) }
-    ensures notes { IfOk result (λ _. notes.new ≡ with_symbols notes.old (spec.symbols_at line.now.text column)) }
+    ensures remarks { IfOk result (λ _. remarks.new ≡ with_symbols remarks.old (spec.symbols_at line.now.text column)) }
 {
     let expression = expression_at(line, column);
     let tokens = expression.tokens.as_slice();
-    notes.add_symbols(tokens, line)?;
+    remarks.add_symbols(tokens, line)?;
     Ok(Reading {
         value: expression_value(tokens, line, names),
         end: column_in(line, expression.end),
@@ -210,25 +216,25 @@ fn long_value<N: Names>(line: &Line, column: usize, names: &N) -> Value
     expression_value(expression_at(line, column).tokens.as_slice(), line, names)
 }
 
-/// Notes the symbols that the expression at a column reads, in order. Error: memory may be refused.
+/// Adds the symbols that the expression at a column reads, in order. Error: memory may be refused.
 // speed: inline as `single_term` is, which is most of it.
 #[inline(always)]
-pub fn note_symbols(line: &Line, column: usize, notes: &mut Notes) -> Result<(), AllocError>
+pub fn read_symbols(line: &Line, column: usize, remarks: &mut Remarks) -> Result<(), AllocError>
     requires { column ≤ length line.now.text }
-    ensures { IfOk result (λ _. notes.new ≡ with_symbols notes.old (spec.symbols_at line.now.text column)) }
+    ensures { IfOk result (λ _. remarks.new ≡ with_symbols remarks.old (spec.symbols_at line.now.text column)) }
 {
     match single_term(line, column) {
-        Some(term) => notes.add_symbols(&[term], line),
-        None => note_all(line, column, notes),
+        Some(term) => remarks.add_symbols(&[term], line),
+        None => read_all_symbols(line, column, remarks),
     }
 }
 
-// Notes the symbols of any expression.
+// Adds the symbols of any expression.
 // speed: a call, since in the caller room for its tokens would be cleared also where it is one term.
 #[inline(never)]
-fn note_all(line: &Line, column: usize, notes: &mut Notes) -> Result<(), AllocError>
+fn read_all_symbols(line: &Line, column: usize, remarks: &mut Remarks) -> Result<(), AllocError>
     requires { column ≤ length line.now.text }
-    ensures { IfOk result (λ _. notes.new ≡ with_symbols notes.old (spec.symbols_at line.now.text column)) }
+    ensures { IfOk result (λ _. remarks.new ≡ with_symbols remarks.old (spec.symbols_at line.now.text column)) }
 {
-    notes.add_symbols(expression_at(line, column).tokens.as_slice(), line)
+    remarks.add_symbols(expression_at(line, column).tokens.as_slice(), line)
 }

@@ -14,7 +14,7 @@ pub const FIRST_CREATED: u16 = 30000;
 
 /// A text for each formal.
 #[derive(Drop)]
-pub struct Filled {
+pub struct FormalTexts {
     /// The texts, in the order of the formals.
     pub texts: Vec<Vec<u8>>,
     /// The number of the local symbol that is created next: 30000 to 65535.
@@ -28,7 +28,7 @@ pub fn fill(
     formals: &[MacroFormal],
     actuals: &[Vec<u8>],
     created: u16,
-) -> Result<Filled, AllocError>
+) -> Result<FormalTexts, AllocError>
     ensures texts { IfOk result (λ filled. texts_of filled.texts.items
         ≡ (spec.filled formals.now (texts_of actuals.now) created).texts) }
     ensures created { IfOk result (λ filled. filled.created
@@ -43,7 +43,7 @@ pub fn fill(
         created = next.created;
         actuals = others_of(actuals);
     }
-    Ok(Filled { texts, created })
+    Ok(FormalTexts { texts, created })
 }
 
 // The text of a formal, and the number of the local symbol that is created next.
@@ -60,7 +60,7 @@ fn fill_formal(
     text: &[u8],
     created: u16,
 ) -> Result<FilledFormal, AllocError>
-    ensures { IfOk result (λ next. (more : ℕ → spec.Filled) → spec.fill formal text.now created more
+    ensures { IfOk result (λ next. (more : ℕ → spec.FormalTexts) → spec.fill formal text.now created more
         ≡ spec.text_before next.text.items (more next.created)) }
 {
     if formal.is_created && text.is_empty() {

@@ -6,11 +6,11 @@ ghost use Rattle.m11_scan.specs.Views.{bits_of};
 ghost use Rattle.m11_scan_statements.specs.Listed.{is_comma};
 ghost use Rattle.m11_unfold_arguments.specs.Expressions.{known_by};
 ghost use Rattle.m11_unfold_arguments.specs.Immediate as spec;
-ghost use Rattle.m11_unfold_arguments.specs.Notes.{joined};
+ghost use Rattle.m11_unfold_arguments.specs.Remarks.{joined};
 
 use crate::conditions::condition;
 use crate::left_overs::{left_over, skip_flags};
-use crate::notes::Notes;
+use crate::remarks::Remarks;
 use m11_scan::{ErrorFlags, Line, Sort, next_token};
 use m11_scan_values::Names;
 use std::alloc::AllocError;
@@ -30,19 +30,19 @@ pub fn iif<N: Names>(
     line: &Line,
     column: usize,
     names: &N,
-    notes: &mut Notes,
+    remarks: &mut Remarks,
 ) -> Result<Immediate, AllocError>
     requires { column ≤ length line.now.text }
     ensures immediate { IfOk result (λ immediate. immediate
         ≡ spec.immediate (known_by (N.base names.now) (N.stands_for names.now)) line.now.text column) }
-    ensures notes { IfOk result (λ _. notes.new ≡ joined notes.old
-        (spec.notes (known_by (N.base names.now) (N.stands_for names.now)) line.now.text column)) }
+    ensures remarks { IfOk result (λ _. remarks.new ≡ joined remarks.old
+        (spec.remarks (known_by (N.base names.now) (N.stands_for names.now)) line.now.text column)) }
     ensures within { IfOk result (λ immediate. IfSome immediate.statement (λ begin. begin ≤ length line.now.text)) }
 {
-    let verdict = condition(line, column, names, notes)?;
+    let verdict = condition(line, column, names, remarks)?;
     let end = usize::from(verdict.end);
     let statement = after_comma(line, end);
-    notes.add_flags(comma_flags(line, end, statement));
+    remarks.add_flags(comma_flags(line, end, statement));
     Ok(Immediate {
         holds: verdict.holds,
         statement,

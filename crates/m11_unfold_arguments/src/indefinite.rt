@@ -6,13 +6,13 @@ ghost use Rattle.m11_unfold_arguments.specs.Conditions.{text_of};
 ghost use Rattle.m11_unfold_arguments.specs.Expressions.{known_by};
 ghost use Rattle.m11_unfold_arguments.specs.Indefinite as spec;
 ghost use Rattle.m11_unfold_arguments.specs.Indefinite.{rounds_seen};
-ghost use Rattle.m11_unfold_arguments.specs.Notes.{joined};
+ghost use Rattle.m11_unfold_arguments.specs.Remarks.{joined};
 
 use crate::actuals::{actuals_from, text_of};
 use crate::conditions::actual_flags;
 use crate::left_overs::{bad_flags, flags_before, left_over};
 use crate::macros::name_at;
-use crate::notes::Notes;
+use crate::remarks::Remarks;
 use m11_base::Name;
 use m11_scan::{LINE_LIMIT, Line};
 use m11_scan_statements::{Actual, ActualKind, next_actual, separator_at};
@@ -30,7 +30,7 @@ pub struct Rounds {
 
 // A formal, and the actual that stands for its list.
 #[derive(Clone, Copy, PartialEq, Eq, Debug)]
-pub struct Begun {
+pub struct RepeatHeader {
     pub(crate) formal: Name,
     pub(crate) list: Actual,
 }
@@ -42,21 +42,21 @@ pub fn irp<N: Names>(
     line: &Line,
     column: usize,
     names: &N,
-    notes: &mut Notes,
+    remarks: &mut Remarks,
 ) -> Result<Option<Rounds>, AllocError>
     requires { column ≤ length line.now.text }
     ensures rounds { IfOk result (λ rounds. rounds_seen rounds ≡ (spec.irp
         (known_by (N.base names.now) (N.stands_for names.now)) line.now.text column).rounds) }
-    ensures notes { IfOk result (λ _. notes.new ≡ joined notes.old (spec.irp
-        (known_by (N.base names.now) (N.stands_for names.now)) line.now.text column).notes) }
+    ensures remarks { IfOk result (λ _. remarks.new ≡ joined remarks.old (spec.irp
+        (known_by (N.base names.now) (N.stands_for names.now)) line.now.text column).remarks) }
 {
     let Some(begun) = begun_at(line, column, true) else {
-        notes.add_flags(bad_flags(line, column));
+        remarks.add_flags(bad_flags(line, column));
         return Ok(None);
     };
-    notes.add_flags(flags_before(line, column));
-    let texts = listed(alloc, line, &begun.list, names, notes)?;
-    notes.add_flags(left_over(line, usize::from(begun.list.end)));
+    remarks.add_flags(flags_before(line, column));
+    let texts = listed(alloc, line, &begun.list, names, remarks)?;
+    remarks.add_flags(left_over(line, usize::from(begun.list.end)));
     Ok(Some(Rounds {
         formal: begun.formal,
         texts,
@@ -69,21 +69,21 @@ pub fn irpc(
     alloc: Global,
     line: &Line,
     column: usize,
-    notes: &mut Notes,
+    remarks: &mut Remarks,
 ) -> Result<Option<Rounds>, AllocError>
     requires { column ≤ length line.now.text }
     ensures rounds { IfOk result (λ rounds. rounds_seen rounds
         ≡ (spec.irpc line.now.text column).rounds) }
-    ensures notes { IfOk result (λ _. notes.new
-        ≡ joined notes.old (spec.irpc line.now.text column).notes) }
+    ensures remarks { IfOk result (λ _. remarks.new
+        ≡ joined remarks.old (spec.irpc line.now.text column).remarks) }
 {
     let Some(begun) = begun_at(line, column, false) else {
-        notes.add_flags(bad_flags(line, column));
+        remarks.add_flags(bad_flags(line, column));
         return Ok(None);
     };
-    notes.add_flags(flags_before(line, column));
-    let texts = spelled(alloc, line, &begun.list, notes)?;
-    notes.add_flags(left_over(line, usize::from(begun.list.end)));
+    remarks.add_flags(flags_before(line, column));
+    let texts = spelled(alloc, line, &begun.list, remarks)?;
+    remarks.add_flags(left_over(line, usize::from(begun.list.end)));
     Ok(Some(Rounds {
         formal: begun.formal,
         texts,
@@ -91,7 +91,7 @@ pub fn irpc(
 }
 
 // The formal and the list that stand in a line from a column on, if neither is bad or missing.
-fn begun_at(line: &Line, column: usize, gives_digits: bool) -> Option<Begun>
+fn begun_at(line: &Line, column: usize, gives_digits: bool) -> Option<RepeatHeader>
     requires { column ≤ length line.now.text }
     ensures begun { result ≡ spec.begun_at line.now.text column gives_digits }
     ensures begins { IfSome result (λ begun. begun.list.inside.start ≤ length line.now.text) }
@@ -100,7 +100,7 @@ fn begun_at(line: &Line, column: usize, gives_digits: bool) -> Option<Begun>
     let name = name_at(line, column)?;
     let begin = separator_at(line, usize::from(name.end)).end;
     let list = next_actual(line, usize::from(begin), gives_digits)?;
-    Some(Begun {
+    Some(RepeatHeader {
         formal: name.name,
         list,
     })
@@ -112,19 +112,19 @@ fn listed<N: Names>(
     line: &Line,
     list: &Actual,
     names: &N,
-    notes: &mut Notes,
+    remarks: &mut Remarks,
 ) -> Result<Vec<Vec<u8>>, AllocError>
     requires { list.now.inside.start ≤ length line.now.text }
     ensures texts { IfOk result (λ texts. texts_of texts.items ≡ (spec.listed
         (known_by (N.base names.now) (N.stands_for names.now)) line.now.text list.now).texts) }
-    ensures notes { IfOk result (λ _. notes.new ≡ joined notes.old (spec.listed
-        (known_by (N.base names.now) (N.stands_for names.now)) line.now.text list.now).notes) }
+    ensures remarks { IfOk result (λ _. remarks.new ≡ joined remarks.old (spec.listed
+        (known_by (N.base names.now) (N.stands_for names.now)) line.now.text list.now).remarks) }
 {
     match list.kind {
-        ActualKind::Bracketed => listed_in(alloc, line, list, names, notes),
+        ActualKind::Bracketed => listed_in(alloc, line, list, names, remarks),
         ActualKind::Bare | ActualKind::Digits => {
             let mut texts = Vec::new(alloc);
-            texts.push(text_of(alloc, line, list, names, notes)?)?;
+            texts.push(text_of(alloc, line, list, names, remarks)?)?;
             Ok(texts)
         }
     }
@@ -136,16 +136,16 @@ fn listed_in<N: Names>(
     line: &Line,
     list: &Actual,
     names: &N,
-    notes: &mut Notes,
+    remarks: &mut Remarks,
 ) -> Result<Vec<Vec<u8>>, AllocError>
     ensures texts { IfOk result (λ texts. texts_of texts.items ≡ (spec.listed_in
         (known_by (N.base names.now) (N.stands_for names.now)) line.now.text list.now).texts) }
-    ensures notes { IfOk result (λ _. notes.new ≡ joined notes.old (spec.listed_in
-        (known_by (N.base names.now) (N.stands_for names.now)) line.now.text list.now).notes) }
+    ensures remarks { IfOk result (λ _. remarks.new ≡ joined remarks.old (spec.listed_in
+        (known_by (N.base names.now) (N.stands_for names.now)) line.now.text list.now).remarks) }
 {
-    notes.add_flags(actual_flags(list));
+    remarks.add_flags(actual_flags(list));
     let inner = line_of(line, list);
-    actuals_from(alloc, &inner, 0, LINE_LIMIT, names, notes)
+    actuals_from(alloc, &inner, 0, LINE_LIMIT, names, remarks)
 }
 
 // The characters of an actual, as a line.
@@ -162,12 +162,12 @@ fn spelled(
     alloc: Global,
     line: &Line,
     list: &Actual,
-    notes: &mut Notes,
+    remarks: &mut Remarks,
 ) -> Result<Vec<Vec<u8>>, AllocError>
     ensures texts { IfOk result (λ texts. texts_of texts.items ≡ (spec.spelled line.now.text list.now).texts) }
-    ensures notes { IfOk result (λ _. notes.new ≡ joined notes.old (spec.spelled line.now.text list.now).notes) }
+    ensures remarks { IfOk result (λ _. remarks.new ≡ joined remarks.old (spec.spelled line.now.text list.now).remarks) }
 {
-    notes.add_flags(actual_flags(list));
+    remarks.add_flags(actual_flags(list));
     characters_of(alloc, list.inside.text(line))
 }
 

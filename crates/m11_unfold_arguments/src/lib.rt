@@ -10,12 +10,12 @@ pub use directives::{Directive, directive_named, directive_of, operator, operato
 
 // What reading arguments leaves beside their values: flags, and the symbols that were read.
 mod left_overs;
-mod notes;
+mod remarks;
 
 pub use left_overs::{
-    bad_flags, flags_before, has_token, left_over, column_in, rest_flags, skip_flags,
+    bad_flags, column_in, flags_before, has_token, left_over, rest_flags, skip_flags,
 };
-pub use notes::Notes;
+pub use remarks::Remarks;
 
 // Expressions: how far they reach, and their values.
 mod expression_ends;
@@ -24,7 +24,7 @@ mod expressions;
 pub use expression_ends::{
     ExpressionEnd, expression_end_at, expression_end_from, has_expression, single_term,
 };
-pub use expressions::{note_symbols, value_at, value_by};
+pub use expressions::{read_symbols, value_at, value_by};
 
 // Conditions: `.IF` and `.IIF`.
 mod conditions;
@@ -48,7 +48,7 @@ mod filling;
 mod macros;
 
 pub use actuals::actuals_from;
-pub use filling::{FIRST_CREATED, Filled, fill};
+pub use filling::{FIRST_CREATED, FormalTexts, fill};
 pub use macros::{Header, MacroFormal, NameAt, header_at, name_at};
 
 // Laws of what calls of macros take.

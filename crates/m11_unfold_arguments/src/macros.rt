@@ -7,10 +7,10 @@ ghost use Rattle.m11_scan.specs.Views.{bits_of};
 ghost use Rattle.m11_scan_statements.specs.Labels.{is_counter};
 ghost use Rattle.m11_unfold_arguments.specs.Macros as spec;
 ghost use Rattle.m11_unfold_arguments.specs.Macros.{header_seen, listed_seen};
-ghost use Rattle.m11_unfold_arguments.specs.Notes.{joined, noting};
+ghost use Rattle.m11_unfold_arguments.specs.Remarks.{joined, remarks_of};
 
 use crate::left_overs::{bad_flags, flags_before, rest_flags, skip_flags};
-use crate::notes::Notes;
+use crate::remarks::Remarks;
 use m11_base::Name;
 use m11_scan::{ErrorFlags, LINE_LIMIT, Line, Sort, next_token, read_name};
 use m11_scan_statements::{Formal, NextFormal, next_formal, separator_at};
@@ -40,19 +40,19 @@ pub fn header_at(
     alloc: Global,
     line: &Line,
     column: usize,
-    notes: &mut Notes,
+    remarks: &mut Remarks,
 ) -> Result<Option<Header>, AllocError>
     requires { column ≤ length line.now.text }
     ensures header { IfOk result (λ header. header_seen header ≡ (spec.header line.now.text column).named) }
-    ensures notes { IfOk result (λ _. notes.new
-        ≡ joined notes.old (noting (spec.header line.now.text column).flags [])) }
+    ensures remarks { IfOk result (λ _. remarks.new
+        ≡ joined remarks.old (remarks_of (spec.header line.now.text column).flags [])) }
 {
     let Some(name) = name_at(line, column) else {
-        notes.add_flags(bad_flags(line, column));
+        remarks.add_flags(bad_flags(line, column));
         return Ok(None);
     };
     let formals = formals_within(alloc, line, usize::from(name.end), LINE_LIMIT)?;
-    notes.add_flags(flags_before(line, column).with(formals.flags));
+    remarks.add_flags(flags_before(line, column).with(formals.flags));
     Ok(Some(Header {
         name: name.name,
         formals: formals.list,
@@ -125,12 +125,12 @@ fn formals_within(
     'formals: while left > 0 {
         let begin = usize::from(separator_at(line, end).end);
         match listed_at(line, begin) {
-            Listed::More(next) => {
+            FormalOrEnd::More(next) => {
                 list.push(next.formal)?;
                 flags = flags.with(next.flags);
                 end = usize::from(next.end);
             }
-            Listed::Last(last) => {
+            FormalOrEnd::Last(last) => {
                 return Ok(Formals {
                     list,
                     flags: flags.with(last),
@@ -152,7 +152,7 @@ pub struct FormalAt {
 
 // What stands in a list of formals.
 #[derive(Clone, Copy, PartialEq, Eq, Debug)]
-pub enum Listed {
+pub enum FormalOrEnd {
     // Its end, with the flags of what stands from there on.
     Last(ErrorFlags),
     // A formal.
@@ -160,16 +160,16 @@ pub enum Listed {
 }
 
 // What stands in a list of formals at a column.
-fn listed_at(line: &Line, column: usize) -> Listed
+fn listed_at(line: &Line, column: usize) -> FormalOrEnd
     requires { column ≤ length line.now.text }
     ensures listed { listed_seen result ≡ spec.listed_at line.now.text column }
     ensures within { spec.IsWithin (length line.now.text) result }
 {
     match next_formal(line, column) {
-        NextFormal::Ends => Listed::Last(rest_flags(line, column)),
-        NextFormal::Bad => Listed::Last(bad_flags(line, column)),
+        NextFormal::Ends => FormalOrEnd::Last(rest_flags(line, column)),
+        NextFormal::Bad => FormalOrEnd::Last(bad_flags(line, column)),
         NextFormal::Named(formal) => match read_name(formal.name.text(line)) {
-            Some(name) => Listed::More(FormalAt {
+            Some(name) => FormalOrEnd::More(FormalAt {
                 formal: MacroFormal {
                     name,
                     is_created: formal.is_created,
@@ -177,7 +177,7 @@ fn listed_at(line: &Line, column: usize) -> Listed
                 flags: skip_flags(line, column, formal_start(formal)),
                 end: formal.name.end,
             }),
-            None => Listed::Last(bad_flags(line, column)),
+            None => FormalOrEnd::Last(bad_flags(line, column)),
         },
     }
 }

@@ -2,14 +2,14 @@
 
 ghost use Rattle.std.specs.Prelude.{◌≡◌, ◌<◌, ◌≤◌, length, IfOk};
 ghost use Rattle.m11_unfold_arguments.specs.Expressions.{known_by};
-ghost use Rattle.m11_unfold_arguments.specs.Notes.{joined};
+ghost use Rattle.m11_unfold_arguments.specs.Remarks.{joined};
 ghost use Rattle.m11_unfold_arguments.specs.Repeats as spec;
 
 use crate::conditions::is_negative;
 use crate::expression_ends::has_expression;
 use crate::expressions::number_at;
 use crate::left_overs::left_over;
-use crate::notes::Notes;
+use crate::remarks::Remarks;
 use m11_scan::{ErrorFlags, Line};
 use m11_scan_values::Names;
 use std::alloc::AllocError;
@@ -20,22 +20,22 @@ pub fn rept_count<N: Names>(
     line: &Line,
     column: usize,
     names: &N,
-    notes: &mut Notes,
+    remarks: &mut Remarks,
 ) -> Result<u16, AllocError>
     requires { column ≤ length line.now.text }
     ensures count { IfOk result (λ count. count
         ≡ spec.rept_count (known_by (N.base names.now) (N.stands_for names.now)) line.now.text column) }
-    ensures notes { IfOk result (λ _. notes.new ≡ joined notes.old
-        (spec.notes (known_by (N.base names.now) (N.stands_for names.now)) line.now.text column)) }
+    ensures remarks { IfOk result (λ _. remarks.new ≡ joined remarks.old
+        (spec.remarks (known_by (N.base names.now) (N.stands_for names.now)) line.now.text column)) }
     ensures most { IfOk result (λ count. count < 32768) }
 {
     if !has_expression(line, column) {
-        notes.add_flags(ErrorFlags::A.with(left_over(line, column)));
+        remarks.add_flags(ErrorFlags::A.with(left_over(line, column)));
         return Ok(0);
     }
-    let number = number_at(line, column, names, notes)?;
+    let number = number_at(line, column, names, remarks)?;
     let rest = left_over(line, usize::from(number.end));
-    notes.add_flags(number.flags.with(rest));
+    remarks.add_flags(number.flags.with(rest));
     Ok(rounds_of(number.value))
 }
 

@@ -2,14 +2,14 @@
 use Rattle.std.proofs.Common.{◌≡◌, Bool, true, false, List, [], ◌∷◌, ◌++◌, Option, Some, None, refl}
 use Rattle.m11_scan_lines.specs.Line.{SourceLine}
 use Rattle.m11_unfold_bodies.specs.declared.mark.Mark.{Mark}
-use Rattle.m11_unfold_bodies.specs.Left.{Left, End, is_empty}
+use Rattle.m11_unfold_bodies.specs.Left.{RemainingItem, End, is_empty}
 use Rattle.m11_unfold_bodies.specs.Frames.{Frame, has_frame, is_none_of, is_there, line_left, line_where, lines_of, remains, stacked}
 
-ended : (lines : List Left) (mark : Mark) (left : List Left) → is_empty (lines ++ End mark ∷ left) ≡ false
+ended : (lines : List RemainingItem) (mark : Mark) (left : List RemainingItem) → is_empty (lines ++ End mark ∷ left) ≡ false
 ended [] mark left = refl
 ended (line ∷ lines) mark left = refl
 
-stacked-more : (frames : List Frame) (left : List Left) → is_empty left ≡ false → is_empty (stacked frames left) ≡ false
+stacked-more : (frames : List Frame) (left : List RemainingItem) → is_empty left ≡ false → is_empty (stacked frames left) ≡ false
 stacked-more [] left more = more
 stacked-more (frame ∷ frames) left more =
     stacked-more frames (lines_of frame ++ End frame.mark ∷ left) (ended (lines_of frame) frame.mark left)

@@ -7,43 +7,43 @@ use Rattle.m11_unfold_bodies.specs.Bodies.{Template}
 use Rattle.m11_unfold_bodies.specs.Substitution.{line_with}
 use Rattle.std.proofs.lemmas.List.{drop_all, drop_more}
 use Rattle.m11_unfold_bodies.specs.declared.mark.Mark.{Mark}
-use Rattle.m11_unfold_bodies.specs.Left.{Left, Line, End, marks, has_mark, round, expanded, after_mark, count_in, bytes_in, conditions_in}
+use Rattle.m11_unfold_bodies.specs.Left.{RemainingItem, Line, End, marks, has_mark, round, expanded, after_mark, count_in, bytes_in, conditions_in}
 use Rattle.m11_unfold_bodies.specs.Frames.{Frame, HasNext, of_rounds, lines_of, stacked, line_left, line_where, is_there, has_frame, first_of, without_first, remains, count_from, bytes_from, conditions_from}
 
 -- ---- lines have no end
 
 -- what a function of the list of lefts passes over
 module _ (formals : List (ℕ × ℕ)) where
-  marks-round : (body actuals : List (List ℕ)) (left : List Left) → marks (round formals body actuals ++ left) ≡ marks left
+  marks-round : (body actuals : List (List ℕ)) (left : List RemainingItem) → marks (round formals body actuals ++ left) ≡ marks left
   marks-round [] actuals left = refl
   marks-round (text ∷ body) actuals left = marks-round body actuals left
 
-  pub marks-rounds : (body : List (List ℕ)) (rounds : List (List (List ℕ))) (left : List Left)
+  pub marks-rounds : (body : List (List ℕ)) (rounds : List (List (List ℕ))) (left : List RemainingItem)
       → marks (flat_map (round formals body) rounds ++ left) ≡ marks left
   marks-rounds body [] left = refl
   marks-rounds body (actuals ∷ rounds) left =
       ap marks (append_assoc (round formals body actuals) (flat_map (round formals body) rounds) left)
       ∙ marks-round body actuals (flat_map (round formals body) rounds ++ left) ∙ marks-rounds body rounds left
 
-  marks-of_rounds : (body rest : List (List ℕ)) (rounds : List (List (List ℕ))) (left : List Left)
+  marks-of_rounds : (body rest : List (List ℕ)) (rounds : List (List (List ℕ))) (left : List RemainingItem)
       → marks (of_rounds formals body rest rounds ++ left) ≡ marks left
   marks-of_rounds body rest [] left = refl
   marks-of_rounds body rest (actuals ∷ rounds) left =
       ap marks (append_assoc (round formals rest actuals) (flat_map (round formals body) rounds) left)
       ∙ marks-round rest actuals (flat_map (round formals body) rounds ++ left) ∙ marks-rounds body rounds left
 
-  past-round : (body actuals : List (List ℕ)) (left : List Left) → after_mark (round formals body actuals ++ left) ≡ after_mark left
+  past-round : (body actuals : List (List ℕ)) (left : List RemainingItem) → after_mark (round formals body actuals ++ left) ≡ after_mark left
   past-round [] actuals left = refl
   past-round (text ∷ body) actuals left = past-round body actuals left
 
-  past-rounds : (body : List (List ℕ)) (rounds : List (List (List ℕ))) (left : List Left)
+  past-rounds : (body : List (List ℕ)) (rounds : List (List (List ℕ))) (left : List RemainingItem)
       → after_mark (flat_map (round formals body) rounds ++ left) ≡ after_mark left
   past-rounds body [] left = refl
   past-rounds body (actuals ∷ rounds) left =
       ap after_mark (append_assoc (round formals body actuals) (flat_map (round formals body) rounds) left)
       ∙ past-round body actuals (flat_map (round formals body) rounds ++ left) ∙ past-rounds body rounds left
 
-  past-of_rounds : (body rest : List (List ℕ)) (rounds : List (List (List ℕ))) (left : List Left)
+  past-of_rounds : (body rest : List (List ℕ)) (rounds : List (List (List ℕ))) (left : List RemainingItem)
       → after_mark (of_rounds formals body rest rounds ++ left) ≡ after_mark left
   past-of_rounds body rest [] left = refl
   past-of_rounds body rest (actuals ∷ rounds) left =
@@ -61,17 +61,17 @@ module _ (formals : List (ℕ × ℕ)) where
   no_body [] rounds empty = no_lines rounds
   no_body (text ∷ body) rounds empty = absurd (omega arith)
 
-marks-lines : (frame : Frame) (left : List Left) → marks (lines_of frame ++ left) ≡ marks left
+marks-lines : (frame : Frame) (left : List RemainingItem) → marks (lines_of frame ++ left) ≡ marks left
 marks-lines frame left =
     marks-of_rounds frame.template.formals frame.template.body (drop frame.index frame.template.body) frame.rounds left
 
-past-lines : (frame : Frame) (left : List Left) → after_mark (lines_of frame ++ left) ≡ after_mark left
+past-lines : (frame : Frame) (left : List RemainingItem) → after_mark (lines_of frame ++ left) ≡ after_mark left
 past-lines frame left =
     past-of_rounds frame.template.formals frame.template.body (drop frame.index frame.template.body) frame.rounds left
 
 -- ---- the innermost expansion stands in front
 
-stacked-append : (frames : List Frame) (frame : Frame) (left : List Left)
+stacked-append : (frames : List Frame) (frame : Frame) (left : List RemainingItem)
     → stacked (frames ++ frame ∷ []) left ≡ lines_of frame ++ End frame.mark ∷ stacked frames left
 stacked-append [] frame left = refl
 stacked-append (outer ∷ frames) frame left = stacked-append frames frame (lines_of outer ++ End outer.mark ∷ left)
@@ -82,7 +82,7 @@ abbrev pub marks_onto : List Frame → List Mark → List Mark
 marks_onto [] marks = marks
 marks_onto (frame ∷ inner) marks = marks_onto inner (frame.mark ∷ marks)
 
-marks-stacked : (frames : List Frame) (left : List Left) → marks (stacked frames left) ≡ marks_onto frames (marks left)
+marks-stacked : (frames : List Frame) (left : List RemainingItem) → marks (stacked frames left) ≡ marks_onto frames (marks left)
 marks-stacked [] left = refl
 marks-stacked (frame ∷ inner) left =
     marks-stacked inner (lines_of frame ++ End frame.mark ∷ left)
@@ -145,18 +145,18 @@ module _ (fed : Option SourceLine) (frames front : List Frame) (frame : Frame) (
   pub takes_line : (line : SourceLine) (frame' : Frame) → lines_of frame ≡ Line line ∷ lines_of frame' → frame'.mark ≡ frame.mark
       → stacked frames (line_left fed) ≡ Line line ∷ stacked (front ++ frame' ∷ []) (line_left fed)
   takes_line line frame' next same =
-      in_front ∙ ap (λ (l : List Left). l ++ End frame.mark ∷ stacked front (line_left fed)) next
+      in_front ∙ ap (λ (l : List RemainingItem). l ++ End frame.mark ∷ stacked front (line_left fed)) next
       ∙ ap (λ (m : Mark). Line line ∷ (lines_of frame' ++ End m ∷ stacked front (line_left fed))) (sym same)
-      ∙ ap (λ (l : List Left). Line line ∷ l) (sym (stacked-append front frame' (line_left fed)))
+      ∙ ap (λ (l : List RemainingItem). Line line ∷ l) (sym (stacked-append front frame' (line_left fed)))
 
   pub takes_end : lines_of frame ≡ [] → stacked frames (line_left fed) ≡ End frame.mark ∷ stacked front (line_left fed)
-  takes_end none = in_front ∙ ap (λ (l : List Left). l ++ End frame.mark ∷ stacked front (line_left fed)) none
+  takes_end none = in_front ∙ ap (λ (l : List RemainingItem). l ++ End frame.mark ∷ stacked front (line_left fed)) none
 
   pub leaves : (statement : Option SourceLine) (frame' : Frame) → lines_of frame' ≡ [] → frame'.mark ≡ frame.mark
       → stacked (front ++ frame' ∷ []) (line_left fed) ≡ after_mark (remains statement frames fed).left
   leaves statement frame' none same =
       stacked-append front frame' (line_left fed)
-      ∙ ap (λ (l : List Left). l ++ End frame'.mark ∷ stacked front (line_left fed)) none
+      ∙ ap (λ (l : List RemainingItem). l ++ End frame'.mark ∷ stacked front (line_left fed)) none
       ∙ ap (λ (m : Mark). End m ∷ stacked front (line_left fed)) same
       ∙ sym (past-lines frame (End frame.mark ∷ stacked front (line_left fed)))
       ∙ sym (ap after_mark in_front) ∙ sym (before statement)
@@ -198,7 +198,7 @@ pub feeds : (statement : Option SourceLine) (frames : List Frame) (fed : Option 
 feeds None [] fed line none = refl
 feeds None (frame ∷ inner) fed line none =
     let deep = depth-remains None (frame ∷ inner) fed in
-    let flat = ap (λ (l : List Left). length (marks l)) none in
+    let flat = ap (λ (l : List RemainingItem). length (marks l)) none in
     absurd (omega arith)
 feeds (Some statement) frames fed line none = let long = ap length none in absurd (omega arith)
 
@@ -214,7 +214,7 @@ module _ (formals : List (ℕ × ℕ)) (rounds : List (List (List ℕ))) (body :
       → line_left statement ++ stacked frames' (line_left fed) ≡ expanded formals rounds body mark (remains statement frames fed).left
   expands None free pushed lines same =
       ap (λ (f : List Frame). stacked f (line_left fed)) pushed ∙ stacked-append frames frame (line_left fed)
-      ∙ ap (λ (l : List Left). l ++ End frame.mark ∷ stacked frames (line_left fed)) (lines ∙ all_rounds formals body rounds)
+      ∙ ap (λ (l : List RemainingItem). l ++ End frame.mark ∷ stacked frames (line_left fed)) (lines ∙ all_rounds formals body rounds)
       ∙ ap (λ (m : Mark). flat_map (round formals body) rounds ++ End m ∷ stacked frames (line_left fed)) same
   expands (Some line) free pushed lines same =
       let no : ◌≡◌ {A = ℕ} 1 0 = ap (λ (b : Bool). if b then 1 else 0) free in
@@ -241,7 +241,7 @@ module _ (formals : List (ℕ × ℕ)) (body : List (List ℕ)) (index : ℕ) (a
       ap (λ (t : List (List ℕ)). of_rounds formals body t (actuals' ∷ rounds)) head_first
       ∙ ap (λ (a : Option (List (List ℕ))). line_by a ∷ of_rounds formals body (drop (index + 1) body) (actuals' ∷ rounds)) first
     where
-      line_by : Option (List (List ℕ)) → Left
+      line_by : Option (List (List ℕ)) → RemainingItem
       line_by None = Line (line_with formals actuals (get_or body index []))
       line_by (Some a) = Line (line_with formals a (get_or body index []))
 
@@ -253,7 +253,7 @@ module _ (formals : List (ℕ × ℕ)) (body : List (List ℕ)) (index : ℕ) (a
       next_inside (actuals' ∷ rounds) first
       ∙ ap (λ (t : List (List ℕ)). Line (line_with formals actuals (get_or body index [])) ∷ of_rounds formals body t (actuals' ∷ rounds))
       (drop_all (index + 1) body (omega arith))
-      ∙ ap (λ (l : List Left). Line (line_with formals actuals (get_or body index [])) ∷ l) (sym (all_rounds formals body rounds))
+      ∙ ap (λ (l : List RemainingItem). Line (line_with formals actuals (get_or body index [])) ∷ l) (sym (all_rounds formals body rounds))
 
 -- ---- a frame after its next line
 

@@ -4,8 +4,8 @@ use Rattle.std.specs.Prelude.{◌||◌, ◌&&◌, ◌==◌, if◌then◌else◌}
 use Rattle.std.specs.List.{flat_map, list_any}
 use Rattle.m11_base.specs.NameCharacters.{is_name_character}
 use Rattle.m11_scan_lines.specs.Line.{SourceLine}
-use Rattle.m11_unfold_bodies.specs.Bodies.{HalfTaken, IsTaken, before_left, body_of, cut_after, cut_at, depth_after, depth_next, depth_past, taken_with, texts_of, with_line, with_lines}
-use Rattle.m11_unfold_bodies.specs.Left.{End, Left, Line, expanded, round}
+use Rattle.m11_unfold_bodies.specs.Bodies.{PartialBody, IsTaken, before_left, body_of, cut_after, cut_at, depth_after, depth_next, depth_past, taken_with, texts_of, with_line, with_lines}
+use Rattle.m11_unfold_bodies.specs.Left.{End, RemainingItem, Line, expanded, round}
 use Rattle.m11_unfold_bodies.specs.Substitution.{Other, Piece, Run, actual_for, begins_replaced, in_run, is_put, is_replaced, joined, kept, line_with, pieces_of, put_or, substituted, text_of}
 use Rattle.m11_unfold_bodies.specs.declared.mark.Mark.{Mark}
 use Rattle.m11_unfold_bodies.specs.declared.open_body.Nesting.{Nesting}
@@ -35,7 +35,7 @@ module _ (nesting : List ℕ → Nesting) where
       go (Some i) more h = more i h
 
   -- lines of a body before what is left
-  cut_past : (lines : List SourceLine) (depth inside : ℕ) (left : List Left) → depth_past nesting depth (texts_of lines) ≡ Some inside
+  cut_past : (lines : List SourceLine) (depth inside : ℕ) (left : List RemainingItem) → depth_past nesting depth (texts_of lines) ≡ Some inside
       → cut_at nesting depth (before_left lines left) ≡ with_lines (texts_of lines) (cut_at nesting inside left)
   cut_past [] depth inside left stands =
       let same : depth ≡ inside = cc in
@@ -52,11 +52,11 @@ module _ (nesting : List ℕ → Nesting) where
       go None more h = absurd (let bad = h in cc)
       go (Some i) more h = ap (with_line line.text) (more i h)
 
-  pub grown : (taken : HalfTaken) (text : List ℕ) (depth : ℕ) → IsTaken nesting taken
+  pub grown : (taken : PartialBody) (text : List ℕ) (depth : ℕ) → IsTaken nesting taken
       → depth_after (nesting text) taken.depth ≡ Some depth → IsTaken nesting (taken_with taken text depth)
   grown taken text depth stands goes = past_more taken.body 0 taken.depth text stands ∙ goes
 
-  pub goes_on : (taken : HalfTaken) (lines : List SourceLine) (left : List Left) → texts_of lines ≡ taken.body
+  pub goes_on : (taken : PartialBody) (lines : List SourceLine) (left : List RemainingItem) → texts_of lines ≡ taken.body
       → IsTaken nesting taken → body_of nesting (before_left lines left) ≡ with_lines taken.body (cut_at nesting taken.depth left)
   goes_on taken lines left same stands =
       cut_past lines 0 taken.depth left (ap (depth_past nesting 0) same ∙ stands)
@@ -128,7 +128,7 @@ module _ (formals : List (ℕ × ℕ)) (actuals : List (List ℕ)) where
 
 -- ---- expansions
 
-module _ (formals : List (ℕ × ℕ)) (mark : Mark) (left : List Left) where
+module _ (formals : List (ℕ × ℕ)) (mark : Mark) (left : List RemainingItem) where
   pub one_round : (actuals : List (List ℕ)) (rounds : List (List (List ℕ))) (body : List (List ℕ))
       → expanded formals (actuals ∷ rounds) body mark left
       ≡ map (λ text. Line (line_with formals actuals text)) body ++ expanded formals rounds body mark left
@@ -140,4 +140,4 @@ module _ (formals : List (ℕ × ℕ)) (mark : Mark) (left : List Left) where
   no_texts (actuals ∷ rounds) = no_texts rounds
 
   pub no_line : (rounds : List (List (List ℕ))) → expanded formals rounds [] mark left ≡ End mark ∷ left
-  no_line rounds = ap (λ (l : List Left). l ++ End mark ∷ left) (no_texts rounds)
+  no_line rounds = ap (λ (l : List RemainingItem). l ++ End mark ∷ left) (no_texts rounds)

@@ -5,7 +5,7 @@ use Rattle.m11_base.specs.Devices.{Bytes}
 use Rattle.m11_base.specs.Rad50.{Name}
 use Rattle.m11_scan_lines.specs.Line.{SourceLine}
 use Rattle.m11_unfold_bodies.specs.Bodies.{Template}
-use Rattle.m11_unfold_bodies.specs.Left.{Left, Line, End, Remains, or_else, round}
+use Rattle.m11_unfold_bodies.specs.Left.{RemainingItem, Line, End, Remains, or_else, round}
 use Rattle.m11_unfold_bodies.specs.declared.mark.Mark.{Mark}
 
 -- a body with its formals, the index of its next line, the actuals of the rounds that are left, the one that is begun
@@ -17,15 +17,15 @@ pub record Frame : Type 0 where
   pub mark : Mark
 
 -- the lines that are left of rounds, where some of the first one's are taken
-abbrev pub of_rounds : List Name → List Bytes → List Bytes → List (List Bytes) → List Left
+abbrev pub of_rounds : List Name → List Bytes → List Bytes → List (List Bytes) → List RemainingItem
 of_rounds formals body rest [] = []
 of_rounds formals body rest (actuals ∷ rounds) = round formals rest actuals ++ flat_map (round formals body) rounds
 
-abbrev pub lines_of : Frame → List Left
+abbrev pub lines_of : Frame → List RemainingItem
 lines_of frame = of_rounds frame.template.formals frame.template.body (drop frame.index frame.template.body) frame.rounds
 
 -- expansions, the outermost first, before what is left
-abbrev pub stacked : List Frame → List Left → List Left
+abbrev pub stacked : List Frame → List RemainingItem → List RemainingItem
 stacked [] left = left
 stacked (frame ∷ frames) left = stacked frames (lines_of frame ++ End frame.mark ∷ left)
 
@@ -34,7 +34,7 @@ abbrev pub HasNext : Frame → Type 0
 HasNext frame = (frame.index < length frame.template.body) ⊎ (frame.rounds ≡ [])
 
 -- a line that stands by itself, if there is one
-abbrev pub line_left : Option SourceLine → List Left
+abbrev pub line_left : Option SourceLine → List RemainingItem
 line_left None = []
 line_left (Some line) = Line line ∷ []
 

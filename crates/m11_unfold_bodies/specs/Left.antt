@@ -7,25 +7,25 @@ use Rattle.m11_base.specs.Rad50.{Name}
 use Rattle.m11_scan_lines.specs.Line.{SourceLine}
 use Rattle.m11_unfold_bodies.specs.Substitution.{line_with}
 use Rattle.m11_unfold_bodies.specs.declared.mark.Mark.{Mark}
-use Rattle.m11_unfold_bodies.specs.declared.left.Taken.{Taken}
-use Rattle.m11_unfold_bodies.specs.declared.left.Taken.TheVariants as taken
+use Rattle.m11_unfold_bodies.specs.declared.left.LineOrEnd.{LineOrEnd}
+use Rattle.m11_unfold_bodies.specs.declared.left.LineOrEnd.TheVariants as taken
 
-pub data Left : Type 0 where
-  Line : SourceLine → Left
-  End : Mark → Left
+pub data RemainingItem : Type 0 where
+  Line : SourceLine → RemainingItem
+  End : Mark → RemainingItem
 
-abbrev pub is_empty : List Left → Bool
+abbrev pub is_empty : List RemainingItem → Bool
 is_empty [] = true
 is_empty (next ∷ left) = false
 
 -- the ends that are left, the innermost expansion's first
-abbrev pub marks : List Left → List Mark
+abbrev pub marks : List RemainingItem → List Mark
 marks [] = []
 marks (Line line ∷ left) = marks left
 marks (End mark ∷ left) = mark ∷ marks left
 
 -- how many expansions are open
-abbrev pub depth : List Left → ℕ
+abbrev pub depth : List RemainingItem → ℕ
 depth left = length (marks left)
 
 -- the most that may be open
@@ -37,7 +37,7 @@ abbrev pub has_mark : List Mark → Bool
 has_mark [] = false
 has_mark (mark ∷ marks) = true
 
-abbrev pub is_expanding : List Left → Bool
+abbrev pub is_expanding : List RemainingItem → Bool
 is_expanding left = has_mark (marks left)
 
 abbrev pub or_else : Option ℕ → Option ℕ → Option ℕ
@@ -49,7 +49,7 @@ abbrev pub count_in : List Mark → Option ℕ
 count_in [] = None
 count_in (mark ∷ marks) = or_else mark.arguments (count_in marks)
 
-abbrev pub argument_count : List Left → Option ℕ
+abbrev pub argument_count : List RemainingItem → Option ℕ
 argument_count left = count_in (marks left)
 
 -- the bytes of the bodies of open repeats
@@ -57,7 +57,7 @@ abbrev pub bytes_in : List Mark → ℕ
 bytes_in [] = 0
 bytes_in (mark ∷ marks) = bytes_in marks + mark.bytes
 
-abbrev pub bytes_held : List Left → ℕ
+abbrev pub bytes_held : List RemainingItem → ℕ
 bytes_held left = bytes_in (marks left)
 
 -- the conditions that are open around open expansions
@@ -65,30 +65,30 @@ abbrev pub conditions_in : List Mark → ℕ
 conditions_in [] = 0
 conditions_in (mark ∷ marks) = conditions_in marks + length mark.conditions.entered
 
-abbrev pub conditions_open : List Left → ℕ
+abbrev pub conditions_open : List RemainingItem → ℕ
 conditions_open left = conditions_in (marks left)
 
 -- what is left after `.MEXIT`: from the innermost expansion's end on
-abbrev pub after_mark : List Left → List Left
+abbrev pub after_mark : List RemainingItem → List RemainingItem
 after_mark [] = []
 after_mark (Line line ∷ left) = after_mark left
 after_mark (End mark ∷ left) = End mark ∷ left
 
 -- a body's lines with one round's actuals put in
-abbrev pub round : List Name → List Bytes → List Bytes → List Left
+abbrev pub round : List Name → List Bytes → List Bytes → List RemainingItem
 round formals body actuals = map (λ text. Line (line_with formals actuals text)) body
 
 -- an expansion before what was left: for each round's actuals the body's lines with them put in, then the expansion's end
-abbrev pub expanded : List Name → List (List Bytes) → List Bytes → Mark → List Left → List Left
+abbrev pub expanded : List Name → List (List Bytes) → List Bytes → Mark → List RemainingItem → List RemainingItem
 expanded formals rounds body mark left = flat_map (round formals body) rounds ++ End mark ∷ left
 
 -- what is left, and whether its head is a statement that was put there
 pub record Remains : Type 0 where
-  pub left : List Left
+  pub left : List RemainingItem
   pub has_statement : Bool
 
 -- what is left loses its head, which is put where lines are taken to, if it is a line
-abbrev pub Takes : List Left → List Left → SourceLine → Option Taken → Type 0
+abbrev pub Takes : List RemainingItem → List RemainingItem → SourceLine → Option LineOrEnd → Type 0
 Takes old new line None = (old ≡ []) × (new ≡ [])
 Takes old new line (Some (taken.Line is_expanded)) = (old ≡ Line line ∷ new) × (is_expanded ≡ is_expanding new)
 Takes old new line (Some (taken.End mark)) = old ≡ End mark ∷ new

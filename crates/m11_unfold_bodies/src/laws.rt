@@ -4,12 +4,12 @@ ghost use Rattle.std.specs.Prelude.{◌≡◌, ◌∷◌, ◌++◌, [], ℕ, Boo
 ghost use Rattle.std.specs.List.{list_any};
 ghost use Rattle.m11_base.specs.Devices.{Bytes};
 ghost use Rattle.m11_base.specs.Rad50.{Name};
-ghost use Rattle.m11_unfold_bodies.specs.Bodies.{HalfTaken, IsTaken, before_left, body_of, cut_at, nothing_taken, taken_with, depth_after, texts_of, with_lines};
+ghost use Rattle.m11_unfold_bodies.specs.Bodies.{PartialBody, IsTaken, before_left, body_of, cut_at, nothing_taken, taken_with, depth_after, texts_of, with_lines};
 ghost use Rattle.m11_unfold_bodies.specs.Conditions.{OpenConditions, closed, entering, is_live_in, is_skipping};
 ghost use Rattle.m11_unfold_bodies.specs.Conditions.{nested, past, switched, unnested};
 ghost use Rattle.m11_unfold_bodies.specs.Laws.{Inside, IsReplacedBy, IsWord, SkippedInside, begins_in_word, ends_in_word};
 ghost use Rattle.m11_unfold_bodies.specs.Laws.{without_first_quote, without_last_quote};
-ghost use Rattle.m11_unfold_bodies.specs.Left.{End, Left, Line, expanded};
+ghost use Rattle.m11_unfold_bodies.specs.Left.{End, RemainingItem, Line, expanded};
 ghost use Rattle.m11_unfold_bodies.specs.Substitution.{Other, Run, actual_for, is_replaced, joined, line_with, pieces_of, substituted};
 ghost use Rattle.m11_unfold_bodies.specs.declared.conditions.Part.{Part};
 ghost use Rattle.m11_unfold_bodies.specs.declared.mark.Mark.{Mark};
@@ -60,9 +60,9 @@ pub fn quotes_beside_a_formal_vanish()
 /// A body that is half taken goes on where it stopped: what is left is cut as if its lines still stood in front.
 pub fn half_taken_bodies_go_on()
     ensures begins { (nesting : Bytes → Nesting) → IsTaken nesting nothing_taken }
-    ensures grows { (nesting : Bytes → Nesting) (taken : HalfTaken) (text : Bytes) (depth : ℕ) → IsTaken nesting taken
+    ensures grows { (nesting : Bytes → Nesting) (taken : PartialBody) (text : Bytes) (depth : ℕ) → IsTaken nesting taken
         → depth_after (nesting text) taken.depth ≡ Some depth → IsTaken nesting (taken_with taken text depth) }
-    ensures cuts { (nesting : Bytes → Nesting) (taken : HalfTaken) (lines : List SourceLine) (left : List Left)
+    ensures cuts { (nesting : Bytes → Nesting) (taken : PartialBody) (lines : List SourceLine) (left : List RemainingItem)
         → texts_of lines ≡ taken.body → IsTaken nesting taken
         → body_of nesting (before_left lines left) ≡ with_lines taken.body (cut_at nesting taken.depth left) }
 {}
@@ -70,11 +70,11 @@ pub fn half_taken_bodies_go_on()
 /// A repeat is its rounds one after another, and one end; a body without a line leaves its end alone.
 pub fn expansions_are_rounds_and_an_end()
     ensures rounds { (formals : List Name) (actuals : List Bytes) (rounds : List (List Bytes)) (body : List Bytes)
-        (mark : Mark) (left : List Left) → expanded formals (actuals ∷ rounds) body mark left
+        (mark : Mark) (left : List RemainingItem) → expanded formals (actuals ∷ rounds) body mark left
         ≡ map (λ text. Line (line_with formals actuals text)) body ++ expanded formals rounds body mark left }
-    ensures none { (formals : List Name) (body : List Bytes) (mark : Mark) (left : List Left)
+    ensures none { (formals : List Name) (body : List Bytes) (mark : Mark) (left : List RemainingItem)
         → expanded formals [] body mark left ≡ End mark ∷ left }
-    ensures empty { (formals : List Name) (rounds : List (List Bytes)) (mark : Mark) (left : List Left)
+    ensures empty { (formals : List Name) (rounds : List (List Bytes)) (mark : Mark) (left : List RemainingItem)
         → expanded formals rounds [] mark left ≡ End mark ∷ left }
 {}
 

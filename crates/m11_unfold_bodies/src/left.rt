@@ -19,7 +19,7 @@ pub const EXPANSION_LIMIT: usize = 16;
 
 /// What was taken.
 #[derive(Drop, Debug)]
-pub enum Taken {
+pub enum LineOrEnd {
     /// A line, and whether it stands in an expansion.
     Line(bool),
     /// The end of an expansion.
@@ -29,7 +29,7 @@ pub enum Taken {
 /// What is left to take: the lines of open expansions and their ends, the innermost expansion's first, and the line of the
 /// source that was fed.
 #[derive(Drop)]
-pub struct Remaining {
+pub struct RemainingLines {
     // The statement of an `.IIF`.
     statement: Option<Line>,
     // The innermost expansion is last.
@@ -39,7 +39,7 @@ pub struct Remaining {
     has_fed: bool,
 }
 
-impl Model for Remaining {
+impl Model for RemainingLines {
     ghost use Rattle.std.specs.Prelude.{◌≤◌, length};
     ghost use Rattle.m11_unfold_bodies.specs.Frames.{line_where, remains};
     ghost use Rattle.m11_unfold_bodies.specs.Left.{Remains};
@@ -51,13 +51,13 @@ impl Model for Remaining {
     ghost invariant = { λ r. length r.frames.items ≤ 16 };
 }
 
-impl Remaining {
+impl RemainingLines {
     /// Nothing is left.
-    pub fn new(alloc: Global) -> Remaining
+    pub fn new(alloc: Global) -> RemainingLines
         ensures left { result.left ≡ [] }
         ensures free { result.has_statement ≡ false }
     {
-        Remaining {
+        RemainingLines {
             statement: None,
             frames: Vec::new(alloc),
             fed: Line::new(),
@@ -84,7 +84,7 @@ impl Remaining {
     }
 
     /// Takes what is next, if anything is left. A line is put into `line`, where it stays, since moving it takes longer than reading it.
-    pub fn take(&mut self, line: &mut Line) -> Option<Taken>
+    pub fn take(&mut self, line: &mut Line) -> Option<LineOrEnd>
         ensures taken { spec.Takes self.old.left self.new.left line.new result }
         ensures free { self.new.has_statement ≡ false }
     {
@@ -100,7 +100,7 @@ impl Remaining {
 
     /// Takes the line of the source, if nothing else is left, and returns whether it did. It is what `take` does then, and takes less time.
     pub fn take_source_line(&mut self, line: &mut Line) -> bool
-        ensures taken { result ≡ true → spec.Takes self.old.left self.new.left line.new (Some (Taken.Line false)) }
+        ensures taken { result ≡ true → spec.Takes self.old.left self.new.left line.new (Some (LineOrEnd.Line false)) }
         ensures free { result ≡ true → self.new.has_statement ≡ false }
         ensures unchanged { result ≡ false → self.new ≡ self.old }
     {
@@ -124,7 +124,7 @@ impl Remaining {
     }
 
     // Takes the statement of an `.IIF`.
-    fn take_statement(&mut self, line: &mut Line) -> Option<Taken>
+    fn take_statement(&mut self, line: &mut Line) -> Option<LineOrEnd>
         requires { self.old.has_statement ≡ true }
         ensures taken { spec.Takes self.old.left self.new.left line.new result }
         ensures free { self.new.has_statement ≡ false }
@@ -132,14 +132,14 @@ impl Remaining {
         match self.statement.take() {
             Some(statement) => {
                 *line = statement;
-                Some(Taken::Line(self.is_expanding()))
+                Some(LineOrEnd::Line(self.is_expanding()))
             }
             None => None,
         }
     }
 
     // Takes the line of the source, where no expansion is open.
-    fn take_fed(&mut self, line: &mut Line) -> Option<Taken>
+    fn take_fed(&mut self, line: &mut Line) -> Option<LineOrEnd>
         requires free { self.old.has_statement ≡ false }
         requires unexpanded { spec.is_expanding self.old.left ≡ false }
         ensures taken { spec.Takes self.old.left self.new.left line.new result }
@@ -150,11 +150,11 @@ impl Remaining {
         }
         line.copy_from(&self.fed);
         self.has_fed = false;
-        Some(Taken::Line(false))
+        Some(LineOrEnd::Line(false))
     }
 
     // Takes a line of the innermost expansion, or its end.
-    fn take_expanded(&mut self, line: &mut Line) -> Option<Taken>
+    fn take_expanded(&mut self, line: &mut Line) -> Option<LineOrEnd>
         requires free { self.old.has_statement ≡ false }
         requires expanded { spec.is_expanding self.old.left ≡ true }
         ensures taken { spec.Takes self.old.left self.new.left line.new result }
@@ -163,9 +163,9 @@ impl Remaining {
         let mut frame = self.frames.pop()?;
         if frame.next(line) {
             self.frames.push_reserved(frame);
-            Some(Taken::Line(true))
+            Some(LineOrEnd::Line(true))
         } else {
-            Some(Taken::End(frame.into_mark()))
+            Some(LineOrEnd::End(frame.into_mark()))
         }
     }
 

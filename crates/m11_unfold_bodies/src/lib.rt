@@ -30,7 +30,7 @@ pub use rounds::Rounds;
 // What is left to take, of all open expansions and the source.
 mod left;
 
-pub use left::{EXPANSION_LIMIT, Remaining, Taken};
+pub use left::{EXPANSION_LIMIT, LineOrEnd, RemainingLines};
 
 // Laws of quotes and formals, of rounds, and of conditions.
 mod laws;

@@ -28,9 +28,9 @@ pub struct OpenBody {
 
 impl Model for OpenBody {
     ghost use Rattle.std.specs.Prelude.{◌≤◌, length};
-    ghost use Rattle.m11_unfold_bodies.specs.Bodies.{HalfTaken};
+    ghost use Rattle.m11_unfold_bodies.specs.Bodies.{PartialBody};
 
-    ghost Value = { HalfTaken };
+    ghost Value = { PartialBody };
 
     ghost view = { λ half. record { body = half.body; depth = half.depth } };
 

@@ -2,8 +2,8 @@
 use Rattle.std.proofs.Common.{◌≡◌, ◌∙◌, ◌⊎◌, inl, inr, ℕ, suc, ◌+◌, true, false, List, [], ◌∷◌, ◌++◌, length, append_assoc, append-nil, Option, Some, None, refl, sym, ap, subst, arith}
 use Rattle.m11_base.specs.Devices.{Bytes}
 use Rattle.m11_scan_lines.specs.Line.{SourceLine}
-use Rattle.m11_unfold_bodies.specs.Bodies.{Cut, HalfTaken, cut_after, cut_at, depth_after, taken_with}
-use Rattle.m11_unfold_bodies.specs.Left.{Left, Line, End}
+use Rattle.m11_unfold_bodies.specs.Bodies.{Cut, PartialBody, cut_after, cut_at, depth_after, taken_with}
+use Rattle.m11_unfold_bodies.specs.Left.{RemainingItem, Line, End}
 use Rattle.m11_unfold_rules.specs.Stages.{Purpose, Stage}
 use Rattle.m11_unfold_rules.specs.Taking.{Passes, ended, into_body, move, nesting, one_taken, used}
 use Rattle.m11_unfold_rules.specs.Unfolding.{Leads}
@@ -13,17 +13,17 @@ use Rattle.m11_unfold_laws.specs.Limits.{IsCutShort}
 use Rattle.m11_unfold_laws.proofs.Runs.{Runs, and_then, arrived, from_same, passes, passes_on, stays, weakened}
 
 module _ (purpose : Purpose) where
-  abbrev at : Stage → ℕ → List Left → Stage
+  abbrev at : Stage → ℕ → List RemainingItem → Stage
   at stage taken left = record stage { left = left; taken = taken }
 
-  abbrev open_at : Stage → HalfTaken → ℕ → List Left → Stage
+  abbrev open_at : Stage → PartialBody → ℕ → List RemainingItem → Stage
   open_at stage half taken left = with_body purpose half (at stage taken left)
 
   -- what is done when the close came
-  abbrev closed_by : Stage → HalfTaken → ℕ → Cut → Stage
+  abbrev closed_by : Stage → PartialBody → ℕ → Cut → Stage
   closed_by stage half taken cut = used purpose (half.body ++ cut.body) (past_body cut (at stage taken []))
 
-  step : (stage : Stage) (half : HalfTaken) (taken : ℕ) (line : SourceLine) (left : List Left) (depth : Option ℕ)
+  step : (stage : Stage) (half : PartialBody) (taken : ℕ) (line : SourceLine) (left : List RemainingItem) (depth : Option ℕ)
       → depth_after (nesting line.text) half.depth ≡ depth
       → move (open_at stage half taken (Line line ∷ left))
       ≡ Passes (into_body purpose half line.text depth (one_taken left (open_at stage half taken (Line line ∷ left))))
@@ -31,11 +31,11 @@ module _ (purpose : Purpose) where
       ap (λ (d : Option ℕ). Passes
       (into_body purpose half line.text d (one_taken left (open_at stage half taken (Line line ∷ left))))) is
 
-  abbrev Closes : Stage → HalfTaken → ℕ → List Left → Cut → Type 0
+  abbrev Closes : Stage → PartialBody → ℕ → List RemainingItem → Cut → Type 0
   Closes stage half taken left cut = Runs (open_at stage half taken left) [] (λ s. s ≡ closed_by stage half taken cut)
 
-  closing_line : (stage : Stage) (half : HalfTaken) (taken : ℕ) (line : SourceLine) (left : List Left) (cut : Cut)
-      → cut.is_closed ≡ true → ((half' : HalfTaken) → (cut_at nesting half'.depth left).is_closed ≡ true
+  closing_line : (stage : Stage) (half : PartialBody) (taken : ℕ) (line : SourceLine) (left : List RemainingItem) (cut : Cut)
+      → cut.is_closed ≡ true → ((half' : PartialBody) → (cut_at nesting half'.depth left).is_closed ≡ true
       → Closes stage half' (taken + 1) left (cut_at nesting half'.depth left))
       → (depth : Option ℕ) → depth_after (nesting line.text) half.depth ≡ depth
       → cut_after line.text left (λ inside. cut_at nesting inside left) depth ≡ cut
@@ -51,7 +51,7 @@ module _ (purpose : Purpose) where
       let before : Stage = open_at stage half taken (Line line ∷ left) in
       let inner : Cut = cut_at nesting depth left in
       let shut : inner.is_closed ≡ true = ap (λ (c : Cut). c.is_closed) same ∙ closed in
-      let half' : HalfTaken = taken_with half line.text depth in
+      let half' : PartialBody = taken_with half line.text depth in
       let mid : Stage = open_at stage half' (taken + 1) left in
       let body : (half.body ++ line.text ∷ []) ++ inner.body ≡ half.body ++ line.text ∷ inner.body
       = append_assoc half.body (line.text ∷ []) inner.body in
@@ -67,7 +67,7 @@ module _ (purpose : Purpose) where
       = weakened (λ s. s ≡ closed_by stage half' (taken + 1) inner) P mid [] (λ s is. is ∙ there) (more half' shut) in
       passes_on P before mid [] (step stage half taken line left (Some depth) came) rest
 
-  pub closes : (stage : Stage) (left : List Left) (half : HalfTaken) (taken : ℕ)
+  pub closes : (stage : Stage) (left : List RemainingItem) (half : PartialBody) (taken : ℕ)
       → (cut_at nesting half.depth left).is_closed ≡ true
       → Closes stage half taken left (cut_at nesting half.depth left)
   closes stage [] half taken closed = absurd (let bad : false ≡ true = closed in cc)
@@ -78,14 +78,14 @@ module _ (purpose : Purpose) where
 
   -- ---- a body without a close
 
-  pub record IsOpenAt (stage : Stage) (half : HalfTaken) (taken : ℕ) (cut : Cut) (after : Stage) : Type 0 where
+  pub record IsOpenAt (stage : Stage) (half : PartialBody) (taken : ℕ) (cut : Cut) (after : Stage) : Type 0 where
     pub inner : ℕ
     pub is : after ≡ open_at stage (record { body = half.body ++ cut.body; depth = inner }) (taken + length cut.body) cut.after
 
-  abbrev Opens : Stage → HalfTaken → ℕ → List Left → Cut → Type 0
+  abbrev Opens : Stage → PartialBody → ℕ → List RemainingItem → Cut → Type 0
   Opens stage half taken left cut = Runs (open_at stage half taken left) [] (IsOpenAt stage half taken cut)
 
-  nothing_more : (stage : Stage) (half : HalfTaken) (taken : ℕ) (left : List Left)
+  nothing_more : (stage : Stage) (half : PartialBody) (taken : ℕ) (left : List RemainingItem)
       → Opens stage half taken left (record { body = []; is_closed = false; after = left })
   nothing_more stage half taken left =
       let cut : Cut = record { body = []; is_closed = false; after = left } in
@@ -95,8 +95,8 @@ module _ (purpose : Purpose) where
       = ap (λ (b : List Bytes). by b taken) (sym (append-nil half.body)) ∙ ap (by (half.body ++ [])) count in
       stays (IsOpenAt stage half taken cut) (open_at stage half taken left) (record { inner = half.depth; is = same })
 
-  open_line : (stage : Stage) (half : HalfTaken) (taken : ℕ) (line : SourceLine) (left : List Left) (cut : Cut)
-      → cut.is_closed ≡ false → ((half' : HalfTaken) → (cut_at nesting half'.depth left).is_closed ≡ false
+  open_line : (stage : Stage) (half : PartialBody) (taken : ℕ) (line : SourceLine) (left : List RemainingItem) (cut : Cut)
+      → cut.is_closed ≡ false → ((half' : PartialBody) → (cut_at nesting half'.depth left).is_closed ≡ false
       → Opens stage half' (taken + 1) left (cut_at nesting half'.depth left))
       → (depth : Option ℕ) → depth_after (nesting line.text) half.depth ≡ depth
       → cut_after line.text left (λ inside. cut_at nesting inside left) depth ≡ cut
@@ -107,7 +107,7 @@ module _ (purpose : Purpose) where
       let before : Stage = open_at stage half taken (Line line ∷ left) in
       let inner : Cut = cut_at nesting depth left in
       let shut : inner.is_closed ≡ false = ap (λ (c : Cut). c.is_closed) same ∙ isn in
-      let half' : HalfTaken = taken_with half line.text depth in
+      let half' : PartialBody = taken_with half line.text depth in
       let mid : Stage = open_at stage half' (taken + 1) left in
       let body : (half.body ++ line.text ∷ []) ++ inner.body ≡ half.body ++ line.text ∷ inner.body
       = append_assoc half.body (line.text ∷ []) inner.body in
@@ -125,7 +125,7 @@ module _ (purpose : Purpose) where
       = weakened (IsOpenAt stage half' (taken + 1) inner) (IsOpenAt stage half taken cut) mid [] there (more half' shut) in
       passes_on (IsOpenAt stage half taken cut) before mid [] (step stage half taken line left (Some depth) came) rest
 
-  pub stays_open : (stage : Stage) (left : List Left) (half : HalfTaken) (taken : ℕ)
+  pub stays_open : (stage : Stage) (left : List RemainingItem) (half : PartialBody) (taken : ℕ)
       → (cut_at nesting half.depth left).is_closed ≡ false → Opens stage half taken left (cut_at nesting half.depth left)
   stays_open stage [] half taken isn = nothing_more stage half taken []
   stays_open stage (End mark ∷ left) half taken isn = nothing_more stage half taken (End mark ∷ left)
@@ -135,7 +135,7 @@ module _ (purpose : Purpose) where
 
 -- ---- the laws
 
-module _ (purpose : Purpose) (taken : HalfTaken) (stage : Stage) where
+module _ (purpose : Purpose) (taken : PartialBody) (stage : Stage) where
   abbrev cut : Cut
   cut = rest_of_body taken stage
 
@@ -145,7 +145,7 @@ module _ (purpose : Purpose) (taken : HalfTaken) (stage : Stage) where
   closed is = arrived (with_body purpose taken stage) (used purpose (taken.body ++ cut.body) (past_body cut stage)) []
       (closes purpose stage stage.left taken stage.taken is)
 
-  pub ended_open : (mark : Mark) (left : List Left) → cut.is_closed ≡ false → cut.after ≡ End mark ∷ left
+  pub ended_open : (mark : Mark) (left : List RemainingItem) → cut.is_closed ≡ false → cut.after ≡ End mark ∷ left
       → Leads (with_body purpose taken stage) [] (ended mark left (past_open_body cut stage))
       ⊎ IsCutShort (with_body purpose taken stage) []
   ended_open mark left is stands =
@@ -156,7 +156,7 @@ module _ (purpose : Purpose) (taken : HalfTaken) (stage : Stage) where
       arrived before last []
       (and_then Q P before [] [] (stays_open purpose stage stage.left taken stage.taken is)
       (λ s stood.
-      let by : List Left → Stage
+      let by : List RemainingItem → Stage
       = λ l. open_at purpose stage (record { body = taken.body ++ cut.body; depth = stood.inner })
       (stage.taken + length cut.body) l in
       from_same P s (by (End mark ∷ left)) [] (stood.is ∙ ap by stands)

@@ -5,18 +5,18 @@ use Rattle.std.proofs.lemmas.List.{map-append}
 use Rattle.m11_base.specs.Devices.{Bytes}
 use Rattle.m11_scan_lines.specs.Line.{SourceLine}
 use Rattle.m11_unfold_arguments.specs.Directives.{directive}
-use Rattle.m11_unfold_arguments.specs.Expressions.{Known}
+use Rattle.m11_unfold_arguments.specs.Expressions.{KnownSymbols}
 use Rattle.m11_unfold_arguments.specs.declared.directives.Directive.{Directive}
 use Rattle.m11_unfold_arguments.specs.declared.directives.Directive.TheVariants as word
 use Rattle.m11_unfold_bodies.specs.Bodies.{Cut, cut_after, cut_at, depth_after, texts_of, with_line}
 use Rattle.m11_unfold_bodies.specs.Conditions.{OpenConditions, is_live_inside}
-use Rattle.m11_unfold_bodies.specs.Left.{Left, Line, End, after_mark, count_in, has_mark, is_expanding, marks}
+use Rattle.m11_unfold_bodies.specs.Left.{RemainingItem, Line, End, after_mark, count_in, has_mark, is_expanding, marks}
 use Rattle.m11_unfold_bodies.specs.declared.conditions.Part.{Part}
 use Rattle.m11_unfold_bodies.specs.declared.mark.Mark.{Mark}
 use Rattle.m11_unfold_rules.specs.Acting.{Acted, OwnDirective, Operation, acted_by}
 use Rattle.m11_unfold_rules.specs.Stages.{Stage, line_left}
 use Rattle.m11_unfold_rules.specs.Taking.{Gives, Live, live_or_skipped, move, nesting, skipped_by}
-use Rattle.m11_unfold_rules.specs.Unfolding.{Given, given}
+use Rattle.m11_unfold_rules.specs.Unfolding.{UnfoldedLine, given}
 use Rattle.m11_unfold_rules.proofs.Operators.{has_word}
 use Rattle.m11_unfold_laws.specs.Levels.{Level, Situation, counting, only_entered, operation_at, stage_of, within_condition}
 use Rattle.m11_unfold_laws.specs.Shapes.{Begins}
@@ -25,28 +25,28 @@ use Rattle.m11_unfold_laws.proofs.Runs.{Runs, and_then, from_same, gives_line}
 
 -- ---- what is left
 
-pub parted : (one other : List SourceLine) (left : List Left)
+pub parted : (one other : List SourceLine) (left : List RemainingItem)
     → map line_left (one ++ other) ++ left ≡ map line_left one ++ (map line_left other ++ left)
-parted one other left = ap (λ (l : List Left). l ++ left) (map-append line_left one other)
+parted one other left = ap (λ (l : List RemainingItem). l ++ left) (map-append line_left one other)
     ∙ append_assoc (map line_left one) (map line_left other) left
 
-pub past_lines : (lines : List SourceLine) (left : List Left) → after_mark (map line_left lines ++ left) ≡ after_mark left
+pub past_lines : (lines : List SourceLine) (left : List RemainingItem) → after_mark (map line_left lines ++ left) ≡ after_mark left
 past_lines [] left = refl
 past_lines (line ∷ lines) left = past_lines lines left
 
 -- ---- a live line
 
-abbrev pub shown : Level → Known → SourceLine → Acted → Given
+abbrev pub shown : Level → KnownSymbols → SourceLine → Acted → UnfoldedLine
 shown level known line acted = record {
   live = record { line = line; is_expanded = has_mark level.around };
   known = known;
   is_own = acted.is_own;
-  notes = acted.notes;
+  remarks = acted.remarks;
   arguments = count_in level.around;
 }
 
-module _ (P : Stage → Type 0) (level : Level) (situation : Situation) (known : Known) (line : SourceLine) (left : List Left)
-    (acted : Acted) (gives : List Given) where
+module _ (P : Stage → Type 0) (level : Level) (situation : Situation) (known : KnownSymbols) (line : SourceLine) (left : List RemainingItem)
+    (acted : Acted) (gives : List UnfoldedLine) where
   abbrev before : Stage
   before = stage_of level situation (Line line ∷ left)
 
@@ -61,11 +61,11 @@ module _ (P : Stage → Type 0) (level : Level) (situation : Situation) (known :
       → acted_by known line.text here (operation_at level situation line) ≡ acted → Runs acted.after gives P
       → Runs before (shown level known line acted ∷ gives) P
   line_by around moves acts next =
-      let told : List Mark → Acted → Given = λ m a. record {
+      let told : List Mark → Acted → UnfoldedLine = λ m a. record {
         live = record { line = line; is_expanded = has_mark m };
         known = known;
         is_own = a.is_own;
-        notes = a.notes;
+        remarks = a.remarks;
         arguments = count_in m;
       } in
       let same : given known live here ≡ shown level known line acted
@@ -87,8 +87,8 @@ module _ (P : Stage → Type 0) (level : Level) (situation : Situation) (known :
 
 -- ---- a word of the condition around it
 
-module _ (level : Level) (holds : Bool) (situation : Situation) (line : SourceLine) (left : List Left) where
-  abbrev in_part : Bool → Situation → List Left → Stage
+module _ (level : Level) (holds : Bool) (situation : Situation) (line : SourceLine) (left : List RemainingItem) where
+  abbrev in_part : Bool → Situation → List RemainingItem → Stage
   in_part is_live s l = stage_of (within_condition holds is_live level) s l
 
   abbrev Comes : Bool → Type 0
@@ -127,10 +127,10 @@ module _ (level : Level) (holds : Bool) (situation : Situation) (line : SourceLi
 
 -- ---- bodies before what is left
 
-abbrev pub with_left : List Left → Cut → Cut
+abbrev pub with_left : List RemainingItem → Cut → Cut
 with_left left cut = record cut { after = cut.after ++ left }
 
-cut_line : (text : Bytes) (lines : List SourceLine) (left : List Left)
+cut_line : (text : Bytes) (lines : List SourceLine) (left : List RemainingItem)
     → ((depth : ℕ) → (cut_at nesting depth (map line_left lines)).is_closed ≡ true
     → cut_at nesting depth (map line_left lines ++ left) ≡ with_left left (cut_at nesting depth (map line_left lines)))
     → (depth : Option ℕ) → (cut_after text (map line_left lines) (λ d. cut_at nesting d (map line_left lines)) depth).is_closed
@@ -140,27 +140,27 @@ cut_line : (text : Bytes) (lines : List SourceLine) (left : List Left)
 cut_line text lines left more None closed = refl
 cut_line text lines left more (Some depth) closed = ap (with_line text) (more depth closed)
 
-pub cut_further : (lines : List SourceLine) (left : List Left) (depth : ℕ)
+pub cut_further : (lines : List SourceLine) (left : List RemainingItem) (depth : ℕ)
     → (cut_at nesting depth (map line_left lines)).is_closed ≡ true
     → cut_at nesting depth (map line_left lines ++ left) ≡ with_left left (cut_at nesting depth (map line_left lines))
 cut_further [] left depth closed = absurd (let bad : false ≡ true = closed in cc)
 cut_further (line ∷ lines) left depth closed =
     cut_line line.text lines left (λ d shut. cut_further lines left d shut) (depth_after (nesting line.text) depth) closed
 
-no_line : (left rest : List Left) (line : SourceLine) → after_mark left ≡ Line line ∷ rest → ⊥
+no_line : (left rest : List RemainingItem) (line : SourceLine) → after_mark left ≡ Line line ∷ rest → ⊥
 no_line [] rest line is = absurd (let bad = is in cc)
 no_line (Line other ∷ left) rest line is = no_line left rest line is
 no_line (End mark ∷ left) rest line is = absurd (let bad = is in cc)
 
-abbrev open_cut : List Bytes → List Left → Cut
+abbrev open_cut : List Bytes → List RemainingItem → Cut
 open_cut body left = record { body = body; is_closed = false; after = left }
 
-nothing_cut : (left : List Left) (depth : ℕ) → after_mark left ≡ left → cut_at nesting depth left ≡ open_cut [] left
+nothing_cut : (left : List RemainingItem) (depth : ℕ) → after_mark left ≡ left → cut_at nesting depth left ≡ open_cut [] left
 nothing_cut [] depth ends = refl
 nothing_cut (End mark ∷ left) depth ends = refl
 nothing_cut (Line line ∷ left) depth ends = absurd (no_line left left line ends)
 
-open_line : (text : Bytes) (lines : List SourceLine) (left : List Left)
+open_line : (text : Bytes) (lines : List SourceLine) (left : List RemainingItem)
     → ((depth : ℕ) → (cut_at nesting depth (map line_left lines)).is_closed ≡ false
     → cut_at nesting depth (map line_left lines ++ left) ≡ open_cut (texts_of lines) left)
     → (depth : Option ℕ) → (cut_after text (map line_left lines) (λ d. cut_at nesting d (map line_left lines)) depth).is_closed
@@ -170,7 +170,7 @@ open_line : (text : Bytes) (lines : List SourceLine) (left : List Left)
 open_line text lines left more None shut = absurd (let bad : true ≡ false = shut in cc)
 open_line text lines left more (Some depth) shut = ap (with_line text) (more depth shut)
 
-pub cut_open : (lines : List SourceLine) (left : List Left) (depth : ℕ) → after_mark left ≡ left
+pub cut_open : (lines : List SourceLine) (left : List RemainingItem) (depth : ℕ) → after_mark left ≡ left
     → (cut_at nesting depth (map line_left lines)).is_closed ≡ false
     → cut_at nesting depth (map line_left lines ++ left) ≡ open_cut (texts_of lines) left
 cut_open [] left depth ends shut = nothing_cut left depth ends

@@ -1,15 +1,15 @@
 -- Lines that were read up to their end, or up to a word of the condition around them.
 use Rattle.std.proofs.Common.{◌≡◌, ◌∙◌, ℕ, suc, Bool, true, List, [], ◌∷◌, ◌++◌, append_assoc, append-nil, refl, sym, ap, subst}
 use Rattle.m11_scan_lines.specs.Line.{SourceLine}
-use Rattle.m11_unfold_arguments.specs.Expressions.{Known}
+use Rattle.m11_unfold_arguments.specs.Expressions.{KnownSymbols}
 use Rattle.m11_unfold_arguments.specs.Immediate as immediate
 use Rattle.m11_unfold_arguments.specs.declared.directives.Directive.TheVariants as word
 use Rattle.m11_unfold_bodies.specs.Conditions.{is_live_inside}
-use Rattle.m11_unfold_bodies.specs.Left.{Left, after_mark, marks}
+use Rattle.m11_unfold_bodies.specs.Left.{RemainingItem, after_mark, marks}
 use Rattle.m11_unfold_bodies.specs.declared.conditions.Part.{Part}
 use Rattle.m11_unfold_rules.specs.Acting.{OwnDirective, Operation}
 use Rattle.m11_unfold_rules.specs.Stages.{Stage}
-use Rattle.m11_unfold_rules.specs.Unfolding.{Given}
+use Rattle.m11_unfold_rules.specs.Unfolding.{UnfoldedLine}
 use Rattle.m11_unfold_laws.specs.Laws.{Arrived, before_lines}
 use Rattle.m11_unfold_laws.specs.Levels.{Level, Situation, counting, operation_at, own_line, within_condition}
 use Rattle.m11_unfold_laws.specs.Shapes.{Begins, Ending, GoesOn, Parts, Shape, statement}
@@ -22,26 +22,26 @@ pub data IsOwn : Operation → Type 0 where
   Close : (at : ℕ) → IsOwn (OwnDirective word.Endc at)
 
 -- what is left of lines begins with such a word, or with an `.IIF` whose statement does
-pub data Breaks (level : Level) : ℕ → Situation → SourceLine → List SourceLine → List Left → List Given → Type 0 where
-  ByWord : (n : ℕ) (situation : Situation) (line : SourceLine) (others : List SourceLine) (left : List Left) (later : List Given)
+pub data Breaks (level : Level) : ℕ → Situation → SourceLine → List SourceLine → List RemainingItem → List UnfoldedLine → Type 0 where
+  ByWord : (n : ℕ) (situation : Situation) (line : SourceLine) (others : List SourceLine) (left : List RemainingItem) (later : List UnfoldedLine)
       → IsOwn (operation_at level situation line) → Rested n (before_lines level situation (line ∷ others) left) later
       → Breaks level n situation line others left later
-  ByStatement : (n : ℕ) (situation : Situation) (line : SourceLine) (others : List SourceLine) (left : List Left)
-      (later : List Given)
-      (known : Known) (at : ℕ) (next : SourceLine) → operation_at level situation line ≡ OwnDirective word.Iif at
+  ByStatement : (n : ℕ) (situation : Situation) (line : SourceLine) (others : List SourceLine) (left : List RemainingItem)
+      (later : List UnfoldedLine)
+      (known : KnownSymbols) (at : ℕ) (next : SourceLine) → operation_at level situation line ≡ OwnDirective word.Iif at
       → statement known line.text at ≡ next ∷ [] → Breaks level n (counting 1 situation) next others left later
-      → Breaks level n situation line others left (own_line level known line (immediate.notes known line.text at) ∷ later)
+      → Breaks level n situation line others left (own_line level known line (immediate.remarks known line.text at) ∷ later)
 
-pub data Stop (level : Level) : ℕ → Situation → Ending → List SourceLine → List Left → List Given → Type 0 where
-  Whole : (n : ℕ) (situation : Situation) (ending : Ending) (left : List Left) (later : List Given) (stage : Stage)
+pub data Stop (level : Level) : ℕ → Situation → Ending → List SourceLine → List RemainingItem → List UnfoldedLine → Type 0 where
+  Whole : (n : ℕ) (situation : Situation) (ending : Ending) (left : List RemainingItem) (later : List UnfoldedLine) (stage : Stage)
       → Arrived ending level situation left stage → Rested n stage later → Stop level n situation ending [] left later
-  Broken : (n : ℕ) (situation : Situation) (line : SourceLine) (others : List SourceLine) (left : List Left) (later : List Given)
+  Broken : (n : ℕ) (situation : Situation) (line : SourceLine) (others : List SourceLine) (left : List RemainingItem) (later : List UnfoldedLine)
       → (level.entered ≡ [] → ⊥) → Breaks level n situation line others left later
       → Stop level n situation GoesOn (line ∷ others) left later
 
 pub lifted_breaks : (level : Level) (n : ℕ) (situation : Situation) (line : SourceLine) (others : List SourceLine)
-    (left : List Left)
-    (later : List Given) → Breaks level n situation line others left later → Breaks level (suc n) situation line others left later
+    (left : List RemainingItem)
+    (later : List UnfoldedLine) → Breaks level n situation line others left later → Breaks level (suc n) situation line others left later
 lifted_breaks level _ _ _ _ _ _ (Breaks.ByWord n situation line others left later is rested) =
     Breaks.ByWord (suc n) situation line others left later is
     (lifted n (before_lines level situation (line ∷ others) left) later rested)
@@ -49,21 +49,21 @@ lifted_breaks level _ _ _ _ _ _ (Breaks.ByStatement n situation line others left
     Breaks.ByStatement (suc n) situation line others left later known at next is says
     (lifted_breaks level n (counting 1 situation) next others left later breaks)
 
-pub lifted_stop : (level : Level) (n : ℕ) (situation : Situation) (ending : Ending) (others : List SourceLine) (left : List Left)
-    (later : List Given) → Stop level n situation ending others left later → Stop level (suc n) situation ending others left later
+pub lifted_stop : (level : Level) (n : ℕ) (situation : Situation) (ending : Ending) (others : List SourceLine) (left : List RemainingItem)
+    (later : List UnfoldedLine) → Stop level n situation ending others left later → Stop level (suc n) situation ending others left later
 lifted_stop level _ _ _ _ _ _ (Stop.Whole n situation ending left later stage there rested) =
     Stop.Whole (suc n) situation ending left later stage there (lifted n stage later rested)
 lifted_stop level _ _ _ _ _ _ (Stop.Broken n situation line others left later open' breaks) =
     Stop.Broken (suc n) situation line others left later open' (lifted_breaks level n situation line others left later breaks)
 
 -- the first of some lines have a shape, with the first of the live lines
-pub record Parsed (n : ℕ) (level : Level) (before : Situation) (lines : List SourceLine) (left : List Left)
-    (gives : List Given) : Type 0 where
+pub record Parsed (n : ℕ) (level : Level) (before : Situation) (lines : List SourceLine) (left : List RemainingItem)
+    (gives : List UnfoldedLine) : Type 0 where
   pub taken : List SourceLine
   pub others : List SourceLine
   pub lines_are : lines ≡ taken ++ others
-  pub first : List Given
-  pub later : List Given
+  pub first : List UnfoldedLine
+  pub later : List UnfoldedLine
   pub gives_are : gives ≡ first ++ later
   pub after : Situation
   pub ending : Ending
@@ -72,13 +72,13 @@ pub record Parsed (n : ℕ) (level : Level) (before : Situation) (lines : List S
 
 -- the same of what is left of a condition
 pub record PartsParsed (n : ℕ) (level : Level) (holds is_live : Bool) (before : Situation) (lines : List SourceLine)
-    (left : List Left)
-    (gives : List Given) : Type 0 where
+    (left : List RemainingItem)
+    (gives : List UnfoldedLine) : Type 0 where
   pub taken : List SourceLine
   pub others : List SourceLine
   pub lines_are : lines ≡ taken ++ others
-  pub first : List Given
-  pub later : List Given
+  pub first : List UnfoldedLine
+  pub later : List UnfoldedLine
   pub gives_are : gives ≡ first ++ later
   pub after : Situation
   pub ending : Ending
@@ -87,23 +87,23 @@ pub record PartsParsed (n : ℕ) (level : Level) (holds is_live : Bool) (before 
 
 -- whatever lines are read in so many moves
 abbrev pub Reads : ℕ → Type 0
-Reads n = (level : Level) (before : Situation) (lines : List SourceLine) (left : List Left) (gives : List Given)
+Reads n = (level : Level) (before : Situation) (lines : List SourceLine) (left : List RemainingItem) (gives : List UnfoldedLine)
     → marks left ≡ level.around → is_live_inside level.entered ≡ true → after_mark left ≡ left
     → Rested n (before_lines level before lines left) gives → Parsed n level before lines left gives
 
 abbrev pub ReadsParts : ℕ → Type 0
-ReadsParts n = (level : Level) (holds is_live : Bool) (before : Situation) (lines : List SourceLine) (left : List Left)
-    (gives : List Given)
+ReadsParts n = (level : Level) (holds is_live : Bool) (before : Situation) (lines : List SourceLine) (left : List RemainingItem)
+    (gives : List UnfoldedLine)
     → marks left ≡ level.around → is_live_inside level.entered ≡ true → after_mark left ≡ left
     → Rested n (before_lines (within_condition holds is_live level) before lines left) gives
     → PartsParsed n level holds is_live before lines left gives
 
 -- ---- one construct more in front
 
-module _ (n : ℕ) (level : Level) (start before : Situation) (front lines : List SourceLine) (ones more : List Given)
-    (left : List Left) where
+module _ (n : ℕ) (level : Level) (start before : Situation) (front lines : List SourceLine) (ones more : List UnfoldedLine)
+    (left : List RemainingItem) where
   pub grown : Parsed n level before lines left more
-      → ((taken : List SourceLine) (first : List Given) (after : Situation) (ending : Ending)
+      → ((taken : List SourceLine) (first : List UnfoldedLine) (after : Situation) (ending : Ending)
       → Shape level before taken first after ending
       → Shape level start (front ++ taken) (ones ++ first) after ending)
       → Parsed (suc n) level start (front ++ lines) left (ones ++ more)
@@ -113,7 +113,7 @@ module _ (n : ℕ) (level : Level) (start before : Situation) (front lines : Lis
     lines_are = ap (λ (l : List SourceLine). front ++ l) p.lines_are ∙ sym (append_assoc front p.taken p.others);
     first = ones ++ p.first;
     later = p.later;
-    gives_are = ap (λ (g : List Given). ones ++ g) p.gives_are ∙ sym (append_assoc ones p.first p.later);
+    gives_are = ap (λ (g : List UnfoldedLine). ones ++ g) p.gives_are ∙ sym (append_assoc ones p.first p.later);
     after = p.after;
     ending = p.ending;
     shape = make p.taken p.first p.after p.ending p.shape;
@@ -121,8 +121,8 @@ module _ (n : ℕ) (level : Level) (start before : Situation) (front lines : Lis
   }
 
 -- all lines are taken
-pub all_taken : (n : ℕ) (level : Level) (before : Situation) (lines : List SourceLine) (left : List Left)
-    (first later : List Given)
+pub all_taken : (n : ℕ) (level : Level) (before : Situation) (lines : List SourceLine) (left : List RemainingItem)
+    (first later : List UnfoldedLine)
     (after : Situation) (ending : Ending) (stage : Stage) → Shape level before lines first after ending
     → Arrived ending level after left stage → Rested n stage later → Parsed n level before lines left (first ++ later)
 all_taken n level before lines left first later after ending stage shaped there rested = record {
@@ -139,21 +139,21 @@ all_taken n level before lines left first later after ending stage shaped there 
 }
 
 -- by equal live lines, and equal lines
-pub of_gives : (n : ℕ) (level : Level) (before : Situation) (lines : List SourceLine) (left : List Left)
-    (gives others : List Given)
+pub of_gives : (n : ℕ) (level : Level) (before : Situation) (lines : List SourceLine) (left : List RemainingItem)
+    (gives others : List UnfoldedLine)
     → gives ≡ others → Parsed n level before lines left others → Parsed n level before lines left gives
 of_gives n level before lines left gives others same p
-    = subst (λ (g : List Given). Parsed n level before lines left g) (sym same) p
+    = subst (λ (g : List UnfoldedLine). Parsed n level before lines left g) (sym same) p
 
-pub of_lines : (n : ℕ) (level : Level) (before : Situation) (lines others : List SourceLine) (left : List Left)
-    (gives : List Given)
+pub of_lines : (n : ℕ) (level : Level) (before : Situation) (lines others : List SourceLine) (left : List RemainingItem)
+    (gives : List UnfoldedLine)
     → lines ≡ others → Parsed n level before others left gives → Parsed n level before lines left gives
 of_lines n level before lines others left gives same p
     = subst (λ (l : List SourceLine). Parsed n level before l left gives) (sym same) p
 
 -- nothing is read before a word
-pub broken : (n : ℕ) (level : Level) (before : Situation) (line : SourceLine) (lines : List SourceLine) (left : List Left)
-    (gives : List Given)
+pub broken : (n : ℕ) (level : Level) (before : Situation) (line : SourceLine) (lines : List SourceLine) (left : List RemainingItem)
+    (gives : List UnfoldedLine)
     → (level.entered ≡ [] → ⊥) → Breaks level n before line lines left gives → Parsed n level before (line ∷ lines) left gives
 broken n level before line lines left gives inside breaks = record {
   taken = [];

@@ -6,21 +6,21 @@ use Rattle.m11_scan_lines.specs.Line.{SourceLine}
 use Rattle.m11_unfold_arguments.specs.Actuals.{actuals_from}
 use Rattle.m11_unfold_arguments.specs.Conditions.{condition}
 use Rattle.m11_unfold_arguments.specs.Directives.{directive}
-use Rattle.m11_unfold_arguments.specs.Expressions.{Known}
+use Rattle.m11_unfold_arguments.specs.Expressions.{KnownSymbols}
 use Rattle.m11_unfold_arguments.specs.Immediate as immediate
-use Rattle.m11_unfold_arguments.specs.Notes.{Notes, noting}
+use Rattle.m11_unfold_arguments.specs.Remarks.{Remarks, remarks_of}
 use Rattle.m11_unfold_arguments.specs.declared.directives.Directive.{Directive}
 use Rattle.m11_unfold_arguments.specs.declared.directives.Directive.TheVariants as word
 use Rattle.m11_unfold_bodies.specs.Bodies.{cut_at}
 use Rattle.m11_unfold_bodies.specs.Conditions.{is_live_inside, past}
-use Rattle.m11_unfold_bodies.specs.Left.{Left, Line, End, after_mark, count_in, has_mark, is_expanding, marks}
+use Rattle.m11_unfold_bodies.specs.Left.{RemainingItem, Line, End, after_mark, count_in, has_mark, is_expanding, marks}
 use Rattle.m11_unfold_bodies.specs.declared.conditions.OpenCondition.{OpenCondition}
 use Rattle.m11_unfold_bodies.specs.declared.mark.Mark.{Mark}
 use Rattle.m11_unfold_rules.specs.Acting.{Acted, Calls, OwnDirective, Operation, act, acted_by, flagged, foreign, flag_O, opens, own}
-use Rattle.m11_unfold_rules.specs.Constructs.{condition_notes, lines_of_rounds}
+use Rattle.m11_unfold_rules.specs.Constructs.{condition_remarks, lines_of_rounds}
 use Rattle.m11_unfold_rules.specs.Stages.{Macro, Purpose, Defines, Repeats, Drops, Stage, line_left}
 use Rattle.m11_unfold_rules.specs.Taking.{Gives, Live, live_or_skipped, move, nesting, skipped_by, used}
-use Rattle.m11_unfold_rules.specs.Unfolding.{Given, given}
+use Rattle.m11_unfold_rules.specs.Unfolding.{UnfoldedLine, given}
 use Rattle.m11_unfold_rules.proofs.Expanding.{as_lines}
 use Rattle.m11_unfold_rules.proofs.OtherLines.{same_marks}
 use Rattle.m11_unfold_laws.specs.Laws.{Arrived, IsStopped, before_lines}
@@ -41,24 +41,24 @@ use Rattle.m11_unfold_laws.proofs.Words.{astray_acts, opens_acts, other_acts}
 -- ---- facts
 
 -- of no line nothing is read
-none_of : (level : Level) (before after : Situation) (ending : Ending) (gives : List Given) (lines : List SourceLine)
+none_of : (level : Level) (before after : Situation) (ending : Ending) (gives : List UnfoldedLine) (lines : List SourceLine)
     → Shape level before lines gives after ending → lines ≡ [] → (gives ≡ []) × (after ≡ before) × (ending ≡ GoesOn)
 none_of _ _ _ _ _ _ (shapes.Shape.Nothing level before) none = (refl, refl, refl)
 none_of _ _ _ _ _ _ (shapes.Shape.Other level before after ending known line lines gives is next) none
     = absurd (let bad = none in cc)
-none_of _ _ _ _ _ _ (shapes.Shape.Astray level before after ending known line lines gives notes is next) none
+none_of _ _ _ _ _ _ (shapes.Shape.Astray level before after ending known line lines gives remarks is next) none
     = absurd (let bad = none in cc)
 none_of _ _ _ _ _ _ (shapes.Shape.Expansion level before middle after inner ending known line lines gives later put puts body
     returns next) none =
     absurd (let bad = none in cc)
 none_of _ _ _ _ _ _ (shapes.Shape.LastExpansion level before after known line lines gives put puts body) none
     = absurd (let bad = none in cc)
-none_of _ _ _ _ _ _ (shapes.Shape.Definition level before after ending known line lines others gives notes name formals body is
+none_of _ _ _ _ _ _ (shapes.Shape.Definition level before after ending known line lines others gives remarks name formals body is
     has next) none =
     absurd (let bad = none in cc)
-none_of _ _ _ _ _ _ (shapes.Shape.Dropped level before after ending known line lines others gives notes body is has next) none =
+none_of _ _ _ _ _ _ (shapes.Shape.Dropped level before after ending known line lines others gives remarks body is has next) none =
     absurd (let bad = none in cc)
-none_of _ _ _ _ _ _ (shapes.Shape.OpenBody level before known line lines notes purpose is shut) none
+none_of _ _ _ _ _ _ (shapes.Shape.OpenBody level before known line lines remarks purpose is shut) none
     = absurd (let bad = none in cc)
 none_of _ _ _ _ _ _ (shapes.Shape.Condition level before after ending known line lines gives at is room next) none
     = absurd (let bad = none in cc)
@@ -73,16 +73,16 @@ none_of _ _ _ _ _ _ (shapes.Shape.Exit level before known line lines at is expan
 none_of _ _ _ _ _ _ (shapes.Shape.End level before known line lines at is) none = absurd (let bad = none in cc)
 
 -- in an expansion none of the conditions around it is met
-pub whole_stop : (level : Level) (n : ℕ) (situation : Situation) (ending : Ending) (others : List SourceLine) (left : List Left)
-    (later : List Given) → level.entered ≡ [] → Stop level n situation ending others left later
+pub whole_stop : (level : Level) (n : ℕ) (situation : Situation) (ending : Ending) (others : List SourceLine) (left : List RemainingItem)
+    (later : List UnfoldedLine) → level.entered ≡ [] → Stop level n situation ending others left later
     → (others ≡ []) × Onward (Arrived ending level situation left) n later
 whole_stop level _ _ _ _ _ _ none (Stop.Whole n situation ending left later stage there rested) =
     (refl, record { stage = stage; holds = there; next = rested })
 whole_stop level _ _ _ _ _ _ none (Stop.Broken n situation line others left later inside breaks) = absurd (inside none)
 
 -- a stop before lines is a break
-stop_breaks : (level : Level) (n : ℕ) (situation : Situation) (ending : Ending) (others : List SourceLine) (left : List Left)
-    (later : List Given) (line : SourceLine) (lines : List SourceLine) → Stop level n situation ending others left later
+stop_breaks : (level : Level) (n : ℕ) (situation : Situation) (ending : Ending) (others : List SourceLine) (left : List RemainingItem)
+    (later : List UnfoldedLine) (line : SourceLine) (lines : List SourceLine) → Stop level n situation ending others left later
     → others ≡ line ∷ lines → (level.entered ≡ [] → ⊥) × Breaks level n situation line lines left later
 stop_breaks level _ _ _ _ _ _ line lines (Stop.Whole n situation ending left later stage there rested) are =
     absurd (let bad = are in cc)
@@ -110,9 +110,9 @@ own_end _ (IsOwnWord.IfTrueFalse full) = absurd (let bad : true ≡ false = full
 -- ---- one line and what follows it
 
 module _ (n : ℕ) (again : Reads n) (again_parts : ReadsParts n) (level : Level) (before : Situation) (line : SourceLine)
-    (left : List Left) (gives : List Given) (around : marks left ≡ level.around) (taking : is_live_inside level.entered ≡ true)
+    (left : List RemainingItem) (gives : List UnfoldedLine) (around : marks left ≡ level.around) (taking : is_live_inside level.entered ≡ true)
     (ends : after_mark left ≡ left) where
-  abbrev left_of : List SourceLine → List Left
+  abbrev left_of : List SourceLine → List RemainingItem
   left_of lines = map line_left lines ++ left
 
   abbrev here : List SourceLine → Stage
@@ -125,8 +125,8 @@ module _ (n : ℕ) (again : Reads n) (again_parts : ReadsParts n) (level : Level
   Result lines = Parsed (suc n) level before (line ∷ lines) left gives
 
   -- the line, by what its operator does
-  acted_line : (lines : List SourceLine) (acted : Known → Acted)
-      → ((known : Known) → acted_by known line.text (here lines) (operation_at level before line) ≡ acted known) → Walk lines
+  acted_line : (lines : List SourceLine) (acted : KnownSymbols → Acted)
+      → ((known : KnownSymbols) → acted_by known line.text (here lines) (operation_at level before line) ≡ acted known) → Walk lines
       → LineGiven n (λ known. shown level known line (acted known)) (λ known. (acted known).after) gives
   acted_line lines acted acts walk =
       line_given n level before line (left_of lines) gives acted (same_marks lines left ∙ around)
@@ -141,24 +141,24 @@ module _ (n : ℕ) (again : Reads n) (again_parts : ReadsParts n) (level : Level
       (again level (counting 1 before) lines left g.more around taking ends g.next)
       (λ taken first after ending shaped. shapes.Shape.Other level before after ending g.known line taken first is shaped))
 
-  astray : (lines : List SourceLine) (notes : Notes) → IsAstray level line.text (operation_at level before line) notes
+  astray : (lines : List SourceLine) (remarks : Remarks) → IsAstray level line.text (operation_at level before line) remarks
       → Walk lines
       → Result lines
-  astray lines notes is walk =
-      let g = acted_line lines (λ known. own notes (here lines))
+  astray lines remarks is walk =
+      let g = acted_line lines (λ known. own remarks (here lines))
       (λ known. astray_acts known line.text level (counting 1 before) (left_of lines)
-      (operation_at level before line) notes (same_marks lines left ∙ around) is) walk in
-      of_gives (suc n) level before (line ∷ lines) left gives (own_line level g.known line notes ∷ g.more) g.whole
-      (grown n level before (counting 1 before) (line ∷ []) lines (own_line level g.known line notes ∷ []) g.more left
+      (operation_at level before line) remarks (same_marks lines left ∙ around) is) walk in
+      of_gives (suc n) level before (line ∷ lines) left gives (own_line level g.known line remarks ∷ g.more) g.whole
+      (grown n level before (counting 1 before) (line ∷ []) lines (own_line level g.known line remarks ∷ []) g.more left
       (again level (counting 1 before) lines left g.more around taking ends g.next)
-      (λ taken first after ending shaped. shapes.Shape.Astray level before after ending g.known line taken first notes is shaped))
+      (λ taken first after ending shaped. shapes.Shape.Astray level before after ending g.known line taken first remarks is shaped))
 
   -- ---- expansions
 
-  module _ (known : Known) (notes : Notes) (arguments : Option ℕ) (bytes : ℕ) (lines : List SourceLine) (situation : Situation)
-      (front others : List SourceLine) (more : List Given) where
+  module _ (known : KnownSymbols) (remarks : Remarks) (arguments : Option ℕ) (bytes : ℕ) (lines : List SourceLine) (situation : Situation)
+      (front others : List SourceLine) (more : List UnfoldedLine) where
     abbrev put : List SourceLine → Put
-    put rest = record { notes = notes; arguments = arguments; bytes = bytes; lines = lines; situation = situation; others = rest }
+    put rest = record { remarks = remarks; arguments = arguments; bytes = bytes; lines = lines; situation = situation; others = rest }
 
     abbrev inside : Level
     inside = within_expansion arguments bytes level
@@ -166,36 +166,36 @@ module _ (n : ℕ) (again : Reads n) (again_parts : ReadsParts n) (level : Level
     abbrev mark : Mark
     mark = mark_at level arguments bytes
 
-    abbrev After : List SourceLine → List Left
+    abbrev After : List SourceLine → List RemainingItem
     After rest = End mark ∷ left_of rest
 
     abbrev Read : Type 0
-    Read = Parsed (suc n) level before (line ∷ front ++ others) left (own_line level known line notes ∷ more)
+    Read = Parsed (suc n) level before (line ∷ front ++ others) left (own_line level known line remarks ∷ more)
 
     module _ (puts : (rest : List SourceLine)
         → Puts known before line.text (front ++ rest) (operation_at level before line) (put rest)) where
-      goes_back : (inner : Ending) (first later : List Given) (middle : Situation) → more ≡ first ++ later → Returns inner
+      goes_back : (inner : Ending) (first later : List UnfoldedLine) (middle : Situation) → more ≡ first ++ later → Returns inner
           → Shape inside situation lines first middle inner → Onward (Arrived inner inside middle (After others)) n later → Read
       goes_back inner first later middle are returns shaped on =
           let next : Rested n (stage_of level middle (left_of others)) later
           = past_run on.stage (stage_of level middle (left_of others)) later n
           (returned level middle arguments bytes (left_of others) inner on.stage returns on.holds) on.next in
-          of_gives (suc n) level before (line ∷ front ++ others) left (own_line level known line notes ∷ more)
-          (own_line level known line notes ∷ first ++ later) (ap (λ (g : List Given). own_line level known line notes ∷ g) are)
-          (grown n level before middle (line ∷ front) others (own_line level known line notes ∷ first) later left
+          of_gives (suc n) level before (line ∷ front ++ others) left (own_line level known line remarks ∷ more)
+          (own_line level known line remarks ∷ first ++ later) (ap (λ (g : List UnfoldedLine). own_line level known line remarks ∷ g) are)
+          (grown n level before middle (line ∷ front) others (own_line level known line remarks ∷ first) later left
           (again level middle others left later around taking ends next)
           (λ taken found after ending rest.
           shapes.Shape.Expansion level before middle after inner ending known line (front ++ taken) first found
           (put taken) (puts taken) shaped returns rest))
 
-      by_ending : (inner : Ending) (first later : List Given) (middle : Situation) → more ≡ first ++ later
+      by_ending : (inner : Ending) (first later : List UnfoldedLine) (middle : Situation) → more ≡ first ++ later
           → Shape inside situation lines first middle inner → Onward (Arrived inner inside middle (After others)) n later → Read
       by_ending GoesOn first later middle are shaped on = goes_back GoesOn first later middle are tt shaped on
       by_ending Stops first later middle are shaped on = goes_back Stops first later middle are tt shaped on
       by_ending Ends first later middle are shaped on =
-          of_gives (suc n) level before (line ∷ front ++ others) left (own_line level known line notes ∷ more)
-          (own_line level known line notes ∷ first ++ later) (ap (λ (g : List Given). own_line level known line notes ∷ g) are)
-          (all_taken (suc n) level before (line ∷ front ++ others) left (own_line level known line notes ∷ first) later middle
+          of_gives (suc n) level before (line ∷ front ++ others) left (own_line level known line remarks ∷ more)
+          (own_line level known line remarks ∷ first ++ later) (ap (λ (g : List UnfoldedLine). own_line level known line remarks ∷ g) are)
+          (all_taken (suc n) level before (line ∷ front ++ others) left (own_line level known line remarks ∷ first) later middle
           Ends on.stage
           (shapes.Shape.LastExpansion level before middle known line (front ++ others) first (put others) (puts others) shaped)
           on.holds
@@ -213,53 +213,53 @@ module _ (n : ℕ) (again : Reads n) (again_parts : ReadsParts n) (level : Level
   calls : (lines : List SourceLine) (macro : Macro) (at : ℕ) → operation_at level before line ≡ Calls macro at → Walk lines
       → Result lines
   calls lines macro at is walk =
-      let put : Known → List SourceLine → Put
+      let put : KnownSymbols → List SourceLine → Put
       = λ known rest. putting.put_by_call macro (actuals_from known line.text (length macro.formals) at) before rest in
       let g = acted_line lines (λ known.
-      own (put known lines).notes (stage_of (within_expansion (put known lines).arguments 0 level) (put known lines).situation
+      own (put known lines).remarks (stage_of (within_expansion (put known lines).arguments 0 level) (put known lines).situation
       (map line_left (put known lines).lines ++ End (mark_at level (put known lines).arguments 0) ∷ left_of lines)))
       (λ known. call_acts level before known line lines left macro at is) walk in
-      of_gives (suc n) level before (line ∷ lines) left gives (own_line level g.known line (put g.known lines).notes ∷ g.more)
+      of_gives (suc n) level before (line ∷ lines) left gives (own_line level g.known line (put g.known lines).remarks ∷ g.more)
       g.whole
-      (expansion g.known (put g.known lines).notes (put g.known lines).arguments 0 (put g.known lines).lines
+      (expansion g.known (put g.known lines).remarks (put g.known lines).arguments 0 (put g.known lines).lines
       (put g.known lines).situation [] lines g.more
       (λ rest. subst (λ (o : Operation). Puts g.known before line.text rest o (put g.known rest)) (sym is)
       (putting.Puts.Call macro at)) g.next)
 
   -- ---- bodies
 
-  module _ (known : Known) (notes : Notes) (body : List Bytes) (front others : List SourceLine) (more : List Given)
+  module _ (known : KnownSymbols) (remarks : Remarks) (body : List Bytes) (front others : List SourceLine) (more : List UnfoldedLine)
       (is : (rest : List SourceLine) → HasBody (front ++ rest) body rest) where
-    closed_body : (purpose : Purpose) → Opens known line.text (operation_at level before line) notes purpose
+    closed_body : (purpose : Purpose) → Opens known line.text (operation_at level before line) remarks purpose
         → Rested n (used purpose body (stage_of level (counting (length body + 2) before) (left_of others))) more
-        → Parsed (suc n) level before (line ∷ front ++ others) left (own_line level known line notes ∷ more)
+        → Parsed (suc n) level before (line ∷ front ++ others) left (own_line level known line remarks ∷ more)
     closed_body (Defines name formals) opens' rested =
         let after_it : Situation = defining name formals body (counting (length body + 2) before) in
-        grown n level before after_it (line ∷ front) others (own_line level known line notes ∷ []) more left
+        grown n level before after_it (line ∷ front) others (own_line level known line remarks ∷ []) more left
         (again level after_it others left more around taking ends rested)
         (λ taken first after ending shaped.
-        shapes.Shape.Definition level before after ending known line (front ++ taken) taken first notes name
+        shapes.Shape.Definition level before after ending known line (front ++ taken) taken first remarks name
         formals body opens' (is taken) shaped)
     closed_body Drops opens' rested =
         let after_it : Situation = counting (length body + 2) before in
-        grown n level before after_it (line ∷ front) others (own_line level known line notes ∷ []) more left
+        grown n level before after_it (line ∷ front) others (own_line level known line remarks ∷ []) more left
         (again level after_it others left more around taking ends rested)
         (λ taken first after ending shaped.
-        shapes.Shape.Dropped level before after ending known line (front ++ taken) taken first notes body
+        shapes.Shape.Dropped level before after ending known line (front ++ taken) taken first remarks body
         opens' (is taken) shaped)
     closed_body (Repeats formals rounds) opens' rested =
-        let bytes : ℕ = (putting.put_by_repeat notes formals rounds body before others).bytes in
+        let bytes : ℕ = (putting.put_by_repeat remarks formals rounds body before others).bytes in
         let after_it : Situation = counting (length body + 2) before in
         let mark' : Mark = mark_at level None bytes in
-        let to : List Left → Stage = λ l. stage_of (within_expansion None bytes level) after_it l in
-        expansion known notes None bytes (lines_of_rounds formals rounds body) after_it front others more
-        (λ rest. putting.Puts.Repeat (operation_at level before line) notes formals rounds body rest opens' (is rest))
-        (subst (λ (l : List Left). Rested n (to l) more) (as_lines formals rounds body mark' (left_of others)) rested)
+        let to : List RemainingItem → Stage = λ l. stage_of (within_expansion None bytes level) after_it l in
+        expansion known remarks None bytes (lines_of_rounds formals rounds body) after_it front others more
+        (λ rest. putting.Puts.Repeat (operation_at level before line) remarks formals rounds body rest opens' (is rest))
+        (subst (λ (l : List RemainingItem). Rested n (to l) more) (as_lines formals rounds body mark' (left_of others)) rested)
 
-  module _ (lines : List SourceLine) (opening : (known : Known) (text : Bytes)
+  module _ (lines : List SourceLine) (opening : (known : KnownSymbols) (text : Bytes)
       → SomePurpose known text (operation_at level before line)) where
-    abbrev opened_by : Known → Acted
-    opened_by known = own (opening known line.text).notes (opens (opening known line.text).purpose (here lines))
+    abbrev opened_by : KnownSymbols → Acted
+    opened_by known = own (opening known line.text).remarks (opens (opening known line.text).purpose (here lines))
 
     by_close : LineGiven n (λ known. shown level known line (opened_by known)) (λ known. (opened_by known).after) gives
         → (closed : Bool) → (cut_at nesting 0 (map line_left lines)).is_closed ≡ closed → Result lines
@@ -267,10 +267,10 @@ module _ (n : ℕ) (again : Reads n) (again_parts : ReadsParts n) (level : Level
         let o = opening g.known line.text in
         let on = past_to (IsStopped (counting (length lines + 1) before) left) (opens o.purpose (here lines)) g.more n
         (body_open level before o.purpose lines left shut ends) g.next in
-        of_gives (suc n) level before (line ∷ lines) left gives (own_line level g.known line o.notes ∷ g.more) g.whole
-        (all_taken (suc n) level before (line ∷ lines) left (own_line level g.known line o.notes ∷ []) g.more
+        of_gives (suc n) level before (line ∷ lines) left gives (own_line level g.known line o.remarks ∷ g.more) g.whole
+        (all_taken (suc n) level before (line ∷ lines) left (own_line level g.known line o.remarks ∷ []) g.more
         (counting (length lines + 1) before)
-        Stops on.stage (shapes.Shape.OpenBody level before g.known line lines o.notes o.purpose o.opens shut) on.holds
+        Stops on.stage (shapes.Shape.OpenBody level before g.known line lines o.remarks o.purpose o.opens shut) on.holds
         (lifted n on.stage g.more on.next))
     by_close g true closed =
         let o = opening g.known line.text in
@@ -280,31 +280,31 @@ module _ (n : ℕ) (again : Reads n) (again_parts : ReadsParts n) (level : Level
         let next = past_run (opens o.purpose (here lines))
         (used o.purpose split.body (stage_of level (counting (length split.body + 2) before) (left_of split.others))) g.more n
         (body_used level before o.purpose lines split.others split.body left has) g.next in
-        of_gives (suc n) level before (line ∷ lines) left gives (own_line level g.known line o.notes ∷ g.more) g.whole
+        of_gives (suc n) level before (line ∷ lines) left gives (own_line level g.known line o.remarks ∷ g.more) g.whole
         (of_lines (suc n) level before (line ∷ lines) (line ∷ split.front ++ split.others) left
-        (own_line level g.known line o.notes ∷ g.more)
+        (own_line level g.known line o.remarks ∷ g.more)
         (ap (λ (ls : List SourceLine). line ∷ ls) split.whole)
-        (closed_body g.known o.notes split.body split.front split.others g.more split.is o.purpose o.opens next))
+        (closed_body g.known o.remarks split.body split.front split.others g.more split.is o.purpose o.opens next))
 
     bodies : Walk lines → Result lines
     bodies walk = by_close (acted_line lines opened_by
         (λ known. opens_acts known line.text (here lines) (operation_at level before line)
-        (opening known line.text).notes (opening known line.text).purpose (opening known line.text).opens) walk)
+        (opening known line.text).remarks (opening known line.text).purpose (opening known line.text).opens) walk)
         (cut_at nesting 0 (map line_left lines)).is_closed refl
 
   -- ---- conditions
 
   module _ (at : ℕ) (is : operation_at level before line ≡ OwnDirective word.If at) where
-    refused : (known : Known) (more : List Given) (lines : List SourceLine) → has_condition_left level ≡ false
+    refused : (known : KnownSymbols) (more : List UnfoldedLine) (lines : List SourceLine) → has_condition_left level ≡ false
         → TextSplit true 0 lines
         → Rested n (text_stage true level 0 (counting 1 before) (left_of lines)) more
-        → Parsed (suc n) level before (line ∷ lines) left (own_line level known line (noting flag_O []) ∷ more)
+        → Parsed (suc n) level before (line ∷ lines) left (own_line level known line (remarks_of flag_O []) ∷ more)
     refused known more _ full (TextSplit.All _ last lines text) rested =
         let stage : Stage = text_stage true level last (counting (length lines) (counting 1 before)) left in
         let sum : before.taken + 1 + length lines ≡ before.taken + (length lines + 1) = omega arith in
         let next = past_run (text_stage true level 0 (counting 1 before) (left_of lines)) stage more n
         (skips_text true level 0 lines last text (counting 1 before) left refl) rested in
-        all_taken (suc n) level before (line ∷ lines) left (own_line level known line (noting flag_O []) ∷ []) more
+        all_taken (suc n) level before (line ∷ lines) left (own_line level known line (remarks_of flag_O []) ∷ []) more
         (counting (length lines + 1) before) Stops stage
         (shapes.Shape.OpenRefused level before known line lines at last is full text)
         (record {
@@ -334,23 +334,23 @@ module _ (n : ℕ) (again : Reads n) (again_parts : ReadsParts n) (level : Level
         let g = given_next n before_close more at_close there live moves in
         let acted : Acted = own (flagged 0 close.text d.at) back in
         let acts : act g.known there close.text ≡ acted = ap (acted_by g.known close.text there) d.is in
-        let told : List Mark → Acted → Given = λ m a. record {
+        let told : List Mark → Acted → UnfoldedLine = λ m a. record {
           live = record { line = close; is_expanded = has_mark m };
           known = g.known;
           is_own = a.is_own;
-          notes = a.notes;
+          remarks = a.remarks;
           arguments = count_in m;
         } in
-        let last : Given = own_line level g.known close (flagged 0 close.text d.at) in
+        let last : UnfoldedLine = own_line level g.known close (flagged 0 close.text d.at) in
         let shows : given g.known live there ≡ last
         = ap (told (marks (left_of others))) acts ∙ ap (λ (m : List Mark). told m acted) (same_marks others left ∙ around) in
-        let whole : more ≡ last ∷ g.more = g.whole ∙ ap (λ (one : Given). one ∷ g.more) shows in
+        let whole : more ≡ last ∷ g.more = g.whole ∙ ap (λ (one : UnfoldedLine). one ∷ g.more) shows in
         let next : Rested n (stage_of level after_it (left_of others)) g.more
         = subst (λ (k : ℕ). Rested n (stage_of level (record before { taken = k }) (left_of others)) g.more) count
         (subst (λ (a : Acted). Rested n a.after g.more) acts g.next) in
-        let head : Given = own_line level known line (noting flag_O []) in
+        let head : UnfoldedLine = own_line level known line (remarks_of flag_O []) in
         of_gives (suc n) level before (line ∷ text ++ close ∷ others) left (head ∷ more) (head ∷ last ∷ g.more)
-        (ap (λ (gs : List Given). head ∷ gs) whole)
+        (ap (λ (gs : List UnfoldedLine). head ∷ gs) whole)
         (of_lines (suc n) level before (line ∷ text ++ close ∷ others) (line ∷ (text ++ close ∷ []) ++ others) left
         (head ∷ last ∷ g.more)
         (ap (λ (ls : List SourceLine). line ∷ ls) (sym (append_assoc text (close ∷ []) others)))
@@ -364,38 +364,38 @@ module _ (n : ℕ) (again : Reads n) (again_parts : ReadsParts n) (level : Level
 
     conditions : (lines : List SourceLine) (room : Bool) → has_condition_left level ≡ room → Walk lines → Result lines
     conditions lines true room walk =
-        let holds : Known → Bool = λ known. (condition known line.text at).holds in
-        let g = acted_line lines (λ known. own (condition_notes known line.text at)
+        let holds : KnownSymbols → Bool = λ known. (condition known line.text at).holds in
+        let g = acted_line lines (λ known. own (condition_remarks known line.text at)
         (stage_of (within_condition (holds known) (holds known) level) (counting 1 before) (left_of lines)))
         (λ known. if_acts level before known line (left_of lines) at true is (same_marks lines left ∙ around) room) walk in
         let p = again_parts level (holds g.known) (holds g.known) (counting 1 before) lines left g.more around taking ends
         g.next in
-        let head : Given = own_line level g.known line (condition_notes g.known line.text at) in
+        let head : UnfoldedLine = own_line level g.known line (condition_remarks g.known line.text at) in
         of_gives (suc n) level before (line ∷ lines) left gives (head ∷ g.more) g.whole (record {
           taken = line ∷ p.taken;
           others = p.others;
           lines_are = ap (λ (ls : List SourceLine). line ∷ ls) p.lines_are;
           first = head ∷ p.first;
           later = p.later;
-          gives_are = ap (λ (gs : List Given). head ∷ gs) p.gives_are;
+          gives_are = ap (λ (gs : List UnfoldedLine). head ∷ gs) p.gives_are;
           after = p.after;
           ending = p.ending;
           shape = shapes.Shape.Condition level before p.after p.ending g.known line p.taken p.first at is room p.parts;
           stop = lifted_stop level n p.after p.ending p.others left p.later p.stop;
         })
     conditions lines false full walk =
-        let g = acted_line lines (λ known. own (noting flag_O []) (text_stage true level 0 (counting 1 before) (left_of lines)))
+        let g = acted_line lines (λ known. own (remarks_of flag_O []) (text_stage true level 0 (counting 1 before) (left_of lines)))
         (λ known. if_acts level before known line (left_of lines) at false is (same_marks lines left ∙ around) full) walk in
-        of_gives (suc n) level before (line ∷ lines) left gives (own_line level g.known line (noting flag_O []) ∷ g.more)
+        of_gives (suc n) level before (line ∷ lines) left gives (own_line level g.known line (remarks_of flag_O []) ∷ g.more)
         g.whole
         (refused g.known g.more lines full (text_split true lines 0) g.next)
 
   -- ---- `.IIF`
 
-  module _ (at : ℕ) (is : operation_at level before line ≡ OwnDirective word.Iif at) (known : Known) (more : List Given)
+  module _ (at : ℕ) (is : operation_at level before line ≡ OwnDirective word.Iif at) (known : KnownSymbols) (more : List UnfoldedLine)
       (lines : List SourceLine) where
-    abbrev head : Given
-    head = own_line level known line (immediate.notes known line.text at)
+    abbrev head : UnfoldedLine
+    head = own_line level known line (immediate.remarks known line.text at)
 
     abbrev Immediate : Type 0
     Immediate = Parsed (suc n) level before (line ∷ lines) left (head ∷ more)
@@ -407,9 +407,9 @@ module _ (n : ℕ) (again : Reads n) (again_parts : ReadsParts n) (level : Level
         let nothing = none_of level (counting 1 before) p.after p.ending p.first p.taken p.shape none in
         let others : p.others ≡ next ∷ lines = sym (p.lines_are ∙ ap (λ (t : List SourceLine). t ++ p.others) none) in
         let stops = stop_breaks level n p.after p.ending p.others left p.later next lines p.stop others in
-        let later : p.later ≡ more = sym (p.gives_are ∙ ap (λ (f : List Given). f ++ p.later) nothing.0) in
+        let later : p.later ≡ more = sym (p.gives_are ∙ ap (λ (f : List UnfoldedLine). f ++ p.later) nothing.0) in
         let breaks : Breaks level n (counting 1 before) next lines left more
-        = subst (λ (gs : List Given). Breaks level n (counting 1 before) next lines left gs) later
+        = subst (λ (gs : List UnfoldedLine). Breaks level n (counting 1 before) next lines left gs) later
         (subst (λ (s : Situation). Breaks level n s next lines left p.later) nothing.1 stops.1) in
         broken (suc n) level before line lines left (head ∷ more) stops.0
         (Breaks.ByStatement (suc n) before line lines left more known at next is says
@@ -426,7 +426,7 @@ module _ (n : ℕ) (again : Reads n) (again_parts : ReadsParts n) (level : Level
           lines_are = ap (λ (ls : List SourceLine). line ∷ ls) lines_are;
           first = head ∷ p.first;
           later = p.later;
-          gives_are = ap (λ (gs : List Given). head ∷ gs) p.gives_are;
+          gives_are = ap (λ (gs : List UnfoldedLine). head ∷ gs) p.gives_are;
           after = p.after;
           ending = p.ending;
           shape = shapes.Shape.Immediate level before p.after p.ending known line taken p.first at is
@@ -449,13 +449,13 @@ module _ (n : ℕ) (again : Reads n) (again_parts : ReadsParts n) (level : Level
   immediates : (lines : List SourceLine) (at : ℕ) → operation_at level before line ≡ OwnDirective word.Iif at → Walk lines
       → Result lines
   immediates lines at is walk =
-      let g = acted_line lines (λ known. own (immediate.notes known line.text at)
+      let g = acted_line lines (λ known. own (immediate.remarks known line.text at)
       (stage_of level (counting 1 before) (map line_left (statement known line.text at ++ lines) ++ left)))
-      (λ known. ap (acted_by known line.text (here lines)) is ∙ ap (own (immediate.notes known line.text at))
+      (λ known. ap (acted_by known line.text (here lines)) is ∙ ap (own (immediate.remarks known line.text at))
       (with_next level (counting 1 before) line.text (immediate.immediate known line.text at).holds
       (immediate.immediate known line.text at).statement lines left)) walk in
       of_gives (suc n) level before (line ∷ lines) left gives
-      (own_line level g.known line (immediate.notes g.known line.text at) ∷ g.more) g.whole
+      (own_line level g.known line (immediate.remarks g.known line.text at) ∷ g.more) g.whole
       (by_statement at is g.known g.more lines
       (again level (counting 1 before) (statement g.known line.text at ++ lines) left g.more around taking ends g.next)
       (statement_is line.text (immediate.immediate g.known line.text at).holds
@@ -471,17 +471,17 @@ module _ (n : ℕ) (again : Reads n) (again_parts : ReadsParts n) (level : Level
       (shapes.IsAstray.MacroExit at none)) walk
   exits lines at is (innermost ∷ marks') some walk =
       let there : Stage = stage_of level (counting 1 before) left in
-      let notes : Notes = flagged 0 line.text at in
-      let by : Bool → Acted = λ b. if b then own notes (record (here lines) { left = after_mark (left_of lines) })
+      let remarks : Remarks = flagged 0 line.text at in
+      let by : Bool → Acted = λ b. if b then own remarks (record (here lines) { left = after_mark (left_of lines) })
       else own (flagged flag_O line.text at) (here lines) in
       let expanding : has_mark level.around ≡ true = ap has_mark some in
-      let g = acted_line lines (λ known. own notes there)
+      let g = acted_line lines (λ known. own remarks there)
       (λ known. ap (acted_by known line.text (here lines)) is
       ∙ ap (λ (m : List Mark). by (has_mark m)) (same_marks lines left ∙ around)
-      ∙ ap by expanding ∙ ap (λ (l : List Left). own notes (record (here lines) { left = l })) (past_lines lines left ∙ ends))
+      ∙ ap by expanding ∙ ap (λ (l : List RemainingItem). own remarks (record (here lines) { left = l })) (past_lines lines left ∙ ends))
       walk in
-      of_gives (suc n) level before (line ∷ lines) left gives (own_line level g.known line notes ∷ g.more) g.whole
-      (all_taken (suc n) level before (line ∷ lines) left (own_line level g.known line notes ∷ []) g.more (counting 1 before)
+      of_gives (suc n) level before (line ∷ lines) left gives (own_line level g.known line remarks ∷ g.more) g.whole
+      (all_taken (suc n) level before (line ∷ lines) left (own_line level g.known line remarks ∷ []) g.more (counting 1 before)
       Stops there
       (shapes.Shape.Exit level before g.known line lines at is expanding)
       (record { conditions = only_entered level.entered; opening = None; is = refl }) (lifted n there g.more g.next))
@@ -497,11 +497,11 @@ module _ (n : ℕ) (again : Reads n) (again_parts : ReadsParts n) (level : Level
 
   -- ---- a word of a condition
 
-  own_word : (lines : List SourceLine) (notes : Notes) (entered : List OpenCondition) → level.entered ≡ entered
+  own_word : (lines : List SourceLine) (remarks : Remarks) (entered : List OpenCondition) → level.entered ≡ entered
       → IsOwn (operation_at level before line)
-      → (level.entered ≡ [] → IsAstray level line.text (operation_at level before line) notes) → Walk lines → Result lines
-  own_word lines notes [] none is out walk = astray lines notes (out none) walk
-  own_word lines notes (condition' ∷ entered) some is out walk =
+      → (level.entered ≡ [] → IsAstray level line.text (operation_at level before line) remarks) → Walk lines → Result lines
+  own_word lines remarks [] none is out walk = astray lines remarks (out none) walk
+  own_word lines remarks (condition' ∷ entered) some is out walk =
       broken (suc n) level before line lines left gives (λ none. absurd (let bad : condition' ∷ entered ≡ []
       = sym some ∙ none in cc))
       (Breaks.ByWord (suc n) before line lines left gives is walk)
@@ -526,17 +526,17 @@ module _ (n : ℕ) (again : Reads n) (again_parts : ReadsParts n) (level : Level
   by_kind lines _ is (Kind.Body operator opening) walk =
       bodies lines (λ known text. subst (λ (o : Operation). SomePurpose known text o) (sym is) (opening known text)) walk
   by_kind lines _ is (Kind.EndMacro at) walk =
-      astray lines (noting flag_O [])
-      (subst (λ (o : Operation). IsAstray level line.text o (noting flag_O [])) (sym is) (shapes.IsAstray.EndMacro at)) walk
+      astray lines (remarks_of flag_O [])
+      (subst (λ (o : Operation). IsAstray level line.text o (remarks_of flag_O [])) (sym is) (shapes.IsAstray.EndMacro at)) walk
   by_kind lines _ is (Kind.EndRepeat at) walk =
-      astray lines (noting flag_O [])
-      (subst (λ (o : Operation). IsAstray level line.text o (noting flag_O [])) (sym is) (shapes.IsAstray.EndRepeat at)) walk
+      astray lines (remarks_of flag_O [])
+      (subst (λ (o : Operation). IsAstray level line.text o (remarks_of flag_O [])) (sym is) (shapes.IsAstray.EndRepeat at)) walk
   by_kind lines _ is (Kind.Exit at) walk = exits lines at is level.around refl walk
   by_kind lines _ is (Kind.End at) walk = ended lines at is walk
 
 -- ---- lines
 
-no_lines : (n : ℕ) (level : Level) (before : Situation) (left : List Left) (gives : List Given)
+no_lines : (n : ℕ) (level : Level) (before : Situation) (left : List RemainingItem) (gives : List UnfoldedLine)
     → Rested n (before_lines level before [] left) gives
     → Parsed n level before [] left gives
 no_lines n level before left gives rested =
@@ -546,7 +546,7 @@ no_lines n level before left gives rested =
 pub reads_none : Reads 0
 reads_none level before [] left gives around taking ends rested = no_lines 0 level before left gives rested
 reads_none level before (line ∷ lines) left gives around taking ends rested =
-    let rest : List Left = map line_left lines ++ left in
+    let rest : List RemainingItem = map line_left lines ++ left in
     absurd (no_moves (stage_of level before (Line line ∷ rest)) (stage_of level (counting 1 before) rest)
     (record { line = line; is_expanded = is_expanding rest }) gives rested (live_moves 0 level before line rest gives taking))
 

@@ -6,12 +6,12 @@ use Rattle.m11_unfold_arguments.specs.Immediate as immediate
 use Rattle.m11_unfold_arguments.specs.declared.directives.Directive.{Directive}
 use Rattle.m11_unfold_arguments.specs.declared.directives.Directive.TheVariants as word
 use Rattle.m11_unfold_bodies.specs.Conditions.{is_live_in, is_live_inside}
-use Rattle.m11_unfold_bodies.specs.Left.{Left, Line, after_mark, is_expanding, marks}
+use Rattle.m11_unfold_bodies.specs.Left.{RemainingItem, Line, after_mark, is_expanding, marks}
 use Rattle.m11_unfold_bodies.specs.declared.conditions.Part.{Part}
 use Rattle.m11_unfold_rules.specs.Acting.{OwnDirective, Operation, acted_by, flagged, own}
 use Rattle.m11_unfold_rules.specs.Stages.{Stage, line_left, start}
 use Rattle.m11_unfold_rules.specs.Taking.{Gives, Live, NothingLeft, move}
-use Rattle.m11_unfold_rules.specs.Unfolding.{Given, Unfolds}
+use Rattle.m11_unfold_rules.specs.Unfolding.{UnfoldedLine, Unfolds}
 use Rattle.m11_unfold_rules.proofs.OtherLines.{same_marks}
 use Rattle.m11_unfold_laws.specs.Laws.{Arrived, HasShape, before_lines}
 use Rattle.m11_unfold_laws.specs.Levels.{Level, Situation, beginning, counting, only_entered, operation_at, own_line, source_level, stage_of, within_condition}
@@ -32,13 +32,13 @@ use Rattle.m11_unfold_laws.proofs.Words.{begins_acts, close_acts}
 
 -- a part, and what is read from the word after it on
 pub record AfterPart (n : ℕ) (level : Level) (holds is_live : Bool) (before : Situation) (lines : List SourceLine)
-    (first : List Given)
-    (line : SourceLine) (others : List SourceLine) (left : List Left) (gives : List Given) : Type 0 where
+    (first : List UnfoldedLine)
+    (line : SourceLine) (others : List SourceLine) (left : List RemainingItem) (gives : List UnfoldedLine) : Type 0 where
   pub taken : List SourceLine
   pub rest : List SourceLine
   pub lines_are : others ≡ taken ++ rest
-  pub more : List Given
-  pub later : List Given
+  pub more : List UnfoldedLine
+  pub later : List UnfoldedLine
   pub gives_are : gives ≡ more ++ later
   pub after : Situation
   pub ending : Ending
@@ -47,8 +47,8 @@ pub record AfterPart (n : ℕ) (level : Level) (holds is_live : Bool) (before : 
 
 -- what is read from a word on, in so many moves
 abbrev pub ReadsWord : ℕ → Type 0
-ReadsWord n = (level : Level) (holds is_live : Bool) (before middle : Situation) (lines : List SourceLine) (first : List Given)
-    (line : SourceLine) (others : List SourceLine) (left : List Left) (gives : List Given)
+ReadsWord n = (level : Level) (holds is_live : Bool) (before middle : Situation) (lines : List SourceLine) (first : List UnfoldedLine)
+    (line : SourceLine) (others : List SourceLine) (left : List RemainingItem) (gives : List UnfoldedLine)
     → OnePart level holds is_live before lines first middle GoesOn
     → IsOwn (operation_at (within_condition holds is_live level) middle line)
     → marks left ≡ level.around → is_live_inside level.entered ≡ true → after_mark left ≡ left
@@ -56,11 +56,11 @@ ReadsWord n = (level : Level) (holds is_live : Bool) (before middle : Situation)
     → AfterPart n level holds is_live before lines first line others left gives
 
 module _ (level : Level) (holds is_live : Bool) (middle : Situation) (line : SourceLine) (others : List SourceLine)
-    (left : List Left) where
+    (left : List RemainingItem) where
   abbrev inside : Level
   inside = within_condition holds is_live level
 
-  abbrev left_of : List Left
+  abbrev left_of : List RemainingItem
   left_of = map line_left others ++ left
 
   abbrev here : Stage
@@ -84,15 +84,15 @@ word_none level holds is_live before middle lines first line others left gives o
     (operation_at (inside level holds is_live middle line others left) middle line) refl is))
 
 module _ (n : ℕ) (reads : Reads n) (reads_parts : ReadsParts n) (level : Level) (holds is_live : Bool) (before middle : Situation)
-    (lines : List SourceLine) (first : List Given) (line : SourceLine) (others : List SourceLine) (left : List Left)
-    (gives : List Given)
+    (lines : List SourceLine) (first : List UnfoldedLine) (line : SourceLine) (others : List SourceLine) (left : List RemainingItem)
+    (gives : List UnfoldedLine)
     (one : OnePart level holds is_live before lines first middle GoesOn) (around : marks left ≡ level.around)
     (taking : is_live_inside level.entered ≡ true) (ends : after_mark left ≡ left)
     (rested : Rested (suc n) (before_lines (within_condition holds is_live level) middle (line ∷ others) left) gives) where
   abbrev part_level : Level
   part_level = within_condition holds is_live level
 
-  abbrev after_left : List Left
+  abbrev after_left : List RemainingItem
   after_left = map line_left others ++ left
 
   abbrev part_here : Stage
@@ -110,14 +110,14 @@ module _ (n : ℕ) (reads : Reads n) (reads_parts : ReadsParts n) (level : Level
       (operation_at part_level middle line) part at begins)
       rested in
       let p = reads_parts level holds next_live (counting 1 middle) others left g.more around taking ends g.next in
-      let told : Given = own_line level g.known line (flagged 0 line.text at) in
+      let told : UnfoldedLine = own_line level g.known line (flagged 0 line.text at) in
       record {
         taken = p.taken;
         rest = p.others;
         lines_are = p.lines_are;
         more = told ∷ p.first;
         later = p.later;
-        gives_are = g.whole ∙ ap (λ (gs : List Given). told ∷ gs) p.gives_are;
+        gives_are = g.whole ∙ ap (λ (gs : List UnfoldedLine). told ∷ gs) p.gives_are;
         after = p.after;
         ending = p.ending;
         parts = shapes.Parts.Next level holds is_live before middle p.after p.ending g.known line lines p.taken first p.first
@@ -136,14 +136,14 @@ module _ (n : ℕ) (reads : Reads n) (reads_parts : ReadsParts n) (level : Level
       ∙ close_acts known line.text level holds is_live (counting 1 middle) after_left at)
       rested in
       let p = reads level (counting 1 middle) others left g.more around taking ends g.next in
-      let told : Given = own_line level g.known line (flagged 0 line.text at) in
+      let told : UnfoldedLine = own_line level g.known line (flagged 0 line.text at) in
       record {
         taken = p.taken;
         rest = p.others;
         lines_are = p.lines_are;
         more = told ∷ p.first;
         later = p.later;
-        gives_are = g.whole ∙ ap (λ (gs : List Given). told ∷ gs) p.gives_are;
+        gives_are = g.whole ∙ ap (λ (gs : List UnfoldedLine). told ∷ gs) p.gives_are;
         after = p.after;
         ending = p.ending;
         parts = shapes.Parts.Close level holds is_live before middle p.after p.ending g.known line lines p.taken first p.first
@@ -166,32 +166,32 @@ word_more n reads reads_parts level holds is_live before middle lines first line
 
 -- ---- parts
 
-module _ (n : ℕ) (reads : Reads n) (reads_word : ReadsWord n) (level : Level) (holds : Bool) (left : List Left)
+module _ (n : ℕ) (reads : Reads n) (reads_word : ReadsWord n) (level : Level) (holds : Bool) (left : List RemainingItem)
     (around : marks left ≡ level.around) (taking : is_live_inside level.entered ≡ true) (ends : after_mark left ≡ left) where
   -- a live part up to a word, or to an `.IIF` that has one
-  breaks_more : (k : ℕ) (middle : Situation) (line : SourceLine) (others : List SourceLine) (left' : List Left)
-      (later : List Given)
+  breaks_more : (k : ℕ) (middle : Situation) (line : SourceLine) (others : List SourceLine) (left' : List RemainingItem)
+      (later : List UnfoldedLine)
       → Breaks (within_condition holds true level) k middle line others left' later → k ≡ n → left' ≡ left → (before : Situation)
-      (lines : List SourceLine) (first : List Given) → OnePart level holds true before lines first middle GoesOn
+      (lines : List SourceLine) (first : List UnfoldedLine) → OnePart level holds true before lines first middle GoesOn
       → AfterPart n level holds true before lines first line others left later
   breaks_more _ _ _ _ _ _ (Breaks.ByWord k middle line others left' later is rested) count same before lines first one =
       reads_word level holds true before middle lines first line others left later one is around taking ends
       (subst (λ (i : ℕ). Rested i (before_lines (within_condition holds true level) middle (line ∷ others) left) later) count
-      (subst (λ (l : List Left). Rested k (before_lines (within_condition holds true level) middle (line ∷ others) l) later)
+      (subst (λ (l : List RemainingItem). Rested k (before_lines (within_condition holds true level) middle (line ∷ others) l) later)
       same rested))
   breaks_more _ _ _ _ _ _ (Breaks.ByStatement k middle line others left' later known at next is says breaks) count same before
       lines first one =
       let p = breaks_more k (counting 1 middle) next others left' later breaks count same (counting 1 middle) [] []
       (shapes.OnePart.Live level holds (counting 1 middle) (counting 1 middle) GoesOn [] []
       (shapes.Shape.Nothing (within_condition holds true level) (counting 1 middle))) in
-      let told : Given = own_line level known line (immediate.notes known line.text at) in
+      let told : UnfoldedLine = own_line level known line (immediate.remarks known line.text at) in
       record {
         taken = p.taken;
         rest = p.rest;
         lines_are = p.lines_are;
         more = told ∷ p.more;
         later = p.later;
-        gives_are = ap (λ (gs : List Given). told ∷ gs) p.gives_are;
+        gives_are = ap (λ (gs : List UnfoldedLine). told ∷ gs) p.gives_are;
         after = p.after;
         ending = p.ending;
         parts = shapes.Parts.ImmediateInPart level holds before middle p.after p.ending known line lines p.taken first p.more at
@@ -202,9 +202,9 @@ module _ (n : ℕ) (reads : Reads n) (reads_word : ReadsWord n) (level : Level) 
       }
 
   -- the part, and what follows it
-  joined : (is_live : Bool) (before : Situation) (lines : List SourceLine) (first : List Given) (line : SourceLine)
+  joined : (is_live : Bool) (before : Situation) (lines : List SourceLine) (first : List UnfoldedLine) (line : SourceLine)
       (others : List SourceLine)
-      (later : List Given) → AfterPart n level holds is_live before lines first line others left later
+      (later : List UnfoldedLine) → AfterPart n level holds is_live before lines first line others left later
       → PartsParsed n level holds is_live before (lines ++ line ∷ others) left (first ++ later)
   joined is_live before lines first line others later p = record {
     taken = lines ++ line ∷ p.taken;
@@ -212,7 +212,7 @@ module _ (n : ℕ) (reads : Reads n) (reads_word : ReadsWord n) (level : Level) 
     lines_are = ap (λ (ls : List SourceLine). lines ++ line ∷ ls) p.lines_are ∙ sym (append_assoc lines (line ∷ p.taken) p.rest);
     first = first ++ p.more;
     later = p.later;
-    gives_are = ap (λ (gs : List Given). first ++ gs) p.gives_are ∙ sym (append_assoc first p.more p.later);
+    gives_are = ap (λ (gs : List UnfoldedLine). first ++ gs) p.gives_are ∙ sym (append_assoc first p.more p.later);
     after = p.after;
     ending = p.ending;
     parts = p.parts;
@@ -220,8 +220,8 @@ module _ (n : ℕ) (reads : Reads n) (reads_word : ReadsWord n) (level : Level) 
   }
 
   -- a live part
-  after_live : (before : Situation) (lines : List SourceLine) (first later : List Given) (after : Situation) (ending : Ending)
-      (others : List SourceLine) (left' : List Left) (k : ℕ)
+  after_live : (before : Situation) (lines : List SourceLine) (first later : List UnfoldedLine) (after : Situation) (ending : Ending)
+      (others : List SourceLine) (left' : List RemainingItem) (k : ℕ)
       → Stop (within_condition holds true level) k after ending others left' later → k ≡ n → left' ≡ left
       → Shape (within_condition holds true level) before lines first after ending
       → PartsParsed n level holds true before (lines ++ others) left (first ++ later)
@@ -239,7 +239,7 @@ module _ (n : ℕ) (reads : Reads n) (reads_word : ReadsWord n) (level : Level) 
             (shapes.OnePart.Live level holds before after ending lines first shaped);
         stop = Stop.Whole n after (unclosed ending) left later stage
             (unclosed_arrived ending level holds true after left stage
-            (subst (λ (l : List Left). Arrived ending (within_condition holds true level) after l stage) same there))
+            (subst (λ (l : List RemainingItem). Arrived ending (within_condition holds true level) after l stage) same there))
             (subst (λ (i : ℕ). Rested i stage later) count rested);
       }
   after_live before lines first _ _ _ _ _ _ (Stop.Broken k after line others left' later open' breaks) count same shaped =
@@ -247,13 +247,13 @@ module _ (n : ℕ) (reads : Reads n) (reads_word : ReadsWord n) (level : Level) 
       (breaks_more k after line others left' later breaks count same before lines first
       (shapes.OnePart.Live level holds before after GoesOn lines first shaped))
 
-  live_part : (before : Situation) (lines : List SourceLine) (gives : List Given)
+  live_part : (before : Situation) (lines : List SourceLine) (gives : List UnfoldedLine)
       → Rested n (before_lines (within_condition holds true level) before lines left) gives
       → PartsParsed n level holds true before lines left gives
   live_part before lines gives rested =
       let p = reads (within_condition holds true level) before lines left gives around refl ends rested in
       subst (λ (ls : List SourceLine). PartsParsed n level holds true before ls left gives) (sym p.lines_are)
-      (subst (λ (gs : List Given). PartsParsed n level holds true before (p.taken ++ p.others) left gs) (sym p.gives_are)
+      (subst (λ (gs : List UnfoldedLine). PartsParsed n level holds true before (p.taken ++ p.others) left gs) (sym p.gives_are)
       (after_live before p.taken p.first p.later p.after p.ending p.others left n p.stop refl refl p.shape))
 
   -- text
@@ -276,7 +276,7 @@ module _ (n : ℕ) (reads : Reads n) (reads_word : ReadsWord n) (level : Level) 
       refl is in
       subst IsOwn (sym d.is) (IsOwn.Begin (OwnDirective word.Iftf d.at) _ d.at (shapes.Begins.IfTrueFalse d.at))
 
-  text_part : (before : Situation) (gives : List Given) (lines : List SourceLine) → TextSplit false 0 lines
+  text_part : (before : Situation) (gives : List UnfoldedLine) (lines : List SourceLine) → TextSplit false 0 lines
       → Rested n (before_lines (within_condition holds false level) before lines left) gives
       → PartsParsed n level holds false before lines left gives
   text_part before gives _ (TextSplit.All _ last lines text) rested =
@@ -340,7 +340,7 @@ reads_all (suc n) = next (reads_all n) where
 
 -- ---- a whole source
 
-pub has_shape : (source : List SourceLine) (gives : List Given) (stage : Stage) → Unfolds source gives stage → move stage ≡ NothingLeft
+pub has_shape : (source : List SourceLine) (gives : List UnfoldedLine) (stage : Stage) → Unfolds source gives stage → move stage ≡ NothingLeft
     → HasShape source gives
 has_shape source gives stage unfolds rests =
     let moves = all_moves (start source) stage gives unfolds rests in
@@ -355,10 +355,10 @@ has_shape source gives stage unfolds rests =
     (nothing_left p.ending p.after on.stage on.holds) in
     let lines_are : p.taken ≡ source
     = sym (p.lines_are ∙ ap (λ (o : List SourceLine). p.taken ++ o) stopped.0 ∙ append-nil p.taken) in
-    let gives_are : p.first ≡ gives = sym (p.gives_are ∙ ap (λ (g : List Given). p.first ++ g) none ∙ append-nil p.first) in
+    let gives_are : p.first ≡ gives = sym (p.gives_are ∙ ap (λ (g : List UnfoldedLine). p.first ++ g) none ∙ append-nil p.first) in
     record {
       after = p.after;
       ending = p.ending;
-      shape = subst (λ (g : List Given). Shape source_level beginning source g p.after p.ending) gives_are
+      shape = subst (λ (g : List UnfoldedLine). Shape source_level beginning source g p.after p.ending) gives_are
           (subst (λ (ls : List SourceLine). Shape source_level beginning ls p.first p.after p.ending) lines_are p.shape);
     }

@@ -3,15 +3,15 @@ use Rattle.std.proofs.Common.{◌≡◌, ◌∙◌, ℕ, zero, suc, Bool, true, 
 use Rattle.std.specs.Prelude.{not, if◌then◌else◌}
 use Rattle.m11_scan_lines.specs.Line.{SourceLine}
 use Rattle.m11_unfold_arguments.specs.Directives.{directive}
-use Rattle.m11_unfold_arguments.specs.Expressions.{Known}
+use Rattle.m11_unfold_arguments.specs.Expressions.{KnownSymbols}
 use Rattle.m11_unfold_bodies.specs.Conditions.{is_live_inside}
-use Rattle.m11_unfold_bodies.specs.Left.{Left, Line, count_in, has_mark, is_expanding, marks}
+use Rattle.m11_unfold_bodies.specs.Left.{RemainingItem, Line, count_in, has_mark, is_expanding, marks}
 use Rattle.m11_unfold_bodies.specs.declared.mark.Mark.{Mark}
 use Rattle.m11_unfold_rules.specs.Acting.{Acted, act, act_fault, acted_by}
 use Rattle.m11_unfold_rules.specs.Limits.{next_fault}
 use Rattle.m11_unfold_rules.specs.Stages.{Stage}
 use Rattle.m11_unfold_rules.specs.Taking.{Gives, Live, Passes, NothingLeft, live_or_skipped, move, skipped_by}
-use Rattle.m11_unfold_rules.specs.Unfolding.{Given, Leads, given}
+use Rattle.m11_unfold_rules.specs.Unfolding.{UnfoldedLine, Leads, given}
 use Rattle.m11_unfold_rules.specs.Unfolding as steps
 use Rattle.m11_unfold_laws.specs.Limits.{PassesLimit}
 use Rattle.m11_unfold_laws.specs.Levels.{Level, Situation, counting, only_entered, operation_at, stage_of}
@@ -20,16 +20,16 @@ use Rattle.m11_unfold_laws.proofs.Runs.{Runs}
 use Rattle.m11_unfold_laws.proofs.Wholes.{no_limit_at_rest, no_line, no_pass}
 
 -- in so many moves at most, with the lines that it gives
-pub data Rested : ℕ → Stage → List Given → Type 0 where
+pub data Rested : ℕ → Stage → List UnfoldedLine → Type 0 where
   AtRest : (n : ℕ) (stage : Stage) → move stage ≡ NothingLeft → Rested n stage []
-  Passing : (n : ℕ) (stage after : Stage) (gives : List Given) → next_fault stage ≡ None → move stage ≡ Passes after
+  Passing : (n : ℕ) (stage after : Stage) (gives : List UnfoldedLine) → next_fault stage ≡ None → move stage ≡ Passes after
       → Rested n after gives → Rested (suc n) stage gives
-  Giving : (n : ℕ) (stage after : Stage) (live : Live) (known : Known) (gives : List Given) → next_fault stage ≡ None
+  Giving : (n : ℕ) (stage after : Stage) (live : Live) (known : KnownSymbols) (gives : List UnfoldedLine) → next_fault stage ≡ None
       → move stage ≡ Gives live after → act_fault after live.line.text ≡ None
       → Rested n (act known after live.line.text).after gives
       → Rested (suc n) stage (given known live after ∷ gives)
 
-pub lifted : (n : ℕ) (stage : Stage) (gives : List Given) → Rested n stage gives → Rested (suc n) stage gives
+pub lifted : (n : ℕ) (stage : Stage) (gives : List UnfoldedLine) → Rested n stage gives → Rested (suc n) stage gives
 lifted _ _ _ (Rested.AtRest n stage rests) = Rested.AtRest (suc n) stage rests
 lifted _ _ _ (Rested.Passing n stage after gives fault moves next) =
     Rested.Passing (suc n) stage after gives fault moves (lifted n after gives next)
@@ -39,11 +39,11 @@ lifted _ _ _ (Rested.Giving n stage after live known gives fault moves acts next
 
 -- ---- each unfolding that is at its end
 
-pub record SomeRested (stage : Stage) (gives : List Given) : Type 0 where
+pub record SomeRested (stage : Stage) (gives : List UnfoldedLine) : Type 0 where
   pub moves : ℕ
   pub rested : Rested moves stage gives
 
-from_there : (before stage : Stage) (done later : List Given) (n : ℕ) → Leads before done stage → Rested n stage later
+from_there : (before stage : Stage) (done later : List UnfoldedLine) (n : ℕ) → Leads before done stage → Rested n stage later
     → SomeRested before (done ++ later)
 from_there before _ _ later n steps.Leads.Stays next = record { moves = n; rested = next }
 from_there before _ _ later n (steps.Leads.Passing done stage after leads fault moves) next =
@@ -53,13 +53,13 @@ from_there before _ _ later n (steps.Leads.Giving done stage after live known le
     (from_there before stage done (given known live after ∷ later) (suc n) leads
     (Rested.Giving n stage after live known later fault moves acts next))
 
-pub all_moves : (before stage : Stage) (done : List Given) → Leads before done stage → move stage ≡ NothingLeft → SomeRested before done
+pub all_moves : (before stage : Stage) (done : List UnfoldedLine) → Leads before done stage → move stage ≡ NothingLeft → SomeRested before done
 all_moves before stage done leads rests =
     subst (SomeRested before) (append-nil done) (from_there before stage done [] 0 leads (Rested.AtRest 0 stage rests))
 
 -- ---- moves that give no line
 
-passed : (n : ℕ) (stage : Stage) (gives : List Given) → Rested n stage gives → (after : Stage) → move stage ≡ Passes after
+passed : (n : ℕ) (stage : Stage) (gives : List UnfoldedLine) → Rested n stage gives → (after : Stage) → move stage ≡ Passes after
     → Rested n after gives
 passed _ _ _ (Rested.AtRest n stage rests) after moves = absurd (let bad : NothingLeft ≡ Passes after = sym rests ∙ moves in cc)
 passed _ _ _ (Rested.Passing n stage other gives fault moves' next) after moves =
@@ -69,15 +69,15 @@ passed _ _ _ (Rested.Passing n stage other gives fault moves' next) after moves 
 passed _ _ _ (Rested.Giving n stage other live known gives fault moves' acts next) after moves =
     absurd (let bad : Gives live other ≡ Passes after = sym moves' ∙ moves in cc)
 
-nothing_first : (first more : List Given) → [] ≡ first ++ more → first ≡ []
+nothing_first : (first more : List UnfoldedLine) → [] ≡ first ++ more → first ≡ []
 nothing_first [] more is = refl
 nothing_first (one ∷ first) more is = absurd (let bad = is in cc)
 
-some_given : (done : List Given) (one : Given) → done ++ one ∷ [] ≡ [] → ⊥
+some_given : (done : List UnfoldedLine) (one : UnfoldedLine) → done ++ one ∷ [] ≡ [] → ⊥
 some_given [] one is = absurd (let bad = is in cc)
 some_given (other ∷ done) one is = absurd (let bad = is in cc)
 
-past_leads : (before after : Stage) (done gives : List Given) (n : ℕ) → Leads before done after → done ≡ []
+past_leads : (before after : Stage) (done gives : List UnfoldedLine) (n : ℕ) → Leads before done after → done ≡ []
     → Rested n before gives
     → Rested n after gives
 past_leads before _ _ gives n steps.Leads.Stays none next = next
@@ -86,13 +86,13 @@ past_leads before _ _ gives n (steps.Leads.Passing done stage after leads fault 
 past_leads before _ _ gives n (steps.Leads.Giving done stage after live known leads fault moves acts) none next =
     absurd (some_given done (given known live after) none)
 
-no_limit : (n : ℕ) (stage : Stage) (gives : List Given) → Rested n stage gives → PassesLimit stage → ⊥
+no_limit : (n : ℕ) (stage : Stage) (gives : List UnfoldedLine) → Rested n stage gives → PassesLimit stage → ⊥
 no_limit _ _ _ (Rested.AtRest n stage rests) passes = no_limit_at_rest stage rests passes
 no_limit _ _ _ (Rested.Passing n stage after gives fault moves next) passes = no_pass stage after passes fault moves
 no_limit _ _ _ (Rested.Giving n stage after live known gives fault moves acts next) passes =
     no_line stage after live passes fault moves acts
 
-pub past_run : (before after : Stage) (gives : List Given) (n : ℕ) → Runs before [] (λ s. s ≡ after) → Rested n before gives
+pub past_run : (before after : Stage) (gives : List UnfoldedLine) (n : ℕ) → Runs before [] (λ s. s ≡ after) → Rested n before gives
     → Rested n after gives
 past_run before after gives n (inl there) next =
     subst (λ (s : Stage). Rested n s gives) there.holds (past_leads before there.stage [] gives n there.leads refl next)
@@ -102,17 +102,17 @@ past_run before after gives n (inr short) next =
 
 -- ---- a line that becomes live
 
-pub record LineGiven (n : ℕ) (one : Known → Given) (after : Known → Stage) (gives : List Given) : Type 0 where
-  pub known : Known
-  pub more : List Given
+pub record LineGiven (n : ℕ) (one : KnownSymbols → UnfoldedLine) (after : KnownSymbols → Stage) (gives : List UnfoldedLine) : Type 0 where
+  pub known : KnownSymbols
+  pub more : List UnfoldedLine
   pub whole : gives ≡ one known ∷ more
   pub next : Rested n (after known) more
 
-pub no_moves : (stage after : Stage) (live : Live) (gives : List Given) → Rested 0 stage gives → move stage ≡ Gives live after → ⊥
+pub no_moves : (stage after : Stage) (live : Live) (gives : List UnfoldedLine) → Rested 0 stage gives → move stage ≡ Gives live after → ⊥
 no_moves _ after live _ (Rested.AtRest n stage rests) moves
     = absurd (let bad : NothingLeft ≡ Gives live after = sym rests ∙ moves in cc)
 
-given_first : (n m : ℕ) (stage : Stage) (gives : List Given) → Rested n stage gives → n ≡ suc m → (after : Stage) (live : Live)
+given_first : (n m : ℕ) (stage : Stage) (gives : List UnfoldedLine) → Rested n stage gives → n ≡ suc m → (after : Stage) (live : Live)
     → move stage ≡ Gives live after
     → LineGiven m (λ known. given known live after) (λ known. (act known after live.line.text).after) gives
 given_first _ m _ _ (Rested.AtRest n stage rests) is after live moves =
@@ -124,7 +124,7 @@ given_first _ m _ _ (Rested.Giving n stage other live' known gives fault moves' 
     let same_live : live' ≡ live = cc in
     let same_stage : other ≡ after = cc in
     let fewer : n ≡ m = cc in
-    let by : Live → Stage → Given = λ l s. given known l s in
+    let by : Live → Stage → UnfoldedLine = λ l s. given known l s in
     let told : given known live' other ≡ given known live after
     = ap (λ (l : Live). by l other) same_live ∙ ap (by live) same_stage in
     let end : (act known other live'.line.text).after ≡ (act known after live.line.text).after
@@ -133,12 +133,12 @@ given_first _ m _ _ (Rested.Giving n stage other live' known gives fault moves' 
     record {
       known = known;
       more = gives;
-      whole = ap (λ (g : Given). g ∷ gives) told;
+      whole = ap (λ (g : UnfoldedLine). g ∷ gives) told;
       next = subst (λ (s : Stage). Rested m s gives) end
           (subst (λ (k : ℕ). Rested k (act known other live'.line.text).after gives) fewer next);
     }
 
-module _ (n : ℕ) (level : Level) (situation : Situation) (line : SourceLine) (left : List Left) (gives : List Given) where
+module _ (n : ℕ) (level : Level) (situation : Situation) (line : SourceLine) (left : List RemainingItem) (gives : List UnfoldedLine) where
   abbrev here : Stage
   here = stage_of level (counting 1 situation) left
 
@@ -146,18 +146,18 @@ module _ (n : ℕ) (level : Level) (situation : Situation) (line : SourceLine) (
   live = record { line = line; is_expanded = is_expanding left }
 
   -- by the move that gives it, and what its operator does
-  pub line_given : (acted : Known → Acted) → marks left ≡ level.around
+  pub line_given : (acted : KnownSymbols → Acted) → marks left ≡ level.around
       → move (stage_of level situation (Line line ∷ left)) ≡ Gives live here
-      → ((known : Known) → acted_by known line.text here (operation_at level situation line) ≡ acted known)
+      → ((known : KnownSymbols) → acted_by known line.text here (operation_at level situation line) ≡ acted known)
       → Rested (suc n) (stage_of level situation (Line line ∷ left)) gives
       → LineGiven n (λ known. shown level known line (acted known)) (λ known. (acted known).after) gives
   line_given acted around moves acts rested =
       let first = given_first (suc n) n (stage_of level situation (Line line ∷ left)) gives rested refl here live moves in
-      let told : List Mark → Acted → Given = λ m a. record {
+      let told : List Mark → Acted → UnfoldedLine = λ m a. record {
         live = record { line = line; is_expanded = has_mark m };
         known = first.known;
         is_own = a.is_own;
-        notes = a.notes;
+        remarks = a.remarks;
         arguments = count_in m;
       } in
       let same : given first.known live here ≡ shown level first.known line (acted first.known)
@@ -165,7 +165,7 @@ module _ (n : ℕ) (level : Level) (situation : Situation) (line : SourceLine) (
       record {
         known = first.known;
         more = first.more;
-        whole = first.whole ∙ ap (λ (g : Given). g ∷ first.more) same;
+        whole = first.whole ∙ ap (λ (g : UnfoldedLine). g ∷ first.more) same;
         next = subst (λ (a : Acted). Rested n a.after first.more) (acts first.known) first.next;
       }
 
@@ -175,7 +175,7 @@ module _ (n : ℕ) (level : Level) (situation : Situation) (line : SourceLine) (
       line here) taking
 
 -- the same in any number of moves
-pub given_next : (n : ℕ) (stage : Stage) (gives : List Given) → Rested n stage gives → (after : Stage) (live : Live)
+pub given_next : (n : ℕ) (stage : Stage) (gives : List UnfoldedLine) → Rested n stage gives → (after : Stage) (live : Live)
     → move stage ≡ Gives live after
     → LineGiven n (λ known. given known live after) (λ known. (act known after live.line.text).after) gives
 given_next zero stage gives rested after live moves = absurd (no_moves stage after live gives rested moves)
@@ -189,12 +189,12 @@ given_next (suc n) stage gives rested after live moves =
     }
 
 -- where a run without lines arrives
-pub record Onward (P : Stage → Type 0) (n : ℕ) (gives : List Given) : Type 0 where
+pub record Onward (P : Stage → Type 0) (n : ℕ) (gives : List UnfoldedLine) : Type 0 where
   pub stage : Stage
   pub holds : P stage
   pub next : Rested n stage gives
 
-pub past_to : (P : Stage → Type 0) (before : Stage) (gives : List Given) (n : ℕ) → Runs before [] P → Rested n before gives
+pub past_to : (P : Stage → Type 0) (before : Stage) (gives : List UnfoldedLine) (n : ℕ) → Runs before [] P → Rested n before gives
     → Onward P n gives
 past_to P before gives n (inl there) next =
     record { stage = there.stage; holds = there.holds; next = past_leads before there.stage [] gives n there.leads refl next }
@@ -203,7 +203,7 @@ past_to P before gives n (inr short) next =
     absurd (no_limit n short.stage gives (past_leads before short.stage short.first gives n short.leads none next) short.passes)
 
 -- where nothing is taken, no line is given
-pub rests_nowhere : (n : ℕ) (stage : Stage) (gives : List Given) → Rested n stage gives → move stage ≡ NothingLeft → gives ≡ []
+pub rests_nowhere : (n : ℕ) (stage : Stage) (gives : List UnfoldedLine) → Rested n stage gives → move stage ≡ NothingLeft → gives ≡ []
 rests_nowhere _ _ _ (Rested.AtRest n stage is) rests = refl
 rests_nowhere _ _ _ (Rested.Passing n stage after gives fault moves next) rests =
     absurd (let bad : Passes after ≡ NothingLeft = sym moves ∙ rests in cc)

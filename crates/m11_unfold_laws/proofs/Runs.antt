@@ -1,34 +1,34 @@
 -- Runs: unfoldings that arrive at a stage of some kind, or that a limit cuts short.
 use Rattle.std.proofs.Common.{◌≡◌, ◌∙◌, ◌⊎◌, inl, inr, List, [], ◌∷◌, ◌++◌, append_assoc, Option, Some, None, refl, sym, ap, subst}
-use Rattle.m11_unfold_arguments.specs.Expressions.{Known}
+use Rattle.m11_unfold_arguments.specs.Expressions.{KnownSymbols}
 use Rattle.m11_unfold_rules.specs.Acting.{Acted, act, act_fault}
 use Rattle.m11_unfold_rules.specs.Limits.{next_fault}
 use Rattle.m11_unfold_rules.specs.Stages.{Stage}
 use Rattle.m11_unfold_rules.specs.Taking.{Gives, Live, Passes, move}
-use Rattle.m11_unfold_rules.specs.Unfolding.{Given, Leads, given}
+use Rattle.m11_unfold_rules.specs.Unfolding.{UnfoldedLine, Leads, given}
 use Rattle.m11_unfold_rules.specs.Unfolding as steps
 use Rattle.m11_unfold_rules.specs.declared.fault.UnfoldFault.{UnfoldFault}
 use Rattle.m11_unfold_rules.proofs.Following.{follows}
 use Rattle.m11_unfold_laws.specs.Limits.{IsCutShort, PassesLimit}
 
-pub record Arrives (before : Stage) (gives : List Given) (P : Stage → Type 0) : Type 0 where
+pub record Arrives (before : Stage) (gives : List UnfoldedLine) (P : Stage → Type 0) : Type 0 where
   pub stage : Stage
   pub leads : Leads before gives stage
   pub holds : P stage
 
-abbrev pub Runs : Stage → List Given → (Stage → Type 0) → Type 0
+abbrev pub Runs : Stage → List UnfoldedLine → (Stage → Type 0) → Type 0
 Runs before gives P = Arrives before gives P ⊎ IsCutShort before gives
 
 pub stays : (P : Stage → Type 0) (stage : Stage) → P stage → Runs stage [] P
 stays P stage holds = inl (record { stage = stage; leads = steps.Leads.Stays; holds = holds })
 
 -- one run after another
-pub and_then : (P Q : Stage → Type 0) (before : Stage) (gives later : List Given) → Runs before gives P
+pub and_then : (P Q : Stage → Type 0) (before : Stage) (gives later : List UnfoldedLine) → Runs before gives P
     → ((stage : Stage) → P stage → Runs stage later Q) → Runs before (gives ++ later) Q
 and_then P Q before gives later (inr short) next = inr (record {
   first = short.first;
   more = short.more ++ later;
-  whole = ap (λ (g : List Given). g ++ later) short.whole ∙ append_assoc short.first short.more later;
+  whole = ap (λ (g : List UnfoldedLine). g ++ later) short.whole ∙ append_assoc short.first short.more later;
   stage = short.stage;
   leads = short.leads;
   passes = short.passes;
@@ -43,21 +43,21 @@ and_then P Q before gives later (inl here) next = joined (next here.stage here.h
   joined (inr short) = inr (record {
     first = gives ++ short.first;
     more = short.more;
-    whole = ap (λ (g : List Given). gives ++ g) short.whole ∙ sym (append_assoc gives short.first short.more);
+    whole = ap (λ (g : List UnfoldedLine). gives ++ g) short.whole ∙ sym (append_assoc gives short.first short.more);
     stage = short.stage;
     leads = follows before here.stage short.stage gives short.first here.leads short.leads;
     passes = short.passes;
   })
 
 -- the same from an equal stage
-pub from_same : (P : Stage → Type 0) (one other : Stage) (gives : List Given) → one ≡ other → Runs other gives P
+pub from_same : (P : Stage → Type 0) (one other : Stage) (gives : List UnfoldedLine) → one ≡ other → Runs other gives P
     → Runs one gives P
 from_same P one other gives same runs =
     let Q : Stage → Type 0 = λ s. Runs s gives P in
     subst Q (sym same) runs
 
 -- the same with what follows from what holds
-pub weakened : (P Q : Stage → Type 0) (before : Stage) (gives : List Given) → ((stage : Stage) → P stage → Q stage)
+pub weakened : (P Q : Stage → Type 0) (before : Stage) (gives : List UnfoldedLine) → ((stage : Stage) → P stage → Q stage)
     → Runs before gives P → Runs before gives Q
 weakened P Q before gives next (inl here)
     = inl (record { stage = here.stage; leads = here.leads; holds = next here.stage here.holds })
@@ -82,13 +82,13 @@ passes P before after moves holds = by_fault (next_fault before) refl where
   })
 
 -- a line that becomes live, and what its operator does
-pub gives_line : (P : Stage → Type 0) (before after : Stage) (live : Live) (known : Known) (one : Given) (acted : Acted)
+pub gives_line : (P : Stage → Type 0) (before after : Stage) (live : Live) (known : KnownSymbols) (one : UnfoldedLine) (acted : Acted)
     → move before ≡ Gives live after → act known after live.line.text ≡ acted → given known live after ≡ one → P acted.after
     → Runs before (one ∷ []) P
 gives_line P before after live known one acted moves acts shown holds =
     let Q : Stage → Type 0 = λ s. P s in
     let holds' : P (act known after live.line.text).after = subst (λ (a : Acted). P a.after) (sym acts) holds in
-    let R : Given → Type 0 = λ g. Runs before (g ∷ []) P in
+    let R : UnfoldedLine → Type 0 = λ g. Runs before (g ∷ []) P in
     subst R shown (by_taking (next_fault before) refl (act_fault after live.line.text) refl holds') where
       short_by : PassesLimit before → Runs before (given known live after ∷ []) P
       short_by passed = inr (record {
@@ -112,14 +112,14 @@ gives_line P before after live known one acted moves acts shown holds =
       })
 
 -- a move that gives no line, and a run from there
-pub passes_on : (P : Stage → Type 0) (before after : Stage) (gives : List Given) → move before ≡ Passes after → Runs after gives P
+pub passes_on : (P : Stage → Type 0) (before after : Stage) (gives : List UnfoldedLine) → move before ≡ Passes after → Runs after gives P
     → Runs before gives P
 passes_on P before after gives moves runs =
     and_then (λ s. s ≡ after) P before [] gives (passes (λ s. s ≡ after) before after moves refl)
     (λ s is. from_same P s after gives is runs)
 
 -- a run that arrives at one stage
-pub arrived : (before after : Stage) (gives : List Given) → Runs before gives (λ s. s ≡ after)
+pub arrived : (before after : Stage) (gives : List UnfoldedLine) → Runs before gives (λ s. s ≡ after)
     → Leads before gives after ⊎ IsCutShort before gives
 arrived before after gives (inl there) = inl (subst (λ (s : Stage). Leads before gives s) there.holds there.leads)
 arrived before after gives (inr short) = inr short

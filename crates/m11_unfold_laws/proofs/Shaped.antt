@@ -10,20 +10,20 @@ use Rattle.m11_unfold_arguments.specs.Actuals.{actuals_from}
 use Rattle.m11_unfold_arguments.specs.Conditions.{condition}
 use Rattle.m11_unfold_arguments.specs.Directives.{directive}
 use Rattle.m11_unfold_arguments.specs.declared.directives.Directive.{Directive}
-use Rattle.m11_unfold_arguments.specs.Expressions.{Known}
+use Rattle.m11_unfold_arguments.specs.Expressions.{KnownSymbols}
 use Rattle.m11_unfold_arguments.specs.Filling.{filled}
 use Rattle.m11_unfold_arguments.specs.Immediate as immediate
-use Rattle.m11_unfold_arguments.specs.Notes.{Notes, noting}
+use Rattle.m11_unfold_arguments.specs.Remarks.{Remarks, remarks_of}
 use Rattle.m11_unfold_arguments.specs.declared.directives.Directive.TheVariants as word
 use Rattle.m11_unfold_bodies.specs.Bodies.{Cut, cut_at, nothing_taken, texts_of}
 use Rattle.m11_unfold_bodies.specs.Conditions.{is_live_in, is_live_inside, most_conditions, past}
-use Rattle.m11_unfold_bodies.specs.Left.{Left, Line, End, after_mark, conditions_in, count_in, expanded, has_mark, is_expanding, marks}
+use Rattle.m11_unfold_bodies.specs.Left.{RemainingItem, Line, End, after_mark, conditions_in, count_in, expanded, has_mark, is_expanding, marks}
 use Rattle.m11_unfold_bodies.specs.declared.mark.Mark.{Mark}
 use Rattle.m11_unfold_rules.specs.Acting.{Acted, Calls, OwnDirective, Operation, act, acted_by, condition_opened, flagged, foreign, formal_name, flag_O, opens, operation, own, with_statement}
-use Rattle.m11_unfold_rules.specs.Constructs.{condition_notes, round_lines}
+use Rattle.m11_unfold_rules.specs.Constructs.{condition_remarks, round_lines}
 use Rattle.m11_unfold_rules.specs.Stages.{Macro, Purpose, Defines, Repeats, Drops, Stage, line_left}
 use Rattle.m11_unfold_rules.specs.Taking.{Gives, Live, live_or_skipped, move, nesting, skipped_by, used}
-use Rattle.m11_unfold_rules.specs.Unfolding.{Given, given}
+use Rattle.m11_unfold_rules.specs.Unfolding.{UnfoldedLine, given}
 use Rattle.m11_unfold_rules.proofs.Expanding.{as_lines}
 use Rattle.m11_unfold_rules.proofs.Operators.{has_word}
 use Rattle.m11_unfold_rules.proofs.OtherLines.{same_marks}
@@ -40,12 +40,12 @@ use Rattle.m11_unfold_laws.proofs.Texts.{skips_text, text_stage}
 use Rattle.m11_unfold_laws.proofs.Words.{astray_acts, begins_acts, close_acts, opens_acts, other_acts}
 
 -- lines that stop their expansion are all that is left of it
-abbrev pub AtEnd : Ending → List Left → Type 0
+abbrev pub AtEnd : Ending → List RemainingItem → Type 0
 AtEnd GoesOn left = ⊤
 AtEnd Stops left = after_mark left ≡ left
 AtEnd Ends left = ⊤
 
-pub at_mark : (ending : Ending) (mark : Mark) (left : List Left) → AtEnd ending (End mark ∷ left)
+pub at_mark : (ending : Ending) (mark : Mark) (left : List RemainingItem) → AtEnd ending (End mark ∷ left)
 at_mark GoesOn mark left = tt
 at_mark Stops mark left = refl
 at_mark Ends mark left = tt
@@ -53,7 +53,7 @@ at_mark Ends mark left = tt
 -- ---- bodies
 
 module _ (level : Level) (before : Situation) (purpose : Purpose) (lines others : List SourceLine) (body : List Bytes)
-    (left : List Left) where
+    (left : List RemainingItem) where
   abbrev open_body : Stage
   open_body = opens purpose (stage_of level (counting 1 before) (map line_left lines ++ left))
 
@@ -61,7 +61,7 @@ module _ (level : Level) (before : Situation) (purpose : Purpose) (lines others 
       → Runs open_body [] (λ s. s
       ≡ used purpose body (stage_of level (counting (length body + 2) before) (map line_left others ++ left)))
   body_used has =
-      let all : List Left = map line_left lines ++ left in
+      let all : List RemainingItem = map line_left lines ++ left in
       let stage : Stage = stage_of level (counting 1 before) all in
       let shut : (cut_at nesting 0 (map line_left lines)).is_closed ≡ true = ap (λ (c : Cut). c.is_closed) has in
       let cut : Cut = record { body = body; is_closed = true; after = map line_left others ++ left } in
@@ -77,12 +77,12 @@ module _ (level : Level) (before : Situation) (purpose : Purpose) (lines others 
       weakened (λ s. s ≡ by (before.taken + 1 + (length (cut_at nesting 0 all).body + 1)) (cut_at nesting 0 all)) P open_body []
       (λ s is. is ∙ there) (closes purpose stage all nothing_taken (before.taken + 1) shut')
 
-module _ (level : Level) (before : Situation) (purpose : Purpose) (lines : List SourceLine) (left : List Left) where
+module _ (level : Level) (before : Situation) (purpose : Purpose) (lines : List SourceLine) (left : List RemainingItem) where
   pub body_open : HasNoClose lines → after_mark left ≡ left
       → Runs (opens purpose (stage_of level (counting 1 before) (map line_left lines ++ left))) []
       (IsStopped (counting (length lines + 1) before) left)
   body_open shut ends =
-      let all : List Left = map line_left lines ++ left in
+      let all : List RemainingItem = map line_left lines ++ left in
       let stage : Stage = stage_of level (counting 1 before) all in
       let cut : Cut = record { body = texts_of lines; is_closed = false; after = left } in
       let same : cut_at nesting 0 all ≡ cut = cut_open lines left 0 ends shut in
@@ -105,9 +105,9 @@ module _ (level : Level) (before : Situation) (purpose : Purpose) (lines : List 
 
 -- ---- expansions
 
-module _ (level : Level) (before : Situation) (known : Known) (line : SourceLine) (lines : List SourceLine) (left : List Left)
+module _ (level : Level) (before : Situation) (known : KnownSymbols) (line : SourceLine) (lines : List SourceLine) (left : List RemainingItem)
   where
-    abbrev rest : List Left
+    abbrev rest : List RemainingItem
     rest = map line_left lines ++ left
 
     abbrev here : Stage
@@ -120,46 +120,46 @@ module _ (level : Level) (before : Situation) (known : Known) (line : SourceLine
 
     -- an expansion stands in front of what is left
     abbrev Stands : Put → Type 0
-    Stands put = Runs (stage_of level before (Line line ∷ rest)) (own_line level known line put.notes ∷ []) (λ s. s
+    Stands put = Runs (stage_of level before (Line line ∷ rest)) (own_line level known line put.remarks ∷ []) (λ s. s
         ≡ put_there put)
 
     pub call_acts : (macro : Macro) (at : ℕ) → operation_at level before line ≡ Calls macro at
         → acted_by known line.text here (operation_at level before line)
-        ≡ own (actuals_from known line.text (length macro.formals) at).notes
+        ≡ own (actuals_from known line.text (length macro.formals) at).remarks
         (put_there (putting.put_by_call macro (actuals_from known line.text (length macro.formals) at) before lines))
     call_acts macro at is =
-        let given : actuals.Given = actuals_from known line.text (length macro.formals) at in
+        let given : actuals.ActualTexts = actuals_from known line.text (length macro.formals) at in
         let put : Put = putting.put_by_call macro given before lines in
         let formals : List Name = map formal_name macro.formals in
         let texts : List Bytes = (filled macro.formals given.texts before.created).texts in
         let mark : Mark = mark_at level put.arguments put.bytes in
-        let inside : List Left → Stage = λ l. stage_of (within_expansion put.arguments put.bytes level) put.situation l in
+        let inside : List RemainingItem → Stage = λ l. stage_of (within_expansion put.arguments put.bytes level) put.situation l in
         let lefts : expanded formals (texts ∷ []) macro.body mark rest ≡ map line_left put.lines ++ End mark ∷ rest
         = as_lines formals (texts ∷ []) macro.body mark rest
         ∙ ap (λ (ls : List SourceLine). map line_left ls ++ End mark ∷ rest)
         (append-nil (round_lines formals macro.body texts)) in
-        ap (acted_by known line.text here) is ∙ ap (λ (l : List Left). own given.notes (inside l)) lefts
+        ap (acted_by known line.text here) is ∙ ap (λ (l : List RemainingItem). own given.remarks (inside l)) lefts
 
     call_stands : (macro : Macro) (at : ℕ) → operation_at level before line ≡ Calls macro at
         → marks left ≡ level.around → is_live_inside level.entered ≡ true
         → Stands (putting.put_by_call macro (actuals_from known line.text (length macro.formals) at) before lines)
     call_stands macro at is around taking =
-        let given : actuals.Given = actuals_from known line.text (length macro.formals) at in
+        let given : actuals.ActualTexts = actuals_from known line.text (length macro.formals) at in
         let put : Put = putting.put_by_call macro given before lines in
         let P : Stage → Type 0 = λ s. s ≡ put_there put in
-        line_then P level before known line rest (own given.notes (put_there put)) [] (same_marks lines left ∙ around) taking
+        line_then P level before known line rest (own given.remarks (put_there put)) [] (same_marks lines left ∙ around) taking
         (call_acts macro at is) (stays P (put_there put) refl)
 
-    repeat_stands : (notes : Notes) (formals : List Name) (rounds : List (List Bytes)) (body : List Bytes)
+    repeat_stands : (remarks : Remarks) (formals : List Name) (rounds : List (List Bytes)) (body : List Bytes)
         (others : List SourceLine)
-        → Opens known line.text (operation_at level before line) notes (Repeats formals rounds) → HasBody lines body others
+        → Opens known line.text (operation_at level before line) remarks (Repeats formals rounds) → HasBody lines body others
         → marks left ≡ level.around → is_live_inside level.entered ≡ true
-        → Stands (putting.put_by_repeat notes formals rounds body before others)
-    repeat_stands notes formals rounds body others is has around taking =
-        let put : Put = putting.put_by_repeat notes formals rounds body before others in
+        → Stands (putting.put_by_repeat remarks formals rounds body before others)
+    repeat_stands remarks formals rounds body others is has around taking =
+        let put : Put = putting.put_by_repeat remarks formals rounds body before others in
         let mark : Mark = mark_at level put.arguments put.bytes in
-        let after : List Left = map line_left others ++ left in
-        let inside : List Left → Stage = λ l. stage_of (within_expansion put.arguments put.bytes level) put.situation l in
+        let after : List RemainingItem = map line_left others ++ left in
+        let inside : List RemainingItem → Stage = λ l. stage_of (within_expansion put.arguments put.bytes level) put.situation l in
         let P : Stage → Type 0 = λ s. s ≡ put_there put in
         let Q : Stage → Type 0 = λ s. s
         ≡ used (Repeats formals rounds) body (stage_of level (counting (length body + 2) before) after) in
@@ -168,20 +168,20 @@ module _ (level : Level) (before : Situation) (known : Known) (line : SourceLine
         let stood : Runs (opens (Repeats formals rounds) here) [] P
         = weakened Q P (opens (Repeats formals rounds) here) [] (λ s stands. stands ∙ same)
         (body_used level before (Repeats formals rounds) lines others body left has) in
-        line_then P level before known line rest (own notes (opens (Repeats formals rounds) here)) [] (same_marks lines left
+        line_then P level before known line rest (own remarks (opens (Repeats formals rounds) here)) [] (same_marks lines left
         ∙ around) taking
-        (opens_acts known line.text here (operation_at level before line) notes (Repeats formals rounds) is) stood
+        (opens_acts known line.text here (operation_at level before line) remarks (Repeats formals rounds) is) stood
 
     stands : (operator : Operation) (put : Put) → operation_at level before line ≡ operator
         → Puts known before line.text lines operator put → marks left ≡ level.around → is_live_inside level.entered ≡ true
         → Stands put
     stands _ _ is (putting.Puts.Call macro at) around taking = call_stands macro at is around taking
-    stands _ _ is (putting.Puts.Repeat operator notes formals rounds body others opened has) around taking =
-        repeat_stands notes formals rounds body others
-        (subst (λ (o : Operation). Opens known line.text o notes (Repeats formals rounds)) (sym is) opened) has around taking
+    stands _ _ is (putting.Puts.Repeat operator remarks formals rounds body others opened has) around taking =
+        repeat_stands remarks formals rounds body others
+        (subst (λ (o : Operation). Opens known line.text o remarks (Repeats formals rounds)) (sym is) opened) has around taking
 
 -- what stands after an expansion
-pub returned : (level : Level) (middle : Situation) (arguments : Option ℕ) (bytes : ℕ) (left : List Left) (inner : Ending)
+pub returned : (level : Level) (middle : Situation) (arguments : Option ℕ) (bytes : ℕ) (left : List RemainingItem) (inner : Ending)
     (stage : Stage)
     → Returns inner → Arrived inner (within_expansion arguments bytes level) middle (End (mark_at level arguments bytes) ∷ left)
     stage
@@ -201,12 +201,12 @@ returned level middle arguments bytes left Ends stage returns there = absurd ret
 
 -- ---- conditions
 
-unclosed_end : (ending : Ending) (left : List Left) → AtEnd (unclosed ending) left → AtEnd ending left
+unclosed_end : (ending : Ending) (left : List RemainingItem) → AtEnd (unclosed ending) left → AtEnd ending left
 unclosed_end GoesOn left at = tt
 unclosed_end Stops left at = at
 unclosed_end Ends left at = tt
 
-pub unclosed_arrived : (ending : Ending) (level : Level) (holds is_live : Bool) (after : Situation) (left : List Left)
+pub unclosed_arrived : (ending : Ending) (level : Level) (holds is_live : Bool) (after : Situation) (left : List RemainingItem)
     (stage : Stage)
     → Arrived ending (within_condition holds is_live level) after left stage → Arrived (unclosed ending) level after left stage
 unclosed_arrived GoesOn level holds is_live after left stage there = record {
@@ -217,7 +217,7 @@ unclosed_arrived GoesOn level holds is_live after left stage there = record {
 unclosed_arrived Stops level holds is_live after left stage there = there
 unclosed_arrived Ends level holds is_live after left stage there = there
 
-module _ (level : Level) (before : Situation) (known : Known) (line : SourceLine) (left : List Left) (at : ℕ) where
+module _ (level : Level) (before : Situation) (known : KnownSymbols) (line : SourceLine) (left : List RemainingItem) (at : ℕ) where
   abbrev if_here : Stage
   if_here = stage_of level (counting 1 before) left
 
@@ -225,10 +225,10 @@ module _ (level : Level) (before : Situation) (known : Known) (line : SourceLine
       → has_condition_left level ≡ room
       → acted_by known line.text if_here (operation_at level before line)
       ≡ (if room then condition_opened line.text (condition known line.text at) if_here
-      else own (noting flag_O []) (record if_here { conditions = past (only_entered level.entered) }))
+      else own (remarks_of flag_O []) (record if_here { conditions = past (only_entered level.entered) }))
   if_acts room is around has =
       let by : Bool → Acted = λ b. if b then condition_opened line.text (condition known line.text at) if_here
-      else own (noting flag_O []) (record if_here { conditions = past (only_entered level.entered) }) in
+      else own (remarks_of flag_O []) (record if_here { conditions = past (only_entered level.entered) }) in
       ap (acted_by known line.text if_here) is
       ∙ ap (λ (m : List Mark). by (nat_lt (length level.entered + conditions_in m) most_conditions)) around
       ∙ ap by has
@@ -236,7 +236,7 @@ module _ (level : Level) (before : Situation) (known : Known) (line : SourceLine
 -- ---- `.IIF`
 
 pub with_next : (level : Level) (situation : Situation) (text : Bytes) (holds : Bool) (at : Option ℕ) (lines : List SourceLine)
-    (left : List Left)
+    (left : List RemainingItem)
     → with_statement text holds at (stage_of level situation (map line_left lines ++ left))
     ≡ stage_of level situation (map line_left (statement_of text holds at ++ lines) ++ left)
 with_next level situation text true (Some at) lines left = refl
@@ -246,13 +246,13 @@ with_next level situation text false at lines left = refl
 -- ---- the cases of conditions
 
 -- a 33rd condition, and the text up to its `.ENDC`
-module _ (P : Stage → Type 0) (level : Level) (before : Situation) (known last : Known) (line close : SourceLine)
+module _ (P : Stage → Type 0) (level : Level) (before : Situation) (known last : KnownSymbols) (line close : SourceLine)
     (text lines : List SourceLine)
-    (gives : List Given) (at end : ℕ) (left : List Left) where
-  abbrev refused_end : Given
+    (gives : List UnfoldedLine) (at end : ℕ) (left : List RemainingItem) where
+  abbrev refused_end : UnfoldedLine
   refused_end = own_line level last close (flagged 0 close.text end)
 
-  abbrev after_text : List Left
+  abbrev after_text : List RemainingItem
   after_text = map line_left lines ++ left
 
   close_refused : operation (past (only_entered level.entered)) before.macros close.text ≡ OwnDirective word.Endc end
@@ -270,11 +270,11 @@ module _ (P : Stage → Type 0) (level : Level) (before : Situation) (known last
       = ap (λ (w : Option Directive). live_or_skipped (skipped_by (past (only_entered level.entered)) w) close here) word in
       let acted : Acted = own (flagged 0 close.text end) there in
       let acts : act last here close.text ≡ acted = ap (acted_by last close.text here) is in
-      let told : List Mark → Acted → Given = λ m a. record {
+      let told : List Mark → Acted → UnfoldedLine = λ m a. record {
         live = record { line = close; is_expanded = has_mark m };
         known = last;
         is_own = a.is_own;
-        notes = a.notes;
+        remarks = a.remarks;
         arguments = count_in m;
       } in
       let same : given last live here ≡ refused_end
@@ -290,9 +290,9 @@ module _ (P : Stage → Type 0) (level : Level) (before : Situation) (known last
       → marks left ≡ level.around → is_live_inside level.entered ≡ true
       → Runs (stage_of level (counting (length text + 2) before) after_text) gives P
       → Runs (stage_of level before (map line_left (line ∷ text ++ close ∷ lines) ++ left))
-      (own_line level known line (noting flag_O []) ∷ refused_end ∷ gives) P
+      (own_line level known line (remarks_of flag_O []) ∷ refused_end ∷ gives) P
   refused_runs is none skipped closing around taking next =
-      let rest : List Left = map line_left (text ++ close ∷ lines) ++ left in
+      let rest : List RemainingItem = map line_left (text ++ close ∷ lines) ++ left in
       let here : Stage = text_stage true level 0 (counting 1 before) rest in
       let word : directive close.text ≡ Some word.Endc
       = has_word before.macros (past (only_entered level.entered)) close.text end word.Endc closing in
@@ -306,18 +306,18 @@ module _ (P : Stage → Type 0) (level : Level) (before : Situation) (known last
       let further : Runs here (refused_end ∷ gives) P
       = and_then Q P here [] (refused_end ∷ gives) read
       (λ s stood. from_same P s closed (refused_end ∷ gives) stood (close_refused closing word around next)) in
-      line_then P level before known line rest (own (noting flag_O []) here) (refused_end ∷ gives)
+      line_then P level before known line rest (own (remarks_of flag_O []) here) (refused_end ∷ gives)
       (same_marks (text ++ close ∷ lines) left ∙ around) taking
       (if_acts level before known line rest at false is (same_marks (text ++ close ∷ lines) left ∙ around) none) further
 
 -- a part, and then a word of the condition
-module _ (P : Stage → Type 0) (level : Level) (holds is_live : Bool) (before middle : Situation) (known : Known)
+module _ (P : Stage → Type 0) (level : Level) (holds is_live : Bool) (before middle : Situation) (known : KnownSymbols)
     (line : SourceLine)
-    (lines others : List SourceLine) (gives later : List Given) (notes : Notes) (left : List Left) where
-  abbrev part_stage : Bool → Situation → List Left → Stage
+    (lines others : List SourceLine) (gives later : List UnfoldedLine) (remarks : Remarks) (left : List RemainingItem) where
+  abbrev part_stage : Bool → Situation → List RemainingItem → Stage
   part_stage live situation l = stage_of (within_condition holds live level) situation l
 
-  abbrev others_left : List Left
+  abbrev others_left : List RemainingItem
   others_left = map line_left others ++ left
 
   after_part : (there : Stage)
@@ -328,15 +328,15 @@ module _ (P : Stage → Type 0) (level : Level) (holds is_live : Bool) (before m
       ≡ Gives (record { line = line; is_expanded = is_expanding others_left })
       (part_stage is_live (counting 1 middle) others_left)
       → acted_by known line.text (part_stage is_live (counting 1 middle) others_left)
-      (operation_at (within_condition holds is_live level) middle line) ≡ own notes there
+      (operation_at (within_condition holds is_live level) middle line) ≡ own remarks there
       → Runs there later P
       → Runs (part_stage is_live before (map line_left (lines ++ line ∷ others) ++ left))
-      (gives ++ own_line level known line notes ∷ later) P
+      (gives ++ own_line level known line remarks ∷ later) P
   after_part there part around moves acts next =
       let Q : Stage → Type 0 = λ s. s ≡ part_stage is_live middle (Line line ∷ others_left) in
-      let told : List Given = own_line level known line notes ∷ later in
+      let told : List UnfoldedLine = own_line level known line remarks ∷ later in
       let word : Runs (part_stage is_live middle (Line line ∷ others_left)) told P
-      = line_by P (within_condition holds is_live level) middle known line others_left (own notes there) later
+      = line_by P (within_condition holds is_live level) middle known line others_left (own remarks there) later
       (same_marks others left ∙ around) moves acts next in
       from_same P (part_stage is_live before (map line_left (lines ++ line ∷ others) ++ left))
       (part_stage is_live before (map line_left lines ++ (Line line ∷ others_left))) (gives ++ told)
@@ -347,45 +347,45 @@ module _ (P : Stage → Type 0) (level : Level) (holds is_live : Bool) (before m
 -- ---- all cases
 
 mutual
-  pub shape : (level : Level) (before : Situation) (lines : List SourceLine) (gives : List Given) (after : Situation)
+  pub shape : (level : Level) (before : Situation) (lines : List SourceLine) (gives : List UnfoldedLine) (after : Situation)
       (ending : Ending)
-      → Shape level before lines gives after ending → (left : List Left) → marks left ≡ level.around
+      → Shape level before lines gives after ending → (left : List RemainingItem) → marks left ≡ level.around
       → is_live_inside level.entered ≡ true → AtEnd ending left
       → Runs (before_lines level before lines left) gives (Arrived ending level after left)
   shape _ _ _ _ _ _ (shapes.Shape.Nothing level before) left around taking end =
       stays (Arrived GoesOn level before left) (stage_of level before left) refl
   shape _ _ _ _ _ _ (shapes.Shape.Other level before after ending known line lines gives is next) left around taking end =
-      let rest : List Left = map line_left lines ++ left in
+      let rest : List RemainingItem = map line_left lines ++ left in
       let here : Stage = stage_of level (counting 1 before) rest in
       line_then (Arrived ending level after left) level before known line rest (foreign here) gives (same_marks lines left
       ∙ around) taking
       (other_acts known line.text here (operation_at level before line) is)
       (shape level (counting 1 before) lines gives after ending next left around taking end)
-  shape _ _ _ _ _ _ (shapes.Shape.Astray level before after ending known line lines gives notes is next) left around taking end =
-      let rest : List Left = map line_left lines ++ left in
+  shape _ _ _ _ _ _ (shapes.Shape.Astray level before after ending known line lines gives remarks is next) left around taking end =
+      let rest : List RemainingItem = map line_left lines ++ left in
       let here : Stage = stage_of level (counting 1 before) rest in
-      line_then (Arrived ending level after left) level before known line rest (own notes here) gives (same_marks lines left
+      line_then (Arrived ending level after left) level before known line rest (own remarks here) gives (same_marks lines left
       ∙ around) taking
-      (astray_acts known line.text level (counting 1 before) rest (operation_at level before line) notes (same_marks lines left
+      (astray_acts known line.text level (counting 1 before) rest (operation_at level before line) remarks (same_marks lines left
       ∙ around) is)
       (shape level (counting 1 before) lines gives after ending next left around taking end)
   shape _ _ _ _ _ _ (shapes.Shape.Expansion level before middle after inner ending known line lines gives later put puts body
       returns next)
       left around taking end =
       let mark : Mark = mark_at level put.arguments put.bytes in
-      let others : List Left = map line_left put.others ++ left in
+      let others : List RemainingItem = map line_left put.others ++ left in
       let P : Stage → Type 0 = Arrived ending level after left in
       let Q : Stage → Type 0 = λ s. s ≡ put_there level before known line lines left put in
       let R : Stage → Type 0 = Arrived inner (within_expansion put.arguments put.bytes level) middle (End mark ∷ others) in
       let S : Stage → Type 0 = λ s. s ≡ stage_of level middle others in
-      let begun : Runs (before_lines level before (line ∷ lines) left) (own_line level known line put.notes ∷ []) Q
+      let begun : Runs (before_lines level before (line ∷ lines) left) (own_line level known line put.remarks ∷ []) Q
       = stands level before known line lines left (operation_at level before line) put refl puts around taking in
       let inside : Runs (put_there level before known line lines left put) gives R
       = shape (within_expansion put.arguments put.bytes level) put.situation put.lines gives middle inner body (End mark ∷ others)
       (ap (λ (m : List Mark). mark ∷ m) (same_marks put.others left ∙ around)) refl (at_mark inner mark others) in
       let beyond : Runs (stage_of level middle others) later P
       = shape level middle put.others later after ending next left around taking end in
-      and_then Q P (before_lines level before (line ∷ lines) left) (own_line level known line put.notes ∷ []) (gives ++ later)
+      and_then Q P (before_lines level before (line ∷ lines) left) (own_line level known line put.remarks ∷ []) (gives ++ later)
       begun
       (λ s is. from_same P s (put_there level before known line lines left put) (gives ++ later) is
       (and_then R P (put_there level before known line lines left put) gives later inside
@@ -393,57 +393,57 @@ mutual
       (λ u is'. from_same P u (stage_of level middle others) later is' beyond))))
   shape _ _ _ _ _ _ (shapes.Shape.LastExpansion level before after known line lines gives put puts body) left around taking end =
       let mark : Mark = mark_at level put.arguments put.bytes in
-      let others : List Left = map line_left put.others ++ left in
+      let others : List RemainingItem = map line_left put.others ++ left in
       let P : Stage → Type 0 = Arrived Ends level after left in
       let Q : Stage → Type 0 = λ s. s ≡ put_there level before known line lines left put in
-      let begun : Runs (before_lines level before (line ∷ lines) left) (own_line level known line put.notes ∷ []) Q
+      let begun : Runs (before_lines level before (line ∷ lines) left) (own_line level known line put.remarks ∷ []) Q
       = stands level before known line lines left (operation_at level before line) put refl puts around taking in
       let inside : Runs (put_there level before known line lines left put) gives P
       = shape (within_expansion put.arguments put.bytes level) put.situation put.lines gives after Ends body (End mark ∷ others)
       (ap (λ (m : List Mark). mark ∷ m) (same_marks put.others left ∙ around)) refl tt in
-      and_then Q P (before_lines level before (line ∷ lines) left) (own_line level known line put.notes ∷ []) gives begun
+      and_then Q P (before_lines level before (line ∷ lines) left) (own_line level known line put.remarks ∷ []) gives begun
       (λ s is. from_same P s (put_there level before known line lines left put) gives is inside)
-  shape _ _ _ _ _ _ (shapes.Shape.Definition level before after ending known line lines others gives notes name formals body is
+  shape _ _ _ _ _ _ (shapes.Shape.Definition level before after ending known line lines others gives remarks name formals body is
       has next)
       left around taking end =
-      let rest : List Left = map line_left lines ++ left in
+      let rest : List RemainingItem = map line_left lines ++ left in
       let here : Stage = stage_of level (counting 1 before) rest in
       let purpose : Purpose = Defines name formals in
       let P : Stage → Type 0 = Arrived ending level after left in
       let defined : Situation = defining name formals body (counting (length body + 2) before) in
       let Q : Stage → Type 0 = λ s. s ≡ stage_of level defined (map line_left others ++ left) in
-      line_then P level before known line rest (own notes (opens purpose here)) gives (same_marks lines left ∙ around) taking
-      (opens_acts known line.text here (operation_at level before line) notes purpose is)
+      line_then P level before known line rest (own remarks (opens purpose here)) gives (same_marks lines left ∙ around) taking
+      (opens_acts known line.text here (operation_at level before line) remarks purpose is)
       (and_then Q P (opens purpose here) [] gives (body_used level before purpose lines others body left has)
       (λ s stood. from_same P s (stage_of level defined (map line_left others ++ left)) gives stood
       (shape level defined others gives after ending next left around taking end)))
-  shape _ _ _ _ _ _ (shapes.Shape.Dropped level before after ending known line lines others gives notes body is has next)
+  shape _ _ _ _ _ _ (shapes.Shape.Dropped level before after ending known line lines others gives remarks body is has next)
       left around taking end =
-      let rest : List Left = map line_left lines ++ left in
+      let rest : List RemainingItem = map line_left lines ++ left in
       let here : Stage = stage_of level (counting 1 before) rest in
       let P : Stage → Type 0 = Arrived ending level after left in
       let past_it : Situation = counting (length body + 2) before in
       let Q : Stage → Type 0 = λ s. s ≡ stage_of level past_it (map line_left others ++ left) in
-      line_then P level before known line rest (own notes (opens Drops here)) gives (same_marks lines left ∙ around) taking
-      (opens_acts known line.text here (operation_at level before line) notes Drops is)
+      line_then P level before known line rest (own remarks (opens Drops here)) gives (same_marks lines left ∙ around) taking
+      (opens_acts known line.text here (operation_at level before line) remarks Drops is)
       (and_then Q P (opens Drops here) [] gives (body_used level before Drops lines others body left has)
       (λ s stood. from_same P s (stage_of level past_it (map line_left others ++ left)) gives stood
       (shape level past_it others gives after ending next left around taking end)))
-  shape _ _ _ _ _ _ (shapes.Shape.OpenBody level before known line lines notes purpose is none) left around taking end =
-      let rest : List Left = map line_left lines ++ left in
+  shape _ _ _ _ _ _ (shapes.Shape.OpenBody level before known line lines remarks purpose is none) left around taking end =
+      let rest : List RemainingItem = map line_left lines ++ left in
       let here : Stage = stage_of level (counting 1 before) rest in
       line_then (IsStopped (counting (length lines + 1) before) left) level before known line rest
-      (own notes (opens purpose here)) []
+      (own remarks (opens purpose here)) []
       (same_marks lines left ∙ around) taking
-      (opens_acts known line.text here (operation_at level before line) notes purpose is)
+      (opens_acts known line.text here (operation_at level before line) remarks purpose is)
       (body_open level before purpose lines left none end)
   shape _ _ _ _ _ _ (shapes.Shape.Condition level before after ending known line lines gives at is room next) left around taking
       end =
-      let rest : List Left = map line_left lines ++ left in
+      let rest : List RemainingItem = map line_left lines ++ left in
       let here : Stage = stage_of level (counting 1 before) rest in
       let holds : Bool = (condition known line.text at).holds in
       line_then (Arrived ending level after left) level before known line rest
-      (own (condition_notes known line.text at) (stage_of (within_condition holds holds level) (counting 1 before) rest)) gives
+      (own (condition_remarks known line.text at) (stage_of (within_condition holds holds level) (counting 1 before) rest)) gives
       (same_marks lines left ∙ around) taking
       (if_acts level before known line rest at true is (same_marks lines left ∙ around) room)
       (parts level holds holds (counting 1 before) lines gives after ending next left around taking end)
@@ -454,11 +454,11 @@ mutual
       skipped closing
       around taking (shape level (counting (length text + 2) before) lines gives after ending next left around taking end)
   shape _ _ _ _ _ _ (shapes.Shape.OpenRefused level before known line lines at inner is none skipped) left around taking end =
-      let rest : List Left = map line_left lines ++ left in
+      let rest : List RemainingItem = map line_left lines ++ left in
       let here : Stage = text_stage true level 0 (counting 1 before) rest in
       let sum : before.taken + 1 + length lines ≡ before.taken + (length lines + 1) = omega arith in
       line_then (IsStopped (counting (length lines + 1) before) left) level before known line rest
-      (own (noting flag_O []) here) []
+      (own (remarks_of flag_O []) here) []
       (same_marks lines left ∙ around) taking
       (if_acts level before known line rest at false is (same_marks lines left ∙ around) none)
       (weakened (λ s. s ≡ text_stage true level inner (counting (length lines) (counting 1 before)) left)
@@ -470,27 +470,27 @@ mutual
       })
       (skips_text true level 0 lines inner skipped (counting 1 before) left refl))
   shape _ _ _ _ _ _ (shapes.Shape.Immediate level before after ending known line lines gives at is next) left around taking end =
-      let rest : List Left = map line_left lines ++ left in
+      let rest : List RemainingItem = map line_left lines ++ left in
       let here : Stage = stage_of level (counting 1 before) rest in
       let there : Stage = stage_of level (counting 1 before) (map line_left (statement known line.text at ++ lines) ++ left) in
-      let notes : Notes = immediate.notes known line.text at in
-      line_then (Arrived ending level after left) level before known line rest (own notes there) gives (same_marks lines left
+      let remarks : Remarks = immediate.remarks known line.text at in
+      line_then (Arrived ending level after left) level before known line rest (own remarks there) gives (same_marks lines left
       ∙ around) taking
-      (ap (acted_by known line.text here) is ∙ ap (own notes) (with_next level (counting 1 before) line.text
+      (ap (acted_by known line.text here) is ∙ ap (own remarks) (with_next level (counting 1 before) line.text
       (immediate.immediate known line.text at).holds (immediate.immediate known line.text at).statement lines left))
       (shape level (counting 1 before) (statement known line.text at ++ lines) gives after ending next left around taking end)
   shape _ _ _ _ _ _ (shapes.Shape.Exit level before known line lines at is expanding) left around taking end =
-      let rest : List Left = map line_left lines ++ left in
+      let rest : List RemainingItem = map line_left lines ++ left in
       let here : Stage = stage_of level (counting 1 before) rest in
       let there : Stage = stage_of level (counting 1 before) left in
-      let notes : Notes = flagged 0 line.text at in
+      let remarks : Remarks = flagged 0 line.text at in
       let by : Bool → Acted = λ b.
-      if b then own notes (record here { left = after_mark rest }) else own (flagged flag_O line.text at) here in
-      line_then (IsStopped (counting 1 before) left) level before known line rest (own notes there) [] (same_marks lines left
+      if b then own remarks (record here { left = after_mark rest }) else own (flagged flag_O line.text at) here in
+      line_then (IsStopped (counting 1 before) left) level before known line rest (own remarks there) [] (same_marks lines left
       ∙ around) taking
       (ap (acted_by known line.text here) is ∙ ap (λ (m : List Mark). by (has_mark m)) (same_marks lines left ∙ around)
       ∙ ap by expanding
-      ∙ ap (λ (l : List Left). own notes (record here { left = l })) (past_lines lines left ∙ end))
+      ∙ ap (λ (l : List RemainingItem). own remarks (record here { left = l })) (past_lines lines left ∙ end))
       (stays (IsStopped (counting 1 before) left) there (record {
         conditions = only_entered level.entered;
         opening = None;
@@ -498,23 +498,23 @@ mutual
             = refl;
       }))
   shape _ _ _ _ _ _ (shapes.Shape.End level before known line lines at is) left around taking end =
-      let rest : List Left = map line_left lines ++ left in
+      let rest : List RemainingItem = map line_left lines ++ left in
       let here : Stage = stage_of level (counting 1 before) rest in
       line_then (Arrived Ends level (counting 1 before) left) level before known line rest
       (foreign (record here { has_ended = true })) []
       (same_marks lines left ∙ around) taking (ap (acted_by known line.text here) is)
       (stays (Arrived Ends level (counting 1 before) left) (record here { has_ended = true }) refl)
 
-  parts : (level : Level) (holds is_live : Bool) (before : Situation) (lines : List SourceLine) (gives : List Given)
+  parts : (level : Level) (holds is_live : Bool) (before : Situation) (lines : List SourceLine) (gives : List UnfoldedLine)
       (after : Situation)
-      (ending : Ending) → Parts level holds is_live before lines gives after ending → (left : List Left)
+      (ending : Ending) → Parts level holds is_live before lines gives after ending → (left : List RemainingItem)
       → marks left ≡ level.around
       → is_live_inside level.entered ≡ true → AtEnd ending left
       → Runs (before_lines (within_condition holds is_live level) before lines left) gives (Arrived ending level after left)
   parts _ _ _ _ _ _ _ _ (shapes.Parts.Next level holds is_live before middle after ending known line lines others gives later
       part at one
       begins next) left around taking end =
-      let rest : List Left = map line_left others ++ left in
+      let rest : List RemainingItem = map line_left others ++ left in
       let inside : Level = within_condition holds is_live level in
       after_part (Arrived ending level after left) level holds is_live before middle known line lines others gives later
       (flagged 0 line.text at) left
@@ -526,7 +526,7 @@ mutual
   parts _ _ _ _ _ _ _ _ (shapes.Parts.Close level holds is_live before middle after ending known line lines others gives later
       at one
       closing next) left around taking end =
-      let rest : List Left = map line_left others ++ left in
+      let rest : List RemainingItem = map line_left others ++ left in
       let here : Stage = stage_of (within_condition holds is_live level) (counting 1 middle) rest in
       after_part (Arrived ending level after left) level holds is_live before middle known line lines others gives later
       (flagged 0 line.text at) left
@@ -538,16 +538,16 @@ mutual
   parts _ _ _ _ _ _ _ _ (shapes.Parts.ImmediateInPart level holds before middle after ending known line lines others gives later
       at one
       is next) left around taking end =
-      let rest : List Left = map line_left others ++ left in
+      let rest : List RemainingItem = map line_left others ++ left in
       let inside : Level = within_condition holds true level in
       let here : Stage = stage_of inside (counting 1 middle) rest in
       let all : List SourceLine = statement known line.text at ++ others in
-      let notes : Notes = immediate.notes known line.text at in
-      after_part (Arrived ending level after left) level holds true before middle known line lines others gives later notes left
+      let remarks : Remarks = immediate.remarks known line.text at in
+      after_part (Arrived ending level after left) level holds true before middle known line lines others gives later remarks left
       (stage_of inside (counting 1 middle) (map line_left all ++ left))
       (one_part level holds true before lines gives middle GoesOn one (Line line ∷ rest) (same_marks others left ∙ around) tt)
       around refl
-      (ap (acted_by known line.text here) is ∙ ap (own notes) (with_next inside (counting 1 middle) line.text
+      (ap (acted_by known line.text here) is ∙ ap (own remarks) (with_next inside (counting 1 middle) line.text
       (immediate.immediate known line.text at).holds (immediate.immediate known line.text at).statement others left))
       (parts level holds true (counting 1 middle) all later after ending next left around taking end)
   parts _ _ _ _ _ _ _ _ (shapes.Parts.Last level holds is_live before after ending lines gives one) left around taking end =
@@ -556,9 +556,9 @@ mutual
       (λ s there. unclosed_arrived ending level holds is_live after left s there)
       (one_part level holds is_live before lines gives after ending one left around (unclosed_end ending left end))
 
-  one_part : (level : Level) (holds is_live : Bool) (before : Situation) (lines : List SourceLine) (gives : List Given)
+  one_part : (level : Level) (holds is_live : Bool) (before : Situation) (lines : List SourceLine) (gives : List UnfoldedLine)
       (after : Situation)
-      (ending : Ending) → OnePart level holds is_live before lines gives after ending → (left : List Left)
+      (ending : Ending) → OnePart level holds is_live before lines gives after ending → (left : List RemainingItem)
       → marks left ≡ level.around
       → AtEnd ending left
       → Runs (before_lines (within_condition holds is_live level) before lines left) gives

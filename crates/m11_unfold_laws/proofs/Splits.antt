@@ -9,8 +9,8 @@ use Rattle.m11_scan_lines.specs.Line.{SourceLine}
 use Rattle.m11_scan.specs.Cutting.{text_between}
 use Rattle.m11_scan_statements.specs.declared.spans.Span.{Span}
 use Rattle.m11_unfold_arguments.specs.Directives.{directive, directive_at, directive_named, operator}
-use Rattle.m11_unfold_arguments.specs.Expressions.{Known}
-use Rattle.m11_unfold_arguments.specs.Notes.{Notes}
+use Rattle.m11_unfold_arguments.specs.Expressions.{KnownSymbols}
+use Rattle.m11_unfold_arguments.specs.Remarks.{Remarks}
 use Rattle.m11_unfold_arguments.specs.declared.directives.Directive.{Directive}
 use Rattle.m11_unfold_arguments.specs.declared.directives.Directive.TheVariants as word
 use Rattle.m11_unfold_bodies.specs.Bodies.{cut_after, cut_at, depth_after, with_line}
@@ -188,10 +188,10 @@ module _ (conditions : OpenConditions) (macros : List (Name × Macro)) (text : B
 
 -- ---- kinds of operators
 
-pub record SomePurpose (known : Known) (text : Bytes) (operator : Operation) : Type 0 where
-  pub notes : Notes
+pub record SomePurpose (known : KnownSymbols) (text : Bytes) (operator : Operation) : Type 0 where
+  pub remarks : Remarks
   pub purpose : Purpose
-  pub opens : Opens known text operator notes purpose
+  pub opens : Opens known text operator remarks purpose
 
 pub data Kind : Operation → Type 0 where
   Others : (operator : Operation) → IsOther operator → Kind operator
@@ -200,7 +200,7 @@ pub data Kind : Operation → Type 0 where
   OfPart : (operator : Operation) (part : Part) (at : ℕ) → Begins operator part at → Kind operator
   EndCondition : (at : ℕ) → Kind (OwnDirective word.Endc at)
   Immediate : (at : ℕ) → Kind (OwnDirective word.Iif at)
-  Body : (operator : Operation) → ((known : Known) (text : Bytes) → SomePurpose known text operator) → Kind operator
+  Body : (operator : Operation) → ((known : KnownSymbols) (text : Bytes) → SomePurpose known text operator) → Kind operator
   EndMacro : (at : ℕ) → Kind (OwnDirective word.Endm at)
   EndRepeat : (at : ℕ) → Kind (OwnDirective word.Endr at)
   Exit : (at : ℕ) → Kind (OwnDirective word.Mexit at)
@@ -216,21 +216,21 @@ kind (OwnDirective word.Iftf at) = Kind.OfPart (OwnDirective word.Iftf at) _ at 
 kind (OwnDirective word.Endc at) = Kind.EndCondition at
 kind (OwnDirective word.Iif at) = Kind.Immediate at
 kind (OwnDirective word.Macro at) =
-    Kind.Body (OwnDirective word.Macro at) (λ known text. record { notes = _; purpose = _; opens = putting.Opens.Macro at })
+    Kind.Body (OwnDirective word.Macro at) (λ known text. record { remarks = _; purpose = _; opens = putting.Opens.Macro at })
 kind (OwnDirective word.Endm at) = Kind.EndMacro at
 kind (OwnDirective word.Rept at) =
-    Kind.Body (OwnDirective word.Rept at) (λ known text. record { notes = _; purpose = _; opens = putting.Opens.Repeat at })
+    Kind.Body (OwnDirective word.Rept at) (λ known text. record { remarks = _; purpose = _; opens = putting.Opens.Repeat at })
 kind (OwnDirective word.Endr at) = Kind.EndRepeat at
 kind (OwnDirective word.Irp at) =
     Kind.Body (OwnDirective word.Irp at) (λ known text. record {
-      notes = _;
+      remarks = _;
       purpose = _;
       opens
           = putting.Opens.IndefiniteRepeat at;
     })
 kind (OwnDirective word.Irpc at) =
     Kind.Body (OwnDirective word.Irpc at) (λ known text. record {
-      notes = _;
+      remarks = _;
       purpose = _;
       opens
           = putting.Opens.CharacterRepeat at;

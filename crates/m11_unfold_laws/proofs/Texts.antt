@@ -7,7 +7,7 @@ use Rattle.m11_unfold_arguments.specs.Directives.{directive}
 use Rattle.m11_unfold_arguments.specs.declared.directives.Directive.{Directive}
 use Rattle.m11_unfold_arguments.specs.declared.directives.Directive.TheVariants as word
 use Rattle.m11_unfold_bodies.specs.Conditions.{OpenConditions, is_live_inside}
-use Rattle.m11_unfold_bodies.specs.Left.{Left, Line}
+use Rattle.m11_unfold_bodies.specs.Left.{RemainingItem, Line}
 use Rattle.m11_unfold_rules.specs.Stages.{Stage, line_left}
 use Rattle.m11_unfold_rules.specs.Taking.{Passes, live_or_skipped, move, skipped_by}
 use Rattle.m11_unfold_laws.specs.Levels.{Level, Situation, counting, stage_of}
@@ -20,7 +20,7 @@ module _ (is_past : Bool) (level : Level) where
   skipping inner = record { entered = level.entered; nested = inner; is_past = is_past }
 
   -- some inner conditions are open in the text
-  abbrev pub text_stage : ℕ → Situation → List Left → Stage
+  abbrev pub text_stage : ℕ → Situation → List RemainingItem → Stage
   text_stage inner situation left = record (stage_of level situation left) { conditions = skipping inner }
 
   -- ---- words
@@ -67,7 +67,7 @@ module _ (is_past : Bool) (level : Level) where
 
   -- ---- lines
 
-  skips_line : (inner next : ℕ) (situation : Situation) (line : SourceLine) (left : List Left)
+  skips_line : (inner next : ℕ) (situation : Situation) (line : SourceLine) (left : List RemainingItem)
       → is_past || not (is_live_inside level.entered) ≡ true
       → skipped_by (skipping inner) (directive line.text) ≡ Some (skipping next)
       → move (text_stage inner situation (Line line ∷ left)) ≡ Passes (text_stage next (counting 1 situation) left)
@@ -76,16 +76,16 @@ module _ (is_past : Bool) (level : Level) where
       ap (λ (b : Bool). live_or_skipped (if b then skipped_by (skipping inner) (directive line.text) else None) line here) skips
       ∙ ap (λ (c : Option OpenConditions). live_or_skipped c line here) is
 
-  abbrev Skips : ℕ → ℕ → List SourceLine → Situation → List Left → Type 0
+  abbrev Skips : ℕ → ℕ → List SourceLine → Situation → List RemainingItem → Type 0
   Skips inner last lines situation left = Runs (text_stage inner situation (map line_left lines ++ left)) []
       (λ s. s ≡ text_stage last (counting (length lines) situation) left)
 
-  one_skipped : (inner next last : ℕ) (line : SourceLine) (lines : List SourceLine) (situation : Situation) (left : List Left)
+  one_skipped : (inner next last : ℕ) (line : SourceLine) (lines : List SourceLine) (situation : Situation) (left : List RemainingItem)
       → is_past || not (is_live_inside level.entered) ≡ true
       → skipped_by (skipping inner) (directive line.text) ≡ Some (skipping next)
       → Skips next last lines (counting 1 situation) left → Skips inner last (line ∷ lines) situation left
   one_skipped inner next last line lines situation left skips is more =
-      let all : List Left = map line_left lines ++ left in
+      let all : List RemainingItem = map line_left lines ++ left in
       let P : Stage → Type 0 = λ s. s ≡ text_stage last (counting (length (line ∷ lines)) situation) left in
       let sum : situation.taken + 1 + length lines ≡ situation.taken + suc (length lines) = omega arith in
       let same : text_stage last (counting (length lines) (counting 1 situation)) left
@@ -97,7 +97,7 @@ module _ (is_past : Bool) (level : Level) where
       (text_stage next (counting 1 situation) all) [] (λ s stands. stands ∙ same) more)
 
   pub skips_text : (inner : ℕ) (lines : List SourceLine) (last : ℕ) → IsText is_past inner lines last → (situation : Situation)
-      (left : List Left) → is_past || not (is_live_inside level.entered) ≡ true → Skips inner last lines situation left
+      (left : List RemainingItem) → is_past || not (is_live_inside level.entered) ≡ true → Skips inner last lines situation left
   skips_text _ _ _ (shapes.IsText.Nothing inner) situation left skips =
       let none : situation.taken ≡ situation.taken + 0 = omega arith in
       stays (λ s. s ≡ text_stage inner (counting 0 situation) left) (text_stage inner situation left)

@@ -1,45 +1,45 @@
 -- An unfolding that is walked through, move by move.
 use Rattle.std.proofs.Common.{◌≡◌, ℕ, zero, suc, List, [], ◌∷◌, Option, Some, None, refl, subst}
-use Rattle.m11_unfold_arguments.specs.Expressions.{Known}
+use Rattle.m11_unfold_arguments.specs.Expressions.{KnownSymbols}
 use Rattle.m11_unfold_rules.specs.Acting.{act, act_fault}
 use Rattle.m11_unfold_rules.specs.Limits.{next_fault}
 use Rattle.m11_unfold_rules.specs.Stages.{Stage}
 use Rattle.m11_unfold_rules.specs.Taking.{Gives, Live, Move, Passes, NothingLeft, move}
-use Rattle.m11_unfold_rules.specs.Unfolding.{Given, Leads, given}
+use Rattle.m11_unfold_rules.specs.Unfolding.{UnfoldedLine, Leads, given}
 use Rattle.m11_unfold_rules.specs.Unfolding as steps
 use Rattle.m11_unfold_rules.specs.declared.fault.UnfoldFault.{UnfoldFault}
 use Rattle.m11_unfold_rules.proofs.Following.{follows}
 
 pub record Walk : Type 0 where
-  pub gives : List Given
+  pub gives : List UnfoldedLine
   pub after : Stage
 
-abbrev with_line : Given → Option Walk → Option Walk
+abbrev with_line : UnfoldedLine → Option Walk → Option Walk
 with_line one None = None
 with_line one (Some rest) = Some (record { gives = one ∷ rest.gives; after = rest.after })
 
-abbrev by_acting : Known → Live → Stage → (Stage → Option Walk) → Option UnfoldFault → Option Walk
+abbrev by_acting : KnownSymbols → Live → Stage → (Stage → Option Walk) → Option UnfoldFault → Option Walk
 by_acting known live after more (Some fault) = None
 by_acting known live after more None = with_line (given known live after) (more (act known after live.line.text).after)
 
-abbrev by_move : Known → Stage → (Stage → Option Walk) → Move → Option Walk
+abbrev by_move : KnownSymbols → Stage → (Stage → Option Walk) → Move → Option Walk
 by_move known stage more NothingLeft = Some (record { gives = []; after = stage })
 by_move known stage more (Passes after) = more after
 by_move known stage more (Gives live after) = by_acting known live after more (act_fault after live.line.text)
 
-abbrev by_taking : Known → Stage → (Stage → Option Walk) → Option UnfoldFault → Option Walk
+abbrev by_taking : KnownSymbols → Stage → (Stage → Option Walk) → Option UnfoldFault → Option Walk
 by_taking known stage more (Some fault) = None
 by_taking known stage more None = by_move known stage more (move stage)
 
 -- the lines of so many moves, up to where nothing is taken
-abbrev pub walk : ℕ → Known → Stage → Option Walk
+abbrev pub walk : ℕ → KnownSymbols → Stage → Option Walk
 walk zero known stage = None
 walk (suc n) known stage = by_taking known stage (λ after. walk n known after) (next_fault stage)
 
 abbrev Led : Stage → Walk → Type 0
 Led stage all = Leads stage all.gives all.after × (move all.after ≡ NothingLeft)
 
-module _ (known : Known) (stage : Stage) (more : Stage → Option Walk) (all : Walk)
+module _ (known : KnownSymbols) (stage : Stage) (more : Stage → Option Walk) (all : Walk)
     (leads : (after : Stage) (rest : Walk) → more after ≡ Some rest → Led after rest) where
   acted_so : (live : Live) (after : Stage) → next_fault stage ≡ None → move stage ≡ Gives live after
       → (acting : Option UnfoldFault)
@@ -74,7 +74,7 @@ module _ (known : Known) (stage : Stage) (more : Stage → Option Walk) (all : W
   taken_so (Some fault) none is = absurd (let bad = is in cc)
   taken_so None none is = moved_so none (move stage) refl is
 
-pub walked : (n : ℕ) (known : Known) (stage : Stage) (all : Walk) → walk n known stage ≡ Some all → Led stage all
+pub walked : (n : ℕ) (known : KnownSymbols) (stage : Stage) (all : Walk) → walk n known stage ≡ Some all → Led stage all
 walked zero known stage all is = absurd (let bad = is in cc)
 walked (suc n) known stage all is =
     taken_so known stage (λ after. walk n known after) all (λ after rest was. walked n known after rest was) (next_fault stage)

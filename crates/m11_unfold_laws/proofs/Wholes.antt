@@ -2,15 +2,15 @@
 use Rattle.std.proofs.Common.{◌≡◌, ◌∙◌, ◌⊎◌, inl, inr, Bool, true, false, List, [], ◌∷◌, ◌++◌, map, append_assoc, append-nil, Option, Some, None, refl, sym, ap, subst}
 use Rattle.std.specs.Prelude.{ℕ, if◌then◌else◌}
 use Rattle.m11_scan_lines.specs.Line.{SourceLine}
-use Rattle.m11_unfold_arguments.specs.Expressions.{Known}
-use Rattle.m11_unfold_bodies.specs.Left.{Left, Line, End}
+use Rattle.m11_unfold_arguments.specs.Expressions.{KnownSymbols}
+use Rattle.m11_unfold_bodies.specs.Left.{RemainingItem, Line, End}
 use Rattle.m11_unfold_bodies.specs.declared.mark.Mark.{Mark}
 use Rattle.m11_unfold_rules.specs.Acting.{act_fault}
 use Rattle.m11_unfold_rules.specs.Histories.{GoesOn, IsKnownBy}
 use Rattle.m11_unfold_rules.specs.Limits.{fault_from, next_fault}
 use Rattle.m11_unfold_rules.specs.Stages.{Stage, line_left, start}
 use Rattle.m11_unfold_rules.specs.Taking.{Gives, Live, Passes, NothingLeft, line_taken, live_or_skipped, move, move_from, one_taken, skipped}
-use Rattle.m11_unfold_rules.specs.Unfolding.{Given, Leads, Unfolds}
+use Rattle.m11_unfold_rules.specs.Unfolding.{UnfoldedLine, Leads, Unfolds}
 use Rattle.m11_unfold_rules.specs.Unfolding as steps
 use Rattle.m11_unfold_rules.proofs.OneUnfolding as unfoldings
 use Rattle.m11_unfold_laws.specs.Laws.{Arrived, BeginWith, HasLiveLines, IsEndedAfter, StandsIn, before_lines}
@@ -24,7 +24,7 @@ use Rattle.m11_unfold_laws.proofs.Shaped.{AtEnd, at_mark, returned, shape}
 
 -- ---- lines before what is left
 
-pub goes_on : (level : Level) (before after : Situation) (lines : List SourceLine) (gives : List Given) (left : List Left)
+pub goes_on : (level : Level) (before after : Situation) (lines : List SourceLine) (gives : List UnfoldedLine) (left : List RemainingItem)
     → Shape level before lines gives after shapes.Ending.GoesOn → StandsIn level left
     → Leads (before_lines level before lines left) gives (stage_of level after left)
     ⊎ IsCutShort (before_lines level before lines left) gives
@@ -33,8 +33,8 @@ goes_on level before after lines gives left shaped stands =
     (shape level before lines gives after shapes.Ending.GoesOn shaped left stands.around stands.is_live tt)
 
 pub expands : (level : Level) (before after : Situation) (arguments : Option ℕ) (bytes : ℕ) (lines : List SourceLine)
-    (gives : List Given)
-    (ending : Ending) (left : List Left) → Shape (within_expansion arguments bytes level) before lines gives after ending
+    (gives : List UnfoldedLine)
+    (ending : Ending) (left : List RemainingItem) → Shape (within_expansion arguments bytes level) before lines gives after ending
     → Returns ending
     → StandsIn level left
     → Leads (before_lines (within_expansion arguments bytes level) before lines (End (mark_at level arguments bytes) ∷ left))
@@ -51,9 +51,9 @@ expands level before after arguments bytes lines gives ending left shaped return
     (ap (λ (m : List Mark). mark ∷ m) stands.around) refl (at_mark ending mark left) in
     let whole : Runs first (gives ++ []) Q
     = and_then P Q first gives [] runs (λ s there. returned level after arguments bytes left ending s returns there) in
-    arrived first (stage_of level after left) gives (subst (λ (g : List Given). Runs first g Q) (append-nil gives) whole)
+    arrived first (stage_of level after left) gives (subst (λ (g : List UnfoldedLine). Runs first g Q) (append-nil gives) whole)
 
-pub ends : (level : Level) (before after : Situation) (lines : List SourceLine) (gives : List Given) (left : List Left)
+pub ends : (level : Level) (before after : Situation) (lines : List SourceLine) (gives : List UnfoldedLine) (left : List RemainingItem)
     → Shape level before lines gives after shapes.Ending.Ends → StandsIn level left
     → IsEndedAfter (before_lines level before lines left) gives ⊎ IsCutShort (before_lines level before lines left) gives
 ends level before after lines gives left shaped stands =
@@ -76,7 +76,7 @@ nothing_left shapes.Ending.GoesOn after stage there = ap move there
 nothing_left shapes.Ending.Stops after stage there = ap move there.is
 nothing_left shapes.Ending.Ends after stage there = ap (λ (b : Bool). if b then NothingLeft else move_from stage.left stage) there
 
-pub whole : (source : List SourceLine) (gives : List Given) (after : Situation) (ending : Ending)
+pub whole : (source : List SourceLine) (gives : List UnfoldedLine) (after : Situation) (ending : Ending)
     → Shape source_level beginning source gives after ending → HasLiveLines source gives ⊎ IsCutShort (start source) gives
 whole source gives after ending shaped =
     all (from_same (Arrived ending source_level after []) (start source) (before_lines source_level beginning source []) gives
@@ -112,7 +112,7 @@ module _ (before : Stage) where
       absurd (let bad : Some fault ≡ None = sym acts' ∙ same ∙ acts in cc)
 
   -- nothing further is taken
-  stays_short : (done : List Given) (after : Stage) → PassesLimit before → Leads before done after
+  stays_short : (done : List UnfoldedLine) (after : Stage) → PassesLimit before → Leads before done after
       → (done ≡ []) × (after ≡ before)
   stays_short _ _ passed steps.Leads.Stays = (refl, refl)
   stays_short _ _ passed (steps.Leads.Passing done stage after leads fault moves) =
@@ -137,7 +137,7 @@ no_limit_at_rest stage rests (limits.PassesLimit.Taking fault is) = by_end stage
   no_rest_line (Some opening) line s is = absurd (let bad = is in cc)
   no_rest_line None line s is = no_rest (skipped s.conditions line.text) line s is
 
-  by_end : (has_ended : Bool) (left : List Left) → (if has_ended then NothingLeft else move_from left stage) ≡ NothingLeft
+  by_end : (has_ended : Bool) (left : List RemainingItem) → (if has_ended then NothingLeft else move_from left stage) ≡ NothingLeft
       → (if has_ended then None else fault_from left stage) ≡ Some fault → ⊥
   by_end true left rests is = absurd (let bad = is in cc)
   by_end false [] rests is = absurd (let bad = is in cc)
@@ -146,8 +146,8 @@ no_limit_at_rest stage rests (limits.PassesLimit.Taking fault is) = by_end stage
 
 -- ---- no other lines
 
-module _ (tells : List Given → Live
-    → Known) (source : List SourceLine) (gives done : List Given) (after : Situation) (ending : Ending)
+module _ (tells : List UnfoldedLine → Live
+    → KnownSymbols) (source : List SourceLine) (gives done : List UnfoldedLine) (after : Situation) (ending : Ending)
     (stage : Stage) (shaped : Shape source_level beginning source gives after ending) (told : IsKnownBy tells gives)
     (told' : IsKnownBy tells done) (unfolds : Unfolds source done stage) where
   pub no_others : BeginWith gives done
@@ -164,19 +164,19 @@ module _ (tells : List Given → Live
         → BeginWith gives done
     with_first short (inl on) = record {
       more = on.more ++ short.more;
-      whole = short.whole ∙ ap (λ (g : List Given). g ++ short.more) on.whole ∙ append_assoc done on.more short.more;
+      whole = short.whole ∙ ap (λ (g : List UnfoldedLine). g ++ short.more) on.whole ∙ append_assoc done on.more short.more;
     }
     with_first short (inr on) =
         let still = stays_short short.stage on.more stage short.passes on.leads in
-        let same : done ≡ short.first = on.whole ∙ ap (λ (g : List Given). short.first ++ g) still.0 ∙ append-nil short.first in
-        record { more = short.more; whole = short.whole ∙ ap (λ (g : List Given). g ++ short.more) (sym same) }
+        let same : done ≡ short.first = on.whole ∙ ap (λ (g : List UnfoldedLine). short.first ++ g) still.0 ∙ append-nil short.first in
+        record { more = short.more; whole = short.whole ∙ ap (λ (g : List UnfoldedLine). g ++ short.more) (sym same) }
 
     by_shape : HasLiveLines source gives ⊎ IsCutShort (start source) gives → BeginWith gives done
     by_shape (inl all) = with_all all
         (unfoldings.compared tells (start source) stage all.stage done gives told' told unfolds all.unfolds)
     by_shape (inr short) =
         with_first short (unfoldings.compared tells (start source) stage short.stage done short.first told'
-        (unfoldings.front_told tells short.first short.more (subst (λ (g : List Given). IsKnownBy tells g) short.whole told))
+        (unfoldings.front_told tells short.first short.more (subst (λ (g : List UnfoldedLine). IsKnownBy tells g) short.whole told))
         unfolds short.leads)
 
   pub just_these : move stage ≡ NothingLeft → done ≡ gives
@@ -196,5 +196,5 @@ module _ (tells : List Given → Live
         rests all.rests).0
     by_shape (inr short) =
         with_first short (unfoldings.compared tells (start source) stage short.stage done short.first told'
-        (unfoldings.front_told tells short.first short.more (subst (λ (g : List Given). IsKnownBy tells g) short.whole told))
+        (unfoldings.front_told tells short.first short.more (subst (λ (g : List UnfoldedLine). IsKnownBy tells g) short.whole told))
         unfolds short.leads)

@@ -3,11 +3,11 @@ use Rattle.std.proofs.Common.{◌≡◌, ◌∙◌, ℕ, Bool, false, List, [], 
 use Rattle.std.specs.Prelude.{◌==◌, if◌then◌else◌}
 use Rattle.std.proofs.lemmas.Bool.Decides.{nat_tests}
 use Rattle.m11_base.specs.Devices.{Bytes}
-use Rattle.m11_unfold_arguments.specs.Expressions.{Known}
-use Rattle.m11_unfold_arguments.specs.Notes.{Notes}
+use Rattle.m11_unfold_arguments.specs.Expressions.{KnownSymbols}
+use Rattle.m11_unfold_arguments.specs.Remarks.{Remarks}
 use Rattle.m11_unfold_arguments.specs.declared.directives.Directive.TheVariants as word
 use Rattle.m11_unfold_bodies.specs.Conditions.{closed, is_live_in, switched}
-use Rattle.m11_unfold_bodies.specs.Left.{Left, after_mark, has_mark, marks}
+use Rattle.m11_unfold_bodies.specs.Left.{RemainingItem, after_mark, has_mark, marks}
 use Rattle.m11_unfold_bodies.specs.declared.conditions.OpenCondition.{OpenCondition}
 use Rattle.m11_unfold_bodies.specs.declared.conditions.Part.{Part}
 use Rattle.m11_unfold_bodies.specs.declared.conditions.Part.TheVariants as parts
@@ -20,14 +20,14 @@ use Rattle.m11_unfold_laws.specs.Putting as putting
 use Rattle.m11_unfold_laws.specs.Shapes.{Begins, IsAstray, IsOther}
 use Rattle.m11_unfold_laws.specs.Shapes as shapes
 
-pub other_acts : (known : Known) (text : Bytes) (stage : Stage) (operation : Operation) → IsOther operation
+pub other_acts : (known : KnownSymbols) (text : Bytes) (stage : Stage) (operation : Operation) → IsOther operation
     → acted_by known text stage operation ≡ foreign stage
 other_acts known text stage _ shapes.IsOther.Other = refl
 other_acts known text stage _ (shapes.IsOther.ArgumentCount column) = refl
 other_acts known text stage _ (shapes.IsOther.CharacterCount column) = refl
 
-pub opens_acts : (known : Known) (text : Bytes) (stage : Stage) (operation : Operation) (notes : Notes) (purpose : Purpose)
-    → Opens known text operation notes purpose → acted_by known text stage operation ≡ own notes (opens purpose stage)
+pub opens_acts : (known : KnownSymbols) (text : Bytes) (stage : Stage) (operation : Operation) (remarks : Remarks) (purpose : Purpose)
+    → Opens known text operation remarks purpose → acted_by known text stage operation ≡ own remarks (opens purpose stage)
 opens_acts known text stage _ _ _ (putting.Opens.Macro column) = refl
 opens_acts known text stage _ _ _ (putting.Opens.Repeat column) = refl
 opens_acts known text stage _ _ _ (putting.Opens.IndefiniteRepeat column) = refl
@@ -35,18 +35,18 @@ opens_acts known text stage _ _ _ (putting.Opens.CharacterRepeat column) = refl
 
 -- ---- astray
 
-module _ (known : Known) (text : Bytes) (level : Level) (situation : Situation) (left : List Left) where
+module _ (known : KnownSymbols) (text : Bytes) (level : Level) (situation : Situation) (left : List RemainingItem) where
   abbrev stage : Stage
   stage = stage_of level situation left
 
-  pub astray_acts : (operation : Operation) (notes : Notes) → marks left ≡ level.around → IsAstray level text operation notes
-      → acted_by known text stage operation ≡ own notes stage
+  pub astray_acts : (operation : Operation) (remarks : Remarks) → marks left ≡ level.around → IsAstray level text operation remarks
+      → acted_by known text stage operation ≡ own remarks stage
   astray_acts _ _ around (shapes.IsAstray.EndMacro at) = refl
   astray_acts _ _ around (shapes.IsAstray.EndRepeat at) = refl
   astray_acts _ _ around (shapes.IsAstray.MacroExit at none) =
       ap (λ (m : List Mark). if has_mark m then own (flagged 0 text at) (record stage { left = after_mark left })
       else own (flagged flag_O text at) stage) (around ∙ none)
-  astray_acts operation notes around (shapes.IsAstray.Begin operation' part at begins none)
+  astray_acts operation remarks around (shapes.IsAstray.Begin operation' part at begins none)
       = begin_astray operation' part at begins none where
         begin_astray : (operation : Operation) (part : Part) (at : ℕ) → Begins operation part at → level.entered ≡ []
             → acted_by known text stage operation ≡ own (flagged flag_O text at) stage
@@ -65,7 +65,7 @@ module _ (known : Known) (text : Bytes) (level : Level) (situation : Situation) 
 
 -- ---- the words of a condition
 
-module _ (known : Known) (text : Bytes) (level : Level) (holds is_live : Bool) (situation : Situation) (left : List Left) where
+module _ (known : KnownSymbols) (text : Bytes) (level : Level) (holds is_live : Bool) (situation : Situation) (left : List RemainingItem) where
   abbrev inside : Stage
   inside = stage_of (within_condition holds is_live level) situation left
 

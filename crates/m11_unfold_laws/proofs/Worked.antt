@@ -8,12 +8,12 @@ use Rattle.m11_scan.specs.declared.radix.Radix.TheVariants.{Octal}
 use Rattle.m11_scan_values.specs.declared.names.Symbol.{Symbol}
 use Rattle.m11_scan_values.specs.Quantities.{Quantity}
 use Rattle.m11_scan_values.specs.Values.{value_of}
-use Rattle.m11_unfold_arguments.specs.Expressions.{Known, known_by}
-use Rattle.m11_unfold_arguments.specs.Notes.{no_notes}
+use Rattle.m11_unfold_arguments.specs.Expressions.{KnownSymbols, known_by}
+use Rattle.m11_unfold_arguments.specs.Remarks.{no_remarks}
 use Rattle.m11_unfold_arguments.specs.declared.directives.Directive.TheVariants as word
 use Rattle.m11_unfold_rules.specs.Acting.{OwnDirective}
 use Rattle.m11_unfold_rules.specs.Stages.{Macro, Defines, start}
-use Rattle.m11_unfold_rules.specs.Unfolding.{Given}
+use Rattle.m11_unfold_rules.specs.Unfolding.{UnfoldedLine}
 use Rattle.m11_unfold_laws.specs.Levels.{Level, Situation, beginning, operation_at, source_level, stage_of, within_expansion}
 use Rattle.m11_unfold_laws.specs.Laws.{HasLiveLines}
 use Rattle.m11_unfold_laws.specs.Putting.{HasBody, Opens, Put, Puts}
@@ -25,7 +25,7 @@ use Rattle.m11_unfold_laws.specs.Worked as worked
 use Rattle.m11_unfold_laws.proofs.Walks.{walked}
 
 module _ (stands_for : Symbol → Quantity) where
-  abbrev known : Known
+  abbrev known : KnownSymbols
   known = known_by Octal stands_for
 
   abbrev first : SourceLine
@@ -35,7 +35,7 @@ module _ (stands_for : Symbol → Quantity) where
   unfolding alphabet code_of first_piece value_of
   is_macro = refl
 
-  opens_macro : Opens known first.text (operation_at source_level beginning first) no_notes (Defines twice_name twice_formals)
+  opens_macro : Opens known first.text (operation_at source_level beginning first) no_remarks (Defines twice_name twice_formals)
   unfolding alphabet code_of first_piece value_of
   opens_macro = putting.Opens.Macro 7
 
@@ -81,12 +81,12 @@ module _ (stands_for : Symbol → Quantity) where
   repeat_rest_1 = nop ∷ line_of (codes " .ENDR") ∷ branch_1 ∷ []
 
   abbrev put_1 : Put
-  put_1 = putting.put_by_repeat no_notes [] ([] ∷ [] ∷ []) (codes " NOP" ∷ []) (made 30001 7) (branch_1 ∷ [])
+  put_1 = putting.put_by_repeat no_remarks [] ([] ∷ [] ∷ []) (codes " NOP" ∷ []) (made 30001 7) (branch_1 ∷ [])
 
   repeat_puts_1 : Puts known (made 30001 7) repeat_line_1.text repeat_rest_1
       (operation_at in_call (made 30001 7) repeat_line_1) put_1
   unfolding alphabet code_of first_piece value_of
-  repeat_puts_1 = putting.Puts.Repeat (OwnDirective word.Rept 13) no_notes [] ([] ∷ [] ∷ []) (codes " NOP" ∷ []) (branch_1 ∷ [])
+  repeat_puts_1 = putting.Puts.Repeat (OwnDirective word.Rept 13) no_remarks [] ([] ∷ [] ∷ []) (codes " NOP" ∷ []) (branch_1 ∷ [])
       (putting.Opens.Repeat 13) refl
 
   nop_1 : (taken : ℕ) → IsOther (operation_at in_rounds (made 30001 taken) nop)
@@ -122,7 +122,7 @@ module _ (stands_for : Symbol → Quantity) where
 
   call_put_1 : List SourceLine → Put
   call_put_1 others = record {
-    notes = no_notes;
+    remarks = no_remarks;
     arguments = Some 0;
     bytes = 0;
     lines = repeat_line_1 ∷ repeat_rest_1;
@@ -135,7 +135,7 @@ module _ (stands_for : Symbol → Quantity) where
   unfolding alphabet code_of first_piece value_of call_put_1
   call_puts_1 others = putting.Puts.Call twice 6
 
-  then_1 : (others : List SourceLine) (later : List Given)
+  then_1 : (others : List SourceLine) (later : List UnfoldedLine)
       → Shape source_level (made 30001 13) others later worked_end shapes.Ending.GoesOn
       → Shape source_level (made 30000 6) (call ∷ others)
       (source_line stands_for (codes " TWICE") ∷ worked.repeat_line stands_for (codes "30000$: .REPT 2")
@@ -162,12 +162,12 @@ module _ (stands_for : Symbol → Quantity) where
   repeat_rest_2 = nop ∷ line_of (codes " .ENDR") ∷ branch_2 ∷ []
 
   abbrev put_2 : Put
-  put_2 = putting.put_by_repeat no_notes [] ([] ∷ [] ∷ []) (codes " NOP" ∷ []) (made 30002 14) (branch_2 ∷ [])
+  put_2 = putting.put_by_repeat no_remarks [] ([] ∷ [] ∷ []) (codes " NOP" ∷ []) (made 30002 14) (branch_2 ∷ [])
 
   repeat_puts_2 : Puts known (made 30002 14) repeat_line_2.text repeat_rest_2
       (operation_at in_call (made 30002 14) repeat_line_2) put_2
   unfolding alphabet code_of first_piece value_of
-  repeat_puts_2 = putting.Puts.Repeat (OwnDirective word.Rept 13) no_notes [] ([] ∷ [] ∷ []) (codes " NOP" ∷ []) (branch_2 ∷ [])
+  repeat_puts_2 = putting.Puts.Repeat (OwnDirective word.Rept 13) no_remarks [] ([] ∷ [] ∷ []) (codes " NOP" ∷ []) (branch_2 ∷ [])
       (putting.Opens.Repeat 13) refl
 
   nop_2 : (taken : ℕ) → IsOther (operation_at in_rounds (made 30002 taken) nop)
@@ -203,7 +203,7 @@ module _ (stands_for : Symbol → Quantity) where
 
   call_put_2 : List SourceLine → Put
   call_put_2 others = record {
-    notes = no_notes;
+    remarks = no_remarks;
     arguments = Some 0;
     bytes = 0;
     lines = repeat_line_2 ∷ repeat_rest_2;
@@ -216,7 +216,7 @@ module _ (stands_for : Symbol → Quantity) where
   unfolding alphabet code_of first_piece value_of call_put_2
   call_puts_2 others = putting.Puts.Call twice 6
 
-  then_2 : (others : List SourceLine) (later : List Given)
+  then_2 : (others : List SourceLine) (later : List UnfoldedLine)
       → Shape source_level (made 30002 20) others later worked_end shapes.Ending.GoesOn
       → Shape source_level (made 30001 13) (call ∷ others)
       (source_line stands_for (codes " TWICE") ∷ worked.repeat_line stands_for (codes "30001$: .REPT 2")
@@ -233,13 +233,13 @@ module _ (stands_for : Symbol → Quantity) where
 
   -- ---- the whole
 
-  abbrev second_call : List Given
+  abbrev second_call : List UnfoldedLine
   second_call =
       source_line stands_for (codes " TWICE") ∷ worked.repeat_line stands_for (codes "30001$: .REPT 2")
       ∷ inner_line stands_for (codes " NOP") ∷ inner_line stands_for (codes " NOP") ∷ inner_line stands_for (codes " BR 30001$")
       ∷ []
 
-  abbrev both_calls : List Given
+  abbrev both_calls : List UnfoldedLine
   both_calls =
       source_line stands_for (codes " TWICE") ∷ worked.repeat_line stands_for (codes "30000$: .REPT 2")
       ∷ inner_line stands_for (codes " NOP") ∷ inner_line stands_for (codes " NOP") ∷ inner_line stands_for (codes " BR 30000$")
@@ -248,7 +248,7 @@ module _ (stands_for : Symbol → Quantity) where
   pub as_worked : Shape source_level beginning worked_source (worked_lines stands_for) worked_end shapes.Ending.GoesOn
   as_worked =
       shapes.Shape.Definition source_level beginning worked_end shapes.Ending.GoesOn known first body_lines calls both_calls
-      no_notes twice_name
+      no_remarks twice_name
       twice_formals twice_body opens_macro has_body
       (then_1 (call ∷ []) second_call (then_2 [] [] (shapes.Shape.Nothing source_level worked_end)))
 

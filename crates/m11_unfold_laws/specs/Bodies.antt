@@ -1,19 +1,19 @@
 -- Bodies of the unfolding that runs. (MACRO-11 Language Reference Manual, "Macro definition" and "Repeat block directive".)
 use Rattle.std.specs.Prelude.{ℕ, ◌+◌, false, [], ◌++◌, length, Some, None}
-use Rattle.m11_unfold_bodies.specs.Bodies.{Cut, HalfTaken, cut_at}
+use Rattle.m11_unfold_bodies.specs.Bodies.{Cut, PartialBody, cut_at}
 use Rattle.m11_unfold_rules.specs.Stages.{Purpose, Stage}
 use Rattle.m11_unfold_rules.specs.Taking.{nesting}
 use Rattle.m11_unfold_rules.specs.Unfolding.{Leads}
 
 -- a stage in which a body is open, of which some lines are taken
-abbrev pub with_body : Purpose → HalfTaken → Stage → Stage
+abbrev pub with_body : Purpose → PartialBody → Stage → Stage
 with_body purpose taken stage = record stage {
   opening = Some (record { purpose = purpose; taken = taken });
   has_ended = false;
 }
 
 -- what is left of the body, by nesting alone: its lines up to its close, or to an expansion's end or the end of all
-abbrev pub rest_of_body : HalfTaken → Stage → Cut
+abbrev pub rest_of_body : PartialBody → Stage → Cut
 rest_of_body taken stage = cut_at nesting taken.depth stage.left
 
 -- the lines of a body, and its close, are taken
@@ -36,7 +36,7 @@ past_open_body cut stage = record stage {
 }
 
 -- the lines of a body without a close are taken, and it stays open
-pub record StaysOpen (purpose : Purpose) (taken : HalfTaken) (cut : Cut) (before : Stage) : Type 0 where
+pub record StaysOpen (purpose : Purpose) (taken : PartialBody) (cut : Cut) (before : Stage) : Type 0 where
   pub inner : ℕ
   pub leads : Leads (with_body purpose taken before) []
       (with_body purpose (record { body = taken.body ++ cut.body; depth = inner }) (past_open_body cut before))

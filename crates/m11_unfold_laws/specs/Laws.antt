@@ -3,24 +3,24 @@
 use Rattle.std.specs.Prelude.{◌≡◌, true, false, List, ◌++◌, map, Option}
 use Rattle.m11_scan_lines.specs.Line.{SourceLine}
 use Rattle.m11_unfold_bodies.specs.Conditions.{OpenConditions, is_live_inside}
-use Rattle.m11_unfold_bodies.specs.Left.{Left, marks}
+use Rattle.m11_unfold_bodies.specs.Left.{RemainingItem, marks}
 use Rattle.m11_unfold_rules.specs.Stages.{Opening, Stage, line_left}
 use Rattle.m11_unfold_rules.specs.Taking.{NothingLeft, move}
-use Rattle.m11_unfold_rules.specs.Unfolding.{Given, Leads, Unfolds}
+use Rattle.m11_unfold_rules.specs.Unfolding.{UnfoldedLine, Leads, Unfolds}
 use Rattle.m11_unfold_laws.specs.Levels.{Level, Situation, beginning, source_level, stage_of}
 use Rattle.m11_unfold_laws.specs.Shapes.{Ending, GoesOn, Stops, Ends, Shape}
 
 -- what is left after lines is so at their level: these expansions are open, and the lines are live in all conditions
-pub record StandsIn (level : Level) (left : List Left) : Type 0 where
+pub record StandsIn (level : Level) (left : List RemainingItem) : Type 0 where
   pub around : marks left ≡ level.around
   pub is_live : is_live_inside level.entered ≡ true
 
 -- lines before what is left
-abbrev pub before_lines : Level → Situation → List SourceLine → List Left → Stage
+abbrev pub before_lines : Level → Situation → List SourceLine → List RemainingItem → Stage
 before_lines level situation lines left = stage_of level situation (map line_left lines ++ left)
 
 -- some conditions and some body may be open
-pub record IsStopped (situation : Situation) (left : List Left) (stage : Stage) : Type 0 where
+pub record IsStopped (situation : Situation) (left : List RemainingItem) (stage : Stage) : Type 0 where
   pub conditions : OpenConditions
   pub opening : Option Opening
   pub is : stage ≡ record {
@@ -35,30 +35,30 @@ pub record IsStopped (situation : Situation) (left : List Left) (stage : Stage) 
   }
 
 -- the stage after lines, by how they end
-abbrev pub Arrived : Ending → Level → Situation → List Left → Stage → Type 0
+abbrev pub Arrived : Ending → Level → Situation → List RemainingItem → Stage → Type 0
 Arrived GoesOn level after left stage = stage ≡ stage_of level after left
 Arrived Stops level after left stage = IsStopped after left stage
 Arrived Ends level after left stage = stage.has_ended ≡ true
 
 -- `.END` became live after these lines
-pub record IsEndedAfter (before : Stage) (gives : List Given) : Type 0 where
+pub record IsEndedAfter (before : Stage) (gives : List UnfoldedLine) : Type 0 where
   pub stage : Stage
   pub leads : Leads before gives stage
   pub ended : stage.has_ended ≡ true
 
 -- these are all live lines of a source
-pub record HasLiveLines (source : List SourceLine) (gives : List Given) : Type 0 where
+pub record HasLiveLines (source : List SourceLine) (gives : List UnfoldedLine) : Type 0 where
   pub stage : Stage
   pub unfolds : Unfolds source gives stage
   pub rests : move stage ≡ NothingLeft
 
 -- some lines begin with others
-pub record BeginWith (gives done : List Given) : Type 0 where
-  pub more : List Given
+pub record BeginWith (gives done : List UnfoldedLine) : Type 0 where
+  pub more : List UnfoldedLine
   pub whole : gives ≡ done ++ more
 
 -- a source has a shape with these live lines
-pub record HasShape (source : List SourceLine) (gives : List Given) : Type 0 where
+pub record HasShape (source : List SourceLine) (gives : List UnfoldedLine) : Type 0 where
   pub after : Situation
   pub ending : Ending
   pub shape : Shape source_level beginning source gives after ending

@@ -4,19 +4,19 @@ use Rattle.std.specs.Prelude.{ℕ, ◌+◌, Bool, true, false, nat_lt, List, [],
 use Rattle.m11_base.specs.Devices.{Bytes}
 use Rattle.m11_base.specs.Rad50.{Name}
 use Rattle.m11_scan_lines.specs.Line.{SourceLine}
-use Rattle.m11_unfold_arguments.specs.Expressions.{Known}
+use Rattle.m11_unfold_arguments.specs.Expressions.{KnownSymbols}
 use Rattle.m11_unfold_arguments.specs.Filling.{first_created}
-use Rattle.m11_unfold_arguments.specs.Notes.{Notes, no_notes}
+use Rattle.m11_unfold_arguments.specs.Remarks.{Remarks, no_remarks}
 use Rattle.m11_unfold_bodies.specs.Bodies.{size_of}
 use Rattle.m11_unfold_bodies.specs.Conditions.{OpenConditions, most_conditions}
-use Rattle.m11_unfold_bodies.specs.Left.{Left, conditions_in, count_in, has_mark}
+use Rattle.m11_unfold_bodies.specs.Left.{RemainingItem, conditions_in, count_in, has_mark}
 use Rattle.m11_unfold_bodies.specs.declared.conditions.OpenCondition.{OpenCondition}
 use Rattle.m11_unfold_bodies.specs.declared.mark.Mark.{Mark}
 use Rattle.m11_unfold_arguments.specs.declared.macros.MacroFormal.{MacroFormal}
 use Rattle.m11_unfold_rules.specs.Acting.{Operation, operation}
 use Rattle.m11_unfold_rules.specs.Macros.{defined}
 use Rattle.m11_unfold_rules.specs.Stages.{Macro, Stage}
-use Rattle.m11_unfold_rules.specs.Unfolding.{Given}
+use Rattle.m11_unfold_rules.specs.Unfolding.{UnfoldedLine}
 
 -- the level of nesting at which lines stand
 pub record Level : Type 0 where
@@ -85,27 +85,27 @@ abbrev pub operation_at : Level → Situation → SourceLine → Operation
 operation_at level situation line = operation (only_entered level.entered) situation.macros line.text
 
 -- a live line of unfolding's own, with its flags and symbols
-abbrev pub own_line : Level → Known → SourceLine → Notes → Given
-own_line level known line notes = record {
+abbrev pub own_line : Level → KnownSymbols → SourceLine → Remarks → UnfoldedLine
+own_line level known line remarks = record {
   live = record { line = line; is_expanded = has_mark level.around };
   known = known;
   is_own = true;
-  notes = notes;
+  remarks = remarks;
   arguments = count_in level.around;
 }
 
 -- any other live line
-abbrev pub other_line : Level → Known → SourceLine → Given
+abbrev pub other_line : Level → KnownSymbols → SourceLine → UnfoldedLine
 other_line level known line = record {
   live = record { line = line; is_expanded = has_mark level.around };
   known = known;
   is_own = false;
-  notes = no_notes;
+  remarks = no_remarks;
   arguments = count_in level.around;
 }
 
 -- the stage at which what is left is taken next
-abbrev pub stage_of : Level → Situation → List Left → Stage
+abbrev pub stage_of : Level → Situation → List RemainingItem → Stage
 stage_of level situation left = record {
   left = left;
   conditions = only_entered level.entered;

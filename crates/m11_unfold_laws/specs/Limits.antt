@@ -4,7 +4,7 @@ use Rattle.m11_unfold_rules.specs.Acting.{act_fault}
 use Rattle.m11_unfold_rules.specs.Limits.{next_fault}
 use Rattle.m11_unfold_rules.specs.Stages.{Stage}
 use Rattle.m11_unfold_rules.specs.Taking.{Gives, Live, move}
-use Rattle.m11_unfold_rules.specs.Unfolding.{Given, Leads}
+use Rattle.m11_unfold_rules.specs.Unfolding.{UnfoldedLine, Leads}
 use Rattle.m11_unfold_rules.specs.declared.fault.UnfoldFault.{UnfoldFault}
 
 -- what comes next at a stage passes a limit: what is taken, or a line that becomes live once its operator is done
@@ -14,9 +14,9 @@ pub data PassesLimit (stage : Stage) : Type 0 where
       → act_fault after live.line.text ≡ Some fault → PassesLimit stage
 
 -- after the first of some lines, or before all of them, a limit is passed
-pub record IsCutShort (before : Stage) (gives : List Given) : Type 0 where
-  pub first : List Given
-  pub more : List Given
+pub record IsCutShort (before : Stage) (gives : List UnfoldedLine) : Type 0 where
+  pub first : List UnfoldedLine
+  pub more : List UnfoldedLine
   pub whole : gives ≡ first ++ more
   pub stage : Stage
   pub leads : Leads before first stage

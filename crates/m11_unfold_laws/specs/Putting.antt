@@ -4,12 +4,12 @@ use Rattle.std.specs.Prelude.{◌≡◌, ℕ, ◌+◌, true, false, List, [], le
 use Rattle.m11_base.specs.Devices.{Bytes}
 use Rattle.m11_base.specs.Rad50.{Name}
 use Rattle.m11_scan_lines.specs.Line.{SourceLine}
-use Rattle.m11_unfold_arguments.specs.Actuals.{Given, actuals_from}
-use Rattle.m11_unfold_arguments.specs.Expressions.{Known}
-use Rattle.m11_unfold_arguments.specs.Filling.{Filled, filled}
+use Rattle.m11_unfold_arguments.specs.Actuals.{ActualTexts, actuals_from}
+use Rattle.m11_unfold_arguments.specs.Expressions.{KnownSymbols}
+use Rattle.m11_unfold_arguments.specs.Filling.{FormalTexts, filled}
 use Rattle.m11_unfold_arguments.specs.Indefinite.{irpc, irp}
 use Rattle.m11_unfold_arguments.specs.Macros.{header}
-use Rattle.m11_unfold_arguments.specs.Notes.{Notes, noting}
+use Rattle.m11_unfold_arguments.specs.Remarks.{Remarks, remarks_of}
 use Rattle.m11_unfold_arguments.specs.Repeats as repeats
 use Rattle.m11_unfold_arguments.specs.declared.directives.Directive.TheVariants as word
 use Rattle.m11_unfold_bodies.specs.Bodies.{body_of, size_of}
@@ -33,22 +33,22 @@ abbrev pub HasNoClose : List SourceLine → Type 0
 HasNoClose lines = (body_of nesting (map line_left lines)).is_closed ≡ false
 
 -- a line opens a body: its flags and symbols, and what the body is for
-pub data Opens (known : Known) (text : Bytes) : Operation → Notes → Purpose → Type 0 where
+pub data Opens (known : KnownSymbols) (text : Bytes) : Operation → Remarks → Purpose → Type 0 where
   -- a macro; where the name is missing or bad, the body is for nothing
   Macro : (column : ℕ)
-      → Opens known text (OwnDirective word.Macro column) (noting (header text column).flags [])
+      → Opens known text (OwnDirective word.Macro column) (remarks_of (header text column).flags [])
       (acting.defining (header text column).named)
   -- as many rounds as the expression says, without formals
   Repeat : (column : ℕ)
-      → Opens known text (OwnDirective word.Rept column) (repeats.notes known text column)
+      → Opens known text (OwnDirective word.Rept column) (repeats.remarks known text column)
       (Repeats [] (replicate (repeats.rept_count known text column) []))
   -- a round for each argument, which is put in place of the formal
   IndefiniteRepeat : (column : ℕ)
-      → Opens known text (OwnDirective word.Irp column) (irp known text column).notes
+      → Opens known text (OwnDirective word.Irp column) (irp known text column).remarks
       (repeating (irp known text column).rounds)
   -- a round for each character
   CharacterRepeat : (column : ℕ)
-      → Opens known text (OwnDirective word.Irpc column) (irpc text column).notes
+      → Opens known text (OwnDirective word.Irpc column) (irpc text column).remarks
       (repeating (irpc text column).rounds)
 
 -- ---- what is put in place
@@ -56,7 +56,7 @@ pub data Opens (known : Known) (text : Bytes) : Operation → Notes → Purpose 
 -- what an expansion puts in its place: flags and symbols of its first line; the number of actuals, if it is a call; the bytes
 -- that it holds; its lines; the situation as they begin; and the lines that stand after it
 pub record Put : Type 0 where
-  pub notes : Notes
+  pub remarks : Remarks
   pub arguments : Option ℕ
   pub bytes : ℕ
   pub lines : List SourceLine
@@ -64,9 +64,9 @@ pub record Put : Type 0 where
   pub others : List SourceLine
 
 -- a call with its actuals puts the macro's body, each formal with its actual; one that is missing is empty or a created symbol
-abbrev pub put_with : stages.Macro → Given → Filled → Situation → List SourceLine → Put
+abbrev pub put_with : stages.Macro → ActualTexts → FormalTexts → Situation → List SourceLine → Put
 put_with macro given filled situation others = record {
-  notes = given.notes;
+  remarks = given.remarks;
   arguments = Some (length given.texts);
   bytes = 0;
   lines = round_lines (map formal_name macro.formals) macro.body filled.texts;
@@ -74,14 +74,14 @@ put_with macro given filled situation others = record {
   others = others;
 }
 
-abbrev pub put_by_call : stages.Macro → Given → Situation → List SourceLine → Put
+abbrev pub put_by_call : stages.Macro → ActualTexts → Situation → List SourceLine → Put
 put_by_call macro given situation others =
     put_with macro given (filled macro.formals given.texts situation.created) situation others
 
 -- a repeat puts its body once for each round, with the round's actual in place of the formal
-abbrev pub put_by_repeat : Notes → List Name → List (List Bytes) → List Bytes → Situation → List SourceLine → Put
-put_by_repeat notes formals rounds body situation others = record {
-  notes = notes;
+abbrev pub put_by_repeat : Remarks → List Name → List (List Bytes) → List Bytes → Situation → List SourceLine → Put
+put_by_repeat remarks formals rounds body situation others = record {
+  remarks = remarks;
   arguments = None;
   bytes = size_of body;
   lines = lines_of_rounds formals rounds body;
@@ -89,11 +89,11 @@ put_by_repeat notes formals rounds body situation others = record {
   others = others;
 }
 
-pub data Puts (known : Known) (situation : Situation) (text : Bytes) (following : List SourceLine) : Operation → Put
+pub data Puts (known : KnownSymbols) (situation : Situation) (text : Bytes) (following : List SourceLine) : Operation → Put
     → Type 0 where
   Call : (macro : stages.Macro) (column : ℕ)
       → Puts known situation text following (Calls macro column)
       (put_by_call macro (actuals_from known text (length macro.formals) column) situation following)
-  Repeat : (operation : Operation) (notes : Notes) (formals : List Name) (rounds : List (List Bytes)) (body : List Bytes)
-      (others : List SourceLine) → Opens known text operation notes (Repeats formals rounds) → HasBody following body others
-      → Puts known situation text following operation (put_by_repeat notes formals rounds body situation others)
+  Repeat : (operation : Operation) (remarks : Remarks) (formals : List Name) (rounds : List (List Bytes)) (body : List Bytes)
+      (others : List SourceLine) → Opens known text operation remarks (Repeats formals rounds) → HasBody following body others
+      → Puts known situation text following operation (put_by_repeat remarks formals rounds body situation others)

@@ -6,9 +6,9 @@ use Rattle.m11_base.specs.Rad50.{Name}
 use Rattle.m11_scan_lines.specs.Line.{SourceLine, line_of}
 use Rattle.m11_unfold_arguments.specs.Conditions.{condition}
 use Rattle.m11_unfold_arguments.specs.Directives.{directive}
-use Rattle.m11_unfold_arguments.specs.Expressions.{Known}
+use Rattle.m11_unfold_arguments.specs.Expressions.{KnownSymbols}
 use Rattle.m11_unfold_arguments.specs.Immediate as immediate
-use Rattle.m11_unfold_arguments.specs.Notes.{Notes, noting}
+use Rattle.m11_unfold_arguments.specs.Remarks.{Remarks, remarks_of}
 use Rattle.m11_unfold_arguments.specs.declared.directives.Directive.{Directive}
 use Rattle.m11_unfold_arguments.specs.declared.directives.Directive.TheVariants as word
 use Rattle.m11_unfold_arguments.specs.declared.macros.MacroFormal.{MacroFormal}
@@ -17,9 +17,9 @@ use Rattle.m11_unfold_bodies.specs.Left.{has_mark}
 use Rattle.m11_unfold_bodies.specs.declared.conditions.Part.{Part}
 use Rattle.m11_unfold_bodies.specs.declared.conditions.Part.TheVariants as part
 use Rattle.m11_unfold_rules.specs.Acting.{Operation, OwnDirective, Foreign, flagged, flag_O, operation}
-use Rattle.m11_unfold_rules.specs.Constructs.{condition_notes}
+use Rattle.m11_unfold_rules.specs.Constructs.{condition_remarks}
 use Rattle.m11_unfold_rules.specs.Stages.{Purpose, Defines, Drops}
-use Rattle.m11_unfold_rules.specs.Unfolding.{Given}
+use Rattle.m11_unfold_rules.specs.Unfolding.{UnfoldedLine}
 use Rattle.m11_unfold_laws.specs.Levels.{Level, Situation, counting, defining, has_condition_left, only_entered, operation_at, other_line, own_line, within_condition, within_expansion}
 use Rattle.m11_unfold_laws.specs.Putting.{HasBody, HasNoClose, Opens, Put, Puts}
 
@@ -60,9 +60,9 @@ pub data Begins : Operation → Part → ℕ → Type 0 where
 
 -- a word where it has no meaning: the close of a body where none is open, a part or the end of a condition where none is open in
 -- the expansion, and an exit outside all expansions. Its line has the flag O.
-pub data IsAstray (level : Level) (text : Bytes) : Operation → Notes → Type 0 where
-  EndMacro : (at : ℕ) → IsAstray level text (OwnDirective word.Endm at) (noting flag_O [])
-  EndRepeat : (at : ℕ) → IsAstray level text (OwnDirective word.Endr at) (noting flag_O [])
+pub data IsAstray (level : Level) (text : Bytes) : Operation → Remarks → Type 0 where
+  EndMacro : (at : ℕ) → IsAstray level text (OwnDirective word.Endm at) (remarks_of flag_O [])
+  EndRepeat : (at : ℕ) → IsAstray level text (OwnDirective word.Endr at) (remarks_of flag_O [])
   MacroExit : (at : ℕ) → level.around ≡ [] → IsAstray level text (OwnDirective word.Mexit at) (flagged flag_O text at)
   Begin : (operator : Operation) (part : Part) (at : ℕ) → Begins operator part at → level.entered ≡ []
       → IsAstray level text operator (flagged flag_O text at)
@@ -99,7 +99,7 @@ statement_of text true (Some column) = line_of (drop column text) ∷ []
 statement_of text true None = []
 statement_of text false column = []
 
-abbrev pub statement : Known → Bytes → ℕ → List SourceLine
+abbrev pub statement : KnownSymbols → Bytes → ℕ → List SourceLine
 statement known text column =
     statement_of text (immediate.immediate known text column).holds (immediate.immediate known text column).statement
 
@@ -108,120 +108,120 @@ statement known text column =
 -- Lines at a level and in a situation; the lines that become live; the situation after them, and how they end. Lines that end
 -- with their expansion are all that are left of it.
 mutual
-  pub data Shape : Level → Situation → List SourceLine → List Given → Situation → Ending → Type 0 where
+  pub data Shape : Level → Situation → List SourceLine → List UnfoldedLine → Situation → Ending → Type 0 where
     -- no line
     Nothing : (level : Level) (before : Situation) → Shape level before [] [] before GoesOn
     -- a line whose operator isn't unfolding's becomes live as it is
-    Other : (level : Level) (before after : Situation) (ending : Ending) (known : Known) (line : SourceLine)
-        (lines : List SourceLine) (gives : List Given) → IsOther (operation_at level before line)
+    Other : (level : Level) (before after : Situation) (ending : Ending) (known : KnownSymbols) (line : SourceLine)
+        (lines : List SourceLine) (gives : List UnfoldedLine) → IsOther (operation_at level before line)
         → Shape level (counting 1 before) lines gives after ending
         → Shape level before (line ∷ lines) (other_line level known line ∷ gives) after ending
     -- a word where it has no meaning does nothing
-    Astray : (level : Level) (before after : Situation) (ending : Ending) (known : Known) (line : SourceLine)
-        (lines : List SourceLine) (gives : List Given) (notes : Notes)
-        → IsAstray level line.text (operation_at level before line) notes
+    Astray : (level : Level) (before after : Situation) (ending : Ending) (known : KnownSymbols) (line : SourceLine)
+        (lines : List SourceLine) (gives : List UnfoldedLine) (remarks : Remarks)
+        → IsAstray level line.text (operation_at level before line) remarks
         → Shape level (counting 1 before) lines gives after ending
-        → Shape level before (line ∷ lines) (own_line level known line notes ∷ gives) after ending
+        → Shape level before (line ∷ lines) (own_line level known line remarks ∷ gives) after ending
     -- a call or a repeat gives its own line, and then what the lines give that it puts in its place
-    Expansion : (level : Level) (before middle after : Situation) (inner ending : Ending) (known : Known) (line : SourceLine)
-        (lines : List SourceLine) (gives later : List Given) (put : Put)
+    Expansion : (level : Level) (before middle after : Situation) (inner ending : Ending) (known : KnownSymbols) (line : SourceLine)
+        (lines : List SourceLine) (gives later : List UnfoldedLine) (put : Put)
         → Puts known before line.text lines (operation_at level before line) put
         → Shape (within_expansion put.arguments put.bytes level) put.situation put.lines gives middle inner → Returns inner
         → Shape level middle put.others later after ending
-        → Shape level before (line ∷ lines) (own_line level known line put.notes ∷ gives ++ later) after ending
+        → Shape level before (line ∷ lines) (own_line level known line put.remarks ∷ gives ++ later) after ending
     -- an `.END` in it is the last line of all
-    LastExpansion : (level : Level) (before after : Situation) (known : Known) (line : SourceLine) (lines : List SourceLine)
-        (gives : List Given) (put : Put) → Puts known before line.text lines (operation_at level before line) put
+    LastExpansion : (level : Level) (before after : Situation) (known : KnownSymbols) (line : SourceLine) (lines : List SourceLine)
+        (gives : List UnfoldedLine) (put : Put) → Puts known before line.text lines (operation_at level before line) put
         → Shape (within_expansion put.arguments put.bytes level) put.situation put.lines gives after Ends
-        → Shape level before (line ∷ lines) (own_line level known line put.notes ∷ gives) after Ends
+        → Shape level before (line ∷ lines) (own_line level known line put.remarks ∷ gives) after Ends
     -- `.MACRO`: its own line; the lines of the body are the macro's
-    Definition : (level : Level) (before after : Situation) (ending : Ending) (known : Known) (line : SourceLine)
-        (lines others : List SourceLine) (gives : List Given) (notes : Notes) (name : Name) (formals : List MacroFormal)
-        (body : List Bytes) → Opens known line.text (operation_at level before line) notes (Defines name formals)
+    Definition : (level : Level) (before after : Situation) (ending : Ending) (known : KnownSymbols) (line : SourceLine)
+        (lines others : List SourceLine) (gives : List UnfoldedLine) (remarks : Remarks) (name : Name) (formals : List MacroFormal)
+        (body : List Bytes) → Opens known line.text (operation_at level before line) remarks (Defines name formals)
         → HasBody lines body others
         → Shape level (defining name formals body (counting (length body + 2) before)) others gives after ending
-        → Shape level before (line ∷ lines) (own_line level known line notes ∷ gives) after ending
+        → Shape level before (line ∷ lines) (own_line level known line remarks ∷ gives) after ending
     -- `.MACRO` without a name: the lines of the body are for nothing
-    Dropped : (level : Level) (before after : Situation) (ending : Ending) (known : Known) (line : SourceLine)
-        (lines others : List SourceLine) (gives : List Given) (notes : Notes) (body : List Bytes)
-        → Opens known line.text (operation_at level before line) notes Drops → HasBody lines body others
+    Dropped : (level : Level) (before after : Situation) (ending : Ending) (known : KnownSymbols) (line : SourceLine)
+        (lines others : List SourceLine) (gives : List UnfoldedLine) (remarks : Remarks) (body : List Bytes)
+        → Opens known line.text (operation_at level before line) remarks Drops → HasBody lines body others
         → Shape level (counting (length body + 2) before) others gives after ending
-        → Shape level before (line ∷ lines) (own_line level known line notes ∷ gives) after ending
+        → Shape level before (line ∷ lines) (own_line level known line remarks ∷ gives) after ending
     -- a body without a close is for nothing, and takes all lines
-    OpenBody : (level : Level) (before : Situation) (known : Known) (line : SourceLine) (lines : List SourceLine) (notes : Notes)
-        (purpose : Purpose) → Opens known line.text (operation_at level before line) notes purpose → HasNoClose lines
-        → Shape level before (line ∷ lines) (own_line level known line notes ∷ []) (counting (length lines + 1) before) Stops
+    OpenBody : (level : Level) (before : Situation) (known : KnownSymbols) (line : SourceLine) (lines : List SourceLine) (remarks : Remarks)
+        (purpose : Purpose) → Opens known line.text (operation_at level before line) remarks purpose → HasNoClose lines
+        → Shape level before (line ∷ lines) (own_line level known line remarks ∷ []) (counting (length lines + 1) before) Stops
     -- `.IF`: its own line, and then its parts, the first of which is live where it holds
-    Condition : (level : Level) (before after : Situation) (ending : Ending) (known : Known) (line : SourceLine)
-        (lines : List SourceLine) (gives : List Given) (at : ℕ) → operation_at level before line ≡ OwnDirective word.If at
+    Condition : (level : Level) (before after : Situation) (ending : Ending) (known : KnownSymbols) (line : SourceLine)
+        (lines : List SourceLine) (gives : List UnfoldedLine) (at : ℕ) → operation_at level before line ≡ OwnDirective word.If at
         → has_condition_left level ≡ true
         → Parts level (condition known line.text at).holds (condition known line.text at).holds (counting 1 before) lines gives
         after ending
-        → Shape level before (line ∷ lines) (own_line level known line (condition_notes known line.text at) ∷ gives) after ending
+        → Shape level before (line ∷ lines) (own_line level known line (condition_remarks known line.text at) ∷ gives) after ending
     -- a 33rd condition has the flag O, and all up to its `.ENDC` is text
-    Refused : (level : Level) (before after : Situation) (ending : Ending) (known last : Known) (line close : SourceLine)
-        (text lines : List SourceLine) (gives : List Given) (at end : ℕ) → operation_at level before line ≡ OwnDirective word.If at
+    Refused : (level : Level) (before after : Situation) (ending : Ending) (known last : KnownSymbols) (line close : SourceLine)
+        (text lines : List SourceLine) (gives : List UnfoldedLine) (at end : ℕ) → operation_at level before line ≡ OwnDirective word.If at
         → has_condition_left level ≡ false → IsText true 0 text 0
         → operation (past (only_entered level.entered)) before.macros close.text ≡ OwnDirective word.Endc end
         → Shape level (counting (length text + 2) before) lines gives after ending
         → Shape level before (line ∷ text ++ close ∷ lines)
-        (own_line level known line (noting flag_O []) ∷ own_line level last close (flagged 0 close.text end) ∷ gives) after
+        (own_line level known line (remarks_of flag_O []) ∷ own_line level last close (flagged 0 close.text end) ∷ gives) after
         ending
     -- all lines after a 33rd condition are text, where its `.ENDC` doesn't come
-    OpenRefused : (level : Level) (before : Situation) (known : Known) (line : SourceLine) (lines : List SourceLine)
+    OpenRefused : (level : Level) (before : Situation) (known : KnownSymbols) (line : SourceLine) (lines : List SourceLine)
         (at inner : ℕ)
         → operation_at level before line ≡ OwnDirective word.If at → has_condition_left level ≡ false → IsText true 0 lines inner
-        → Shape level before (line ∷ lines) (own_line level known line (noting flag_O []) ∷ [])
+        → Shape level before (line ∷ lines) (own_line level known line (remarks_of flag_O []) ∷ [])
         (counting (length lines + 1) before) Stops
     -- `.IIF`: its own line, and where it holds its statement as the next line
-    Immediate : (level : Level) (before after : Situation) (ending : Ending) (known : Known) (line : SourceLine)
-        (lines : List SourceLine) (gives : List Given) (at : ℕ) → operation_at level before line ≡ OwnDirective word.Iif at
+    Immediate : (level : Level) (before after : Situation) (ending : Ending) (known : KnownSymbols) (line : SourceLine)
+        (lines : List SourceLine) (gives : List UnfoldedLine) (at : ℕ) → operation_at level before line ≡ OwnDirective word.Iif at
         → Shape level (counting 1 before) (statement known line.text at ++ lines) gives after ending
-        → Shape level before (line ∷ lines) (own_line level known line (immediate.notes known line.text at) ∷ gives) after ending
+        → Shape level before (line ∷ lines) (own_line level known line (immediate.remarks known line.text at) ∷ gives) after ending
     -- `.MEXIT`: no line after it in the expansion is taken, in none of its rounds
-    Exit : (level : Level) (before : Situation) (known : Known) (line : SourceLine) (lines : List SourceLine) (at : ℕ)
+    Exit : (level : Level) (before : Situation) (known : KnownSymbols) (line : SourceLine) (lines : List SourceLine) (at : ℕ)
         → operation_at level before line ≡ OwnDirective word.Mexit at → has_mark level.around ≡ true
         → Shape level before (line ∷ lines) (own_line level known line (flagged 0 line.text at) ∷ []) (counting 1 before) Stops
     -- `.END`: no line after it is taken at all
-    End : (level : Level) (before : Situation) (known : Known) (line : SourceLine) (lines : List SourceLine) (at : ℕ)
+    End : (level : Level) (before : Situation) (known : KnownSymbols) (line : SourceLine) (lines : List SourceLine) (at : ℕ)
         → operation_at level before line ≡ OwnDirective word.End at
         → Shape level before (line ∷ lines) (other_line level known line ∷ []) (counting 1 before) Ends
 
   -- What is left of a condition that holds or doesn't, from a part on that is live or not, with the lines after it.
-  pub data Parts : Level → Bool → Bool → Situation → List SourceLine → List Given → Situation → Ending → Type 0 where
+  pub data Parts : Level → Bool → Bool → Situation → List SourceLine → List UnfoldedLine → Situation → Ending → Type 0 where
     -- the part, and then `.IFF`, `.IFT` or `.IFTF` with the next one
-    Next : (level : Level) (holds is_live : Bool) (before middle after : Situation) (ending : Ending) (known : Known)
-        (line : SourceLine) (lines others : List SourceLine) (gives later : List Given) (part : Part) (at : ℕ)
+    Next : (level : Level) (holds is_live : Bool) (before middle after : Situation) (ending : Ending) (known : KnownSymbols)
+        (line : SourceLine) (lines others : List SourceLine) (gives later : List UnfoldedLine) (part : Part) (at : ℕ)
         → OnePart level holds is_live before lines gives middle GoesOn
         → Begins (operation_at (within_condition holds is_live level) middle line) part at
         → Parts level holds (is_live_in part holds) (counting 1 middle) others later after ending
         → Parts level holds is_live before (lines ++ line ∷ others)
         (gives ++ own_line level known line (flagged 0 line.text at) ∷ later) after ending
     -- the part, and then `.ENDC` with what stands after it
-    Close : (level : Level) (holds is_live : Bool) (before middle after : Situation) (ending : Ending) (known : Known)
-        (line : SourceLine) (lines others : List SourceLine) (gives later : List Given) (at : ℕ)
+    Close : (level : Level) (holds is_live : Bool) (before middle after : Situation) (ending : Ending) (known : KnownSymbols)
+        (line : SourceLine) (lines others : List SourceLine) (gives later : List UnfoldedLine) (at : ℕ)
         → OnePart level holds is_live before lines gives middle GoesOn
         → operation_at (within_condition holds is_live level) middle line ≡ OwnDirective word.Endc at
         → Shape level (counting 1 middle) others later after ending
         → Parts level holds is_live before (lines ++ line ∷ others)
         (gives ++ own_line level known line (flagged 0 line.text at) ∷ later) after ending
     -- a live part up to an `.IIF` whose statement is a word of the condition, or stands before one
-    ImmediateInPart : (level : Level) (holds : Bool) (before middle after : Situation) (ending : Ending) (known : Known)
-        (line : SourceLine) (lines others : List SourceLine) (gives later : List Given) (at : ℕ)
+    ImmediateInPart : (level : Level) (holds : Bool) (before middle after : Situation) (ending : Ending) (known : KnownSymbols)
+        (line : SourceLine) (lines others : List SourceLine) (gives later : List UnfoldedLine) (at : ℕ)
         → OnePart level holds true before lines gives middle GoesOn
         → operation_at (within_condition holds true level) middle line ≡ OwnDirective word.Iif at
         → Parts level holds true (counting 1 middle) (statement known line.text at ++ others) later after ending
         → Parts level holds true before (lines ++ line ∷ others)
-        (gives ++ own_line level known line (immediate.notes known line.text at) ∷ later) after ending
+        (gives ++ own_line level known line (immediate.remarks known line.text at) ∷ later) after ending
     -- the part alone, where the expansion, the source or all ends with it
     Last : (level : Level) (holds is_live : Bool) (before after : Situation) (ending : Ending) (lines : List SourceLine)
-        (gives : List Given) → OnePart level holds is_live before lines gives after ending
+        (gives : List UnfoldedLine) → OnePart level holds is_live before lines gives after ending
         → Parts level holds is_live before lines gives after (unclosed ending)
 
   -- One part: its lines have a shape where it is live, or else are text.
-  pub data OnePart : Level → Bool → Bool → Situation → List SourceLine → List Given → Situation → Ending → Type 0 where
+  pub data OnePart : Level → Bool → Bool → Situation → List SourceLine → List UnfoldedLine → Situation → Ending → Type 0 where
     Live : (level : Level) (holds : Bool) (before after : Situation) (ending : Ending) (lines : List SourceLine)
-        (gives : List Given)
+        (gives : List UnfoldedLine)
         → Shape (within_condition holds true level) before lines gives after ending
         → OnePart level holds true before lines gives after ending
     Text : (level : Level) (holds : Bool) (before : Situation) (lines : List SourceLine) → IsText false 0 lines 0

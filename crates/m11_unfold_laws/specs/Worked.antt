@@ -9,9 +9,9 @@ use Rattle.m11_scan.specs.declared.radix.Radix.TheVariants.{Octal}
 use Rattle.m11_scan_values.specs.declared.names.Symbol.{Symbol}
 use Rattle.m11_scan_values.specs.Quantities.{Quantity}
 use Rattle.m11_unfold_arguments.specs.Expressions.{known_by}
-use Rattle.m11_unfold_arguments.specs.Notes.{no_notes}
+use Rattle.m11_unfold_arguments.specs.Remarks.{no_remarks}
 use Rattle.m11_unfold_arguments.specs.declared.macros.MacroFormal.{MacroFormal}
-use Rattle.m11_unfold_rules.specs.Unfolding.{Given}
+use Rattle.m11_unfold_rules.specs.Unfolding.{UnfoldedLine}
 use Rattle.m11_unfold_laws.specs.Levels.{Situation}
 
 abbrev pub worked_source : List SourceLine
@@ -27,27 +27,27 @@ worked_source = map line_of
     ∷ [])
 
 -- a line of unfolding's own without flags or symbols, and another one
-abbrev pub worked_line : (Symbol → Quantity) → Bytes → Bool → Bool → Option ℕ → Given
+abbrev pub worked_line : (Symbol → Quantity) → Bytes → Bool → Bool → Option ℕ → UnfoldedLine
 worked_line stands_for text is_own is_expanded arguments = record {
   live = record { line = line_of text; is_expanded = is_expanded };
   known = known_by Octal stands_for;
   is_own = is_own;
-  notes = no_notes;
+  remarks = no_remarks;
   arguments = arguments;
 }
 
 -- outside expansions, and in a call without actuals
-abbrev pub source_line : (Symbol → Quantity) → Bytes → Given
+abbrev pub source_line : (Symbol → Quantity) → Bytes → UnfoldedLine
 source_line stands_for text = worked_line stands_for text true false None
 
-abbrev pub repeat_line : (Symbol → Quantity) → Bytes → Given
+abbrev pub repeat_line : (Symbol → Quantity) → Bytes → UnfoldedLine
 repeat_line stands_for text = worked_line stands_for text true true (Some 0)
 
-abbrev pub inner_line : (Symbol → Quantity) → Bytes → Given
+abbrev pub inner_line : (Symbol → Quantity) → Bytes → UnfoldedLine
 inner_line stands_for text = worked_line stands_for text false true (Some 0)
 
 -- the live lines, whatever symbols stand for
-abbrev pub worked_lines : (Symbol → Quantity) → List Given
+abbrev pub worked_lines : (Symbol → Quantity) → List UnfoldedLine
 worked_lines stands_for =
     source_line stands_for (codes " .MACRO TWICE ?L")
     ∷ source_line stands_for (codes " TWICE")

@@ -4,8 +4,8 @@
 ghost use Rattle.std.specs.Prelude.{◌≡◌, ◌+◌, ◌++◌, ◌∷◌, ℕ, List, [], true, false, None, Some, length, map};
 ghost use Rattle.m11_unfold_arguments.specs.Actuals.{actuals_from};
 ghost use Rattle.m11_unfold_arguments.specs.Conditions.{condition};
-ghost use Rattle.m11_unfold_arguments.specs.Expressions.{Known};
-ghost use Rattle.m11_unfold_arguments.specs.Notes.{Notes};
+ghost use Rattle.m11_unfold_arguments.specs.Expressions.{KnownSymbols};
+ghost use Rattle.m11_unfold_arguments.specs.Remarks.{Remarks};
 ghost use Rattle.m11_unfold_arguments.specs.declared.directives.Directive.TheVariants as directive;
 ghost use Rattle.m11_base.specs.Devices.{Bytes};
 ghost use Rattle.m11_base.specs.Rad50.{Name};
@@ -13,7 +13,7 @@ ghost use Rattle.m11_unfold_bodies.specs.Bodies.{size_of, texts_of};
 ghost use Rattle.m11_unfold_bodies.specs.declared.open_body.Nesting.TheVariants.{Closes};
 ghost use Rattle.m11_scan_lines.specs.Line.{SourceLine, line_of};
 ghost use Rattle.m11_unfold_rules.specs.Acting.{Calls, OwnDirective, flagged};
-ghost use Rattle.m11_unfold_rules.specs.Constructs.{IsPlainBody, condition_notes, lines_of_rounds};
+ghost use Rattle.m11_unfold_rules.specs.Constructs.{IsPlainBody, condition_remarks, lines_of_rounds};
 ghost use Rattle.m11_unfold_rules.specs.Laws.{AreForeign};
 ghost use Rattle.m11_unfold_rules.specs.Stages.{Repeats};
 ghost use Rattle.m11_unfold_rules.specs.Taking.{nesting};
@@ -27,7 +27,7 @@ ghost use Rattle.m11_unfold_laws.specs.Worked.{worked_end, worked_lines, worked_
 
 /// Lines whose operators are none of unfolding's have a shape: they become live as they are.
 pub fn other_lines_have_a_shape()
-    ensures { (known : Known) (level : Level) (lines : List SourceLine) (before : Situation)
+    ensures { (known : KnownSymbols) (level : Level) (lines : List SourceLine) (before : Situation)
         → AreForeign (stage_of level before []) lines
         → Shape level before lines (map (other_line level known) lines) (counting (length lines) before) GoesOn }
 {}
@@ -35,15 +35,15 @@ pub fn other_lines_have_a_shape()
 /// A block of a repeat has a shape in which its own line becomes live, and then the lines of its rounds, where none of these is
 /// unfolding's; `.REPT`, `.IRP` and `.IRPC` alike.
 pub fn repeats_have_a_shape()
-    ensures { (known : Known) (level : Level) (before : Situation) (first close : SourceLine) (lines : List SourceLine)
-        (notes : Notes)
+    ensures { (known : KnownSymbols) (level : Level) (before : Situation) (first close : SourceLine) (lines : List SourceLine)
+        (remarks : Remarks)
         (formals : List Name) (rounds : List (List Bytes))
-        → Opens known first.text (operation_at level before first) notes (Repeats formals rounds)
+        → Opens known first.text (operation_at level before first) remarks (Repeats formals rounds)
         → IsPlainBody (texts_of lines) → nesting close.text ≡ Closes
         → AreForeign (stage_of (within_expansion None (size_of (texts_of lines)) level) before [])
         (lines_of_rounds formals rounds (texts_of lines))
         → Shape level before (first ∷ lines ++ close ∷ [])
-        (own_line level known first notes
+        (own_line level known first remarks
         ∷ map (other_line (within_expansion None (size_of (texts_of lines)) level) known)
         (lines_of_rounds formals rounds (texts_of lines)))
         (counting (length lines + 2 + length (lines_of_rounds formals rounds (texts_of lines))) before) GoesOn }
@@ -52,10 +52,10 @@ pub fn repeats_have_a_shape()
 /// A call of a macro without formals has a shape in which its own line becomes live, and then the lines of the body, where none
 /// of these is unfolding's.
 pub fn calls_have_a_shape()
-    ensures { (known : Known) (level : Level) (before : Situation) (line : SourceLine) (body : List Bytes) (at : ℕ)
+    ensures { (known : KnownSymbols) (level : Level) (before : Situation) (line : SourceLine) (body : List Bytes) (at : ℕ)
         → operation_at level before line ≡ Calls (record { formals = []; body = body }) at
         → AreForeign (stage_of (within_expansion (Some 0) 0 level) before []) (map line_of body)
-        → Shape level before (line ∷ []) (own_line level known line (actuals_from known line.text 0 at).notes
+        → Shape level before (line ∷ []) (own_line level known line (actuals_from known line.text 0 at).remarks
         ∷ map (other_line (within_expansion (Some (length (actuals_from known line.text 0 at).texts)) 0 level) known)
         (map line_of body))
         (counting (length body + 1) before) GoesOn }
@@ -64,22 +64,22 @@ pub fn calls_have_a_shape()
 /// A condition has a shape in which its own line, the lines inside and the `.ENDC` become live where it holds, and the first and
 /// the last alone where it doesn't; none of the lines inside is unfolding's.
 pub fn conditions_have_a_shape()
-    ensures holds { (known : Known) (level : Level) (before : Situation) (first close : SourceLine) (lines : List SourceLine)
+    ensures holds { (known : KnownSymbols) (level : Level) (before : Situation) (first close : SourceLine) (lines : List SourceLine)
         (at end : ℕ)
         → operation_at level before first ≡ OwnDirective directive.If at → has_condition_left level ≡ true
         → (condition known first.text at).holds ≡ true → AreForeign (stage_of (within_condition true true level) before []) lines
         → operation_at (within_condition true true level) before close ≡ OwnDirective directive.Endc end
         → Shape level before (first ∷ lines ++ close ∷ [])
-        (own_line level known first (condition_notes known first.text at) ∷ map (other_line level known) lines
+        (own_line level known first (condition_remarks known first.text at) ∷ map (other_line level known) lines
         ++ own_line level known close (flagged 0 close.text end) ∷ [])
         (counting (length lines + 2) before) GoesOn }
-    ensures fails { (known : Known) (level : Level) (before : Situation) (first close : SourceLine) (lines : List SourceLine)
+    ensures fails { (known : KnownSymbols) (level : Level) (before : Situation) (first close : SourceLine) (lines : List SourceLine)
         (at end : ℕ)
         → operation_at level before first ≡ OwnDirective directive.If at → has_condition_left level ≡ true
         → (condition known first.text at).holds ≡ false → AreForeign (stage_of level before []) lines
         → operation_at (within_condition false false level) before close ≡ OwnDirective directive.Endc end
         → Shape level before (first ∷ lines ++ close ∷ [])
-        (own_line level known first (condition_notes known first.text at)
+        (own_line level known first (condition_remarks known first.text at)
         ∷ own_line level known close (flagged 0 close.text end) ∷ [])
         (counting (length lines + 2) before) GoesOn }
 {}

@@ -1,15 +1,15 @@
 //! Laws of the shapes of a source. Each is the contract of a function that does nothing.
 
 ghost use Rattle.std.specs.Prelude.{◌≡◌, ◌⊎◌, ◌++◌, ◌∷◌, ℕ, List, [], true, false, Option};
-ghost use Rattle.m11_unfold_arguments.specs.Expressions.{Known};
-ghost use Rattle.m11_unfold_bodies.specs.Bodies.{HalfTaken};
-ghost use Rattle.m11_unfold_bodies.specs.Left.{End, Left};
+ghost use Rattle.m11_unfold_arguments.specs.Expressions.{KnownSymbols};
+ghost use Rattle.m11_unfold_bodies.specs.Bodies.{PartialBody};
+ghost use Rattle.m11_unfold_bodies.specs.Left.{End, RemainingItem};
 ghost use Rattle.m11_unfold_bodies.specs.declared.mark.Mark.{Mark};
 ghost use Rattle.m11_scan_lines.specs.Line.{SourceLine};
 ghost use Rattle.m11_unfold_rules.specs.Histories.{IsKnownBy};
 ghost use Rattle.m11_unfold_rules.specs.Stages.{Purpose, Stage, start};
 ghost use Rattle.m11_unfold_rules.specs.Taking.{Live, NothingLeft, ended, move, used};
-ghost use Rattle.m11_unfold_rules.specs.Unfolding.{Given, Leads, Unfolds};
+ghost use Rattle.m11_unfold_rules.specs.Unfolding.{UnfoldedLine, Leads, Unfolds};
 ghost use Rattle.m11_unfold_laws.specs.Bodies.{StaysOpen, past_body, past_open_body, rest_of_body, with_body};
 ghost use Rattle.m11_unfold_laws.specs.Laws.{BeginWith, HasLiveLines, HasShape, IsEndedAfter, StandsIn, before_lines};
 ghost use Rattle.m11_unfold_laws.specs.Limits.{IsCutShort};
@@ -20,19 +20,19 @@ ghost use Rattle.m11_unfold_laws.specs.Shapes.{Ending, GoesOn, Ends, Returns, Sh
 /// passed on the way. Those of an expansion lead to what stands after it, whether they were all taken or `.MEXIT` left some of
 /// them; after `.END` nothing is taken.
 pub fn lines_give_the_live_lines_of_their_shape()
-    ensures onwards { (level : Level) (before after : Situation) (lines : List SourceLine) (gives : List Given) (left : List Left)
+    ensures onwards { (level : Level) (before after : Situation) (lines : List SourceLine) (gives : List UnfoldedLine) (left : List RemainingItem)
         → Shape level before lines gives after GoesOn → StandsIn level left
         → Leads (before_lines level before lines left) gives (stage_of level after left)
         ⊎ IsCutShort (before_lines level before lines left) gives }
     ensures expanded { (level : Level) (before after : Situation) (arguments : Option ℕ) (bytes : ℕ) (lines : List SourceLine)
-        (gives : List Given) (ending : Ending) (left : List Left)
+        (gives : List UnfoldedLine) (ending : Ending) (left : List RemainingItem)
         → Shape (within_expansion arguments bytes level) before lines gives after ending → Returns ending → StandsIn level left
         → Leads (before_lines (within_expansion arguments bytes level) before lines
         (End (mark_at level arguments bytes) ∷ left)) gives
         (stage_of level after left)
         ⊎ IsCutShort
         (before_lines (within_expansion arguments bytes level) before lines (End (mark_at level arguments bytes) ∷ left)) gives }
-    ensures ended { (level : Level) (before after : Situation) (lines : List SourceLine) (gives : List Given) (left : List Left)
+    ensures ended { (level : Level) (before after : Situation) (lines : List SourceLine) (gives : List UnfoldedLine) (left : List RemainingItem)
         → Shape level before lines gives after Ends → StandsIn level left
         → IsEndedAfter (before_lines level before lines left) gives ⊎ IsCutShort (before_lines level before lines left) gives }
 {}
@@ -40,21 +40,21 @@ pub fn lines_give_the_live_lines_of_their_shape()
 /// A source that has a shape has all its live lines, unless a limit is passed on the way, and no others: whatever unfolding there
 /// is of it, under what the lines say, has the first of them; and where nothing more is taken in it, it has just these.
 pub fn a_source_has_just_the_live_lines_of_its_shape()
-    ensures all { (source : List SourceLine) (gives : List Given) (after : Situation) (ending : Ending)
+    ensures all { (source : List SourceLine) (gives : List UnfoldedLine) (after : Situation) (ending : Ending)
         → Shape source_level beginning source gives after ending → HasLiveLines source gives ⊎ IsCutShort (start source) gives }
-    ensures no_others { (known_by : List Given → Live
-        → Known) (source : List SourceLine) (gives done : List Given) (after : Situation)
+    ensures no_others { (known_by : List UnfoldedLine → Live
+        → KnownSymbols) (source : List SourceLine) (gives done : List UnfoldedLine) (after : Situation)
         (ending : Ending) (stage : Stage) → Shape source_level beginning source gives after ending → IsKnownBy known_by gives
         → IsKnownBy known_by done → Unfolds source done stage → BeginWith gives done }
-    ensures just_these { (known_by : List Given → Live
-        → Known) (source : List SourceLine) (gives done : List Given) (after : Situation)
+    ensures just_these { (known_by : List UnfoldedLine → Live
+        → KnownSymbols) (source : List SourceLine) (gives done : List UnfoldedLine) (after : Situation)
         (ending : Ending) (stage : Stage) → Shape source_level beginning source gives after ending → IsKnownBy known_by gives
         → IsKnownBy known_by done → Unfolds source done stage → move stage ≡ NothingLeft → done ≡ gives }
 {}
 
 /// Each unfolding of a source that comes to its end is that of a shape: no source is without one, but where a limit is passed.
 pub fn each_source_has_a_shape()
-    ensures { (source : List SourceLine) (gives : List Given) (stage : Stage) → Unfolds source gives stage → move stage ≡ NothingLeft
+    ensures { (source : List SourceLine) (gives : List UnfoldedLine) (stage : Stage) → Unfolds source gives stage → move stage ≡ NothingLeft
         → HasShape source gives }
 {}
 
@@ -62,15 +62,15 @@ pub fn each_source_has_a_shape()
 /// live line, and is then used for what it was opened for. Where an expansion ends before the close comes, the body is for
 /// nothing, and what stands after the expansion is left; where the source ends, it stays open.
 pub fn a_body_ends_at_its_close_by_nesting_alone()
-    ensures closed { (purpose : Purpose) (taken : HalfTaken) (stage : Stage) → (rest_of_body taken stage).is_closed ≡ true
+    ensures closed { (purpose : Purpose) (taken : PartialBody) (stage : Stage) → (rest_of_body taken stage).is_closed ≡ true
         → Leads (with_body purpose taken stage) []
         (used purpose (taken.body ++ (rest_of_body taken stage).body) (past_body (rest_of_body taken stage) stage))
         ⊎ IsCutShort (with_body purpose taken stage) [] }
-    ensures ended { (purpose : Purpose) (taken : HalfTaken) (stage : Stage) (mark : Mark) (left : List Left)
+    ensures ended { (purpose : Purpose) (taken : PartialBody) (stage : Stage) (mark : Mark) (left : List RemainingItem)
         → (rest_of_body taken stage).is_closed ≡ false → (rest_of_body taken stage).after ≡ End mark ∷ left
         → Leads (with_body purpose taken stage) [] (ended mark left (past_open_body (rest_of_body taken stage) stage))
         ⊎ IsCutShort (with_body purpose taken stage) [] }
-    ensures left { (purpose : Purpose) (taken : HalfTaken) (stage : Stage) → (rest_of_body taken stage).is_closed ≡ false
+    ensures left { (purpose : Purpose) (taken : PartialBody) (stage : Stage) → (rest_of_body taken stage).is_closed ≡ false
         → (rest_of_body taken stage).after ≡ []
         → StaysOpen purpose taken (rest_of_body taken stage) stage ⊎ IsCutShort (with_body purpose taken stage) [] }
 {}

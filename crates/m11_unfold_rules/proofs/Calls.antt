@@ -6,10 +6,10 @@ use Rattle.std.proofs.lemmas.List.{length-map}
 use Rattle.m11_base.specs.Devices.{Bytes}
 use Rattle.m11_scan_lines.specs.Line.{SourceLine, line_of}
 use Rattle.m11_unfold_arguments.specs.Actuals.{actuals_from}
-use Rattle.m11_unfold_arguments.specs.Expressions.{Known}
-use Rattle.m11_unfold_arguments.specs.Notes.{Notes}
+use Rattle.m11_unfold_arguments.specs.Expressions.{KnownSymbols}
+use Rattle.m11_unfold_arguments.specs.Remarks.{Remarks}
 use Rattle.m11_unfold_bodies.specs.Conditions.{no_conditions}
-use Rattle.m11_unfold_bodies.specs.Left.{Left, Line, End, depth, expanded, most_expansions}
+use Rattle.m11_unfold_bodies.specs.Left.{RemainingItem, Line, End, depth, expanded, most_expansions}
 use Rattle.m11_unfold_bodies.specs.declared.mark.Mark.{Mark}
 use Rattle.m11_unfold_rules.specs.Acting.{Acted, act, act_fault, acted_by, fault_by, own}
 use Rattle.m11_unfold_rules.specs.Constructs.{IsCall, after_call, before_call, expanded_given, round_lines}
@@ -25,27 +25,27 @@ use Rattle.m11_unfold_rules.proofs.Operators.{foreign_alike}
 use Rattle.m11_unfold_rules.proofs.OtherLines.{ForeignHere, looked_up, stage_at}
 
 -- the lines of an expansion of a body without formals
-one_expansion : (body : List Bytes) (mark : Mark) (left : List Left)
+one_expansion : (body : List Bytes) (mark : Mark) (left : List RemainingItem)
     → expanded [] ([] ∷ []) body mark left ≡ map line_left (map line_of body) ++ End mark ∷ left
 one_expansion body mark left = as_lines [] ([] ∷ []) body mark left
     ∙ ap (λ (ls : List SourceLine). map line_left ls ++ End mark ∷ left) (append-nil (round_lines [] body []) ∙ plain_lines body)
 
-pub called : (known : Known) (stage : Stage) (line : SourceLine) (body : List Bytes) (column : ℕ) (left : List Left) → IsLive stage
+pub called : (known : KnownSymbols) (stage : Stage) (line : SourceLine) (body : List Bytes) (column : ℕ) (left : List RemainingItem) → IsLive stage
     → IsCall stage line body column → AreForeign stage (map line_of body) → depth left < most_expansions
     → stage.taken + 1 + length body ≤ most_lines
-    → Leads (before_call stage line left) (own_given known left line (actuals_from known line.text 0 column).notes
+    → Leads (before_call stage line left) (own_given known left line (actuals_from known line.text 0 column).remarks
     ∷ map (expanded_given known (Some 0)) (map line_of body)) (after_call stage body left)
 called known stage line body column left live is foreign shallow most =
-    let notes : Notes = (actuals_from known line.text 0 column).notes in
+    let remarks : Remarks = (actuals_from known line.text 0 column).remarks in
     let lines : List SourceLine = map line_of body in
     let mark : Mark = record { arguments = Some 0; bytes = 0; conditions = stage.conditions } in
     let before : Stage = stage_at stage.conditions stage.macros stage.defined_bytes stage.created stage.taken (Line line ∷ left) in
     let here : Stage = stage_at stage.conditions stage.macros stage.defined_bytes stage.created (stage.taken + 1) left in
-    let inside : List Left → Stage = λ l. stage_at no_conditions stage.macros stage.defined_bytes stage.created (stage.taken + 1) l in
-    let done : Acted = own notes (inside (map line_left lines ++ End mark ∷ left)) in
+    let inside : List RemainingItem → Stage = λ l. stage_at no_conditions stage.macros stage.defined_bytes stage.created (stage.taken + 1) l in
+    let done : Acted = own remarks (inside (map line_left lines ++ End mark ∷ left)) in
     let deep : nat_le most_expansions (depth left) ≡ false = grind (arith, nat_tests) in
     let acts : act known here line.text ≡ done = ap (acted_by known line.text here) is
-    ∙ ap (λ (l : List Left). own notes (inside l)) (one_expansion body mark left) in
+    ∙ ap (λ (l : List RemainingItem). own remarks (inside l)) (one_expansion body mark left) in
     let faults : act_fault here line.text ≡ None = ap (fault_by here) is ∙ ap (λ (b : Bool). fault_if b TooDeep) deep in
     let first = one_line known stage.conditions stage.macros stage.defined_bytes stage.created stage.taken line left done live.taking
     (omega (arith, most)) acts faults in
@@ -55,10 +55,10 @@ called known stage line body column left live is foreign shallow most =
     let most' : stage.taken + 1 + length lines ≤ most_lines = omega (arith, long, most) in
     let runs = expansion_runs known stage.macros stage.defined_bytes stage.created (stage.taken + 1) mark lines left same most' in
     let last : ℕ → Stage = λ n. stage_at stage.conditions stage.macros stage.defined_bytes stage.created n left in
-    let whole = follows before done.after (last (stage.taken + 1 + length lines)) (own_given known left line notes ∷ [])
+    let whole = follows before done.after (last (stage.taken + 1 + length lines)) (own_given known left line remarks ∷ [])
     (map (foreign_given known (End mark ∷ left)) lines) first runs in
-    let P : ℕ → Type 0 = λ n. Leads before (own_given known left line notes ∷ map (expanded_given known (Some 0)) lines)
+    let P : ℕ → Type 0 = λ n. Leads before (own_given known left line remarks ∷ map (expanded_given known (Some 0)) lines)
     (last (stage.taken + 1 + n)) in
-    let stood : Leads before (own_given known left line notes ∷ map (expanded_given known (Some 0)) lines)
+    let stood : Leads before (own_given known left line remarks ∷ map (expanded_given known (Some 0)) lines)
     (last (stage.taken + 1 + length body)) = subst P long whole in
     rw (live.no_body, live.going_on) stood

@@ -3,34 +3,34 @@ use Rattle.std.proofs.Common.{◌≡◌, ◌∙◌, ℕ, suc, ◌+◌, ◌≤◌
 use Rattle.std.specs.Prelude.{if◌then◌else◌}
 use Rattle.m11_base.specs.Rad50.{Name}
 use Rattle.m11_scan_lines.specs.Line.{SourceLine}
-use Rattle.m11_unfold_arguments.specs.Expressions.{Known}
+use Rattle.m11_unfold_arguments.specs.Expressions.{KnownSymbols}
 use Rattle.m11_unfold_arguments.specs.declared.directives.Directive.TheVariants as word
 use Rattle.m11_unfold_bodies.specs.Conditions.{OpenConditions, is_skipping}
-use Rattle.m11_unfold_bodies.specs.Left.{Left, Line, End, after_mark, count_in, has_mark, argument_count, is_expanding, marks}
+use Rattle.m11_unfold_bodies.specs.Left.{RemainingItem, Line, End, after_mark, count_in, has_mark, argument_count, is_expanding, marks}
 use Rattle.m11_unfold_bodies.specs.declared.mark.Mark.{Mark}
 use Rattle.m11_unfold_rules.specs.Acting.{Acted, act, act_fault, acted_by, fault_by, flagged, own}
 use Rattle.m11_unfold_rules.specs.Laws.{IsDirective, IsLive, after_exit, before_exit, exit_given}
 use Rattle.m11_unfold_rules.specs.Limits.{most_lines}
 use Rattle.m11_unfold_rules.specs.Stages.{Macro, Stage, line_left}
 use Rattle.m11_unfold_rules.specs.Taking.{Live, ended}
-use Rattle.m11_unfold_rules.specs.Unfolding.{Given, Leads, given}
+use Rattle.m11_unfold_rules.specs.Unfolding.{UnfoldedLine, Leads, given}
 use Rattle.m11_unfold_rules.specs.Unfolding as steps
 use Rattle.m11_unfold_rules.proofs.OtherLines.{becomes_live, no_fault, same_marks, stage_at}
 
 -- ---- a line that becomes live
 
-abbrev pub acted_given : Known → List Left → SourceLine → Acted → Given
+abbrev pub acted_given : KnownSymbols → List RemainingItem → SourceLine → Acted → UnfoldedLine
 acted_given known left line acted = record {
   live = record { line = line; is_expanded = is_expanding left };
   known = known;
   is_own = acted.is_own;
-  notes = acted.notes;
+  remarks = acted.remarks;
   arguments = argument_count left;
 }
 
 -- a line becomes live, and its operator is done
-pub one_line : (known : Known) (conditions : OpenConditions) (macros : List (Name × Macro)) (bytes created taken : ℕ)
-    (line : SourceLine) (left : List Left) (acted : Acted) → is_skipping conditions ≡ false → taken + 1 ≤ most_lines
+pub one_line : (known : KnownSymbols) (conditions : OpenConditions) (macros : List (Name × Macro)) (bytes created taken : ℕ)
+    (line : SourceLine) (left : List RemainingItem) (acted : Acted) → is_skipping conditions ≡ false → taken + 1 ≤ most_lines
     → act known (stage_at conditions macros bytes created (taken + 1) left) line.text ≡ acted
     → act_fault (stage_at conditions macros bytes created (taken + 1) left) line.text ≡ None
     → Leads (stage_at conditions macros bytes created taken (Line line ∷ left)) (acted_given known left line acted ∷ []) acted.after
@@ -46,18 +46,18 @@ one_line known conditions macros bytes created taken line left acted live most a
 
 -- ---- `.MEXIT`
 
-past_lines : (rest : List SourceLine) (mark : Mark) (left : List Left)
+past_lines : (rest : List SourceLine) (mark : Mark) (left : List RemainingItem)
     → after_mark (map line_left rest ++ End mark ∷ left) ≡ End mark ∷ left
 past_lines [] mark left = refl
 past_lines (line ∷ rest) mark left = past_lines rest mark left
 
-pub exits : (known : Known) (stage : Stage) (line : SourceLine) (column : ℕ) (rest : List SourceLine) (mark : Mark) (left : List Left)
+pub exits : (known : KnownSymbols) (stage : Stage) (line : SourceLine) (column : ℕ) (rest : List SourceLine) (mark : Mark) (left : List RemainingItem)
     → IsLive stage → IsDirective stage line word.Mexit column → stage.taken + 1 ≤ most_lines
     → Leads (before_exit stage line rest mark left) (exit_given known mark left line (flagged 0 line.text column) ∷ [])
     (after_exit stage mark left)
 exits known stage line column rest mark left live is most =
-    let all : List Left = map line_left rest ++ End mark ∷ left in
-    let at : ℕ → List Left → Stage = λ taken l. stage_at stage.conditions stage.macros stage.defined_bytes stage.created taken l in
+    let all : List RemainingItem = map line_left rest ++ End mark ∷ left in
+    let at : ℕ → List RemainingItem → Stage = λ taken l. stage_at stage.conditions stage.macros stage.defined_bytes stage.created taken l in
     let here : Stage = at (stage.taken + 1) all in
     let before : Stage = at stage.taken (Line line ∷ all) in
     let after : Stage = at (stage.taken + 1) (End mark ∷ left) in
@@ -66,15 +66,15 @@ exits known stage line column rest mark left live is most =
     let by_marks : List Mark → Acted = λ m. if has_mark m then own (flagged 0 line.text column) (at (stage.taken + 1) (after_mark all))
     else own (flagged 256 line.text column) here in
     let acts : act known here line.text ≡ done = ap (acted_by known line.text here) is ∙ ap by_marks marked
-    ∙ ap (λ (l : List Left). own (flagged 0 line.text column) (at (stage.taken + 1) l)) (past_lines rest mark left) in
+    ∙ ap (λ (l : List RemainingItem). own (flagged 0 line.text column) (at (stage.taken + 1) l)) (past_lines rest mark left) in
     let faults : act_fault here line.text ≡ None = ap (fault_by here) is in
     let gives = one_line known stage.conditions stage.macros stage.defined_bytes stage.created stage.taken line all done live.taking
     most acts faults in
-    let told : List Mark → Given = λ m. record {
+    let told : List Mark → UnfoldedLine = λ m. record {
       live = record { line = line; is_expanded = has_mark m };
       known = known;
       is_own = true;
-      notes = flagged 0 line.text column;
+      remarks = flagged 0 line.text column;
       arguments = count_in m;
     } in
     let P : List Mark → Type 0 = λ m. Leads before (told m ∷ []) after in

@@ -2,13 +2,13 @@
 use Rattle.std.proofs.Common.{◌≡◌, ℕ, true, List, [], refl, ap, subst, sym, ◌∙◌}
 use Rattle.std.specs.Prelude.{Bool, if◌then◌else◌}
 use Rattle.m11_scan_lines.specs.Line.{SourceLine}
-use Rattle.m11_unfold_arguments.specs.Expressions.{Known}
+use Rattle.m11_unfold_arguments.specs.Expressions.{KnownSymbols}
 use Rattle.m11_unfold_arguments.specs.declared.directives.Directive.TheVariants as word
 use Rattle.m11_unfold_rules.specs.Acting.{Operation, act, acted_by}
 use Rattle.m11_unfold_rules.specs.Laws.{IsDirective}
 use Rattle.m11_unfold_rules.specs.Stages.{Stage}
 use Rattle.m11_unfold_rules.specs.Taking.{Gives, Passes, NothingLeft, move, move_from}
-use Rattle.m11_unfold_rules.specs.Unfolding.{Given, Leads}
+use Rattle.m11_unfold_rules.specs.Unfolding.{UnfoldedLine, Leads}
 use Rattle.m11_unfold_rules.specs.Unfolding as steps
 
 -- where `.END` came, nothing is taken
@@ -16,7 +16,7 @@ pub rests_after : (stage : Stage) → stage.has_ended ≡ true → move stage �
 rests_after stage ended = ap (λ (b : Bool). if b then NothingLeft else move_from stage.left stage) ended
 
 -- and so no stage but the same one is led to
-pub stays_after : (before after : Stage) (done : List Given) → before.has_ended ≡ true → Leads before done after
+pub stays_after : (before after : Stage) (done : List UnfoldedLine) → before.has_ended ≡ true → Leads before done after
     → (done ≡ []) × (after ≡ before)
 stays_after before _ _ ended steps.Leads.Stays = (refl, refl)
 stays_after before _ _ ended (steps.Leads.Passing done stage after steps' fault moves) =
@@ -34,16 +34,16 @@ stays_after before _ _ ended (steps.Leads.Giving done stage after live known ste
     let bad : NothingLeft ≡ Gives live after = sym rests ∙ here in
     absurd (cc bad)
 
-ends : (known : Known) (stage : Stage) (line : SourceLine) (column : ℕ) → IsDirective stage line word.End column
+ends : (known : KnownSymbols) (stage : Stage) (line : SourceLine) (column : ℕ) → IsDirective stage line word.End column
     → (act known stage line.text).after.has_ended ≡ true
 ends known stage line column is =
     ap (λ (o : Operation). (acted_by known line.text stage o).after.has_ended) is
 
-pub rests : (known : Known) (stage : Stage) (line : SourceLine) (column : ℕ) → IsDirective stage line word.End column
+pub rests : (known : KnownSymbols) (stage : Stage) (line : SourceLine) (column : ℕ) → IsDirective stage line word.End column
     → move (act known stage line.text).after ≡ NothingLeft
 rests known stage line column is = rests_after (act known stage line.text).after (ends known stage line column is)
 
-pub stays : (known : Known) (stage after : Stage) (line : SourceLine) (column : ℕ) (done : List Given)
+pub stays : (known : KnownSymbols) (stage after : Stage) (line : SourceLine) (column : ℕ) (done : List UnfoldedLine)
     → IsDirective stage line word.End column → Leads (act known stage line.text).after done after
     → (done ≡ []) × (after ≡ (act known stage line.text).after)
 stays known stage after line column done is =

@@ -7,9 +7,9 @@ use Rattle.m11_base.specs.Devices.{Bytes}
 use Rattle.m11_base.specs.NameCharacters.{six_of}
 use Rattle.m11_base.specs.Rad50.{Name, name_of}
 use Rattle.m11_scan_lines.specs.Line.{SourceLine, line_of}
-use Rattle.m11_unfold_arguments.specs.Expressions.{Known}
+use Rattle.m11_unfold_arguments.specs.Expressions.{KnownSymbols}
 use Rattle.m11_unfold_bodies.specs.Conditions.{no_conditions}
-use Rattle.m11_unfold_bodies.specs.Left.{Left, Line, End, expanded, round}
+use Rattle.m11_unfold_bodies.specs.Left.{RemainingItem, Line, End, expanded, round}
 use Rattle.m11_unfold_bodies.specs.Substitution.{Piece, Run, Other, actual_of, is_put, is_replaced, line_with, pieces_of}
 use Rattle.m11_unfold_bodies.specs.declared.mark.Mark.{Mark}
 use Rattle.m11_unfold_bodies.proofs.Whole.{unchanged}
@@ -18,7 +18,7 @@ use Rattle.m11_unfold_rules.specs.Laws.{foreign_given}
 use Rattle.m11_unfold_rules.specs.Limits.{most_lines}
 use Rattle.m11_unfold_rules.specs.Stages.{Macro, Stage, line_left}
 use Rattle.m11_unfold_rules.specs.Taking.{ended}
-use Rattle.m11_unfold_rules.specs.Unfolding.{Given, Leads}
+use Rattle.m11_unfold_rules.specs.Unfolding.{UnfoldedLine, Leads}
 use Rattle.m11_unfold_rules.specs.Unfolding as steps
 use Rattle.m11_unfold_rules.proofs.OtherLines.{ForeignHere, onwards, stage_at}
 
@@ -56,24 +56,24 @@ one_round : (formals : List Name) (body : List Bytes) (actuals : List Bytes)
     → round formals body actuals ≡ map line_left (round_lines formals body actuals)
 one_round formals [] actuals = refl
 one_round formals (text ∷ body) actuals =
-    ap (λ (l : List Left). Line (line_with formals actuals text) ∷ l) (one_round formals body actuals)
+    ap (λ (l : List RemainingItem). Line (line_with formals actuals text) ∷ l) (one_round formals body actuals)
 
 all_rounds : (formals : List Name) (rounds : List (List Bytes)) (body : List Bytes)
     → flat_map (round formals body) rounds ≡ map line_left (lines_of_rounds formals rounds body)
 all_rounds formals [] body = refl
 all_rounds formals (actuals ∷ rounds) body =
-    ap (λ (l : List Left). l ++ flat_map (round formals body) rounds) (one_round formals body actuals)
-    ∙ ap (λ (l : List Left). map line_left (round_lines formals body actuals) ++ l) (all_rounds formals rounds body)
+    ap (λ (l : List RemainingItem). l ++ flat_map (round formals body) rounds) (one_round formals body actuals)
+    ∙ ap (λ (l : List RemainingItem). map line_left (round_lines formals body actuals) ++ l) (all_rounds formals rounds body)
     ∙ sym (map-append line_left (round_lines formals body actuals) (lines_of_rounds formals rounds body))
 
-pub as_lines : (formals : List Name) (rounds : List (List Bytes)) (body : List Bytes) (mark : Mark) (left : List Left)
+pub as_lines : (formals : List Name) (rounds : List (List Bytes)) (body : List Bytes) (mark : Mark) (left : List RemainingItem)
     → expanded formals rounds body mark left ≡ map line_left (lines_of_rounds formals rounds body) ++ End mark ∷ left
-as_lines formals rounds body mark left = ap (λ (l : List Left). l ++ End mark ∷ left) (all_rounds formals rounds body)
+as_lines formals rounds body mark left = ap (λ (l : List RemainingItem). l ++ End mark ∷ left) (all_rounds formals rounds body)
 
 -- ---- its run
 
-pub expansion_runs : (known : Known) (macros : List (Name × Macro)) (bytes created taken : ℕ) (mark : Mark)
-    (lines : List SourceLine) (left : List Left) → ForeignHere no_conditions macros lines → taken + length lines ≤ most_lines
+pub expansion_runs : (known : KnownSymbols) (macros : List (Name × Macro)) (bytes created taken : ℕ) (mark : Mark)
+    (lines : List SourceLine) (left : List RemainingItem) → ForeignHere no_conditions macros lines → taken + length lines ≤ most_lines
     → Leads (stage_at no_conditions macros bytes created taken (map line_left lines ++ End mark ∷ left))
     (map (foreign_given known (End mark ∷ left)) lines)
     (stage_at mark.conditions macros bytes created (taken + length lines) left)

@@ -5,17 +5,17 @@ use Rattle.std.specs.List.{flat_map}
 use Rattle.m11_base.specs.Devices.{Bytes}
 use Rattle.m11_base.specs.Rad50.{Name}
 use Rattle.m11_scan_lines.specs.Line.{SourceLine}
-use Rattle.m11_unfold_arguments.specs.Actuals.{Given, actuals_from}
+use Rattle.m11_unfold_arguments.specs.Actuals.{ActualTexts, actuals_from}
 use Rattle.m11_unfold_arguments.specs.Conditions.{condition}
-use Rattle.m11_unfold_arguments.specs.Expressions.{Known}
-use Rattle.m11_unfold_arguments.specs.Filling.{Filled, filled}
+use Rattle.m11_unfold_arguments.specs.Expressions.{KnownSymbols}
+use Rattle.m11_unfold_arguments.specs.Filling.{FormalTexts, filled}
 use Rattle.m11_unfold_arguments.specs.Immediate as immediate
-use Rattle.m11_unfold_arguments.specs.Notes.{noting}
+use Rattle.m11_unfold_arguments.specs.Remarks.{remarks_of}
 use Rattle.m11_unfold_arguments.specs.declared.directives.Directive.{Directive}
 use Rattle.m11_unfold_arguments.specs.declared.directives.Directive.TheVariants as word
-use Rattle.m11_unfold_bodies.specs.Bodies.{HalfTaken, depth_after, size_of}
+use Rattle.m11_unfold_bodies.specs.Bodies.{PartialBody, depth_after, size_of}
 use Rattle.m11_unfold_bodies.specs.Conditions.{OpenConditions, closed, has_none, most_conditions, no_conditions, past, switched}
-use Rattle.m11_unfold_bodies.specs.Left.{Left, Line, End, after_mark, bytes_in, conditions_in, count_in, has_mark, is_expanding, marks, most_expansions, round}
+use Rattle.m11_unfold_bodies.specs.Left.{RemainingItem, Line, End, after_mark, bytes_in, conditions_in, count_in, has_mark, is_expanding, marks, most_expansions, round}
 use Rattle.m11_unfold_bodies.specs.declared.conditions.Part.TheVariants as part
 use Rattle.m11_unfold_bodies.specs.declared.mark.Mark.{Mark}
 use Rattle.m11_unfold_rules.specs.Acting.{Acted, Operation, Calls, OwnDirective, Foreign, act, act_fault, acted_by, acted_exit, acted_if, acted_immediate, acted_within, called_with, condition_opened, fault_by, flagged, formal_name, flag_O, operation, own, with_statement}
@@ -39,21 +39,21 @@ IsMove (Passes stage) = Unit {0}
 IsMove (Gives live stage) = Unit {0}
 
 module _ (more : List SourceLine) where
-  abbrev lines : List Left
+  abbrev lines : List RemainingItem
   lines = map line_left more
 
   abbrev on : Stage → Stage
   on stage = with_more more stage
 
   -- expansions that are open
-  pub same_open : (left : List Left) → marks (left ++ lines) ≡ marks left
+  pub same_open : (left : List RemainingItem) → marks (left ++ lines) ≡ marks left
   same_open [] = no_marks more
   same_open (Line line ∷ left) = same_open left
   same_open (End mark ∷ left) = ap (λ (ms : List Mark). mark ∷ ms) (same_open left)
 
   -- ---- limits
 
-  same_depth : (left : List Left) → depth_fault (left ++ lines) ≡ depth_fault left
+  same_depth : (left : List RemainingItem) → depth_fault (left ++ lines) ≡ depth_fault left
   same_depth left = ap (λ (ms : List Mark). fault_if (nat_le most_expansions (length ms)) TooDeep) (same_open left)
 
   same_bytes : (stage : Stage) → bytes_of (on stage) ≡ bytes_of stage
@@ -79,7 +79,7 @@ module _ (more : List SourceLine) where
   same_line stage text =
       ap (λ (f : Option UnfoldFault). if nat_le most_lines stage.taken then Some TooManyLines else f) (same_taking stage.opening stage text)
 
-  same_fault : (left : List Left) (stage : Stage) → IsMove (move_from left stage)
+  same_fault : (left : List RemainingItem) (stage : Stage) → IsMove (move_from left stage)
       → fault_from (left ++ lines) (on stage) ≡ fault_from left stage
   same_fault [] stage moves = absurd moves
   same_fault (End mark ∷ left) stage moves = refl
@@ -96,7 +96,7 @@ module _ (more : List SourceLine) where
       → opened arguments bytes formals rounds body (on stage) ≡ on (opened arguments bytes formals rounds body stage)
   opened_on arguments bytes formals rounds body stage =
       let mark : Mark = record { arguments = arguments; bytes = bytes; conditions = stage.conditions } in
-      ap (λ (l : List Left). record stage { left = l; conditions = no_conditions })
+      ap (λ (l : List RemainingItem). record stage { left = l; conditions = no_conditions })
       (sym (append_assoc (flat_map (round formals body) rounds) (End mark ∷ stage.left) lines))
 
   used_on : (purpose : Purpose) (body : List Bytes) (stage : Stage) → used purpose body (on stage) ≡ on (used purpose body stage)
@@ -104,7 +104,7 @@ module _ (more : List SourceLine) where
   used_on (Repeats formals rounds) body stage = opened_on None (size_of body) formals rounds body stage
   used_on Drops body stage = refl
 
-  into_on : (purpose : Purpose) (taken : HalfTaken) (text : Bytes) (depth : Option ℕ) (stage : Stage)
+  into_on : (purpose : Purpose) (taken : PartialBody) (text : Bytes) (depth : Option ℕ) (stage : Stage)
       → into_body purpose taken text depth (on stage) ≡ on (into_body purpose taken text depth stage)
   into_on purpose taken text None stage = used_on purpose taken.body (record stage { opening = None })
   into_on purpose taken text (Some depth) stage = refl
@@ -121,20 +121,20 @@ module _ (more : List SourceLine) where
       ap Passes (into_on opening.purpose opening.taken line.text (depth_after (nesting line.text) opening.taken.depth) stage)
   taken_on None line stage = live_on (skipped stage.conditions line.text) line stage
 
-  from_on : (left : List Left) (stage : Stage) → IsMove (move_from left stage)
+  from_on : (left : List RemainingItem) (stage : Stage) → IsMove (move_from left stage)
       → move_from (left ++ lines) (on stage) ≡ on_after (move_from left stage)
   from_on [] stage moves = absurd moves
   from_on (End mark ∷ left) stage moves = refl
   from_on (Line line ∷ left) stage moves = taken_on stage.opening line (one_taken left stage)
 
-  fault_on : (has_ended : Bool) (left : List Left) (stage : Stage) (result : Move)
+  fault_on : (has_ended : Bool) (left : List RemainingItem) (stage : Stage) (result : Move)
       → (if has_ended then NothingLeft else move_from left stage) ≡ result → IsMove result
       → (if has_ended then None else fault_from left stage) ≡ None
       → (if has_ended then None else fault_from (left ++ lines) (on stage)) ≡ None
   fault_on true left stage result moves is fault = refl
   fault_on false left stage result moves is fault = same_fault left stage (subst IsMove (sym moves) is) ∙ fault
 
-  moves_on : (has_ended : Bool) (left : List Left) (stage : Stage) (result : Move)
+  moves_on : (has_ended : Bool) (left : List RemainingItem) (stage : Stage) (result : Move)
       → (if has_ended then NothingLeft else move_from left stage) ≡ result → IsMove result
       → (if has_ended then NothingLeft else move_from (left ++ lines) (on stage)) ≡ on_after result
   moves_on true left stage result moves is = absurd (subst IsMove (sym moves) is)
@@ -143,20 +143,20 @@ module _ (more : List SourceLine) where
   -- ---- acting
 
   abbrev on_acted : Acted → Acted
-  on_acted acted = record { is_own = acted.is_own; notes = acted.notes; after = on acted.after }
+  on_acted acted = record { is_own = acted.is_own; remarks = acted.remarks; after = on acted.after }
 
   either_on : (b : Bool) (one other : Acted) → (if b then on_acted one else on_acted other) ≡ on_acted (if b then one else other)
   either_on true one other = refl
   either_on false one other = refl
 
-  if_on : (known : Known) (text : Bytes) (column : ℕ) (stage : Stage)
+  if_on : (known : KnownSymbols) (text : Bytes) (column : ℕ) (stage : Stage)
       → acted_if known text column (on stage) ≡ on_acted (acted_if known text column stage)
   if_on known text column stage =
       ap (λ (ms : List Mark). if nat_lt (length stage.conditions.entered + conditions_in ms) most_conditions
       then condition_opened text (condition known text column) (on stage)
-      else own (noting flag_O []) (record (on stage) { conditions = past stage.conditions })) (same_open stage.left)
+      else own (remarks_of flag_O []) (record (on stage) { conditions = past stage.conditions })) (same_open stage.left)
       ∙ either_on (has_room stage) (condition_opened text (condition known text column) stage)
-      (own (noting flag_O []) (record stage { conditions = past stage.conditions }))
+      (own (remarks_of flag_O []) (record stage { conditions = past stage.conditions }))
 
   statement_on : (text : Bytes) (holds : Bool) (column : Option ℕ) (stage : Stage)
       → with_statement text holds column (on stage) ≡ on (with_statement text holds column stage)
@@ -164,10 +164,10 @@ module _ (more : List SourceLine) where
   statement_on text true None stage = refl
   statement_on text false column stage = refl
 
-  immediate_on : (known : Known) (text : Bytes) (column : ℕ) (stage : Stage)
+  immediate_on : (known : KnownSymbols) (text : Bytes) (column : ℕ) (stage : Stage)
       → acted_immediate known text column (on stage) ≡ on_acted (acted_immediate known text column stage)
   immediate_on known text column stage =
-      ap (own (immediate.notes known text column)) (statement_on text (immediate.immediate known text column).holds
+      ap (own (immediate.remarks known text column)) (statement_on text (immediate.immediate known text column).holds
       (immediate.immediate known text column).statement stage)
 
   within_on : (change : OpenConditions → OpenConditions) (text : Bytes) (column : ℕ) (stage : Stage)
@@ -176,7 +176,7 @@ module _ (more : List SourceLine) where
       either_on (has_none stage.conditions) (own (flagged flag_O text column) stage)
       (own (flagged 0 text column) (record stage { conditions = change stage.conditions }))
 
-  after_mark_on : (left : List Left) → is_expanding left ≡ true → after_mark (left ++ lines) ≡ after_mark left ++ lines
+  after_mark_on : (left : List RemainingItem) → is_expanding left ≡ true → after_mark (left ++ lines) ≡ after_mark left ++ lines
   after_mark_on [] is = absurd (let bad = is in cc)
   after_mark_on (Line line ∷ left) is = after_mark_on left is
   after_mark_on (End mark ∷ left) is = refl
@@ -192,15 +192,15 @@ module _ (more : List SourceLine) where
           else own (flagged flag_O text column) (on stage))
           ≡ on_acted (if b then own (flagged 0 text column) (record stage { left = after_mark stage.left })
           else own (flagged flag_O text column) stage)
-      go true is = ap (λ (l : List Left). own (flagged 0 text column) (record stage { left = l })) (after_mark_on stage.left is)
+      go true is = ap (λ (l : List RemainingItem). own (flagged 0 text column) (record stage { left = l })) (after_mark_on stage.left is)
       go false is = refl
 
-  call_on : (macro : Macro) (count : ℕ) (filled : Filled) (stage : Stage)
+  call_on : (macro : Macro) (count : ℕ) (filled : FormalTexts) (stage : Stage)
       → called_with macro count filled (on stage) ≡ on (called_with macro count filled stage)
   call_on macro count filled stage = opened_on (Some count) 0 (map formal_name macro.formals) (filled.texts ∷ []) macro.body
       (record stage { created = filled.created })
 
-  directive_on : (known : Known) (text : Bytes) (stage : Stage) (directive : Directive) (column : ℕ)
+  directive_on : (known : KnownSymbols) (text : Bytes) (stage : Stage) (directive : Directive) (column : ℕ)
       → acted_by known text (on stage) (OwnDirective directive column) ≡ on_acted (acted_by known text stage (OwnDirective directive column))
   directive_on known text stage word.If column = if_on known text column stage
   directive_on known text stage word.Iff column = within_on (switched part.False) text column stage
@@ -219,15 +219,15 @@ module _ (more : List SourceLine) where
   directive_on known text stage word.Nchr column = refl
   directive_on known text stage word.End column = refl
 
-  acted_on : (known : Known) (text : Bytes) (stage : Stage) (operation : Operation)
+  acted_on : (known : KnownSymbols) (text : Bytes) (stage : Stage) (operation : Operation)
       → acted_by known text (on stage) operation ≡ on_acted (acted_by known text stage operation)
   acted_on known text stage Foreign = refl
   acted_on known text stage (Calls macro column) =
-      let actuals : Given = actuals_from known text (length macro.formals) column in
-      ap (own actuals.notes) (call_on macro (length actuals.texts) (filled macro.formals actuals.texts stage.created) stage)
+      let actuals : ActualTexts = actuals_from known text (length macro.formals) column in
+      ap (own actuals.remarks) (call_on macro (length actuals.texts) (filled macro.formals actuals.texts stage.created) stage)
   acted_on known text stage (OwnDirective directive column) = directive_on known text stage directive column
 
-  act_on : (known : Known) (stage : Stage) (text : Bytes) → act known (on stage) text ≡ on_acted (act known stage text)
+  act_on : (known : KnownSymbols) (stage : Stage) (text : Bytes) → act known (on stage) text ≡ on_acted (act known stage text)
   act_on known stage text = acted_on known text stage (operation stage.conditions stage.macros text)
 
   fault_by_on : (stage : Stage) (operation : Operation) → fault_by (on stage) operation ≡ fault_by stage operation
@@ -238,26 +238,26 @@ module _ (more : List SourceLine) where
   act_fault_on : (stage : Stage) (text : Bytes) → act_fault (on stage) text ≡ act_fault stage text
   act_fault_on stage text = fault_by_on stage (operation stage.conditions stage.macros text)
 
-  given_on : (known : Known) (live : Live) (stage : Stage) → given known live (on stage) ≡ given known live stage
+  given_on : (known : KnownSymbols) (live : Live) (stage : Stage) → given known live (on stage) ≡ given known live stage
   given_on known live stage =
       ap (λ (a : Acted). record {
         live = live;
         known = known;
         is_own = a.is_own;
-        notes = a.notes;
+        remarks = a.remarks;
         arguments = count_in (marks (stage.left ++ lines));
       }) (act_on known stage live.line.text)
       ∙ ap (λ (ms : List Mark). record {
         live = live;
         known = known;
         is_own = (act known stage live.line.text).is_own;
-        notes = (act known stage live.line.text).notes;
+        remarks = (act known stage live.line.text).remarks;
         arguments = count_in ms;
       }) (same_open stage.left)
 
   -- ---- the law
 
-  pub leads_on : (before after : Stage) (done : List steps.Given) → Leads before done after → Leads (on before) done (on after)
+  pub leads_on : (before after : Stage) (done : List steps.UnfoldedLine) → Leads before done after → Leads (on before) done (on after)
   leads_on before _ _ steps.Leads.Stays = steps.Leads.Stays
   leads_on before after done (steps.Leads.Passing _ stage _ leads fault moves) =
       steps.Leads.Passing done (on stage) (on after) (leads_on before stage done leads)
@@ -269,5 +269,5 @@ module _ (more : List SourceLine) where
       (moves_on stage.has_ended stage.left stage (Gives live after) moves tt)
       (act_fault_on after live.line.text ∙ acts) in
       let P : Acted → Type 0 = λ a. Leads (on before) (done ++ given known live (on after) ∷ []) a.after in
-      let Q : steps.Given → Type 0 = λ g. Leads (on before) (done ++ g ∷ []) (on (act known after live.line.text).after) in
+      let Q : steps.UnfoldedLine → Type 0 = λ g. Leads (on before) (done ++ g ∷ []) (on (act known after live.line.text).after) in
       subst Q (given_on known live after) (subst P (act_on known after live.line.text) next)

@@ -4,22 +4,22 @@ use Rattle.std.specs.Prelude.{◌==◌, ◌||◌, ◌&&◌, not, if◌then◌els
 use Rattle.std.proofs.lemmas.Bool.Decides.{nat_tests}
 use Rattle.m11_base.specs.Rad50.{Name}
 use Rattle.m11_scan_lines.specs.Line.{SourceLine}
-use Rattle.m11_unfold_arguments.specs.Conditions.{Asked, condition}
+use Rattle.m11_unfold_arguments.specs.Conditions.{ConditionResult, condition}
 use Rattle.m11_unfold_arguments.specs.Directives.{directive}
-use Rattle.m11_unfold_arguments.specs.Expressions.{Known}
-use Rattle.m11_unfold_arguments.specs.Notes.{Notes, noting}
+use Rattle.m11_unfold_arguments.specs.Expressions.{KnownSymbols}
+use Rattle.m11_unfold_arguments.specs.Remarks.{Remarks, remarks_of}
 use Rattle.m11_unfold_arguments.specs.declared.directives.Directive.{Directive}
 use Rattle.m11_unfold_arguments.specs.declared.directives.Directive.TheVariants as word
 use Rattle.m11_unfold_bodies.specs.Conditions.{OpenConditions, closed, entering, is_live_inside, is_skipping, most_conditions, past, unnested}
-use Rattle.m11_unfold_bodies.specs.Left.{Left, Line, conditions_in, conditions_open, count_in, has_mark, is_expanding, marks}
+use Rattle.m11_unfold_bodies.specs.Left.{RemainingItem, Line, conditions_in, conditions_open, count_in, has_mark, is_expanding, marks}
 use Rattle.m11_unfold_bodies.specs.declared.mark.Mark.{Mark}
 use Rattle.m11_unfold_rules.specs.Acting.{Acted, OwnDirective, act, act_fault, acted_by, condition_opened, fault_by, flagged, flag_O, operation, own}
-use Rattle.m11_unfold_rules.specs.Constructs.{Block, HasConditionLeft, after_block, before_block, condition_notes}
+use Rattle.m11_unfold_rules.specs.Constructs.{Block, HasConditionLeft, after_block, before_block, condition_remarks}
 use Rattle.m11_unfold_rules.specs.Laws.{AreForeign, IsDirective, IsLive, foreign_given, own_given}
 use Rattle.m11_unfold_rules.specs.Limits.{most_lines}
 use Rattle.m11_unfold_rules.specs.Stages.{Macro, Stage, line_left}
 use Rattle.m11_unfold_rules.specs.Taking.{Gives, Live, Passes, live_or_skipped, move, skipped_by}
-use Rattle.m11_unfold_rules.specs.Unfolding.{Given, Leads}
+use Rattle.m11_unfold_rules.specs.Unfolding.{UnfoldedLine, Leads}
 use Rattle.m11_unfold_rules.specs.Unfolding as steps
 use Rattle.m11_unfold_rules.proofs.Constructs.{acted_given, one_line}
 use Rattle.m11_unfold_rules.proofs.Following.{follows}
@@ -58,29 +58,29 @@ closes_again conditions holds none = go conditions.is_past none where
 
 -- ---- the `.IF`, and the `.ENDC`
 
-module _ (known : Known) (conditions : OpenConditions) (macros : List (Name × Macro)) (bytes created : ℕ) where
-  abbrev at : OpenConditions → ℕ → List Left → Stage
+module _ (known : KnownSymbols) (conditions : OpenConditions) (macros : List (Name × Macro)) (bytes created : ℕ) where
+  abbrev at : OpenConditions → ℕ → List RemainingItem → Stage
   at c taken left = stage_at c macros bytes created taken left
 
-  opens_condition : (taken column : ℕ) (line : SourceLine) (left : List Left) (holds : Bool) → is_skipping conditions ≡ false
+  opens_condition : (taken column : ℕ) (line : SourceLine) (left : List RemainingItem) (holds : Bool) → is_skipping conditions ≡ false
       → operation conditions macros line.text ≡ OwnDirective word.If column → (condition known line.text column).holds ≡ holds
       → length conditions.entered + conditions_open left < most_conditions → taken + 1 ≤ most_lines
-      → Leads (at conditions taken (Line line ∷ left)) (own_given known left line (condition_notes known line.text column) ∷ [])
+      → Leads (at conditions taken (Line line ∷ left)) (own_given known left line (condition_remarks known line.text column) ∷ [])
       (at (entering holds conditions) (taken + 1) left)
   opens_condition taken column line left holds live is answers room most =
       let here : Stage = at conditions (taken + 1) left in
-      let notes : Notes = condition_notes known line.text column in
-      let asked : Asked = condition known line.text column in
+      let remarks : Remarks = condition_remarks known line.text column in
+      let asked : ConditionResult = condition known line.text column in
       let has : nat_lt (length conditions.entered + conditions_open left) most_conditions ≡ true = grind (arith, nat_tests) in
-      let done : Acted = own notes (at (entering holds conditions) (taken + 1) left) in
+      let done : Acted = own remarks (at (entering holds conditions) (taken + 1) left) in
       let acts : act known here line.text ≡ done = ap (acted_by known line.text here) is
       ∙ ap (λ (b : Bool). if b then condition_opened line.text asked here
-      else own (noting flag_O []) (record here { conditions = past conditions })) has
-      ∙ ap (λ (b : Bool). own notes (at (entering b conditions) (taken + 1) left)) answers in
+      else own (remarks_of flag_O []) (record here { conditions = past conditions })) has
+      ∙ ap (λ (b : Bool). own remarks (at (entering b conditions) (taken + 1) left)) answers in
       let faults : act_fault here line.text ≡ None = ap (fault_by here) is in
       one_line known conditions macros bytes created taken line left done live most acts faults
 
-  closes_condition : (taken column : ℕ) (line : SourceLine) (left : List Left) (holds : Bool) → conditions.is_past ≡ false
+  closes_condition : (taken column : ℕ) (line : SourceLine) (left : List RemainingItem) (holds : Bool) → conditions.is_past ≡ false
       → operation (entering holds conditions) macros line.text ≡ OwnDirective word.Endc column
       → move (at (entering holds conditions) taken (Line line ∷ left))
       ≡ Gives (record { line = line; is_expanded = is_expanding left }) (at (entering holds conditions) (taken + 1) left)
@@ -91,14 +91,14 @@ module _ (known : Known) (conditions : OpenConditions) (macros : List (Name × M
       let c : OpenConditions = entering holds conditions in
       let before : Stage = at c taken (Line line ∷ left) in
       let here : Stage = at c (taken + 1) left in
-      let notes : Notes = flagged 0 line.text column in
-      let done : Acted = own notes (at conditions (taken + 1) left) in
+      let remarks : Remarks = flagged 0 line.text column in
+      let done : Acted = own remarks (at conditions (taken + 1) left) in
       let some : (length c.entered == 0) ≡ false = grind (arith, nat_tests) in
       let acts : act known here line.text ≡ done = ap (acted_by known line.text here) is
       ∙ ap (λ (b : Bool). if not b && length c.entered == 0 then own (flagged flag_O line.text column) here
-      else own notes (at (closed c) (taken + 1) left)) none
-      ∙ ap (λ (b : Bool). if b then own (flagged flag_O line.text column) here else own notes (at (closed c) (taken + 1) left)) some
-      ∙ ap (λ (o : OpenConditions). own notes (at o (taken + 1) left)) (closes_again conditions holds none) in
+      else own remarks (at (closed c) (taken + 1) left)) none
+      ∙ ap (λ (b : Bool). if b then own (flagged flag_O line.text column) here else own remarks (at (closed c) (taken + 1) left)) some
+      ∙ ap (λ (o : OpenConditions). own remarks (at o (taken + 1) left)) (closes_again conditions holds none) in
       let faults : act_fault here line.text ≡ None = ap (fault_by here) is in
       let shown : Live = record { line = line; is_expanded = is_expanding left } in
       let P : Acted → Type 0 = λ a. Leads before (acted_given known left line a ∷ []) a.after in
@@ -107,7 +107,7 @@ module _ (known : Known) (conditions : OpenConditions) (macros : List (Name × M
 
   -- ---- the lines of a condition that doesn't hold
 
-  pub skipped_lines : (before : Stage) (done : List Given) (left : List Left) → conditions.is_past ≡ false
+  pub skipped_lines : (before : Stage) (done : List UnfoldedLine) (left : List RemainingItem) → conditions.is_past ≡ false
       → (lines : List SourceLine) (taken : ℕ) → ForeignHere conditions macros lines → taken + length lines ≤ most_lines
       → Leads before done (at (entering false conditions) taken (map line_left lines ++ left))
       → Leads before done (at (entering false conditions) (taken + length lines) left)
@@ -117,7 +117,7 @@ module _ (known : Known) (conditions : OpenConditions) (macros : List (Name × M
       subst Q same so_far
   skipped_lines before done left none (line ∷ lines) taken foreign most so_far =
       let c : OpenConditions = entering false conditions in
-      let rest : List Left = map line_left lines ++ left in
+      let rest : List RemainingItem = map line_left lines ++ left in
       let here : Stage = at c (taken + 1) rest in
       let moves : move (at c taken (Line line ∷ rest)) ≡ Passes here
       = ap (λ (b : Bool). live_or_skipped (if b then skipped_by c (directive line.text) else None) line here) (skipping_in_false conditions none)
@@ -129,7 +129,7 @@ module _ (known : Known) (conditions : OpenConditions) (macros : List (Name × M
       let sum : taken + 1 + length lines ≡ taken + suc (length lines) = omega arith in
       subst Q sum later
 
-  pub close_is_live : (taken column : ℕ) (line : SourceLine) (left : List Left) → conditions.is_past ≡ false → conditions.nested ≡ 0
+  pub close_is_live : (taken column : ℕ) (line : SourceLine) (left : List RemainingItem) → conditions.is_past ≡ false → conditions.nested ≡ 0
       → operation conditions macros line.text ≡ OwnDirective word.Endc column
       → move (at (entering false conditions) taken (Line line ∷ left))
       ≡ Gives (record { line = line; is_expanded = is_expanding left }) (at (entering false conditions) (taken + 1) left)
@@ -142,20 +142,20 @@ module _ (known : Known) (conditions : OpenConditions) (macros : List (Name × M
 
 -- ---- the whole block
 
-module _ (known : Known) (stage : Stage) (block : Block) (column end : ℕ) where
-  abbrev at_stage : OpenConditions → ℕ → List Left → Stage
+module _ (known : KnownSymbols) (stage : Stage) (block : Block) (column end : ℕ) where
+  abbrev at_stage : OpenConditions → ℕ → List RemainingItem → Stage
   at_stage c taken left = stage_at c stage.macros stage.defined_bytes stage.created taken left
 
-  abbrev rest : List Left
+  abbrev rest : List RemainingItem
   rest = Line block.close ∷ block.left
 
-  abbrev all : List Left
+  abbrev all : List RemainingItem
   all = map line_left block.lines ++ rest
 
-  abbrev head_given : Given
-  head_given = own_given known block.left block.first (condition_notes known block.first.text column)
+  abbrev head_given : UnfoldedLine
+  head_given = own_given known block.left block.first (condition_remarks known block.first.text column)
 
-  abbrev close_given : Given
+  abbrev close_given : UnfoldedLine
   close_given = own_given known block.left block.close (flagged 0 block.close.text end)
 
   begins : (holds : Bool) → IsLive stage → IsDirective stage block.first word.If column
@@ -168,11 +168,11 @@ module _ (known : Known) (stage : Stage) (block : Block) (column end : ℕ) wher
       let marked : marks all ≡ marks block.left = same_marks block.lines rest in
       let P : List Mark → Type 0 = λ m. length stage.conditions.entered + conditions_in m < most_conditions in
       let room' : length stage.conditions.entered + conditions_in (marks all) < most_conditions = subst P (sym marked) room in
-      let told : List Mark → Given = λ m. record {
+      let told : List Mark → UnfoldedLine = λ m. record {
         live = record { line = block.first; is_expanded = has_mark m };
         known = known;
         is_own = true;
-        notes = condition_notes known block.first.text column;
+        remarks = condition_remarks known block.first.text column;
         arguments = count_in m;
       } in
       let Q : List Mark → Type 0 = λ m. Leads before (told m ∷ []) after in

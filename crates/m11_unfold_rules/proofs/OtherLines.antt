@@ -4,25 +4,25 @@ use Rattle.std.specs.Prelude.{nat_le, ⊤}
 use Rattle.std.proofs.lemmas.Bool.Decides.{nat_tests}
 use Rattle.m11_base.specs.Rad50.{Name}
 use Rattle.m11_scan_lines.specs.Line.{SourceLine}
-use Rattle.m11_unfold_arguments.specs.Expressions.{Known}
-use Rattle.m11_unfold_arguments.specs.Notes.{no_notes}
+use Rattle.m11_unfold_arguments.specs.Expressions.{KnownSymbols}
+use Rattle.m11_unfold_arguments.specs.Remarks.{no_remarks}
 use Rattle.m11_unfold_bodies.specs.Conditions.{OpenConditions, is_skipping}
 use Rattle.m11_unfold_bodies.specs.declared.mark.Mark.{Mark}
-use Rattle.m11_unfold_bodies.specs.Left.{Left, Line, argument_count, count_in, has_mark, is_expanding, marks}
+use Rattle.m11_unfold_bodies.specs.Left.{RemainingItem, Line, argument_count, count_in, has_mark, is_expanding, marks}
 use Rattle.m11_unfold_rules.specs.Acting.{Acted, Foreign, act, act_fault, acted_by, fault_by, operation}
 use Rattle.m11_unfold_rules.specs.Laws.{AreForeign, IsLive, after_lines, before_lines, foreign_given}
 use Rattle.m11_unfold_rules.specs.Limits.{most_lines, next_fault}
 use Rattle.m11_unfold_rules.specs.Stages.{Macro, Stage, line_left}
 use Rattle.m11_unfold_rules.specs.Taking.{Gives, Live, move}
-use Rattle.m11_unfold_rules.specs.Unfolding.{Given, Leads, given}
+use Rattle.m11_unfold_rules.specs.Unfolding.{UnfoldedLine, Leads, given}
 use Rattle.m11_unfold_rules.specs.Unfolding as steps
 
-pub same_marks : (lines : List SourceLine) (left : List Left) → marks (map line_left lines ++ left) ≡ marks left
+pub same_marks : (lines : List SourceLine) (left : List RemainingItem) → marks (map line_left lines ++ left) ≡ marks left
 same_marks [] left = refl
 same_marks (line ∷ lines) left = same_marks lines left
 
 -- nothing is skipped, and no body is open
-abbrev pub stage_at : OpenConditions → List (Name × Macro) → ℕ → ℕ → ℕ → List Left → Stage
+abbrev pub stage_at : OpenConditions → List (Name × Macro) → ℕ → ℕ → ℕ → List RemainingItem → Stage
 stage_at conditions macros bytes created taken left = record {
   left = left;
   conditions = conditions;
@@ -44,53 +44,53 @@ pub has_lines_left : (taken more : ℕ) → taken + suc more ≤ most_lines → 
 has_lines_left taken more most = grind (arith, nat_tests)
 
 pub no_fault : (conditions : OpenConditions) (macros : List (Name × Macro)) (bytes created taken more : ℕ) (line : SourceLine)
-    (left : List Left) → taken + suc more ≤ most_lines
+    (left : List RemainingItem) → taken + suc more ≤ most_lines
     → next_fault (stage_at conditions macros bytes created taken (Line line ∷ left)) ≡ None
 no_fault conditions macros bytes created taken more line left most = rw (has_lines_left taken more most) refl
 
 pub becomes_live : (conditions : OpenConditions) (macros : List (Name × Macro)) (bytes created taken : ℕ) (line : SourceLine)
-    (left : List Left) → is_skipping conditions ≡ false
+    (left : List RemainingItem) → is_skipping conditions ≡ false
     → move (stage_at conditions macros bytes created taken (Line line ∷ left))
     ≡ Gives (record { line = line; is_expanded = is_expanding left }) (stage_at conditions macros bytes created (taken + 1) left)
 becomes_live conditions macros bytes created taken line left live = rw live refl
 
-given_alike : (known : Known) (left : List Left) (lines : List SourceLine) (line : SourceLine) (here : Stage)
+given_alike : (known : KnownSymbols) (left : List RemainingItem) (lines : List SourceLine) (line : SourceLine) (here : Stage)
     → here.left ≡ map line_left lines ++ left
-    → act known here line.text ≡ record { is_own = false; notes = no_notes; after = here }
+    → act known here line.text ≡ record { is_own = false; remarks = no_remarks; after = here }
     → given known (record { line = line; is_expanded = is_expanding here.left }) here ≡ foreign_given known left line
 given_alike known left lines line here stands acts =
-    let told : Acted → Given = λ acted. record {
+    let told : Acted → UnfoldedLine = λ acted. record {
       live = record { line = line; is_expanded = is_expanding here.left };
       known = known;
       is_own = acted.is_own;
-      notes = acted.notes;
+      remarks = acted.remarks;
       arguments = argument_count here.left;
     } in
-    let marked : List Mark → Given = λ ends. record {
+    let marked : List Mark → UnfoldedLine = λ ends. record {
       live = record { line = line; is_expanded = has_mark ends };
       known = known;
       is_own = false;
-      notes = no_notes;
+      remarks = no_remarks;
       arguments = count_in ends;
     } in
-    ap told acts ∙ ap (λ (l : List Left). marked (marks l)) stands ∙ ap marked (same_marks lines left)
+    ap told acts ∙ ap (λ (l : List RemainingItem). marked (marks l)) stands ∙ ap marked (same_marks lines left)
 
 -- the lines after others, one by one
-pub onwards : (before : Stage) (known : Known) (conditions : OpenConditions) (macros : List (Name × Macro)) (bytes created : ℕ)
-    (left : List Left) → is_skipping conditions ≡ false → (lines : List SourceLine) (taken : ℕ) (done : List Given)
+pub onwards : (before : Stage) (known : KnownSymbols) (conditions : OpenConditions) (macros : List (Name × Macro)) (bytes created : ℕ)
+    (left : List RemainingItem) → is_skipping conditions ≡ false → (lines : List SourceLine) (taken : ℕ) (done : List UnfoldedLine)
     → ForeignHere conditions macros lines → taken + length lines ≤ most_lines
     → Leads before done (stage_at conditions macros bytes created taken (map line_left lines ++ left))
     → Leads before (done ++ map (foreign_given known left) lines)
     (stage_at conditions macros bytes created (taken + length lines) left)
 onwards before known conditions macros bytes created left live [] taken done foreign most so_far =
-    let P : List Given → Type 0 = λ all. Leads before all (stage_at conditions macros bytes created taken left) in
+    let P : List UnfoldedLine → Type 0 = λ all. Leads before all (stage_at conditions macros bytes created taken left) in
     let Q : ℕ → Type 0 = λ n. Leads before (done ++ []) (stage_at conditions macros bytes created n left) in
     let none : taken ≡ taken + 0 = omega arith in
     subst Q none (subst P (sym (append-nil done)) so_far)
 onwards before known conditions macros bytes created left live (line ∷ lines) taken done foreign most so_far =
-    let rest : List Left = map line_left lines ++ left in
+    let rest : List RemainingItem = map line_left lines ++ left in
     let here : Stage = stage_at conditions macros bytes created (taken + 1) rest in
-    let acts : act known here line.text ≡ record { is_own = false; notes = no_notes; after = here }
+    let acts : act known here line.text ≡ record { is_own = false; remarks = no_remarks; after = here }
     = ap (acted_by known line.text here) foreign.0 in
     let faults : act_fault here line.text ≡ None = ap (fault_by here) foreign.0 in
     let shown : Live = record { line = line; is_expanded = is_expanding rest } in
@@ -100,11 +100,11 @@ onwards before known conditions macros bytes created left live (line ∷ lines) 
     let same : given known shown here ≡ foreign_given known left line = given_alike known left lines line here refl acts in
     let Q : Acted → Type 0 = λ acted. Leads before (done ++ given known shown here ∷ []) acted.after in
     let stands = subst Q acts next in
-    let R : Given → Type 0 = λ one. Leads before (done ++ one ∷ []) here in
+    let R : UnfoldedLine → Type 0 = λ one. Leads before (done ++ one ∷ []) here in
     let stood = subst R same stands in
     let later = onwards before known conditions macros bytes created left live lines (taken + 1)
     (done ++ foreign_given known left line ∷ []) foreign.1 (omega (arith, most)) stood in
-    let S : List Given → Type 0 = λ all. Leads before all
+    let S : List UnfoldedLine → Type 0 = λ all. Leads before all
     (stage_at conditions macros bytes created (taken + 1 + length lines) left) in
     let joined = subst S (append_assoc done (foreign_given known left line ∷ []) (map (foreign_given known left) lines)) later in
     let T : ℕ → Type 0 = λ n. Leads before (done ++ map (foreign_given known left) (line ∷ lines))
@@ -117,7 +117,7 @@ looked_up stage [] foreign = foreign
 looked_up stage (line ∷ lines) foreign = (foreign.0, looked_up stage lines foreign.1)
 
 -- the law, at a stage where nothing is skipped and no body is open
-pub lines_live : (known : Known) (stage : Stage) (lines : List SourceLine) (left : List Left) → IsLive stage → AreForeign stage lines
+pub lines_live : (known : KnownSymbols) (stage : Stage) (lines : List SourceLine) (left : List RemainingItem) → IsLive stage → AreForeign stage lines
     → stage.taken + length lines ≤ most_lines
     → Leads (before_lines stage lines left) (map (foreign_given known left) lines) (after_lines stage lines left)
 lines_live known stage lines left live foreign most =

@@ -9,16 +9,16 @@ use Rattle.m11_base.specs.Rad50.{Name, name_of}
 use Rattle.m11_scan_lines.specs.Line.{line_of}
 use Rattle.m11_scan.specs.Cutting.{text_between}
 use Rattle.m11_scan_statements.specs.declared.spans.Span.{Span}
-use Rattle.m11_unfold_arguments.specs.Actuals.{Given, actuals_from}
-use Rattle.m11_unfold_arguments.specs.Conditions.{Asked, condition, notes_of}
+use Rattle.m11_unfold_arguments.specs.Actuals.{ActualTexts, actuals_from}
+use Rattle.m11_unfold_arguments.specs.Conditions.{ConditionResult, condition, remarks_in}
 use Rattle.m11_unfold_arguments.specs.Directives.{directive_named, operator}
-use Rattle.m11_unfold_arguments.specs.Expressions.{Known}
-use Rattle.m11_unfold_arguments.specs.Filling.{Filled, filled}
+use Rattle.m11_unfold_arguments.specs.Expressions.{KnownSymbols}
+use Rattle.m11_unfold_arguments.specs.Filling.{FormalTexts, filled}
 use Rattle.m11_unfold_arguments.specs.Immediate as immediate
 use Rattle.m11_unfold_arguments.specs.Indefinite.{Repeated, Repetition, irpc, irp}
 use Rattle.m11_unfold_arguments.specs.Macros.{MacroNamed, MacroHeader, header}
 use Rattle.m11_unfold_arguments.specs.LeftOvers.{left_over}
-use Rattle.m11_unfold_arguments.specs.Notes.{Notes, no_notes, noting, with_flags}
+use Rattle.m11_unfold_arguments.specs.Remarks.{Remarks, no_remarks, remarks_of, with_flags}
 use Rattle.m11_unfold_arguments.specs.Repeats as repeats
 use Rattle.m11_unfold_arguments.specs.declared.directives.Directive.{Directive}
 use Rattle.m11_unfold_arguments.specs.declared.directives.Directive.TheVariants as word
@@ -37,7 +37,7 @@ use Rattle.m11_unfold_rules.specs.declared.fault.UnfoldFault.{UnfoldFault}
 pub record Acted : Type 0 where
   -- whether the line is unfolding's own, and so places nothing
   pub is_own : Bool
-  pub notes : Notes
+  pub remarks : Remarks
   pub after : Stage
 
 -- the set of the flag O
@@ -83,26 +83,26 @@ operation conditions macros text = operation_in conditions macros text (operator
 
 -- ---- what they do
 
-abbrev pub own : Notes → Stage → Acted
-own notes stage = record { is_own = true; notes = notes; after = stage }
+abbrev pub own : Remarks → Stage → Acted
+own remarks stage = record { is_own = true; remarks = remarks; after = stage }
 
 abbrev pub foreign : Stage → Acted
-foreign stage = record { is_own = false; notes = no_notes; after = stage }
+foreign stage = record { is_own = false; remarks = no_remarks; after = stage }
 
 -- flags, with those of what is left over on the line
-abbrev pub flagged : ℕ → Bytes → ℕ → Notes
-flagged flags text column = noting (bit_or flags (left_over text column)) []
+abbrev pub flagged : ℕ → Bytes → ℕ → Remarks
+flagged flags text column = remarks_of (bit_or flags (left_over text column)) []
 
 -- `.IF` opens a condition. A 33rd one is no entry: it and what is inside it are skipped, and its arguments aren't read.
-abbrev pub condition_opened : Bytes → Asked → Stage → Acted
+abbrev pub condition_opened : Bytes → ConditionResult → Stage → Acted
 condition_opened text asked stage =
-    own (with_flags (notes_of asked) (left_over text asked.end))
+    own (with_flags (remarks_in asked) (left_over text asked.end))
     (record stage { conditions = entering asked.holds stage.conditions })
 
-abbrev pub acted_if : Known → Bytes → ℕ → Stage → Acted
+abbrev pub acted_if : KnownSymbols → Bytes → ℕ → Stage → Acted
 acted_if known text column stage =
     if has_room stage then condition_opened text (condition known text column) stage
-    else own (noting flag_O []) (record stage { conditions = past stage.conditions })
+    else own (remarks_of flag_O []) (record stage { conditions = past stage.conditions })
 
 -- `.IIF`: where its condition holds, its statement is the next line
 abbrev pub with_statement : Bytes → Bool → Option ℕ → Stage → Stage
@@ -110,9 +110,9 @@ with_statement text true (Some column) stage = record stage { left = Line (line_
 with_statement text true None stage = stage
 with_statement text false column stage = stage
 
-abbrev pub acted_immediate : Known → Bytes → ℕ → Stage → Acted
+abbrev pub acted_immediate : KnownSymbols → Bytes → ℕ → Stage → Acted
 acted_immediate known text column stage =
-    own (immediate.notes known text column)
+    own (immediate.remarks known text column)
     (with_statement text (immediate.immediate known text column).holds (immediate.immediate known text column).statement stage)
 
 -- a switch, or `.ENDC`: it needs a condition of its own expansion
@@ -126,9 +126,9 @@ abbrev pub opens : Purpose → Stage → Stage
 opens purpose stage = record stage { opening = Some (record { purpose = purpose; taken = nothing_taken }) }
 
 -- `.REPT`: no formals in each round
-abbrev pub acted_repeat : Known → Bytes → ℕ → Stage → Acted
+abbrev pub acted_repeat : KnownSymbols → Bytes → ℕ → Stage → Acted
 acted_repeat known text column stage =
-    own (repeats.notes known text column) (opens (Repeats [] (replicate (repeats.rept_count known text column) [])) stage)
+    own (repeats.remarks known text column) (opens (Repeats [] (replicate (repeats.rept_count known text column) [])) stage)
 
 -- `.MEXIT`: what is left up to the first mark isn't taken
 abbrev pub acted_exit : Bytes → ℕ → Stage → Acted
@@ -142,7 +142,7 @@ defining (Some macro) = Defines macro.name macro.formals
 defining None = Drops
 
 abbrev pub acted_header : MacroHeader → Stage → Acted
-acted_header header stage = own (noting header.flags []) (opens (defining header.named) stage)
+acted_header header stage = own (remarks_of header.flags []) (opens (defining header.named) stage)
 
 -- `.IRP` and `.IRPC`: one formal, and one actual in each round; no round where an argument is bad or missing
 abbrev pub alone : Bytes → List Bytes
@@ -153,22 +153,22 @@ repeating (Some rounds) = Repeats (rounds.formal ∷ []) (map alone rounds.texts
 repeating None = Repeats [] []
 
 abbrev pub acted_repeated : Repeated → Stage → Acted
-acted_repeated repeated stage = own repeated.notes (opens (repeating repeated.rounds) stage)
+acted_repeated repeated stage = own repeated.remarks (opens (repeating repeated.rounds) stage)
 
 -- a call puts the body in its place, each formal with its actual; its mark carries how many actuals were given
 abbrev pub formal_name : MacroFormal → Name
 formal_name formal = formal.name
 
-abbrev pub called_with : Macro → ℕ → Filled → Stage → Stage
+abbrev pub called_with : Macro → ℕ → FormalTexts → Stage → Stage
 called_with macro count filled stage =
     opened (Some count) 0 (map formal_name macro.formals) (filled.texts ∷ []) macro.body
     (record stage { created = filled.created })
 
-abbrev pub acted_call : Macro → Given → Stage → Acted
+abbrev pub acted_call : Macro → ActualTexts → Stage → Acted
 acted_call macro given stage =
-    own given.notes (called_with macro (length given.texts) (filled macro.formals given.texts stage.created) stage)
+    own given.remarks (called_with macro (length given.texts) (filled macro.formals given.texts stage.created) stage)
 
-abbrev pub acted_by : Known → Bytes → Stage → Operation → Acted
+abbrev pub acted_by : KnownSymbols → Bytes → Stage → Operation → Acted
 acted_by known text stage Foreign = foreign stage
 acted_by known text stage (Calls macro column) =
     acted_call macro (actuals_from known text (length macro.formals) column) stage
@@ -179,9 +179,9 @@ acted_by known text stage (OwnDirective word.Iftf column) = acted_within (switch
 acted_by known text stage (OwnDirective word.Endc column) = acted_within closed text column stage
 acted_by known text stage (OwnDirective word.Iif column) = acted_immediate known text column stage
 acted_by known text stage (OwnDirective word.Macro column) = acted_header (header text column) stage
-acted_by known text stage (OwnDirective word.Endm column) = own (noting flag_O []) stage
+acted_by known text stage (OwnDirective word.Endm column) = own (remarks_of flag_O []) stage
 acted_by known text stage (OwnDirective word.Rept column) = acted_repeat known text column stage
-acted_by known text stage (OwnDirective word.Endr column) = own (noting flag_O []) stage
+acted_by known text stage (OwnDirective word.Endr column) = own (remarks_of flag_O []) stage
 acted_by known text stage (OwnDirective word.Irp column) = acted_repeated (irp known text column) stage
 acted_by known text stage (OwnDirective word.Irpc column) = acted_repeated (irpc text column) stage
 acted_by known text stage (OwnDirective word.Mexit column) = acted_exit text column stage
@@ -190,7 +190,7 @@ acted_by known text stage (OwnDirective word.Nchr column) = foreign stage
 acted_by known text stage (OwnDirective word.End column) = foreign (record stage { has_ended = true })
 
 -- what the operator of a line does at a stage, under what names say
-abbrev pub act : Known → Stage → Bytes → Acted
+abbrev pub act : KnownSymbols → Stage → Bytes → Acted
 act known stage text = acted_by known text stage (operation stage.conditions stage.macros text)
 
 -- ---- the fault of acting

@@ -5,28 +5,28 @@ use Rattle.std.specs.List.{flat_map}
 use Rattle.m11_base.specs.Devices.{Bytes}
 use Rattle.m11_base.specs.Rad50.{Name}
 use Rattle.m11_scan_lines.specs.Line.{SourceLine}
-use Rattle.m11_unfold_arguments.specs.Conditions.{condition, notes_of}
-use Rattle.m11_unfold_arguments.specs.Expressions.{Known}
+use Rattle.m11_unfold_arguments.specs.Conditions.{condition, remarks_in}
+use Rattle.m11_unfold_arguments.specs.Expressions.{KnownSymbols}
 use Rattle.m11_unfold_arguments.specs.Indefinite.{Repetition}
 use Rattle.m11_unfold_arguments.specs.LeftOvers.{left_over}
-use Rattle.m11_unfold_arguments.specs.Notes.{Notes, no_notes, with_flags}
+use Rattle.m11_unfold_arguments.specs.Remarks.{Remarks, no_remarks, with_flags}
 use Rattle.m11_unfold_bodies.specs.Bodies.{size_of}
 use Rattle.m11_unfold_bodies.specs.Conditions.{most_conditions}
-use Rattle.m11_unfold_bodies.specs.Left.{Left, Line, bytes_held, conditions_open, depth, most_expansions}
+use Rattle.m11_unfold_bodies.specs.Left.{RemainingItem, Line, bytes_held, conditions_open, depth, most_expansions}
 use Rattle.m11_unfold_bodies.specs.Substitution.{line_with}
 use Rattle.m11_unfold_bodies.specs.declared.open_body.Nesting.TheVariants.{Neither}
 use Rattle.m11_unfold_rules.specs.Acting.{Calls, alone, operation}
 use Rattle.m11_unfold_rules.specs.Limits.{most_bytes, most_lines}
 use Rattle.m11_unfold_rules.specs.Stages.{Stage, line_left}
 use Rattle.m11_unfold_rules.specs.Taking.{nesting}
-use Rattle.m11_unfold_rules.specs.Unfolding.{Given}
+use Rattle.m11_unfold_rules.specs.Unfolding.{UnfoldedLine}
 
 -- a block of lines: the line that opens it, those inside, the one that closes it, and what is left after it
 pub record Block : Type 0 where
   pub first : SourceLine
   pub lines : List SourceLine
   pub close : SourceLine
-  pub left : List Left
+  pub left : List RemainingItem
 
 -- a stage before a block
 abbrev pub before_block : Stage → Block → Stage
@@ -67,12 +67,12 @@ pub record HasRoom (stage : Stage) (block : Block) (body : List Bytes) (gives : 
   pub expansions : depth block.left < most_expansions
 
 -- a line that an expansion gives, and that is none of unfolding's own
-abbrev pub expanded_given : Known → Option ℕ → SourceLine → Given
+abbrev pub expanded_given : KnownSymbols → Option ℕ → SourceLine → UnfoldedLine
 expanded_given known arguments line = record {
   live = record { line = line; is_expanded = true };
   known = known;
   is_own = false;
-  notes = no_notes;
+  remarks = no_remarks;
   arguments = arguments;
 }
 
@@ -84,18 +84,18 @@ IsCall stage line body column =
     operation stage.conditions stage.macros line.text ≡ Calls (record { formals = []; body = body }) column
 
 -- the call's line before what is left, and the stage after its expansion
-abbrev pub before_call : Stage → SourceLine → List Left → Stage
+abbrev pub before_call : Stage → SourceLine → List RemainingItem → Stage
 before_call stage line left = record stage { left = Line line ∷ left }
 
-abbrev pub after_call : Stage → List Bytes → List Left → Stage
+abbrev pub after_call : Stage → List Bytes → List RemainingItem → Stage
 after_call stage body left = record stage { left = left; taken = stage.taken + 1 + length body }
 
 -- ---- conditions
 
 -- the flags and symbols of an `.IF`
-abbrev pub condition_notes : Known → Bytes → ℕ → Notes
-condition_notes known text column =
-    with_flags (notes_of (condition known text column)) (left_over text (condition known text column).end)
+abbrev pub condition_remarks : KnownSymbols → Bytes → ℕ → Remarks
+condition_remarks known text column =
+    with_flags (remarks_in (condition known text column)) (left_over text (condition known text column).end)
 
 -- one more condition may be open
 abbrev pub HasConditionLeft : Stage → Block → Type 0

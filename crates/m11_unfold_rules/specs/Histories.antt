@@ -1,18 +1,18 @@
 -- What two unfoldings have in common. (This project's own.)
 use Rattle.std.specs.Prelude.{◌≡◌, List, ◌∷◌, ◌++◌, map}
 use Rattle.m11_scan_lines.specs.Line.{SourceLine}
-use Rattle.m11_unfold_arguments.specs.Expressions.{Known}
+use Rattle.m11_unfold_arguments.specs.Expressions.{KnownSymbols}
 use Rattle.m11_unfold_rules.specs.Stages.{Stage, line_left}
 use Rattle.m11_unfold_rules.specs.Taking.{Live}
-use Rattle.m11_unfold_rules.specs.Unfolding.{Given, Leads}
+use Rattle.m11_unfold_rules.specs.Unfolding.{UnfoldedLine, Leads}
 
 -- what is known at each line is what the lines before it and the line itself say
-abbrev pub IsKnownBy : (List Given → Live → Known) → List Given → Type 0
-IsKnownBy known_by done = (earlier later : List Given) (one : Given) → done ≡ earlier ++ one ∷ later → one.known ≡ known_by earlier one.live
+abbrev pub IsKnownBy : (List UnfoldedLine → Live → KnownSymbols) → List UnfoldedLine → Type 0
+IsKnownBy known_by done = (earlier later : List UnfoldedLine) (one : UnfoldedLine) → done ≡ earlier ++ one ∷ later → one.known ≡ known_by earlier one.live
 
 -- an unfolding goes on where another one stands
-pub record GoesOn (done : List Given) (stage : Stage) (all : List Given) (after : Stage) : Type 0 where
-  pub more : List Given
+pub record GoesOn (done : List UnfoldedLine) (stage : Stage) (all : List UnfoldedLine) (after : Stage) : Type 0 where
+  pub more : List UnfoldedLine
   pub whole : all ≡ done ++ more
   pub leads : Leads stage more after
 

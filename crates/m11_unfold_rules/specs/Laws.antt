@@ -2,15 +2,15 @@
 -- "Source program format", ".MEXIT directive" and ".END directive".)
 use Rattle.std.specs.Prelude.{◌≡◌, ℕ, true, false, List, [], ◌∷◌, ◌++◌, ◌+◌, length, map, None, ⊤}
 use Rattle.m11_scan_lines.specs.Line.{SourceLine}
-use Rattle.m11_unfold_arguments.specs.Expressions.{Known}
-use Rattle.m11_unfold_arguments.specs.Notes.{Notes, no_notes}
+use Rattle.m11_unfold_arguments.specs.Expressions.{KnownSymbols}
+use Rattle.m11_unfold_arguments.specs.Remarks.{Remarks, no_remarks}
 use Rattle.m11_unfold_arguments.specs.declared.directives.Directive.{Directive}
 use Rattle.m11_unfold_bodies.specs.Conditions.{is_skipping}
-use Rattle.m11_unfold_bodies.specs.Left.{Left, Line, End, argument_count, is_expanding}
+use Rattle.m11_unfold_bodies.specs.Left.{RemainingItem, Line, End, argument_count, is_expanding}
 use Rattle.m11_unfold_bodies.specs.declared.mark.Mark.{Mark}
 use Rattle.m11_unfold_rules.specs.Acting.{OwnDirective, Foreign, operation}
 use Rattle.m11_unfold_rules.specs.Stages.{Stage, line_left}
-use Rattle.m11_unfold_rules.specs.Unfolding.{Given}
+use Rattle.m11_unfold_rules.specs.Unfolding.{UnfoldedLine}
 
 -- the next line becomes live: none is skipped, or taken into a body, and `.END` didn't come
 pub record IsLive (stage : Stage) : Type 0 where
@@ -24,20 +24,20 @@ AreForeign stage [] = ⊤
 AreForeign stage (line ∷ lines) = (operation stage.conditions stage.macros line.text ≡ Foreign) × AreForeign stage lines
 
 -- a line that is none of unfolding's own, before what is left
-abbrev pub foreign_given : Known → List Left → SourceLine → Given
+abbrev pub foreign_given : KnownSymbols → List RemainingItem → SourceLine → UnfoldedLine
 foreign_given known left line = record {
   live = record { line = line; is_expanded = is_expanding left };
   known = known;
   is_own = false;
-  notes = no_notes;
+  remarks = no_remarks;
   arguments = argument_count left;
 }
 
 -- a stage before these lines, and the one after them
-abbrev pub before_lines : Stage → List SourceLine → List Left → Stage
+abbrev pub before_lines : Stage → List SourceLine → List RemainingItem → Stage
 before_lines stage lines left = record stage { left = map line_left lines ++ left }
 
-abbrev pub after_lines : Stage → List SourceLine → List Left → Stage
+abbrev pub after_lines : Stage → List SourceLine → List RemainingItem → Stage
 after_lines stage lines left = record stage { left = left; taken = stage.taken + length lines }
 
 -- a line's operator is a directive, whose arguments begin at a column
@@ -45,22 +45,22 @@ abbrev pub IsDirective : Stage → SourceLine → Directive → ℕ → Type 0
 IsDirective stage line directive column = operation stage.conditions stage.macros line.text ≡ OwnDirective directive column
 
 -- a line of unfolding's own, before what is left
-abbrev pub own_given : Known → List Left → SourceLine → Notes → Given
-own_given known left line notes = record {
+abbrev pub own_given : KnownSymbols → List RemainingItem → SourceLine → Remarks → UnfoldedLine
+own_given known left line remarks = record {
   live = record { line = line; is_expanded = is_expanding left };
   known = known;
   is_own = true;
-  notes = notes;
+  remarks = remarks;
   arguments = argument_count left;
 }
 
 -- the line `.MEXIT`, the lines after it in its expansion, and the expansion's end
-abbrev pub before_exit : Stage → SourceLine → List SourceLine → Mark → List Left → Stage
+abbrev pub before_exit : Stage → SourceLine → List SourceLine → Mark → List RemainingItem → Stage
 before_exit stage line rest mark left = record stage { left = Line line ∷ map line_left rest ++ End mark ∷ left }
 
 -- what stood after the expansion is left, with the conditions that were open around it
-abbrev pub after_exit : Stage → Mark → List Left → Stage
+abbrev pub after_exit : Stage → Mark → List RemainingItem → Stage
 after_exit stage mark left = record stage { left = left; conditions = mark.conditions; taken = stage.taken + 1 }
 
-abbrev pub exit_given : Known → Mark → List Left → SourceLine → Notes → Given
-exit_given known mark left line notes = own_given known (End mark ∷ left) line notes
+abbrev pub exit_given : KnownSymbols → Mark → List RemainingItem → SourceLine → Remarks → UnfoldedLine
+exit_given known mark left line remarks = own_given known (End mark ∷ left) line remarks

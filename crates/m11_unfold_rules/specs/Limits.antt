@@ -4,7 +4,7 @@ use Rattle.std.specs.Option.{is_none}
 use Rattle.m11_base.specs.Devices.{Bytes}
 use Rattle.m11_unfold_bodies.specs.Bodies.{depth_after, size_of}
 use Rattle.m11_unfold_bodies.specs.Conditions.{most_conditions}
-use Rattle.m11_unfold_bodies.specs.Left.{Left, Line, End, bytes_held, conditions_open, depth, most_expansions}
+use Rattle.m11_unfold_bodies.specs.Left.{RemainingItem, Line, End, bytes_held, conditions_open, depth, most_expansions}
 use Rattle.m11_unfold_rules.specs.Macros.{macro_named}
 use Rattle.m11_unfold_rules.specs.Stages.{Opening, Purpose, Defines, Repeats, Drops, Stage}
 use Rattle.m11_unfold_rules.specs.Taking.{nesting}
@@ -40,7 +40,7 @@ abbrev pub fault_if : Bool → UnfoldFault → Option UnfoldFault
 fault_if holds fault = if holds then Some fault else None
 
 -- one more expansion has no room
-abbrev pub depth_fault : List Left → Option UnfoldFault
+abbrev pub depth_fault : List RemainingItem → Option UnfoldFault
 depth_fault left = fault_if (nat_le most_expansions (depth left)) TooDeep
 
 -- a body closes: its macro may be one too many, or its repeat too deep
@@ -65,7 +65,7 @@ abbrev pub line_fault : Stage → Bytes → Option UnfoldFault
 line_fault stage text =
     if nat_le most_lines stage.taken then Some TooManyLines else taking_fault stage.opening stage text
 
-abbrev pub fault_from : List Left → Stage → Option UnfoldFault
+abbrev pub fault_from : List RemainingItem → Stage → Option UnfoldFault
 fault_from [] stage = None
 fault_from (End mark ∷ left) stage = None
 fault_from (Line line ∷ left) stage = line_fault stage line.text

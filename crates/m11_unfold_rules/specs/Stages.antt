@@ -6,9 +6,9 @@ use Rattle.m11_base.specs.Rad50.{Name}
 use Rattle.m11_scan_lines.specs.Line.{SourceLine}
 use Rattle.m11_unfold_arguments.specs.Filling.{first_created}
 use Rattle.m11_unfold_arguments.specs.declared.macros.MacroFormal.{MacroFormal}
-use Rattle.m11_unfold_bodies.specs.Bodies.{HalfTaken}
+use Rattle.m11_unfold_bodies.specs.Bodies.{PartialBody}
 use Rattle.m11_unfold_bodies.specs.Conditions.{OpenConditions, no_conditions}
-use Rattle.m11_unfold_bodies.specs.Left.{Left, Line}
+use Rattle.m11_unfold_bodies.specs.Left.{RemainingItem, Line}
 
 -- a macro: its formals, and the texts of its body's lines
 pub record Macro : Type 0 where
@@ -27,11 +27,11 @@ pub data Purpose : Type 0 where
 -- a body that is being taken
 pub record Opening : Type 0 where
   pub purpose : Purpose
-  pub taken : HalfTaken
+  pub taken : PartialBody
 
 pub record Stage : Type 0 where
   -- lines, and the ends of open expansions
-  pub left : List Left
+  pub left : List RemainingItem
   -- the conditions of the innermost expansion
   pub conditions : OpenConditions
   -- what the lines that are left are taken for, if a body is open
@@ -47,7 +47,7 @@ pub record Stage : Type 0 where
   -- whether `.END` became live
   pub has_ended : Bool
 
-abbrev pub line_left : SourceLine → Left
+abbrev pub line_left : SourceLine → RemainingItem
 line_left line = Line line
 
 -- before the first line of a source

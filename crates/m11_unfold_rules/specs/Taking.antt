@@ -8,9 +8,9 @@ use Rattle.m11_scan_lines.specs.Line.{SourceLine}
 use Rattle.m11_unfold_arguments.specs.Directives.{directive}
 use Rattle.m11_unfold_arguments.specs.declared.directives.Directive.{Directive}
 use Rattle.m11_unfold_arguments.specs.declared.directives.Directive.TheVariants as word
-use Rattle.m11_unfold_bodies.specs.Bodies.{HalfTaken, depth_after, size_of, taken_with}
+use Rattle.m11_unfold_bodies.specs.Bodies.{PartialBody, depth_after, size_of, taken_with}
 use Rattle.m11_unfold_bodies.specs.Conditions.{OpenConditions, is_skipping, nested, no_conditions, unnested}
-use Rattle.m11_unfold_bodies.specs.Left.{Left, Line, End, expanded, is_expanding}
+use Rattle.m11_unfold_bodies.specs.Left.{RemainingItem, Line, End, expanded, is_expanding}
 use Rattle.m11_unfold_bodies.specs.declared.mark.Mark.{Mark}
 use Rattle.m11_unfold_bodies.specs.declared.open_body.Nesting.{Nesting}
 use Rattle.m11_unfold_bodies.specs.declared.open_body.Nesting.TheVariants.{Opens, Closes, Neither}
@@ -50,7 +50,7 @@ used (Repeats formals rounds) body stage = opened None (size_of body) formals ro
 used Drops body stage = stage
 
 -- one line more of a body, or its close
-abbrev pub into_body : Purpose → HalfTaken → Bytes → Option ℕ → Stage → Stage
+abbrev pub into_body : Purpose → PartialBody → Bytes → Option ℕ → Stage → Stage
 into_body purpose taken text None stage = used purpose taken.body (record stage { opening = None })
 into_body purpose taken text (Some depth) stage =
     record stage { opening = Some (record { purpose = purpose; taken = taken_with taken text depth }) }
@@ -94,11 +94,11 @@ pub data Move : Type 0 where
   Gives : Live → Stage → Move
 
 -- one line is taken
-abbrev pub one_taken : List Left → Stage → Stage
+abbrev pub one_taken : List RemainingItem → Stage → Stage
 one_taken left stage = record stage { left = left; taken = stage.taken + 1 }
 
 -- an expansion ends, with the conditions that were opened in it, and with a body that is open in it
-abbrev pub ended : Mark → List Left → Stage → Stage
+abbrev pub ended : Mark → List RemainingItem → Stage → Stage
 ended mark left stage = record stage { left = left; conditions = mark.conditions; opening = None }
 
 abbrev pub live_or_skipped : Option OpenConditions → SourceLine → Stage → Move
@@ -111,7 +111,7 @@ line_taken (Some opening) line stage = Passes
     (into_body opening.purpose opening.taken line.text (depth_after (nesting line.text) opening.taken.depth) stage)
 line_taken None line stage = live_or_skipped (skipped stage.conditions line.text) line stage
 
-abbrev pub move_from : List Left → Stage → Move
+abbrev pub move_from : List RemainingItem → Stage → Move
 move_from [] stage = NothingLeft
 move_from (End mark ∷ left) stage = Passes (ended mark left stage)
 move_from (Line line ∷ left) stage = line_taken stage.opening line (one_taken left stage)

@@ -2,8 +2,8 @@
 -- "Conditional assembly directives".) It rewrites what is left, and knows nothing of how the source comes.
 use Rattle.std.specs.Prelude.{◌≡◌, ℕ, Bool, List, [], ◌∷◌, ◌++◌, Option, None}
 use Rattle.m11_scan_lines.specs.Line.{SourceLine}
-use Rattle.m11_unfold_arguments.specs.Expressions.{Known}
-use Rattle.m11_unfold_arguments.specs.Notes.{Notes}
+use Rattle.m11_unfold_arguments.specs.Expressions.{KnownSymbols}
+use Rattle.m11_unfold_arguments.specs.Remarks.{Remarks}
 use Rattle.m11_unfold_bodies.specs.Left.{argument_count}
 use Rattle.m11_unfold_rules.specs.Acting.{act, act_fault}
 use Rattle.m11_unfold_rules.specs.Limits.{next_fault}
@@ -12,33 +12,33 @@ use Rattle.m11_unfold_rules.specs.Taking.{Live, Passes, Gives, move}
 
 -- a line that became live; what was known when its operator was done, and what that gave; and how many actuals the innermost macro
 -- has that is expanded around it
-pub record Given : Type 0 where
+pub record UnfoldedLine : Type 0 where
   pub live : Live
-  pub known : Known
+  pub known : KnownSymbols
   pub is_own : Bool
-  pub notes : Notes
+  pub remarks : Remarks
   pub arguments : Option ℕ
 
-abbrev pub given : Known → Live → Stage → Given
+abbrev pub given : KnownSymbols → Live → Stage → UnfoldedLine
 given known live stage = record {
   live = live;
   known = known;
   is_own = (act known stage live.line.text).is_own;
-  notes = (act known stage live.line.text).notes;
+  remarks = (act known stage live.line.text).remarks;
   arguments = argument_count stage.left;
 }
 
 -- one stage leads to another: these lines become live between them, the operator of each is done, and no limit is passed
-pub data Leads (before : Stage) : List Given → Stage → Type 0 where
+pub data Leads (before : Stage) : List UnfoldedLine → Stage → Type 0 where
   Stays : Leads before [] before
   -- something is taken, and no line becomes live
-  Passing : (done : List Given) (stage after : Stage) → Leads before done stage → next_fault stage ≡ None
+  Passing : (done : List UnfoldedLine) (stage after : Stage) → Leads before done stage → next_fault stage ≡ None
       → move stage ≡ Passes after → Leads before done after
   -- a line becomes live, and its operator is done under what is known then
-  Giving : (done : List Given) (stage after : Stage) (live : Live) (known : Known) → Leads before done stage
+  Giving : (done : List UnfoldedLine) (stage after : Stage) (live : Live) (known : KnownSymbols) → Leads before done stage
       → next_fault stage ≡ None → move stage ≡ Gives live after → act_fault after live.line.text ≡ None
       → Leads before (done ++ given known live after ∷ []) (act known after live.line.text).after
 
 -- the lines of a source that became live, up to a stage
-abbrev pub Unfolds : List SourceLine → List Given → Stage → Type 0
+abbrev pub Unfolds : List SourceLine → List UnfoldedLine → Stage → Type 0
 Unfolds source done stage = Leads (start source) done stage

@@ -3,28 +3,28 @@
 ghost use Rattle.std.specs.Prelude.{◌≡◌, ◌⊎◌, ◌+◌, ◌<◌, ◌≤◌, ◌++◌, ◌∷◌, ℕ, List, [], Some, true, false, length, map};
 ghost use Rattle.m11_unfold_arguments.specs.Actuals.{actuals_from};
 ghost use Rattle.m11_unfold_arguments.specs.Conditions.{condition};
-ghost use Rattle.m11_unfold_arguments.specs.Expressions.{Known};
+ghost use Rattle.m11_unfold_arguments.specs.Expressions.{KnownSymbols};
 ghost use Rattle.m11_unfold_arguments.specs.Indefinite.{Repetition, irpc, irp};
 ghost use Rattle.m11_unfold_arguments.specs.Repeats as repeats;
 ghost use Rattle.m11_unfold_arguments.specs.declared.directives.Directive.TheVariants as directive;
 ghost use Rattle.m11_base.specs.Devices.{Bytes};
 ghost use Rattle.m11_unfold_bodies.specs.Bodies.{texts_of};
-ghost use Rattle.m11_unfold_bodies.specs.Left.{Left, argument_count, depth, most_expansions};
+ghost use Rattle.m11_unfold_bodies.specs.Left.{RemainingItem, argument_count, depth, most_expansions};
 ghost use Rattle.m11_unfold_bodies.specs.declared.mark.Mark.{Mark};
 ghost use Rattle.m11_unfold_bodies.specs.declared.open_body.Nesting.TheVariants.{Closes};
 ghost use Rattle.m11_scan_lines.specs.Line.{SourceLine, line_of};
 ghost use Rattle.m11_unfold_rules.specs.Acting.{act, flagged};
-ghost use Rattle.m11_unfold_rules.specs.Constructs.{Block, HasConditionLeft, HasRoom, IsCall, IsPlainBody, after_block, after_call, before_block, before_call, condition_notes, expanded_given, repeated_lines, times};
+ghost use Rattle.m11_unfold_rules.specs.Constructs.{Block, HasConditionLeft, HasRoom, IsCall, IsPlainBody, after_block, after_call, before_block, before_call, condition_remarks, expanded_given, repeated_lines, times};
 ghost use Rattle.m11_unfold_rules.specs.Histories.{GoesOn, IsKnownBy, with_more};
 ghost use Rattle.m11_unfold_rules.specs.Laws.{AreForeign, IsDirective, IsLive, after_exit, after_lines, before_exit, before_lines, exit_given, foreign_given, own_given};
 ghost use Rattle.m11_unfold_rules.specs.Limits.{most_lines};
 ghost use Rattle.m11_unfold_rules.specs.Stages.{Stage};
 ghost use Rattle.m11_unfold_rules.specs.Taking.{Live, NothingLeft, move, nesting};
-ghost use Rattle.m11_unfold_rules.specs.Unfolding.{Given, Leads};
+ghost use Rattle.m11_unfold_rules.specs.Unfolding.{UnfoldedLine, Leads};
 
 /// Lines whose operators are no macros and no directives of unfolding become live as they are, one after the other.
 pub fn other_lines_become_live()
-    ensures { (known : Known) (stage : Stage) (lines : List SourceLine) (left : List Left) → IsLive stage
+    ensures { (known : KnownSymbols) (stage : Stage) (lines : List SourceLine) (left : List RemainingItem) → IsLive stage
         → AreForeign stage lines → stage.taken + length lines ≤ most_lines
         → Leads (before_lines stage lines left) (map (foreign_given known left) lines) (after_lines stage lines left) }
 {}
@@ -32,107 +32,107 @@ pub fn other_lines_become_live()
 /// `.REPT` gives its own line, and then the lines of its body as often as it says. `.IRP` and `.IRPC` give their own line, and then
 /// the lines of their body once for each text, with that put in place of the formal.
 pub fn repeats_give_their_rounds()
-    ensures counted { (known : Known) (stage : Stage) (block : Block) (column : ℕ) → IsLive stage
+    ensures counted { (known : KnownSymbols) (stage : Stage) (block : Block) (column : ℕ) → IsLive stage
         → IsDirective stage block.first directive.Rept column → IsPlainBody (texts_of block.lines) → nesting block.close.text ≡ Closes
         → AreForeign stage (times (repeats.rept_count known block.first.text column) (map line_of (texts_of block.lines)))
         → HasRoom stage block (texts_of block.lines)
         (times (repeats.rept_count known block.first.text column) (map line_of (texts_of block.lines)))
         → Leads (before_block stage block)
-        (own_given known block.left block.first (repeats.notes known block.first.text column)
+        (own_given known block.left block.first (repeats.remarks known block.first.text column)
         ∷ map (expanded_given known (argument_count block.left))
         (times (repeats.rept_count known block.first.text column) (map line_of (texts_of block.lines))))
         (after_block stage block
         (length (times (repeats.rept_count known block.first.text column) (map line_of (texts_of block.lines))))) }
-    ensures listed { (known : Known) (stage : Stage) (block : Block) (column : ℕ) (rounds : Repetition)
+    ensures listed { (known : KnownSymbols) (stage : Stage) (block : Block) (column : ℕ) (rounds : Repetition)
         → IsDirective stage block.first directive.Irp column
         → (irp known block.first.text column).rounds ≡ Some rounds → IsLive stage
         → IsPlainBody (texts_of block.lines) → nesting block.close.text ≡ Closes
         → AreForeign stage (repeated_lines rounds (texts_of block.lines))
         → HasRoom stage block (texts_of block.lines) (repeated_lines rounds (texts_of block.lines))
         → Leads (before_block stage block)
-        (own_given known block.left block.first (irp known block.first.text column).notes
+        (own_given known block.left block.first (irp known block.first.text column).remarks
         ∷ map (expanded_given known (argument_count block.left)) (repeated_lines rounds (texts_of block.lines)))
         (after_block stage block (length (repeated_lines rounds (texts_of block.lines)))) }
-    ensures spelled { (known : Known) (stage : Stage) (block : Block) (column : ℕ) (rounds : Repetition)
+    ensures spelled { (known : KnownSymbols) (stage : Stage) (block : Block) (column : ℕ) (rounds : Repetition)
         → IsDirective stage block.first directive.Irpc column
         → (irpc block.first.text column).rounds ≡ Some rounds → IsLive stage
         → IsPlainBody (texts_of block.lines) → nesting block.close.text ≡ Closes
         → AreForeign stage (repeated_lines rounds (texts_of block.lines))
         → HasRoom stage block (texts_of block.lines) (repeated_lines rounds (texts_of block.lines))
         → Leads (before_block stage block)
-        (own_given known block.left block.first (irpc block.first.text column).notes
+        (own_given known block.left block.first (irpc block.first.text column).remarks
         ∷ map (expanded_given known (argument_count block.left)) (repeated_lines rounds (texts_of block.lines)))
         (after_block stage block (length (repeated_lines rounds (texts_of block.lines)))) }
 {}
 
 /// A call of a macro without formals gives its own line, and then the lines of the macro's body.
 pub fn calls_give_their_bodies()
-    ensures { (known : Known) (stage : Stage) (line : SourceLine) (body : List Bytes) (column : ℕ) (left : List Left)
+    ensures { (known : KnownSymbols) (stage : Stage) (line : SourceLine) (body : List Bytes) (column : ℕ) (left : List RemainingItem)
         → IsLive stage → IsCall stage line body column → AreForeign stage (map line_of body) → depth left < most_expansions
         → stage.taken + 1 + length body ≤ most_lines
         → Leads (before_call stage line left)
-        (own_given known left line (actuals_from known line.text 0 column).notes
+        (own_given known left line (actuals_from known line.text 0 column).remarks
         ∷ map (expanded_given known (Some 0)) (map line_of body))
         (after_call stage body left) }
 {}
 
 /// Where an `.IF` holds, its own line, the lines inside and the `.ENDC` become live; where it doesn't, the first and the last alone.
 pub fn conditions_give_all_or_nothing()
-    ensures holds { (known : Known) (stage : Stage) (block : Block) (column end : ℕ) → IsLive stage
+    ensures holds { (known : KnownSymbols) (stage : Stage) (block : Block) (column end : ℕ) → IsLive stage
         → IsDirective stage block.first directive.If column → (condition known block.first.text column).holds ≡ true
         → HasConditionLeft stage block → AreForeign stage block.lines → IsDirective stage block.close directive.Endc end
         → stage.taken + (length block.lines + 2) ≤ most_lines
         → Leads (before_block stage block)
-        (own_given known block.left block.first (condition_notes known block.first.text column)
+        (own_given known block.left block.first (condition_remarks known block.first.text column)
         ∷ map (foreign_given known block.left) block.lines
         ++ own_given known block.left block.close (flagged 0 block.close.text end) ∷ [])
         (after_block stage block 0) }
-    ensures fails { (known : Known) (stage : Stage) (block : Block) (column end : ℕ) → IsLive stage
+    ensures fails { (known : KnownSymbols) (stage : Stage) (block : Block) (column end : ℕ) → IsLive stage
         → IsDirective stage block.first directive.If column → (condition known block.first.text column).holds ≡ false
         → HasConditionLeft stage block → stage.conditions.nested ≡ 0 → AreForeign stage block.lines
         → IsDirective stage block.close directive.Endc end → stage.taken + (length block.lines + 2) ≤ most_lines
         → Leads (before_block stage block)
-        (own_given known block.left block.first (condition_notes known block.first.text column)
+        (own_given known block.left block.first (condition_remarks known block.first.text column)
         ∷ own_given known block.left block.close (flagged 0 block.close.text end) ∷ [])
         (after_block stage block 0) }
 {}
 
 /// Where one unfolding leads to a stage, and another goes on from there, the two together are one, with the lines of both.
 pub fn unfoldings_follow_each_other()
-    ensures { (before middle after : Stage) (done later : List Given) → Leads before done middle → Leads middle later after
+    ensures { (before middle after : Stage) (done later : List UnfoldedLine) → Leads before done middle → Leads middle later after
         → Leads before (done ++ later) after }
 {}
 
 /// Two unfoldings from one stage, under what their lines say: one of them goes on where the other stands. Where nothing is left to
 /// take in either, they have the same lines and end at the same stage.
 pub fn a_source_has_one_unfolding()
-    ensures compared { (known_by : List Given → Live → Known) (before first second : Stage) (done later : List Given)
+    ensures compared { (known_by : List UnfoldedLine → Live → KnownSymbols) (before first second : Stage) (done later : List UnfoldedLine)
         → IsKnownBy known_by done → IsKnownBy known_by later → Leads before done first → Leads before later second
         → GoesOn done first later second ⊎ GoesOn later second done first }
-    ensures ended { (known_by : List Given → Live → Known) (before first second : Stage) (done later : List Given)
+    ensures ended { (known_by : List UnfoldedLine → Live → KnownSymbols) (before first second : Stage) (done later : List UnfoldedLine)
         → IsKnownBy known_by done → IsKnownBy known_by later → Leads before done first → Leads before later second
         → move first ≡ NothingLeft → move second ≡ NothingLeft → (done ≡ later) × (first ≡ second) }
 {}
 
 /// Further lines of a source change nothing of what became live before them.
 pub fn further_lines_change_nothing_before_them()
-    ensures { (more : List SourceLine) (before after : Stage) (done : List Given) → Leads before done after
+    ensures { (more : List SourceLine) (before after : Stage) (done : List UnfoldedLine) → Leads before done after
         → Leads (with_more more before) done (with_more more after) }
 {}
 
 /// After a live `.END` nothing more is taken: no line becomes live, and the stage stays.
 pub fn end_is_the_last_line()
-    ensures rests { (known : Known) (stage : Stage) (line : SourceLine) (column : ℕ) → IsDirective stage line directive.End column
+    ensures rests { (known : KnownSymbols) (stage : Stage) (line : SourceLine) (column : ℕ) → IsDirective stage line directive.End column
         → move (act known stage line.text).after ≡ NothingLeft }
-    ensures stays { (known : Known) (stage after : Stage) (line : SourceLine) (column : ℕ) (done : List Given)
+    ensures stays { (known : KnownSymbols) (stage after : Stage) (line : SourceLine) (column : ℕ) (done : List UnfoldedLine)
         → IsDirective stage line directive.End column → Leads (act known stage line.text).after done after
         → (done ≡ []) × (after ≡ (act known stage line.text).after) }
 {}
 
 /// A live `.MEXIT` in an expansion leaves what stood after the expansion, with the conditions that were open around it.
 pub fn exits_leave_what_stood_after_the_call()
-    ensures { (known : Known) (stage : Stage) (line : SourceLine) (column : ℕ) (rest : List SourceLine) (mark : Mark)
-        (left : List Left) → IsLive stage → IsDirective stage line directive.Mexit column → stage.taken + 1 ≤ most_lines
+    ensures { (known : KnownSymbols) (stage : Stage) (line : SourceLine) (column : ℕ) (rest : List SourceLine) (mark : Mark)
+        (left : List RemainingItem) → IsLive stage → IsDirective stage line directive.Mexit column → stage.taken + 1 ≤ most_lines
         → Leads (before_exit stage line rest mark left) (exit_given known mark left line (flagged 0 line.text column) ∷ [])
         (after_exit stage mark left) }
 {}

@@ -133,7 +133,7 @@ enum Form {
     // The texts of those that aren't unfolding's own, each with its end.
     Texts,
     // What those that are unfolding's own, or that stand in a call, note.
-    Notes,
+    Remarks,
     // All of them, with what unfolding finds of each.
     Shown,
     // The text of the last one that isn't unfolding's own.
@@ -150,7 +150,7 @@ impl Keeps for Written {
     fn keep(&mut self, live: &LiveLine<'_>, act: &Act) -> Result<(), AllocError> {
         match self.form {
             Form::Texts => sources::write(&mut self.text, live, act),
-            Form::Notes => noted_lines::write(&mut self.text, live, act),
+            Form::Remarks => noted_lines::write(&mut self.text, live, act),
             Form::Shown => shown_lines::write(&mut self.text, live, act),
             Form::Last => limits::write(&mut self.text, live, act),
         }

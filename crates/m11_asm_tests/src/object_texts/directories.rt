@@ -10,7 +10,7 @@ fn records(alloc: Global, rows: &[DirectoryRow]) -> Result<Vec<Block>, AllocErro
     let mut records = Vec::new(alloc);
     let mut open = OpenDirectory::new();
     for row in rows {
-        if let Some(record) = open.take(row) {
+        if let Some(record) = open.accept(row) {
             records.push(record)?;
         }
     }

@@ -1,7 +1,7 @@
 //! Texts of what lines put.
 
 use m11_base::{Name, octal6};
-use m11_obj_texts::{PieceContent, RelocationKind, Stored};
+use m11_obj_texts::{PieceContent, RelocationKind, StoredConstant};
 use m11_scan::ErrorFlags;
 use std::alloc::AllocError;
 
@@ -29,13 +29,13 @@ fn put_content(content: &PieceContent, text: &mut Vec<u8>) -> Result<(), AllocEr
     }
 }
 
-fn put_word(stored: &Stored, text: &mut Vec<u8>) -> Result<(), AllocError> {
+fn put_word(stored: &StoredConstant, text: &mut Vec<u8>) -> Result<(), AllocError> {
     put_number(stored.constant, text)?;
     put_kind(&stored.kind, text)
 }
 
 // The low byte of its number.
-fn put_byte(stored: &Stored, text: &mut Vec<u8>) -> Result<(), AllocError> {
+fn put_byte(stored: &StoredConstant, text: &mut Vec<u8>) -> Result<(), AllocError> {
     let [_, _, _, first, second, third] = octal6(stored.constant % 256);
     text.extend_from_slice(&[first, second, third])?;
     put_kind(&stored.kind, text)

@@ -16,7 +16,7 @@ const LINE: &str = "L:: MOV (R1)+,@-(R2) ;X";
 // The mode of a field whose operand is a register, and the column of the register.
 fn mode_of(field: &Field) -> Option<(Mode, u8)> {
     match field {
-        Field::Formed(Form::InRegister(mode, register)) => Some((*mode, *register)),
+        Field::Operand(Form::InRegister(mode, register)) => Some((*mode, *register)),
         _ => None,
     }
 }

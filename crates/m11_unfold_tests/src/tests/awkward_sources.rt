@@ -68,10 +68,10 @@ impl Keeps for Sum {
         for byte in live.line.text() {
             self.add(u64::from(*byte));
         }
-        for flag in act.notes.flags().text().iter() {
+        for flag in act.remarks.flags().text().iter() {
             self.add(u64::from(*flag));
         }
-        self.add(act.notes.symbols().len() as u64);
+        self.add(act.remarks.symbols().len() as u64);
         Ok(())
     }
 }

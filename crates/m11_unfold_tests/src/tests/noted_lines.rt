@@ -10,8 +10,8 @@ pub(super) fn write(text: &mut Vec<u8>, _live: &LiveLine<'_>, act: &Act) -> Resu
     if !act.is_own && act.arguments.is_none() {
         return Ok(());
     }
-    text.extend_from_slice(&act.notes.flags().text())?;
-    text.push(digit(act.notes.symbols().len()))?;
+    text.extend_from_slice(&act.remarks.flags().text())?;
+    text.push(digit(act.remarks.symbols().len()))?;
     match act.arguments {
         Some(count) => {
             text.push(b'/')?;
@@ -98,25 +98,25 @@ static CORNERS: [TextRow; 11] = [
 
 #[test]
 fn a_directive_outside_its_block_has_the_flag_o(rt: HostRuntime) {
-    check_texts(&rt, rt.alloc(), Form::Notes, &OUTSIDE);
+    check_texts(&rt, rt.alloc(), Form::Remarks, &OUTSIDE);
 }
 
 #[test]
 fn conditions_note_the_flags_and_symbols_of_their_arguments(rt: HostRuntime) {
-    check_texts(&rt, rt.alloc(), Form::Notes, &CONDITIONS);
+    check_texts(&rt, rt.alloc(), Form::Remarks, &CONDITIONS);
 }
 
 #[test]
 fn bodies_note_the_flags_and_symbols_of_their_arguments(rt: HostRuntime) {
-    check_texts(&rt, rt.alloc(), Form::Notes, &BODIES);
+    check_texts(&rt, rt.alloc(), Form::Remarks, &BODIES);
 }
 
 #[test]
 fn calls_note_their_flags_and_count_their_actuals(rt: HostRuntime) {
-    check_texts(&rt, rt.alloc(), Form::Notes, &CALLS);
+    check_texts(&rt, rt.alloc(), Form::Remarks, &CALLS);
 }
 
 #[test]
 fn corners_note_what_was_worked(rt: HostRuntime) {
-    check_texts(&rt, rt.alloc(), Form::Notes, &CORNERS);
+    check_texts(&rt, rt.alloc(), Form::Remarks, &CORNERS);
 }

@@ -7,7 +7,7 @@ use std::alloc::AllocError;
 // Adds a live line after a `|`. Before it stand the flags of its operator and arguments, `L` where it is too long, `+` where an
 // expansion gave it, and `*` where it is unfolding's own.
 pub(super) fn write(text: &mut Vec<u8>, live: &LiveLine<'_>, act: &Act) -> Result<(), AllocError> {
-    text.extend_from_slice(&act.notes.flags().text())?;
+    text.extend_from_slice(&act.remarks.flags().text())?;
     mark(text, b'L', live.line.is_over_long())?;
     mark(text, b'+', live.is_expanded)?;
     mark(text, b'*', act.is_own)?;

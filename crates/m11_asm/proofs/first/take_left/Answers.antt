@@ -11,38 +11,38 @@ pub lines-preserved : goal.lines-preserved
 lines-preserved c = record {
   goes_on = c.in_ok-define.ensures.fault;
   takes = λ source lines taken.
-      placed_more c.the_calls_place_the_lines_of_a_source.ensures.defines source c.lines.pass.going c.define.new.self.going c.define.new.live
+      placed_more c.the_calls_place_the_lines_of_a_source.ensures.defines source c.lines.pass.pass_state c.define.new.self.pass_state c.define.new.live
       c.lines.facts (c.lines.invariant.takes source lines taken) c.in_ok-define.field-0
-      (c.in_ok-define.ensures.turns c.lines.invariant.goes_on) c.in-Line.is c.note.new.self c.table.result.now
-      c.table.ensures c.in_ok-note-in-Line.ensures;
+      (c.in_ok-define.ensures.turns c.lines.invariant.goes_on) c.in-Line.is c.add_line.new.self c.table.result.now
+      c.table.ensures c.in_ok-add_line-in-Line.ensures;
 }
 
 pub returns-in-NeedLine-clause-takes : goal.returns-in-NeedLine-clause-takes
 returns-in-NeedLine-clause-takes c = λ source lines taken.
-    left_rests c.the_calls_place_the_lines_of_a_source.ensures.defines source c.lines.pass.going c.define.new.self.going c.define.new.live
+    left_rests c.the_calls_place_the_lines_of_a_source.ensures.defines source c.lines.pass.pass_state c.define.new.self.pass_state c.define.new.live
     c.lines.facts (c.lines.invariant.takes source lines taken) c.in_ok-define.field-0
     (c.in_ok-define.ensures.turns c.lines.invariant.goes_on) c.in-NeedLine.is
 
 pub returns-in-End-clause-takes : goal.returns-in-End-clause-takes
 returns-in-End-clause-takes c = λ source lines taken.
-    left_ends c.the_calls_place_the_lines_of_a_source.ensures.defines source c.lines.pass.going c.define.new.self.going c.define.new.live
+    left_ends c.the_calls_place_the_lines_of_a_source.ensures.defines source c.lines.pass.pass_state c.define.new.self.pass_state c.define.new.live
     c.lines.facts (c.lines.invariant.takes source lines taken) c.in_ok-define.field-0
     (c.in_ok-define.ensures.turns c.lines.invariant.goes_on) c.in-End.is
 
 pub returns-in_err-define-clause-takes : goal.returns-in_err-define-clause-takes
 returns-in_err-define-clause-takes c = λ source lines taken.
-    fails_all c.the_calls_place_the_lines_of_a_source.ensures.defines source c.lines.pass.going c.define.new.self.going c.define.new.live
+    fails_all c.the_calls_place_the_lines_of_a_source.ensures.defines source c.lines.pass.pass_state c.define.new.self.pass_state c.define.new.live
     c.lines.facts (c.lines.invariant.takes source lines taken) c.in_err-define.field-0.0
     c.lines.facts c.from_residual.result (c.in_err-define.ensures.turns c.lines.invariant.goes_on) c.from_residual.ensures.1
 
 -- nothing is left after the line, as if a further call said so
 pub returns-then-needs_line-clause-takes : goal.returns-then-needs_line-clause-takes
 returns-then-needs_line-clause-takes c = λ source lines taken.
-    let some = placed_more c.the_calls_place_the_lines_of_a_source.ensures.defines source c.lines.pass.going c.define.new.self.going
+    let some = placed_more c.the_calls_place_the_lines_of_a_source.ensures.defines source c.lines.pass.pass_state c.define.new.self.pass_state
     c.define.new.live c.lines.facts (c.lines.invariant.takes source lines taken) c.in_ok-define.field-0
-    (c.in_ok-define.ensures.turns c.lines.invariant.goes_on) c.in-Line.is c.note.new.self c.table.result.now
-    c.table.ensures c.in_ok-note-in-Line.ensures in
-    left_rests c.the_calls_place_the_lines_of_a_source.ensures.defines source c.define.new.self.going c.define.new.self.going
-    c.define.new.live c.note.new.self some NeedLine
-    (turns_nowhere empty_map c.define.new.self.going (live_in c.define.new.live) (SaysLive c.define.new.live)
+    (c.in_ok-define.ensures.turns c.lines.invariant.goes_on) c.in-Line.is c.add_line.new.self c.table.result.now
+    c.table.ensures c.in_ok-add_line-in-Line.ensures in
+    left_rests c.the_calls_place_the_lines_of_a_source.ensures.defines source c.define.new.self.pass_state c.define.new.self.pass_state
+    c.define.new.live c.add_line.new.self some NeedLine
+    (turns_nowhere empty_map c.define.new.self.pass_state (live_in c.define.new.live) (SaysLive c.define.new.live)
     (sym c.needs_line.ensures ∙ c.if-needs_line.true)) refl

@@ -1,7 +1,7 @@
 use Rattle.std.proofs.Common.{◌≡◌, ◌-◌, List, None, length}
 use Rattle.m11_asm_outputs.specs.Outputs.{Outputs, outputs_of}
 use Rattle.m11_scan_lines.specs.Line.{SourceLine}
-use Rattle.m11_asm_passes.specs.Lines.{Numbered}
+use Rattle.m11_asm_passes.specs.Lines.{NumberedLine}
 use Rattle.m11_unfold_rules.specs.Limits.{most_lines}
 use Rattle.m11_asm.specs.Program.{Program}
 use Rattle.m11_asm_lines.specs.declared.counting.Counting.TheVariants.{Definitions}
@@ -13,14 +13,14 @@ use Rattle.m11_asm.proofs.second.take_left.Given as goal
 abbrev pub invariant-lines : goal.invariant-lines
 invariant-lines g l = record {
   goes_on : l.pass.fault ≡ None;
-  takes : (program : Program) (source : List SourceLine) (lines : List Numbered) (first : Outputs)
+  takes : (program : Program) (source : List SourceLine) (lines : List NumberedLine) (first : Outputs)
       → l.map ≡ program.map → l.number ≡ length source
       → Taken program.map Definitions
       (Wrote program first (outputs_of g.S.Sink g.T.Sink g.U.Sink l.initial.object l.initial.listing l.initial.messages)
-      l.initial.writing) source lines l.initial.pass.going
+      l.initial.writing) source lines l.initial.pass.pass_state
       → SomeTaken program.map Definitions
-      (Wrote program first (outputs_of g.S.Sink g.T.Sink g.U.Sink l.object l.listing l.messages) l.writing) source l.pass.going;
+      (Wrote program first (outputs_of g.S.Sink g.T.Sink g.U.Sink l.object l.listing l.messages) l.writing) source l.pass.pass_state;
 }
 
 abbrev pub decreases-lines : goal.decreases-lines
-decreases-lines g l = most_lines - l.pass.going.unfolder.stage.taken
+decreases-lines g l = most_lines - l.pass.pass_state.unfolder.stage.taken

@@ -6,5 +6,5 @@ use Rattle.m11_asm_data.proofs.radix50.pack_parts.Given as goal
 
 abbrev pub invariant-parts : goal.invariant-parts
 invariant-parts l =
-    packing l.put l.waiting (parts_codes (line_context_of l.line_context).known l.line_context.line (drop l.part-index l.parts))
-    ≡ packing l.initial.put l.initial.waiting (parts_codes (line_context_of l.line_context).known l.line_context.line l.parts)
+    packing l.emission l.waiting (parts_codes (line_context_of l.line_context).known l.line_context.line (drop l.part-index l.parts))
+    ≡ packing l.initial.emission l.initial.waiting (parts_codes (line_context_of l.line_context).known l.line_context.line l.parts)

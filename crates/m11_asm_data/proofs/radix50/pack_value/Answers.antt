@@ -6,5 +6,5 @@ use Rattle.m11_asm_data.proofs.radix50.pack_value.Goals as goal
 
 pub returns : goal.returns
 returns c =
-    codes_after c.with.result c.args.put.now c.add_flags.new.self c.with.new.put c.args.waiting (c.args.value.number % 64 ∷ [])
+    codes_after c.with.result c.args.emission.now c.add_flags.new.self c.with.new.emission c.args.waiting (c.args.value.number % 64 ∷ [])
     (value_codes (quantity c.args.value)).flags _ c.value_flags.ensures c.add_flags.ensures c.with.ensures

@@ -9,18 +9,18 @@ use Rattle.m11_asm_outputs.proofs.object.put_closing.Goals as goal
 pub returns-clause-writes : goal.returns-clause-writes
 returns-clause-writes g c = λ before h listing messages.
     contents_as _ _ _ _ _
-    (closed_by_piece before c.args.piece.now (records_in c.take-closed.result) c.take-closed.new.self
-    (c.take-closed.ensures before (closed_records before) h))
+    (closed_by_piece before c.args.piece.now (records_in c.accept-closed.result) c.accept-closed.new.self
+    (c.accept-closed.ensures before (closed_records before) h))
     (c.put_if_closed.ensures.writes listing messages)
 
 pub returns-clause-opens : goal.returns-clause-opens
 returns-clause-opens g c = λ before h.
-    open_after_piece before c.args.piece.now (records_in c.take-closed.result) c.take-closed.new.self
-    (c.take-closed.ensures before (closed_records before) h)
+    open_after_piece before c.args.piece.now (records_in c.accept-closed.result) c.accept-closed.new.self
+    (c.accept-closed.ensures before (closed_records before) h)
 
 pub returns-clause-fit : goal.returns-clause-fit
 returns-clause-fit g c = λ before h.
-    on_ok _ (AllFit (records_in c.take-closed.result)) (AllFit (records_closed_by before (c.args.piece.now ∷ [])))
-    (fit_as _ _ (closed_by_piece before c.args.piece.now (records_in c.take-closed.result) c.take-closed.new.self
-    (c.take-closed.ensures before (closed_records before) h)))
+    on_ok _ (AllFit (records_in c.accept-closed.result)) (AllFit (records_closed_by before (c.args.piece.now ∷ [])))
+    (fit_as _ _ (closed_by_piece before c.args.piece.now (records_in c.accept-closed.result) c.accept-closed.new.self
+    (c.accept-closed.ensures before (closed_records before) h)))
     c.put_if_closed.ensures.fit

@@ -21,31 +21,31 @@ none_written : (here : Outputs) (contents : List Content) (done : Unit {0}) → 
 none_written here contents done none =
     contents_as here here [] contents (Ok done) none (rw no_contents (gains_nothing assembly here))
 
-pub returns-then-take_within-clause-writes : goal.returns-then-take_within-clause-writes
-returns-then-take_within-clause-writes g c = λ before h listing messages.
+pub returns-then-accept_within-clause-writes : goal.returns-then-accept_within-clause-writes
+returns-then-accept_within-clause-writes g c = λ before h listing messages.
     none_written _ _ _
-    (closed_by_piece before c.args.piece.now (records_in None) c.take_within.new.self
-    (c.take_within.ensures.takes c.if-take_within.true before (closed_records before) h))
+    (closed_by_piece before c.args.piece.now (records_in None) c.accept_within.new.self
+    (c.accept_within.ensures.takes c.if-accept_within.true before (closed_records before) h))
 
-pub returns-then-take_within-clause-opens : goal.returns-then-take_within-clause-opens
-returns-then-take_within-clause-opens g c = λ before h.
-    open_after_piece before c.args.piece.now (records_in None) c.take_within.new.self
-    (c.take_within.ensures.takes c.if-take_within.true before (closed_records before) h)
+pub returns-then-accept_within-clause-opens : goal.returns-then-accept_within-clause-opens
+returns-then-accept_within-clause-opens g c = λ before h.
+    open_after_piece before c.args.piece.now (records_in None) c.accept_within.new.self
+    (c.accept_within.ensures.takes c.if-accept_within.true before (closed_records before) h)
 
 pub returns-clause-writes : goal.returns-clause-writes
 returns-clause-writes g c = λ before h listing messages.
-    c.put_closing.ensures.writes before (still_open before _ _ (c.take_within.ensures.unchanged c.if-take_within.false) h) listing messages
+    c.put_closing.ensures.writes before (still_open before _ _ (c.accept_within.ensures.unchanged c.if-accept_within.false) h) listing messages
 
 pub returns-clause-opens : goal.returns-clause-opens
 returns-clause-opens g c = λ before h.
-    c.put_closing.ensures.opens before (still_open before _ _ (c.take_within.ensures.unchanged c.if-take_within.false) h)
+    c.put_closing.ensures.opens before (still_open before _ _ (c.accept_within.ensures.unchanged c.if-accept_within.false) h)
 
-pub returns-then-take_within-clause-fit : goal.returns-then-take_within-clause-fit
-returns-then-take_within-clause-fit g c = λ before h.
+pub returns-then-accept_within-clause-fit : goal.returns-then-accept_within-clause-fit
+returns-then-accept_within-clause-fit g c = λ before h.
     fit_as [] _
-    (closed_by_piece before c.args.piece.now (records_in None) c.take_within.new.self
-    (c.take_within.ensures.takes c.if-take_within.true before (closed_records before) h)) tt
+    (closed_by_piece before c.args.piece.now (records_in None) c.accept_within.new.self
+    (c.accept_within.ensures.takes c.if-accept_within.true before (closed_records before) h)) tt
 
 pub returns-clause-fit : goal.returns-clause-fit
 returns-clause-fit g c = λ before h.
-    c.put_closing.ensures.fit before (still_open before _ _ (c.take_within.ensures.unchanged c.if-take_within.false) h)
+    c.put_closing.ensures.fit before (still_open before _ _ (c.accept_within.ensures.unchanged c.if-accept_within.false) h)

@@ -3,4 +3,4 @@ use Rattle.m11_asm_tests.proofs.tests.go_over.Given as goal
 
 -- nothing is left before each line
 abbrev pub invariant-source : goal.invariant-source
-invariant-source l = l.pass.going.unfolder.stage.left ≡ []
+invariant-source l = l.pass.pass_state.unfolder.stage.left ≡ []

@@ -9,8 +9,8 @@ returns-in-Writes-clause-done c =
     let uses = sym c.use_by_double.ensures ∙ c.in-Writes.is in
     λ (k : ℕ) (rs : List ℕ). double_writes _ _ _ _ _ _ uses
     (moves_memory _ _ _ c.double-computed.result k rs c.args.machine.now c.set_codes.new.self c.requires.plain
-    c.put_plain.ensures.status (written _ _ _ _ _ _ uses (rw c.codes.ensures at c.double-computed.ensures.computed))
-    (rw c.put_plain.ensures.stored at c.set_codes.ensures))
+    c.store_plain.ensures.status (written _ _ _ _ _ _ uses (rw c.codes.ensures at c.double-computed.ensures.computed))
+    (rw c.store_plain.ensures.stored at c.set_codes.ensures))
 
 pub returns-in-Reads-clause-done : goal.returns-in-Reads-clause-done
 returns-in-Reads-clause-done c =
@@ -26,4 +26,4 @@ returns-in-Changes-clause-done c =
     (plain_fetched _ _ _ (shown k rs c.args.machine.now) c.requires.plain c.plain-value.ensures.value)
     (rw c.codes.ensures at c.double-computed.ensures.computed)
     (put_memory _ _ c.double-computed.result k rs c.args.machine.now c.set_codes-in-Changes.new.self
-    c.requires.plain c.put_plain-in-Changes.ensures.status (rw c.put_plain-in-Changes.ensures.stored at c.set_codes-in-Changes.ensures)))
+    c.requires.plain c.store_plain-in-Changes.ensures.status (rw c.store_plain-in-Changes.ensures.stored at c.set_codes-in-Changes.ensures)))

@@ -21,8 +21,8 @@ returns-in_ok-address-in_default c = record {
       (plain_fetched _ _ _ (shown _ _ c.args.machine.now) c.in_ok-address-in_default.ensures.plain c.plain-value.ensures.value)
       (rw c.codes-in_default.ensures at c.single-computed-in_default.ensures.computed)
       (put_memory _ _ c.single-computed-in_default.result _ _ c.args.machine.now c.set_codes-in_default.new.self
-      c.in_ok-address-in_default.ensures.plain c.put_plain.ensures.status
-      (rw c.put_plain.ensures.stored at c.set_codes-in_default.ensures));
+      c.in_ok-address-in_default.ensures.plain c.store_plain.ensures.status
+      (rw c.store_plain.ensures.stored at c.set_codes-in_default.ensures));
   keeps = search rules;
   none = search rules;
   registers = search rules;

@@ -16,8 +16,8 @@ returns-in_ok-address-in_default c = record {
   some = writes _ _ _ _ c.single-computed.result _ _ _ _ _ c.args.machine.now c.set_codes-in_default.new.self
       c.in_ok-address-in_default.ensures.some (rw c.codes.ensures at c.single-computed.ensures.computed)
       (put_memory _ _ c.single-computed.result _ _ c.args.machine.now c.set_codes-in_default.new.self
-      c.in_ok-address-in_default.ensures.plain c.put_plain.ensures.status
-      (rw c.put_plain.ensures.stored at c.set_codes-in_default.ensures));
+      c.in_ok-address-in_default.ensures.plain c.store_plain.ensures.status
+      (rw c.store_plain.ensures.stored at c.set_codes-in_default.ensures));
   keeps = search rules;
   none = search rules;
   registers = search rules;

@@ -30,12 +30,12 @@ reading-preserved g c =
           (output_of g.S.Sink c.args.sink.now) (output_of g.S.Sink c.reading.sink) c.reading.stand c.reading.rules c.reading.invariant.contents
           c.reading.invariant.dumping
           (position (g.F.Feed.text c.next_into.new.feed) (g.F.Feed.faults c.next_into.new.feed) c.next_into.new.self.room)
-          c.next_into.new.block.items reads (output_of g.S.Sink c.take_block.new.sink) c.bytes_read.result c.take_block.new.rules
+          c.next_into.new.block.items reads (output_of g.S.Sink c.accept_block.new.sink) c.bytes_read.result c.accept_block.new.rules
           c.in-Ok.after (c.in-Ok.ensures (parts_all c.reading.invariant.contents) c.reading.invariant.dumping.judged);
     }
 
-pub returns-in-Err-take_block : goal.returns-in-Err-take_block
-returns-in-Err-take_block g c =
+pub returns-in-Err-accept_block : goal.returns-in-Err-accept_block
+returns-in-Err-accept_block g c =
     let reads = rw (c.reading.invariant.reads, c.in-Ok-true.field-0-test) at c.in-Ok-true.ensures.reads in (
       c.next_into.new.self.room,
       block_stops c.args.view (position (g.F.Feed.text c.args.feed.now) (g.F.Feed.faults c.args.feed.now) most_bytes)
@@ -43,9 +43,9 @@ returns-in-Err-take_block g c =
           (output_of g.S.Sink c.args.sink.now) (output_of g.S.Sink c.reading.sink) c.reading.stand c.reading.rules c.reading.invariant.contents
           c.reading.invariant.dumping
           (position (g.F.Feed.text c.next_into.new.feed) (g.F.Feed.faults c.next_into.new.feed) c.next_into.new.self.room)
-          c.next_into.new.block.items reads (output_of g.S.Sink c.take_block.new.sink) c.bytes_read.result
-          c.take_block.new.rules c.in-Err-take_block.placed c.bytes_read.ensures
-          (c.in-Err-take_block.ensures (parts_all c.reading.invariant.contents) c.reading.invariant.dumping.judged),
+          c.next_into.new.block.items reads (output_of g.S.Sink c.accept_block.new.sink) c.bytes_read.result
+          c.accept_block.new.rules c.in-Err-accept_block.placed c.bytes_read.ensures
+          (c.in-Err-accept_block.ensures (parts_all c.reading.invariant.contents) c.reading.invariant.dumping.judged),
     )
 
 pub returns-in-Ok-false : goal.returns-in-Ok-false

@@ -3,12 +3,12 @@ use Rattle.m11_link_load_map.proofs.lines.global_line.Goals as goal
 pub returns : goal.returns
 returns c = rw (
   c.ended.ensures,
-  c.put-6.ensures.items,
-  c.put-5.ensures.items,
-  c.put-4.ensures.items,
-  c.put-3.ensures.items,
-  c.put-2.ensures.items,
-  c.put.ensures.items,
+  c.add_bytes-6.ensures.items,
+  c.add_bytes-5.ensures.items,
+  c.add_bytes-4.ensures.items,
+  c.add_bytes-3.ensures.items,
+  c.add_bytes-2.ensures.items,
+  c.add_bytes.ensures.items,
   c.characters-2.ensures,
   c.characters.ensures,
   c.octal6.ensures.text,

@@ -30,12 +30,12 @@ items-preserved g c = record {
       seen_more (g.F.Feed.text c.args.feed.now) (g.F.Feed.text c.items.feed) (g.F.Feed.faults c.args.feed.now)
       (g.F.Feed.faults c.items.feed) c.items.reader.room bottom before c.items.layout c.items.noted.items l
       (g.F.Feed.text c.next_into.new.feed) (g.F.Feed.faults c.next_into.new.feed) c.next_into.new.self.room
-      c.take_block.new.layout c.take_block.new.noted.items
+      c.accept_block.new.layout c.accept_block.new.noted.items
       c.next_into.new.block.items reads (c.in-Ok.ensures.notes bottom l.laid.parts here) c.in-Ok.ensures.is_record;
 }
 
-pub returns-in-Err-take_block : goal.returns-in-Err-take_block
-returns-in-Err-take_block g c = λ bottom before s.
+pub returns-in-Err-accept_block : goal.returns-in-Err-accept_block
+returns-in-Err-accept_block g c = λ bottom before s.
     let l = c.items.invariant.seen bottom before s in
     let reads = rw (c.items.invariant.reads, c.in-Ok-true.field-0-test) at c.in-Ok-true.ensures.reads in
     let here = stands_here (g.F.Feed.text c.args.feed.now) (g.F.Feed.text c.items.feed) (g.F.Feed.faults c.args.feed.now)
@@ -43,8 +43,8 @@ returns-in-Err-take_block g c = λ bottom before s.
     laid_refused (g.F.Feed.text c.args.feed.now) (g.F.Feed.text c.items.feed) (g.F.Feed.faults c.args.feed.now)
     (g.F.Feed.faults c.items.feed) c.items.reader.room bottom before c.items.layout l.laid
     (g.F.Feed.text c.next_into.new.feed) (g.F.Feed.faults c.next_into.new.feed) c.next_into.new.self.room
-    c.take_block.new.layout
-    c.next_into.new.block.items reads c.in-Err-take_block.fault (c.in-Err-take_block.ensures.notes bottom l.laid.parts here)
+    c.accept_block.new.layout
+    c.next_into.new.block.items reads c.in-Err-accept_block.fault (c.in-Err-accept_block.ensures.notes bottom l.laid.parts here)
 
 pub returns-in-Ok-false : goal.returns-in-Ok-false
 returns-in-Ok-false g c = λ bottom before s.

@@ -6,9 +6,9 @@ use Rattle.m11_scan_values.proofs.expressions.first_operator.Given as goal
 
 abbrev pub invariant-tokens : goal.invariant-tokens
 invariant-tokens l = record {
-  first : passed l.count (first_operator l.index (map sort_of l.rest)) ≡ first_operator begin (map sort_of l.tokens);
+  first : passed l.count (first_operator l.within (map sort_of l.rest)) ≡ first_operator begin (map sort_of l.tokens);
   all : l.count + length l.rest ≡ length l.tokens;
-  deep : l.index.depth ≤ l.count;
+  deep : l.within.depth ≤ l.count;
 }
 
 abbrev pub decreases-tokens : goal.decreases-tokens

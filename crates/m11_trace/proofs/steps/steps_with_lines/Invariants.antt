@@ -2,12 +2,12 @@ use Rattle.std.proofs.Common.{List, ◌-◌}
 use Rattle.m11_cpu_machine.specs.Dialogue.{both, output_of}
 use Rattle.m11_cpu_machine.specs.declared.stop.Turn.TheVariants.{Next}
 use Rattle.m11_trace.specs.Changes.{KeepsUp}
-use Rattle.m11_trace.specs.Taken.{Taken}
+use Rattle.m11_trace.specs.Taken.{TracedStep}
 use Rattle.m11_trace.proofs.Going.{Going, Shown}
 use Rattle.m11_trace.proofs.steps.steps_with_lines.Given as goal
 
 abbrev pub invariant-steps : goal.invariant-steps
-invariant-steps g l = (taken : List Taken)
+invariant-steps g l = (taken : List TracedStep)
     × Going l.fn.limit l.count l.fn.places l.fn.machine l.machine
     (both (g.I.Feed.text l.fn.input) (g.I.Feed.faults l.fn.input) (g.O.Sink.text l.fn.output) (g.O.Sink.faults l.fn.output))
     (both (g.I.Feed.text l.input) (g.I.Feed.faults l.input) (g.O.Sink.text l.output) (g.O.Sink.faults l.output))

@@ -1,21 +1,21 @@
 use Rattle.std.proofs.Common.{◌≡◌, ◌≤◌, suc, ◌-◌, List, ℕ, ◌++◌, length, sym, ap, ◌∙◌, subst, arith}
 use Rattle.m11_scan_statements.specs.Actuals.{separator_at}
 use Rattle.m11_scan_statements.specs.declared.actuals.Separator.{Separator}
-use Rattle.m11_unfold_arguments.specs.Actuals.{Given, actuals_from, given_by, texts_of}
+use Rattle.m11_unfold_arguments.specs.Actuals.{ActualTexts, actuals_from, given_by, texts_of}
 use Rattle.m11_unfold_arguments.specs.Expressions.{known_by}
-use Rattle.m11_unfold_arguments.specs.Notes.{Notes, joined}
+use Rattle.m11_unfold_arguments.specs.Remarks.{Remarks, joined}
 use Rattle.m11_unfold_arguments.proofs.Calls.{actual_on, no_actual}
 use Rattle.m11_unfold_arguments.proofs.Joining.{joined_joins, joined_nothing}
 use Rattle.m11_unfold_arguments.proofs.Texts.{texts_on}
 use Rattle.m11_unfold_arguments.proofs.actuals.actuals_from.Goals as goal
 
-pub returns-in_default-clause-notes : goal.returns-in_default-clause-notes
-returns-in_default-clause-notes g c =
+pub returns-in_default-clause-remarks : goal.returns-in_default-clause-remarks
+returns-in_default-clause-remarks g c =
     let some = c.actuals-test.true in
     let is : c.actuals.left ≡ suc (c.actuals.left - 1) = omega arith in
     let step = no_actual (known_by (g.N.Names.base c.args.names.now) (g.N.Names.stands_for c.args.names.now)) c.args.line.now.text
     c.actuals.left _ c.actuals.begin is (sym c.in_default.ensures.actual) in
-    sym (joined_nothing c.actuals.notes) ∙ ap (λ (a : Given). joined c.actuals.notes a.notes) (sym step) ∙ c.actuals.invariant.notes
+    sym (joined_nothing c.actuals.remarks) ∙ ap (λ (a : ActualTexts). joined c.actuals.remarks a.remarks) (sym step) ∙ c.actuals.invariant.remarks
 
 pub actuals-preserved : goal.actuals-preserved
 actuals-preserved g c =
@@ -33,10 +33,10 @@ actuals-preserved g c =
       texts =
           texts_on c.actuals.texts.items c.in_ok-text_of.field-0 c.push.new.self.items more.texts c.in_ok-push.ensures.items
           ∙ ap (λ (t : List (List ℕ)). texts_of c.actuals.texts.items ++ (t ++ more.texts)) c.in_ok-text_of.ensures.text
-          ∙ ap (λ (a : Given). texts_of c.actuals.texts.items ++ a.texts) (sym step) ∙ c.actuals.invariant.texts;
-      notes =
-          ap (λ (n : Notes). joined n more.notes) c.in_ok-text_of.ensures.notes
-          ∙ joined_joins c.actuals.notes (given_by known line c.in-Some.actual).notes more.notes
-          ∙ ap (λ (a : Given). joined c.actuals.notes a.notes) (sym step) ∙ c.actuals.invariant.notes;
+          ∙ ap (λ (a : ActualTexts). texts_of c.actuals.texts.items ++ a.texts) (sym step) ∙ c.actuals.invariant.texts;
+      remarks =
+          ap (λ (n : Remarks). joined n more.remarks) c.in_ok-text_of.ensures.remarks
+          ∙ joined_joins c.actuals.remarks (given_by known line c.in-Some.actual).remarks more.remarks
+          ∙ ap (λ (a : ActualTexts). joined c.actuals.remarks a.remarks) (sym step) ∙ c.actuals.invariant.remarks;
       most = subst P (sym c.from-begin.ensures) c.separator_at.ensures.most;
     }

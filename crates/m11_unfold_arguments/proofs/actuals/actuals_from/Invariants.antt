@@ -1,7 +1,7 @@
 use Rattle.std.proofs.Common.{◌≡◌, ◌≤◌, ◌++◌, length}
 use Rattle.m11_unfold_arguments.specs.Actuals.{actuals_from, texts_of}
 use Rattle.m11_unfold_arguments.specs.Expressions.{known_by}
-use Rattle.m11_unfold_arguments.specs.Notes.{joined}
+use Rattle.m11_unfold_arguments.specs.Remarks.{joined}
 use Rattle.m11_unfold_arguments.proofs.actuals.actuals_from.Given as goal
 
 abbrev pub invariant-actuals : goal.invariant-actuals
@@ -9,9 +9,9 @@ invariant-actuals g l = record {
   texts :
       texts_of l.texts.items ++ (actuals_from (known_by (g.N.Names.base l.names) (g.N.Names.stands_for l.names)) l.line.text l.left l.begin).texts
       ≡ (actuals_from (known_by (g.N.Names.base l.names) (g.N.Names.stands_for l.names)) l.line.text l.wanted l.column).texts;
-  notes :
-      joined l.notes (actuals_from (known_by (g.N.Names.base l.names) (g.N.Names.stands_for l.names)) l.line.text l.left l.begin).notes
-      ≡ joined l.initial.notes (actuals_from (known_by (g.N.Names.base l.names) (g.N.Names.stands_for l.names)) l.line.text l.wanted l.column).notes;
+  remarks :
+      joined l.remarks (actuals_from (known_by (g.N.Names.base l.names) (g.N.Names.stands_for l.names)) l.line.text l.left l.begin).remarks
+      ≡ joined l.initial.remarks (actuals_from (known_by (g.N.Names.base l.names) (g.N.Names.stands_for l.names)) l.line.text l.wanted l.column).remarks;
   most : l.begin ≤ length l.line.text;
 }
 

@@ -8,7 +8,7 @@ use Rattle.m11_unfold_arguments.proofs.definedness.names_at.Given as goal
 abbrev pub invariant-names : goal.invariant-names
 invariant-names g l = record {
   leads :
-      Leads l.notes l.initial.notes
+      Leads l.remarks l.initial.remarks
       (names_in (tested (known_by (g.N.Names.base l.names) (g.N.Names.stands_for l.names)) l.wants_defined)
       (length l.line.text) l.before (tokens_from l.line.text l.begin))
       (names_at (known_by (g.N.Names.base l.names) (g.N.Names.stands_for l.names)) l.wants_defined l.line.text l.column);

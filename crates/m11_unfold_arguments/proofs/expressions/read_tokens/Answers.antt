@@ -2,7 +2,7 @@ use Rattle.std.proofs.Common.{◌≡◌, List, map, ap, ◌∙◌, subst}
 use Rattle.m11_scan.specs.Views.{lexeme}
 use Rattle.m11_scan.specs.declared.cutting.Token.{Token}
 use Rattle.m11_scan_values.specs.declared.names.Symbol.{Symbol}
-use Rattle.m11_unfold_arguments.specs.Notes.{with_symbols}
+use Rattle.m11_unfold_arguments.specs.Remarks.{with_symbols}
 use Rattle.m11_unfold_arguments.proofs.Tokens.{symbols_seen, value_seen}
 use Rattle.m11_unfold_arguments.proofs.expressions.read_tokens.Goals as goal
 
@@ -13,9 +13,9 @@ returns-clause-value g c =
     c.as_slice-tokens.result.now _
     (ap (λ (ts : List Token). map (lexeme c.args.line.now.text) ts) c.as_slice-tokens.ensures.value ∙ c.expression_at-expression.ensures.tokens)
 
-pub returns-clause-notes : goal.returns-clause-notes
-returns-clause-notes g c =
-    let P : List Symbol → Type 0 = λ s. c.add_symbols.new.self ≡ with_symbols c.args.notes.now s in
+pub returns-clause-remarks : goal.returns-clause-remarks
+returns-clause-remarks g c =
+    let P : List Symbol → Type 0 = λ s. c.add_symbols.new.self ≡ with_symbols c.args.remarks.now s in
     subst P
     (symbols_seen c.args.line.now.text c.as_slice-tokens.result.now _
     (ap (λ (ts : List Token). map (lexeme c.args.line.now.text) ts) c.as_slice-tokens.ensures.value ∙ c.expression_at-expression.ensures.tokens))

@@ -1,6 +1,6 @@
 use Rattle.std.proofs.Common.{◌≡◌, suc, ◌+◌, ◌++◌, sym, ap, ◌∙◌, arith}
 use Rattle.m11_unfold_arguments.specs.Actuals.{texts_of}
-use Rattle.m11_unfold_arguments.specs.Filling.{Filled}
+use Rattle.m11_unfold_arguments.specs.Filling.{FormalTexts}
 use Rattle.m11_unfold_arguments.proofs.Fillings.{filled_on}
 use Rattle.m11_unfold_arguments.proofs.Texts.{texts_on}
 use Rattle.m11_unfold_arguments.proofs.filling.fill.Goals as goal
@@ -15,6 +15,6 @@ formals-preserved c =
     record {
       texts =
           texts_on c.formals.texts.items c.in_ok-next.next.text c.push.new.self.items _ c.in_ok-push.ensures.items
-          ∙ ap (λ (f : Filled). texts_of c.formals.texts.items ++ f.texts) (sym step) ∙ c.formals.invariant.texts;
-      created = ap (λ (f : Filled). f.created) (sym step) ∙ c.formals.invariant.created;
+          ∙ ap (λ (f : FormalTexts). texts_of c.formals.texts.items ++ f.texts) (sym step) ∙ c.formals.invariant.texts;
+      created = ap (λ (f : FormalTexts). f.created) (sym step) ∙ c.formals.invariant.created;
     }

@@ -2,7 +2,7 @@ use Rattle.std.proofs.Common.{◌≡◌, List, ℕ, subst, IfOk}
 use Rattle.m11_scan_lines.specs.Line.{line_limit}
 use Rattle.m11_unfold_arguments.specs.Actuals.{actuals_from, texts_of}
 use Rattle.m11_unfold_arguments.specs.Expressions.{known_by}
-use Rattle.m11_unfold_arguments.specs.Notes.{Notes}
+use Rattle.m11_unfold_arguments.specs.Remarks.{Remarks}
 use Rattle.m11_unfold_arguments.proofs.Repetitions.{inner_noted}
 use Rattle.m11_unfold_arguments.proofs.indefinite.listed_in.Goals as goal
 
@@ -13,11 +13,11 @@ returns-clause-texts g c =
     λ t. IfOk c.actuals_from.result (λ texts. texts_of texts.items ≡ (actuals_from known t line_limit 0).texts) in
     subst P c.line_of-inner.ensures c.actuals_from.ensures.texts
 
-pub returns-clause-notes : goal.returns-clause-notes
-returns-clause-notes g c =
+pub returns-clause-remarks : goal.returns-clause-remarks
+returns-clause-remarks g c =
     let known = known_by (g.N.Names.base c.args.names.now) (g.N.Names.stands_for c.args.names.now) in
-    let P : Notes → Type 0 = λ n. IfOk c.actuals_from.result (λ x. c.actuals_from.new.notes ≡ n) in
+    let P : Remarks → Type 0 = λ n. IfOk c.actuals_from.result (λ x. c.actuals_from.new.remarks ≡ n) in
     subst P
-    (inner_noted known c.args.line.now.text c.args.list.now c.args.notes.now c.add_flags.new.self _ _ c.add_flags.ensures
+    (inner_noted known c.args.line.now.text c.args.list.now c.args.remarks.now c.add_flags.new.self _ _ c.add_flags.ensures
     c.actual_flags.ensures c.line_of-inner.ensures)
-    c.actuals_from.ensures.notes
+    c.actuals_from.ensures.remarks

@@ -5,7 +5,7 @@ use Rattle.std.proofs.lemmas.List.{append-nil, append_assoc}
 use Rattle.m11_scan.specs.Views.{bits_of}
 use Rattle.m11_scan_statements.specs.declared.actuals.Separator.{Separator}
 use Rattle.m11_unfold_arguments.specs.Macros.{FormalList, formals_within, listed_seen}
-use Rattle.m11_unfold_arguments.specs.declared.macros.Listed.TheVariants.{Last}
+use Rattle.m11_unfold_arguments.specs.declared.macros.FormalOrEnd.TheVariants.{Last}
 use Rattle.m11_unfold_arguments.specs.declared.macros.MacroFormal.{MacroFormal}
 use Rattle.m11_unfold_arguments.proofs.Headers.{formal_on, listed_on}
 use Rattle.m11_unfold_arguments.proofs.Joining.{or_joins}

@@ -9,5 +9,5 @@ invariant_of-result c = begins_so c.in_ok-new.field-0 c.new-4.result c.in_ok-new
 
 pub returns : goal.returns
 returns c =
-    begins c.in_ok-new.field-0.going (SymbolUses c.new.result) c.new-3.result c.new-4.result c.in_ok-new.ensures.stands (ap SymbolUses c.new.ensures)
+    begins c.in_ok-new.field-0.pass_state (SymbolUses c.new.result) c.new-3.result c.new-4.result c.in_ok-new.ensures.stands (ap SymbolUses c.new.ensures)
     c.in_ok-new.ensures.begins c.new-3.ensures c.new-4.ensures

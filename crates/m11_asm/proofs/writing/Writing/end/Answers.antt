@@ -4,7 +4,7 @@ use Rattle.m11_asm_outputs.specs.Object.{AllFit, last_records, object_contents}
 use Rattle.m11_obj.specs.Records.{EndOfModule}
 use Rattle.m11_asm_outputs.specs.Outputs.{Write, assembly}
 use Rattle.m11_base_writes.proofs.Writing.{stopped_first, writes_then}
-use Rattle.m11_asm.specs.Written.{Ended, added_writes, closing_writes, flagged_count, head_before, last_location, pieces_in}
+use Rattle.m11_asm.specs.Written.{EndOfSource, added_writes, closing_writes, flagged_count, head_before, last_location, pieces_in}
 use Rattle.m11_asm.proofs.Putting.{closes_so, gains_as, last_open, object_fits, stops_as, writes_as}
 use Rattle.m11_asm.proofs.writing.Writing.end.Goals as goal
 
@@ -15,7 +15,7 @@ returns-in_err-begin-clause-writes g c = λ program lines stands location few.
 
 pub returns-in_err-add_line-clause-writes : goal.returns-in_err-add_line-clause-writes
 returns-in_err-add_line-clause-writes g c = λ program lines stands location few.
-    let ended : Ended = record { read = c.args.read; has_end = c.args.has_ended } in
+    let ended : EndOfSource = record { read = c.args.read; has_end = c.args.has_ended } in
     let added : List Write = added_writes ended (last_location program lines) in
     let closing : List Write = closing_writes (pieces_in program.map lines) program.symbols program.sections
     (flagged_count program lines c.args.has_ended) in
@@ -27,7 +27,7 @@ returns-in_err-add_line-clause-writes g c = λ program lines stands location few
 
 pub returns-clause-writes : goal.returns-clause-writes
 returns-clause-writes g c = λ program lines stands location few.
-    let ended : Ended = record { read = c.args.read; has_end = c.args.has_ended } in
+    let ended : EndOfSource = record { read = c.args.read; has_end = c.args.has_ended } in
     let added : List Write = added_writes ended (last_location program lines) in
     let closing : List Write = closing_writes (pieces_in program.map lines) program.symbols program.sections
     (flagged_count program lines c.args.has_ended) in

@@ -11,14 +11,14 @@ use Rattle.m11_asm.proofs.writing.Writing.new.Goals as goal
 pub returns : goal.returns
 returns c =
     let kept = c.args.first.now in
-    let gathered = c.args.used_symbols.now in
+    let used_names = c.args.used_symbols.now in
     let facts = c.args.facts.now in
-    stands_first kept gathered facts _ _ _ _ _
+    stands_first kept used_names facts _ _ _ _ _
     (c.in_ok-directory_rows.ensures ∙ ap (λ (t : DirectoryFacts). directory_rows t) c.first_pass_of-first_pass.ensures.facts)
     c.transfer.ensures
     (c.in_ok-symbol_entries.ensures
     ∙ ap (λ (names : List Name). symbol_entries (directory_facts c.first_pass_of-first_pass.result) (names ++ c.registers.result.now.keys)) c.names.ensures
-    ∙ ap (λ (names : List Name). symbol_entries (directory_facts c.first_pass_of-first_pass.result) (gathered.names ++ names)) c.registers.ensures
-    ∙ ap (λ (t : DirectoryFacts). symbol_entries t (all_names gathered)) c.first_pass_of-first_pass.ensures.facts)
+    ∙ ap (λ (names : List Name). symbol_entries (directory_facts c.first_pass_of-first_pass.result) (used_names.names ++ names)) c.registers.ensures
+    ∙ ap (λ (t : DirectoryFacts). symbol_entries t (all_names used_names)) c.first_pass_of-first_pass.ensures.facts)
     (c.in_ok-section_entries.ensures ∙ ap (λ (t : DirectoryFacts). section_entries t) c.first_pass_of-first_pass.ensures.facts)
     c.open_text.ensures

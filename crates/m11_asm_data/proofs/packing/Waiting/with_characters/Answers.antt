@@ -8,8 +8,8 @@ pub characters-preserved : goal.characters-preserved
 characters-preserved c = λ more.
     let others = map character_code (drop (c.characters.character-index + 1) c.args.text.now) in
     c.in_ok-waiting.ensures (codes_first others more)
-    ∙ ap (λ (k : ℕ). packing c.characters.put c.characters.waiting (codes_first (k ∷ others) more)) c.character_code.ensures
+    ∙ ap (λ (k : ℕ). packing c.characters.emission c.characters.waiting (codes_first (k ∷ others) more)) c.character_code.ensures
     ∙ sym (at_drop_more
-    (λ (t : List ℕ). packing c.characters.put c.characters.waiting (codes_first (map character_code t) more))
+    (λ (t : List ℕ). packing c.characters.emission c.characters.waiting (codes_first (map character_code t) more))
     c.args.text.now c.characters.character-index 0 c.characters-test.true)
     ∙ c.characters.invariant more

@@ -6,5 +6,5 @@ use Rattle.m11_asm_data.proofs.packing.Waiting.with_characters.Given as goal
 abbrev pub invariant-characters : goal.invariant-characters
 invariant-characters l =
     (more : spec.Codes)
-    → packing l.put l.waiting (codes_first (map spec.character_code (drop l.character-index l.text)) more)
-    ≡ packing l.initial.put l.fn.self (codes_first (map spec.character_code l.text) more)
+    → packing l.emission l.waiting (codes_first (map spec.character_code (drop l.character-index l.text)) more)
+    ≡ packing l.initial.emission l.fn.self (codes_first (map spec.character_code l.text) more)

@@ -3,7 +3,7 @@ use Rattle.m11_unfold_arguments.specs.Expressions.{symbols_at}
 use Rattle.m11_asm_rules.specs.Assignments.{all_firm}
 use Rattle.m11_asm_rules.specs.declared.definitions.Key.TheVariants.{Named}
 use Rattle.m11_asm_lines.proofs.Assigning.{assigns, assigns_so, gives}
-use Rattle.m11_asm_lines.specs.Passes.{Kept}
+use Rattle.m11_asm_lines.specs.Passes.{TableState}
 use Rattle.m11_scan_values.specs.Quantities.{quantity}
 use Rattle.m11_asm_rules.specs.declared.definitions.Definition.{Definition}
 use Rattle.m11_asm_lines.proofs.Assigning.{overfills_assigned}
@@ -16,7 +16,7 @@ returns-clause-defines c = λ map is.
     (gives map c.args.name c.args.line.now.text c.args.start c.args.self.now.table (quantity c.args.value.now) c.in_ok-is_firm.is_firm
     c.definition_of.result c.definition_of.ensures is
     (c.in_ok-is_firm.ensures
-    ∙ ap (λ (k : Kept). all_firm k.table (symbols_at c.args.line.now.text c.args.start)) c.self.view_is))
+    ∙ ap (λ (k : TableState). all_firm k.table (symbols_at c.args.line.now.text c.args.start)) c.self.view_is))
     c.define_name.ensures.defines
 
 pub returns-clause-tables : goal.returns-clause-tables
@@ -26,7 +26,7 @@ returns-clause-tables c = λ map is.
     (gives map c.args.name c.args.line.now.text c.args.start c.args.self.now.table (quantity c.args.value.now) c.in_ok-is_firm.is_firm
     c.definition_of.result c.definition_of.ensures is
     (c.in_ok-is_firm.ensures
-    ∙ ap (λ (k : Kept). all_firm k.table (symbols_at c.args.line.now.text c.args.start)) c.self.view_is))
+    ∙ ap (λ (k : TableState). all_firm k.table (symbols_at c.args.line.now.text c.args.start)) c.self.view_is))
     c.define_name.ensures.tables
 
 pub returns-clause-refuses : goal.returns-clause-refuses

@@ -4,7 +4,7 @@ use Rattle.m11_asm_rules.specs.declared.definitions.Key.TheVariants.{Named}
 use Rattle.m11_asm_lines.proofs.LabelTables.{name_doubles, name_opens}
 use Rattle.m11_asm_lines.proofs.Labelling.{names_double, names_open}
 use Rattle.m11_base.specs.Rad50.{Name}
-use Rattle.m11_asm_lines.specs.Passes.{Kept}
+use Rattle.m11_asm_lines.specs.Passes.{TableState}
 use Rattle.m11_asm_faults.specs.declared.fault.AsmFault.{AsmFault}
 use Rattle.m11_asm_rules.specs.Labels.{with_name}
 use Rattle.m11_asm_rules.specs.Limits.{has_too_many, most_defined_names, most_local_symbols}
@@ -19,14 +19,14 @@ pub returns-in_ok-double-in-Some-clause-defines : goal.returns-in_ok-double-in-S
 returns-in_ok-double-in-Some-clause-defines c =
     rw (c.in-Some.is, c.of_doubly_defined.ensures.doubly_defined)
     (names_double c.args.self.now c.double.new.self c.in-Some.name c.args.is_global
-    (ap (λ (k : Kept). is_defined (Named c.in-Some.name) k.table.definitions) (sym c.self.view_is) ∙ sym c.if-is_defined.ensures)
+    (ap (λ (k : TableState). is_defined (Named c.in-Some.name) k.table.definitions) (sym c.self.view_is) ∙ sym c.if-is_defined.ensures)
     c.in_ok-double-in-Some.ensures.doubles)
 
 pub returns-in_ok-define_new_name-in-Some-2-clause-defines : goal.returns-in_ok-define_new_name-in-Some-2-clause-defines
 returns-in_ok-define_new_name-in-Some-2-clause-defines c =
     rw c.in-Some-2.is
     (names_open c.args.self.now c.define_new_name.new.self c.in-Some-2.name c.args.is_global _
-    (ap (λ (k : Kept). is_defined (Named c.in-Some-2.name) k.table.definitions) (sym c.self.view_is)
+    (ap (λ (k : TableState). is_defined (Named c.in-Some-2.name) k.table.definitions) (sym c.self.view_is)
     ∙ ap (λ (n : Name). is_defined (Named n) c.self.inside.table.definitions)
     (ap (λ (o : Option Name). unwrap_or o (0, 0)) (sym c.in-Some-2.is ∙ c.in-Some.is))
     ∙ sym c.if-is_defined.ensures)
@@ -37,14 +37,14 @@ pub returns-in_ok-double-in-Some-clause-tables : goal.returns-in_ok-double-in-So
 returns-in_ok-double-in-Some-clause-tables c =
     rw c.in-Some.is
     (name_doubles c.args.self.now.table c.double.new.self.table c.in-Some.name c.args.is_global
-    (ap (λ (k : Kept). is_defined (Named c.in-Some.name) k.table.definitions) (sym c.self.view_is) ∙ sym c.if-is_defined.ensures)
+    (ap (λ (k : TableState). is_defined (Named c.in-Some.name) k.table.definitions) (sym c.self.view_is) ∙ sym c.if-is_defined.ensures)
     c.in_ok-double-in-Some.ensures.tables)
 
 pub returns-in_ok-define_new_name-in-Some-2-clause-tables : goal.returns-in_ok-define_new_name-in-Some-2-clause-tables
 returns-in_ok-define_new_name-in-Some-2-clause-tables c =
     rw c.in-Some-2.is
     (name_opens c.args.self.now.table c.define_new_name.new.self.table c.in-Some-2.name c.args.is_global
-    (ap (λ (k : Kept). is_defined (Named c.in-Some-2.name) k.table.definitions) (sym c.self.view_is)
+    (ap (λ (k : TableState). is_defined (Named c.in-Some-2.name) k.table.definitions) (sym c.self.view_is)
     ∙ ap (λ (n : Name). is_defined (Named n) c.self.inside.table.definitions)
     (ap (λ (o : Option Name). unwrap_or o (0, 0)) (sym c.in-Some-2.is ∙ c.in-Some.is))
     ∙ sym c.if-is_defined.ensures)
@@ -54,12 +54,12 @@ pub returns-in_err-double-in-Some-clause-limit_first : goal.returns-in_err-doubl
 returns-in_err-double-in-Some-clause-limit_first c =
     let P : Option Name → Type 0 = λ n. (told : Table) → Matches c.args.self.now told
     → has_too_many (with_name c.args.is_global told n) ≡ false in
-    let N : Kept → Type 0 = λ k. k.names ≤ most_defined_names in
-    let S : Kept → Type 0 = λ k. k.local_symbols ≤ most_local_symbols in
+    let N : TableState → Type 0 = λ k. k.names ≤ most_defined_names in
+    let S : TableState → Type 0 = λ k. k.local_symbols ≤ most_local_symbols in
     fits_anyway (P c.args.name) c.from_residual.result
     (subst P (sym c.in-Some.is)
     (doubly_defined_fits c.args.self.now c.in-Some.name c.args.is_global
-    (ap (λ (k : Kept). is_defined (Named c.in-Some.name) k.table.definitions) (sym c.self.view_is) ∙ sym c.if-is_defined.ensures)
+    (ap (λ (k : TableState). is_defined (Named c.in-Some.name) k.table.definitions) (sym c.self.view_is) ∙ sym c.if-is_defined.ensures)
     (subst N c.self.view_is c.self.invariant.0) (subst S c.self.view_is c.self.invariant.1)))
 
 pub returns-in_err-define_new_name-in-Some-2-clause-refuses : goal.returns-in_err-define_new_name-in-Some-2-clause-refuses
@@ -72,7 +72,7 @@ returns-in_err-define_new_name-in-Some-2-clause-refuses c =
     (subst Q (sym c.in-Some-2.is)
     (opens_said c.args.self.now c.in-Some-2.name c.args.is_global
     (λ (b : Bool). Refuses c.in_err-define_new_name-in-Some-2.field-0.0 (b ≡ true) ⊥)
-    (ap (λ (k : Kept). is_defined (Named c.in-Some-2.name) k.table.definitions) (sym c.self.view_is)
+    (ap (λ (k : TableState). is_defined (Named c.in-Some-2.name) k.table.definitions) (sym c.self.view_is)
     ∙ ap (λ (n : Name). is_defined (Named n) c.self.inside.table.definitions)
     (ap (λ (o : Option Name). unwrap_or o (0, 0)) (sym c.in-Some-2.is ∙ c.in-Some.is))
     ∙ sym c.if-is_defined.ensures)

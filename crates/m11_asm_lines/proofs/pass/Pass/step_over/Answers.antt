@@ -4,14 +4,14 @@ use Rattle.m11_asm_rules.specs.Changes.{Change, changed}
 use Rattle.m11_asm_rules.specs.Effects.{operator_change}
 use Rattle.m11_asm_rules.specs.Tables.{firm_table}
 use Rattle.m11_asm_rules.specs.declared.operators.Operator.TheVariants.{Instruction}
-use Rattle.m11_asm_lines.specs.Passes.{Follows, Kept}
+use Rattle.m11_asm_lines.specs.Passes.{Follows, TableState}
 use Rattle.m11_asm_table.specs.Alike as tables
 use Rattle.m11_asm_lines.proofs.pass.Pass.step_over.Goals as goal
 
 pub instruction_steps-steps-requires : goal.instruction_steps-steps-requires
 instruction_steps-steps-requires c = record {
   fields = c.requires.fields
-      ∙ ap (λ (k : Kept). operator_fields k.table c.args.line.now.text c.args.start (Instruction c.args.operation)) (sym c.self.view_is)
+      ∙ ap (λ (k : TableState). operator_fields k.table c.args.line.now.text c.args.start (Instruction c.args.operation)) (sym c.self.view_is)
       ∙ ap (λ (n : ℕ). operator_fields c.self.inside.table c.args.line.now.text n (Instruction c.args.operation)) (sym c.from.ensures);
 }
 
@@ -22,7 +22,7 @@ returns-clause-takes c = λ map arguments.
     (c.instruction_steps-steps.ensures arguments
     ∙ ap (λ (n : ℕ). operator_change (firm_table c.self.inside.table) c.args.line.now.text n arguments (Instruction c.args.operation))
     c.from.ensures
-    ∙ ap (λ (k : Kept). operator_change (firm_table k.table) c.args.line.now.text c.args.start arguments (Instruction c.args.operation))
+    ∙ ap (λ (k : TableState). operator_change (firm_table k.table) c.args.line.now.text c.args.start arguments (Instruction c.args.operation))
     c.self.view_is)
     c.count.ensures.counts
 
@@ -34,6 +34,6 @@ returns-clause-tables c = λ map arguments.
     (c.instruction_steps-steps.ensures arguments
     ∙ ap (λ (n : ℕ). operator_change (firm_table c.self.inside.table) c.args.line.now.text n arguments (Instruction c.args.operation))
     c.from.ensures
-    ∙ ap (λ (k : Kept). operator_change (firm_table k.table) c.args.line.now.text c.args.start arguments (Instruction c.args.operation))
+    ∙ ap (λ (k : TableState). operator_change (firm_table k.table) c.args.line.now.text c.args.start arguments (Instruction c.args.operation))
     c.self.view_is)
     c.count.ensures.tables

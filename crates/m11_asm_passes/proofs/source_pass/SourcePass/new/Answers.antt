@@ -9,4 +9,4 @@ invariant_of-result c =
 pub returns-clause-stands : goal.returns-clause-stands
 returns-clause-stands c = λ map.
     new_stands c.in_ok-new.field-0.unfolder c.in_ok-new.field-0.pass c.in_ok-new.field-0.counting c.args.counting
-    c.in_ok-new.ensures.unfolder c.in_ok-new.ensures.pass c.in_ok-new.ensures.counting c.in_ok-new.field-0.put map
+    c.in_ok-new.ensures.unfolder c.in_ok-new.ensures.pass c.in_ok-new.ensures.counting c.in_ok-new.field-0.emission map

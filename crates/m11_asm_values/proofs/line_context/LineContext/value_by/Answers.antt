@@ -3,12 +3,12 @@ use Rattle.m11_unfold_arguments.specs.Expressions.{value_at}
 use Rattle.m11_asm_values.specs.LineContext.{Standpoint}
 use Rattle.m11_asm_rules.specs.Meanings.{known_at}
 use Rattle.m11_asm_rules.specs.declared.meanings.Context.TheVariants.{LocalOnly}
-use Rattle.m11_asm_table.specs.Asking.{Asked}
+use Rattle.m11_asm_table.specs.Asking.{LookupContext}
 use Rattle.m11_asm_values.proofs.line_context.LineContext.value_by.Goals as goal
 
 pub returns : goal.returns
 returns c =
     c.value_by_term.ensures
-    ∙ ap (λ (a : Asked). value_at (known_at a.map a.context a.table a.location) c.self.inside.line.now.text c.args.start)
+    ∙ ap (λ (a : LookupContext). value_at (known_at a.map a.context a.table a.location) c.self.inside.line.now.text c.args.start)
     c.new-names.ensures
     ∙ ap (λ (s : Standpoint). value_at (known_at s.map LocalOnly s.table s.location) s.line c.args.start) c.self.view_is

@@ -1,12 +1,12 @@
 use Rattle.m11_cpu_machine.specs.DoubleOperands.{change_exclusive}
-use Rattle.m11_cpu_machine.proofs.Dialogues.{bind_reads, bind_reads_aborts, put_result_at, writes_beside}
+use Rattle.m11_cpu_machine.proofs.Dialogues.{bind_reads, bind_reads_aborts, store_result_at, writes_beside}
 use Rattle.m11_cpu_machine.proofs.machine.Machine.change_exclusive.Goals as goal
 
 pub returns : goal.returns
 unfolding change_exclusive
 returns g c =
     bind_reads _ _ _ _ _ _ _ _ _ _ c.in_ok-value.ensures.does
-    (put_result_at _ _ _ _ _ _ _ _ c.exclusive_or-computed.ensures (writes_beside _ _ _ _ _ c.put_result.ensures))
+    (store_result_at _ _ _ _ _ _ _ _ c.exclusive_or-computed.ensures (writes_beside _ _ _ _ _ c.store_result.ensures))
 
 pub returns-in_err-value : goal.returns-in_err-value
 unfolding change_exclusive

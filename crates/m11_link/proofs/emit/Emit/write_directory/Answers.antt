@@ -9,4 +9,4 @@ returns-in_err-begin-clause-writes g c = goes_stopped _ _ _ _ _ _ _ _ (c.in_err-
 pub returns-clause-writes : goal.returns-clause-writes
 returns-clause-writes g c = written_then c.args.self.now c.begin.new.self _ _ _
     (directory_writes c.args.module_index c.args.entries.now) (with_directory c.args.module_index c.args.entries.now)
-    c.note_directory.new.self c.note_directory.result c.self.view_is (c.in_ok-begin.ensures.writes _) (c.note_directory.ensures _)
+    c.report_directory.new.self c.report_directory.result c.self.view_is (c.in_ok-begin.ensures.writes _) (c.report_directory.ensures _)

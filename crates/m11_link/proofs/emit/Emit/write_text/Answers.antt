@@ -9,4 +9,4 @@ returns-in_err-begin-clause-writes g c = goes_stopped _ _ _ _ _ _ _ _ (c.in_err-
 pub returns-clause-writes : goal.returns-clause-writes
 returns-clause-writes g c = written_then c.args.self.now c.begin.new.self _ _ _ (λ t. held_writes t.held)
     (with_text c.args.location.module_index c.args.location.section c.args.address c.args.bytes.now)
-    c.note_text.new.self c.note_text.result c.self.view_is (c.in_ok-begin.ensures.writes _) (c.note_text.ensures _ _)
+    c.hold_text.new.self c.hold_text.result c.self.view_is (c.in_ok-begin.ensures.writes _) (c.hold_text.ensures _ _)

@@ -10,12 +10,12 @@ pub loop-entry-preserved : goal.loop-entry-preserved
 loop-entry-preserved c =
     let entry = c.entry-item.result in
     let content = c.loop-entry.content.items in
-    let longer = ap length c.put_entry.ensures.bytes ∙ length-append content (entry_bytes entry) in (
+    let longer = ap length c.add_entry.ensures.bytes ∙ length-append content (entry_bytes entry) in (
       pieces_more entry_bytes (word_bytes 1) c.args.entries.now c.loop-entry.entry-index entry content _
-          c.loop-entry-test.true c.entry-item.is c.loop-entry.invariant.0 c.put_entry.ensures.bytes,
+          c.loop-entry-test.true c.entry-item.is c.loop-entry.invariant.0 c.add_entry.ensures.bytes,
       omega arith,
       fact_more EntryFits c.args.entries.now c.loop-entry.entry-index entry c.loop-entry-test.true c.entry-item.is
-          c.loop-entry.invariant.2 c.put_entry.ensures.fits,
+          c.loop-entry.invariant.2 c.add_entry.ensures.fits,
     )
 
 pub returns-clause-means : goal.returns-clause-means

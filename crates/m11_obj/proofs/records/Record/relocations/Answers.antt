@@ -5,8 +5,8 @@ use Rattle.m11_obj.proofs.RecordsAgain.{means}
 use Rattle.m11_obj.proofs.Pieces.{pieces_all, fact_all, pieces_more, piece_has_room, fact_more}
 use Rattle.m11_obj.proofs.records.Record.relocations.Goals as goal
 
-pub put_relocation-requires-clause-room : goal.put_relocation-requires-clause-room
-put_relocation-requires-clause-room c =
+pub add_relocation-requires-clause-room : goal.add_relocation-requires-clause-room
+add_relocation-requires-clause-room c =
     piece_has_room relocation_bytes c.args.relocations.now c.loop-relocation.relocation-index c.relocation-item.result
     c.loop-relocation.content.items (word_bytes 4) content_limit c.loop-relocation-test.true c.relocation-item.is
     c.loop-relocation.invariant.0 c.requires.room
@@ -16,9 +16,9 @@ loop-relocation-preserved c =
     let relocation = c.relocation-item.result in (
       pieces_more relocation_bytes (word_bytes 4) c.args.relocations.now c.loop-relocation.relocation-index relocation
           c.loop-relocation.content.items _ c.loop-relocation-test.true c.relocation-item.is
-          c.loop-relocation.invariant.0 c.put_relocation.ensures.bytes,
+          c.loop-relocation.invariant.0 c.add_relocation.ensures.bytes,
       fact_more RelocationFits c.args.relocations.now c.loop-relocation.relocation-index relocation
-          c.loop-relocation-test.true c.relocation-item.is c.loop-relocation.invariant.1 c.put_relocation.ensures.fits,
+          c.loop-relocation-test.true c.relocation-item.is c.loop-relocation.invariant.1 c.add_relocation.ensures.fits,
     )
 
 pub returns-clause-means : goal.returns-clause-means
