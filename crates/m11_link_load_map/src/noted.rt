@@ -64,7 +64,7 @@ fn add_entries(noted: &mut Vec<MapFact>, entries: &[GsdEntry]) -> Result<(), All
 }
 
 // Notes the section that an entry enters, if it enters one.
-#[tactic(auto, unfolding(crate::specs::MapFact::noted_of))]
+#[tactic(auto, unfolding(crate::specs::Noted::noted_of))]
 fn add_entry(noted: &mut Vec<MapFact>, entry: &GsdEntry) -> Result<(), AllocError>
     ensures { OnOk result (noted.new.items ≡ noted.old.items ++ noted_of (Entry entry.now ∷ [])) }
 {
