@@ -13,7 +13,9 @@ ghost use Rattle.m11_cpu_quick.specs.Forms.{IsForm};
 ghost use Rattle.m11_cpu_quick.specs.Kinds.{Describes};
 
 use crate::forms::Form;
-use m11_base_instructions::{Operand, Size};
+use m11_base_instructions::{
+    BranchOp, ConditionOp, DoubleOp, ExtendedOp, Op, Operand, RegisterOp, SingleOp, Size, operation,
+};
 
 /// A kind: an operation, and the forms of its operands, the source first.
 #[derive(Clone, Copy)]
@@ -126,28 +128,112 @@ pub(crate) enum Kind {
 
 impl Kind {
     /// The kind of a word.
-    #[tactic(auto, unfolding(m11_base_instructions::specs::OperationTables::doubles, m11_base_instructions::specs::OperationTables::extended))]
-    #[rattlefmt::skip]
     pub(crate) fn of(word: u16) -> Kind
         ensures { Describes result word }
     {
-        let source = Operand::of_bits(word / 0o100);
-        let destination = Operand::of_bits(word);
-        match word / 0o10000 {
-            0o01 => mov_kind(word, Form::of(Size::Word, source), Form::of(Size::Word, destination)),
-            0o02 => cmp_kind(word, Form::of(Size::Word, source), Form::of(Size::Word, destination)),
-            0o04 => bic_kind(word, Form::of(Size::Word, source), Form::of(Size::Word, destination)),
-            0o05 => bis_kind(word, Form::of(Size::Word, source), Form::of(Size::Word, destination)),
-            0o06 => add_kind(word, Form::of(Size::Word, source), Form::of(Size::Word, destination)),
-            0o11 => movb_kind(word, Form::of(Size::Byte, source), Form::of(Size::Byte, destination)),
-            0o12 => cmpb_kind(word, Form::of(Size::Byte, source), Form::of(Size::Byte, destination)),
-            0o14 => bicb_kind(word, Form::of(Size::Byte, source), Form::of(Size::Byte, destination)),
-            0o16 => sub_kind(word, Form::of(Size::Word, source), Form::of(Size::Word, destination)),
-            0o00 => low_kind(word, Form::of(Size::Word, destination)),
-            0o07 => extended_kind(word),
-            0o10 => high_kind(word, Form::of(Size::Byte, destination)),
+        match operation(word) {
+            Some(Op::Double(operation, size)) => double_kind(word, operation, size),
+            Some(Op::Single(operation, size)) => single_kind(word, operation, size),
+            Some(Op::Branch(operation)) => branch_kind(word, operation),
+            Some(Op::Register(RegisterOp::Jsr)) if word / 0o100 % 0o10 == 7 => {
+                call_kind(word, Form::of(Size::Word, Operand::of_bits(word)))
+            }
+            Some(Op::Rts) if word % 0o10 == 7 => Kind::Rts,
+            Some(Op::Sob) if word / 0o100 % 0o10 < 7 => Kind::Sob,
+            Some(Op::Extended(ExtendedOp::Mul)) if word / 0o100 % 0o10 < 6 => Kind::Mul,
+            Some(Op::Condition(operation)) => condition_kind(word, operation),
             _ => Kind::Rarer,
         }
+    }
+}
+
+fn double_kind(word: u16, operation: DoubleOp, size: Size) -> Kind
+    requires { operation_by_tables word ≡ Some (op.Double operation size) }
+    ensures { Describes result word }
+{
+    let source = Form::of(size, Operand::of_bits(word / 0o100));
+    let destination = Form::of(size, Operand::of_bits(word));
+    match (operation, size) {
+        (DoubleOp::Mov, Size::Word) => mov_kind(word, source, destination),
+        (DoubleOp::Mov, Size::Byte) => movb_kind(word, source, destination),
+        (DoubleOp::Cmp, Size::Word) => cmp_kind(word, source, destination),
+        (DoubleOp::Cmp, Size::Byte) => cmpb_kind(word, source, destination),
+        (DoubleOp::Bic, Size::Word) => bic_kind(word, source, destination),
+        (DoubleOp::Bic, Size::Byte) => bicb_kind(word, source, destination),
+        (DoubleOp::Bis, Size::Word) => bis_kind(word, source, destination),
+        (DoubleOp::Add, Size::Word) => add_kind(word, source, destination),
+        (DoubleOp::Sub, Size::Word) => sub_kind(word, source, destination),
+        _ => Kind::Rarer,
+    }
+}
+
+fn single_kind(word: u16, operation: SingleOp, size: Size) -> Kind
+    requires { operation_by_tables word ≡ Some (op.Single operation size) }
+    ensures { Describes result word }
+{
+    match (operation, size, Form::of(size, Operand::of_bits(word))) {
+        (SingleOp::Clr, Size::Word, Form::Register) => Kind::ClrRegister,
+        (SingleOp::Clr, Size::Word, Form::Index) => Kind::ClrIndex,
+        (SingleOp::Com, Size::Word, Form::Register) => Kind::ComRegister,
+        (SingleOp::Inc, Size::Word, Form::Register) => Kind::IncRegister,
+        (SingleOp::Inc, Size::Word, Form::Index) => Kind::IncIndex,
+        (SingleOp::Inc, Size::Word, Form::Absolute) => Kind::IncAbsolute,
+        (SingleOp::Dec, Size::Word, Form::Register) => Kind::DecRegister,
+        (SingleOp::Dec, Size::Word, Form::Deferred) => Kind::DecDeferred,
+        (SingleOp::Dec, Size::Word, Form::Index) => Kind::DecIndex,
+        (SingleOp::Neg, Size::Word, Form::Register) => Kind::NegRegister,
+        (SingleOp::Adc, Size::Word, Form::Register) => Kind::AdcRegister,
+        (SingleOp::Sbc, Size::Word, Form::Register) => Kind::SbcRegister,
+        (SingleOp::Tst, Size::Word, Form::Register) => Kind::TstRegister,
+        (SingleOp::Tst, Size::Word, Form::Index) => Kind::TstIndex,
+        (SingleOp::Ror, Size::Word, Form::Register) => Kind::RorRegister,
+        (SingleOp::Rol, Size::Word, Form::Register) => Kind::RolRegister,
+        (SingleOp::Asr, Size::Word, Form::Register) => Kind::AsrRegister,
+        (SingleOp::Asl, Size::Word, Form::Register) => Kind::AslRegister,
+        (SingleOp::Tst, Size::Byte, Form::Register) => Kind::TstbRegister,
+        (SingleOp::Tst, Size::Byte, Form::Deferred) => Kind::TstbDeferred,
+        (SingleOp::Tst, Size::Byte, Form::Increment) => Kind::TstbIncrement,
+        (SingleOp::Tst, Size::Byte, Form::Index) => Kind::TstbIndex,
+        (SingleOp::Jmp, Size::Word, Form::Deferred) => Kind::JmpDeferred,
+        (SingleOp::Jmp, Size::Word, Form::Index) => Kind::JmpIndex,
+        (SingleOp::Jmp, Size::Word, Form::Absolute) => Kind::JmpAbsolute,
+        (SingleOp::Jmp, Size::Word, Form::Relative) => Kind::JmpRelative,
+        _ => Kind::Rarer,
+    }
+}
+
+fn branch_kind(word: u16, operation: BranchOp) -> Kind
+    requires { operation_by_tables word ≡ Some (op.Branch operation) }
+    ensures { Describes result word }
+{
+    match operation {
+        BranchOp::Br => Kind::Br,
+        BranchOp::Bne => Kind::Bne,
+        BranchOp::Beq => Kind::Beq,
+        BranchOp::Bge => Kind::Bge,
+        BranchOp::Blt => Kind::Blt,
+        BranchOp::Bgt => Kind::Bgt,
+        BranchOp::Ble => Kind::Ble,
+        BranchOp::Bpl => Kind::Bpl,
+        BranchOp::Bmi => Kind::Bmi,
+        BranchOp::Bhi => Kind::Bhi,
+        BranchOp::Blos => Kind::Blos,
+        BranchOp::Bvc => Kind::Bvc,
+        BranchOp::Bvs => Kind::Bvs,
+        BranchOp::Bcc => Kind::Bcc,
+        BranchOp::Bcs => Kind::Bcs,
+    }
+}
+
+// The kind of an operation on condition codes: that of one on C alone.
+fn condition_kind(word: u16, operation: ConditionOp) -> Kind
+    requires { operation_by_tables word ≡ Some (op.Condition operation) }
+    ensures { Describes result word }
+{
+    match (operation, word % 0o20) {
+        (ConditionOp::Clear, 1) => Kind::Clc,
+        (ConditionOp::Set, 1) => Kind::Sec,
+        _ => Kind::Rarer,
     }
 }
 
@@ -302,301 +388,8 @@ fn sub_kind(word: u16, source: Form, destination: Form) -> Kind
     }
 }
 
-fn clr_kind(word: u16, operand: Form) -> Kind
-    requires operation { operation_by_tables word ≡ Some (op.Single Clr Word) }
-    requires operand { IsForm operand Word (operand_of (word % 0o100)) }
-    ensures { Describes result word }
-{
-    match operand {
-        Form::Register => Kind::ClrRegister,
-        Form::Index => Kind::ClrIndex,
-        _ => Kind::Rarer,
-    }
-}
-
-fn com_kind(word: u16, operand: Form) -> Kind
-    requires operation { operation_by_tables word ≡ Some (op.Single Com Word) }
-    requires operand { IsForm operand Word (operand_of (word % 0o100)) }
-    ensures { Describes result word }
-{
-    match operand {
-        Form::Register => Kind::ComRegister,
-        _ => Kind::Rarer,
-    }
-}
-
-fn inc_kind(word: u16, operand: Form) -> Kind
-    requires operation { operation_by_tables word ≡ Some (op.Single Inc Word) }
-    requires operand { IsForm operand Word (operand_of (word % 0o100)) }
-    ensures { Describes result word }
-{
-    match operand {
-        Form::Register => Kind::IncRegister,
-        Form::Index => Kind::IncIndex,
-        Form::Absolute => Kind::IncAbsolute,
-        _ => Kind::Rarer,
-    }
-}
-
-fn dec_kind(word: u16, operand: Form) -> Kind
-    requires operation { operation_by_tables word ≡ Some (op.Single Dec Word) }
-    requires operand { IsForm operand Word (operand_of (word % 0o100)) }
-    ensures { Describes result word }
-{
-    match operand {
-        Form::Register => Kind::DecRegister,
-        Form::Deferred => Kind::DecDeferred,
-        Form::Index => Kind::DecIndex,
-        _ => Kind::Rarer,
-    }
-}
-
-fn neg_kind(word: u16, operand: Form) -> Kind
-    requires operation { operation_by_tables word ≡ Some (op.Single Neg Word) }
-    requires operand { IsForm operand Word (operand_of (word % 0o100)) }
-    ensures { Describes result word }
-{
-    match operand {
-        Form::Register => Kind::NegRegister,
-        _ => Kind::Rarer,
-    }
-}
-
-fn adc_kind(word: u16, operand: Form) -> Kind
-    requires operation { operation_by_tables word ≡ Some (op.Single Adc Word) }
-    requires operand { IsForm operand Word (operand_of (word % 0o100)) }
-    ensures { Describes result word }
-{
-    match operand {
-        Form::Register => Kind::AdcRegister,
-        _ => Kind::Rarer,
-    }
-}
-
-fn sbc_kind(word: u16, operand: Form) -> Kind
-    requires operation { operation_by_tables word ≡ Some (op.Single Sbc Word) }
-    requires operand { IsForm operand Word (operand_of (word % 0o100)) }
-    ensures { Describes result word }
-{
-    match operand {
-        Form::Register => Kind::SbcRegister,
-        _ => Kind::Rarer,
-    }
-}
-
-fn tst_kind(word: u16, operand: Form) -> Kind
-    requires operation { operation_by_tables word ≡ Some (op.Single Tst Word) }
-    requires operand { IsForm operand Word (operand_of (word % 0o100)) }
-    ensures { Describes result word }
-{
-    match operand {
-        Form::Register => Kind::TstRegister,
-        Form::Index => Kind::TstIndex,
-        _ => Kind::Rarer,
-    }
-}
-
-fn ror_kind(word: u16, operand: Form) -> Kind
-    requires operation { operation_by_tables word ≡ Some (op.Single Ror Word) }
-    requires operand { IsForm operand Word (operand_of (word % 0o100)) }
-    ensures { Describes result word }
-{
-    match operand {
-        Form::Register => Kind::RorRegister,
-        _ => Kind::Rarer,
-    }
-}
-
-fn rol_kind(word: u16, operand: Form) -> Kind
-    requires operation { operation_by_tables word ≡ Some (op.Single Rol Word) }
-    requires operand { IsForm operand Word (operand_of (word % 0o100)) }
-    ensures { Describes result word }
-{
-    match operand {
-        Form::Register => Kind::RolRegister,
-        _ => Kind::Rarer,
-    }
-}
-
-fn asr_kind(word: u16, operand: Form) -> Kind
-    requires operation { operation_by_tables word ≡ Some (op.Single Asr Word) }
-    requires operand { IsForm operand Word (operand_of (word % 0o100)) }
-    ensures { Describes result word }
-{
-    match operand {
-        Form::Register => Kind::AsrRegister,
-        _ => Kind::Rarer,
-    }
-}
-
-fn asl_kind(word: u16, operand: Form) -> Kind
-    requires operation { operation_by_tables word ≡ Some (op.Single Asl Word) }
-    requires operand { IsForm operand Word (operand_of (word % 0o100)) }
-    ensures { Describes result word }
-{
-    match operand {
-        Form::Register => Kind::AslRegister,
-        _ => Kind::Rarer,
-    }
-}
-
-fn tstb_kind(word: u16, operand: Form) -> Kind
-    requires operation { operation_by_tables word ≡ Some (op.Single Tst Byte) }
-    requires operand { IsForm operand Byte (operand_of (word % 0o100)) }
-    ensures { Describes result word }
-{
-    match operand {
-        Form::Register => Kind::TstbRegister,
-        Form::Deferred => Kind::TstbDeferred,
-        Form::Increment => Kind::TstbIncrement,
-        Form::Index => Kind::TstbIndex,
-        _ => Kind::Rarer,
-    }
-}
-
-// The kind of a word 00xxxx.
-#[tactic(auto, unfolding(m11_base_instructions::specs::OperationTables::low))]
-fn low_kind(word: u16, operand: Form) -> Kind
-    requires digits { word / 0o10000 ≡ 0 }
-    requires operand { IsForm operand Word (operand_of (word % 0o100)) }
-    ensures { Describes result word }
-{
-    match word / 0o100 {
-        0o01 => jmp_kind(word, operand),
-        0o02 => last_kind(word),
-        0o04 => Kind::Br,
-        0o05 => Kind::Br,
-        0o06 => Kind::Br,
-        0o07 => Kind::Br,
-        0o10 => Kind::Bne,
-        0o11 => Kind::Bne,
-        0o12 => Kind::Bne,
-        0o13 => Kind::Bne,
-        0o14 => Kind::Beq,
-        0o15 => Kind::Beq,
-        0o16 => Kind::Beq,
-        0o17 => Kind::Beq,
-        0o20 => Kind::Bge,
-        0o21 => Kind::Bge,
-        0o22 => Kind::Bge,
-        0o23 => Kind::Bge,
-        0o24 => Kind::Blt,
-        0o25 => Kind::Blt,
-        0o26 => Kind::Blt,
-        0o27 => Kind::Blt,
-        0o30 => Kind::Bgt,
-        0o31 => Kind::Bgt,
-        0o32 => Kind::Bgt,
-        0o33 => Kind::Bgt,
-        0o34 => Kind::Ble,
-        0o35 => Kind::Ble,
-        0o36 => Kind::Ble,
-        0o37 => Kind::Ble,
-        0o47 => jsr_kind(word, operand),
-        0o50 => clr_kind(word, operand),
-        0o51 => com_kind(word, operand),
-        0o52 => inc_kind(word, operand),
-        0o53 => dec_kind(word, operand),
-        0o54 => neg_kind(word, operand),
-        0o55 => adc_kind(word, operand),
-        0o56 => sbc_kind(word, operand),
-        0o57 => tst_kind(word, operand),
-        0o60 => ror_kind(word, operand),
-        0o61 => rol_kind(word, operand),
-        0o62 => asr_kind(word, operand),
-        0o63 => asl_kind(word, operand),
-        _ => Kind::Rarer,
-    }
-}
-
-// The kind of a word 10xxxx.
-#[tactic(auto, unfolding(m11_base_instructions::specs::OperationTables::high))]
-fn high_kind(word: u16, operand: Form) -> Kind
-    requires digits { word / 0o10000 ≡ 8 }
-    requires operand { IsForm operand Byte (operand_of (word % 0o100)) }
-    ensures { Describes result word }
-{
-    match word / 0o100 % 0o100 {
-        0o00 => Kind::Bpl,
-        0o01 => Kind::Bpl,
-        0o02 => Kind::Bpl,
-        0o03 => Kind::Bpl,
-        0o04 => Kind::Bmi,
-        0o05 => Kind::Bmi,
-        0o06 => Kind::Bmi,
-        0o07 => Kind::Bmi,
-        0o10 => Kind::Bhi,
-        0o11 => Kind::Bhi,
-        0o12 => Kind::Bhi,
-        0o13 => Kind::Bhi,
-        0o14 => Kind::Blos,
-        0o15 => Kind::Blos,
-        0o16 => Kind::Blos,
-        0o17 => Kind::Blos,
-        0o20 => Kind::Bvc,
-        0o21 => Kind::Bvc,
-        0o22 => Kind::Bvc,
-        0o23 => Kind::Bvc,
-        0o24 => Kind::Bvs,
-        0o25 => Kind::Bvs,
-        0o26 => Kind::Bvs,
-        0o27 => Kind::Bvs,
-        0o30 => Kind::Bcc,
-        0o31 => Kind::Bcc,
-        0o32 => Kind::Bcc,
-        0o33 => Kind::Bcc,
-        0o34 => Kind::Bcs,
-        0o35 => Kind::Bcs,
-        0o36 => Kind::Bcs,
-        0o37 => Kind::Bcs,
-        0o57 => tstb_kind(word, operand),
-        _ => Kind::Rarer,
-    }
-}
-
-// The kind of a word 07xxxx: MUL or SOB, of a register that isn't the program counter.
-#[tactic(auto, unfolding(m11_base_instructions::specs::OperationTables::extended))]
-fn extended_kind(word: u16) -> Kind
-    requires { word / 0o10000 ≡ 7 }
-    ensures { Describes result word }
-{
-    match (word / 0o1000 % 0o10, word / 0o100 % 0o10) {
-        (_, 6 | 7) => Kind::Rarer,
-        (0, _) => Kind::Mul,
-        (7, _) => Kind::Sob,
-        _ => Kind::Rarer,
-    }
-}
-
-// The kind of a word 0002xx: RTS of the program counter, CLC or SEC.
-#[tactic(auto, unfolding(m11_base_instructions::specs::OperationTables::low, m11_base_instructions::specs::OperationTables::last))]
-fn last_kind(word: u16) -> Kind
-    ensures { Describes result word }
-{
-    match word {
-        0o207 => Kind::Rts,
-        0o241 => Kind::Clc,
-        0o261 => Kind::Sec,
-        _ => Kind::Rarer,
-    }
-}
-
-fn jmp_kind(word: u16, operand: Form) -> Kind
-    requires operation { operation_by_tables word ≡ Some (op.Single Jmp Word) }
-    requires operand { IsForm operand Word (operand_of (word % 0o100)) }
-    ensures { Describes result word }
-{
-    match operand {
-        Form::Deferred => Kind::JmpDeferred,
-        Form::Index => Kind::JmpIndex,
-        Form::Absolute => Kind::JmpAbsolute,
-        Form::Relative => Kind::JmpRelative,
-        _ => Kind::Rarer,
-    }
-}
-
 // The kind of a JSR of the program counter.
-fn jsr_kind(word: u16, operand: Form) -> Kind
+fn call_kind(word: u16, operand: Form) -> Kind
     requires operation { operation_by_tables word ≡ Some (op.Register Jsr) }
     requires counter { word / 0o100 % 0o10 ≡ 7 }
     requires operand { IsForm operand Word (operand_of (word % 0o100)) }
