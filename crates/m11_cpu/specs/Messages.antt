@@ -1,4 +1,4 @@
--- What a run reports at its stop: one line with the stop's name and the number of steps, and one with the
+-- What a run reports at its end: one line with the end's name and the number of steps, and one with the
 -- registers and the PSW, each as six octal digits. (This project's own. The registers and their names:
 -- PDP-11/40 Processor Handbook, "General registers".)
 use Rattle.std.specs.Prelude.{◌≡◌, ℕ, List, ◌++◌, slice_index_or, codes, Option, Result, Ok, Err}
@@ -12,9 +12,9 @@ use Rattle.m11_cpu_machine.specs.declared.stop.Stop.{Stop}
 use Rattle.m11_cpu.specs.declared.fault.SimFault.{SimFault}
 use Rattle.m11_cpu.specs.declared.fault.SimFault.TheVariants.{Load, Write, NoMemory}
 
--- the stop, and how many steps were begun
-unfoldable pub stop_line : Stop → ℕ → Bytes
-stop_line stop steps = stop_name stop ++ (codes " AFTER " ++ (decimal steps ++ codes " STEPS\n"))
+-- the name of an end, and how many steps were begun
+unfoldable pub end_line : Bytes → ℕ → Bytes
+end_line name steps = name ++ (codes " AFTER " ++ (decimal steps ++ codes " STEPS\n"))
 
 -- the digits of a register
 abbrev pub register_text : List ℕ → ℕ → Bytes
@@ -33,9 +33,13 @@ register_line registers psw =
     ++ (codes " PC " ++ (register_text registers 7
     ++ (codes " PSW " ++ (octal_text psw ++ codes "\n")))))))))))))))))
 
+-- the two lines of an end
+abbrev pub end_text : Bytes → ℕ → List ℕ → ℕ → Bytes
+end_text name steps registers psw = end_line name steps ++ register_line registers psw
+
 -- the messages of a stop
 abbrev pub messages_of : Stop → ℕ → List ℕ → ℕ → Bytes
-messages_of stop steps registers psw = stop_line stop steps ++ register_line registers psw
+messages_of stop steps registers psw = end_text (stop_name stop) steps registers psw
 
 -- the text was put whole; or a beginning of it before the sink failed
 abbrev pub PutsMessages : {A : Type 0} → Option Bytes → Option Bytes → ℕ → ℕ → Bytes → Result A SimFault → Type 0

@@ -13,8 +13,10 @@ mod runs;
 pub use m11_cpu_machine::{LastingStop, Machine, ProcessorStatus, Stop, Turn};
 pub use runs::run;
 
-// The stop is reported.
+// The end of a run is reported.
 mod messages;
+
+pub use messages::put_end;
 
 // The whole run, and what can go wrong with it.
 mod fault;

@@ -3,7 +3,7 @@
 ghost use Rattle.std.specs.Prelude.{◌≡◌, ◌≤◌, ◌+◌, ◌++◌, length};
 ghost use Rattle.arrayvec.specs.ArrayVec.{array_vec_len};
 ghost use Rattle.m11_base.specs.Octal.{octal_text};
-ghost use Rattle.m11_cpu.specs.Messages.{stop_line, register_line, messages_of, PutsMessages};
+ghost use Rattle.m11_cpu.specs.Messages.{end_line, end_text, register_line, messages_of, PutsMessages};
 
 use crate::fault::SimFault;
 use arrayvec::ArrayVec;
@@ -11,8 +11,8 @@ use itoa::Buffer;
 use m11_base::{Sink, octal6, put_all};
 use m11_cpu_machine::Stop;
 
-// A stop's line has at most 36 characters, of which the contracts know that they are at most 66, since `itoa` has room for a number of 40
-// digits. The line of registers has 91.
+// The line of an end has at most 36 characters, of which the contracts know that they are at most 66, since `itoa` has room for a number of
+// 40 digits. The line of registers has 91.
 type Messages = ArrayVec<u8, 160>;
 
 // There is room for what is added, so nothing of it is left out.
@@ -34,14 +34,15 @@ fn add_word(text: &mut Messages, label: &[u8], word: u16)
     add(text, &octal6(word));
 }
 
-// The line of a stop after n steps.
-#[tactic(auto, unfolding(crate::specs::Messages::stop_line))]
-fn stop_line(stop: Stop, steps: u32) -> Messages
-    ensures line { result.items ≡ stop_line stop steps }
+// The line of an end, by its name, after some steps.
+#[tactic(auto, unfolding(crate::specs::Messages::end_line))]
+fn end_line(name: &[u8], steps: u32) -> Messages
+    requires { length name.now ≤ 12 }
+    ensures line { result.items ≡ end_line name.now steps }
     ensures size { array_vec_len result ≤ 66 }
 {
     let mut text = Messages::new();
-    add(&mut text, stop.name().as_bytes());
+    add(&mut text, name);
     add(&mut text, b" AFTER ");
     add(&mut text, Buffer::new().format(steps).as_bytes());
     add(&mut text, b" STEPS\n");
@@ -67,8 +68,28 @@ fn add_registers(text: &mut Messages, registers: &[u16; 8], psw: u16)
     add(text, b"\n");
 }
 
-/// Puts the two lines of a stop, after n steps, with the registers from R0 to PC and the PSW. Write:
-/// the sink failed after a beginning of them.
+/// Puts the two lines of an end: its name, of at most 12 characters, with how many steps were begun, and the registers from R0 to PC with
+/// the PSW. `Write`: the sink failed after a beginning of them.
+pub fn put_end<M: Sink>(
+    messages: &mut M,
+    name: &[u8],
+    steps: u32,
+    registers: &[u16; 8],
+    psw: u16,
+) -> Result<(), SimFault>
+    requires { length name.now ≤ 12 }
+    ensures { PutsMessages (M.text messages.old) (M.text messages.new) (M.faults messages.old) (M.faults messages.new)
+        (end_text name.now steps registers.now psw) result }
+{
+    let mut text = end_line(name, steps);
+    add_registers(&mut text, registers, psw);
+    match put_all(messages, text.as_slice()) {
+        Ok(()) => Ok(()),
+        Err(_) => Err(SimFault::Write),
+    }
+}
+
+/// Puts the two lines of a stop. `Write`: the sink failed after a beginning of them.
 pub(crate) fn put_messages<M: Sink>(
     messages: &mut M,
     stop: Stop,
@@ -79,10 +100,5 @@ pub(crate) fn put_messages<M: Sink>(
     ensures { PutsMessages (M.text messages.old) (M.text messages.new) (M.faults messages.old) (M.faults messages.new)
         (messages_of stop steps registers.now psw) result }
 {
-    let mut text = stop_line(stop, steps);
-    add_registers(&mut text, registers, psw);
-    match put_all(messages, text.as_slice()) {
-        Ok(()) => Ok(()),
-        Err(_) => Err(SimFault::Write),
-    }
+    put_end(messages, stop.name().as_bytes(), steps, registers, psw)
 }

@@ -1,9 +1,8 @@
 -- What is said at the end of a run with lines: where it stopped as a run does, what a run says; at a place that was named, the same
 -- with a word of its own. (This project's own.)
-use Rattle.std.specs.Prelude.{ℕ, ◌++◌, codes}
-use Rattle.std.specs.Fmt.{decimal}
+use Rattle.std.specs.Prelude.{ℕ, codes}
 use Rattle.m11_base.specs.Devices.{Bytes}
-use Rattle.m11_cpu.specs.Messages.{register_line}
+use Rattle.m11_cpu.specs.Messages.{end_text}
 use Rattle.m11_cpu_machine.specs.Machine.{psw_in}
 use Rattle.m11_cpu_machine.specs.Stop.{stop_name}
 use Rattle.m11_cpu_machine.specs.declared.machine.Machine.{Machine}
@@ -15,10 +14,6 @@ abbrev pub ending_name : Ending → Bytes
 ending_name (Stopped stop) = stop_name stop
 ending_name Reached = codes "REACHED"
 
--- the end, and how many steps were begun
-unfoldable pub ending_line : Ending → ℕ → Bytes
-ending_line ending steps = ending_name ending ++ (codes " AFTER " ++ (decimal steps ++ codes " STEPS\n"))
-
 -- the two lines of an end
 abbrev pub ending_text : Ending → ℕ → Machine → Bytes
-ending_text ending steps m = ending_line ending steps ++ register_line m.registers (psw_in m)
+ending_text ending steps m = end_text (ending_name ending) steps m.registers (psw_in m)
