@@ -1,8 +1,8 @@
 -- What is noted of a live line is what the line says.
 use Rattle.std.proofs.Common.{◌≡◌, ◌∙◌, ◌<◌, ◌≤◌, ℕ, min, length, Bool, true, false, if◌then◌else◌, Option, Some, None, Result, Ok, Err, IfOk, refl, sym, ap, subst, arith}
 use Rattle.std.proofs.Math.Nat.{min-eq_left}
-use Rattle.m11_unfold_arguments.specs.Expressions as expressions
-use Rattle.m11_unfold_arguments.specs.Expressions.{has_expression, value_at}
+use Rattle.m11_scan_expressions.specs.Expressions as expressions
+use Rattle.m11_scan_expressions.specs.Expressions.{has_expression, value_at}
 use Rattle.m11_base.specs.Devices.{Bytes}
 use Rattle.m11_scan_statements.specs.Labels.{labels_end}
 use Rattle.m11_scan_statements.specs.Order.{BodyStands}
@@ -12,7 +12,7 @@ use Rattle.m11_scan_statements.specs.declared.bodies.Body.TheVariants as body
 use Rattle.m11_scan_statements.specs.declared.spans.Span.{Span}
 use Rattle.m11_unfold_rules.specs.Taking.{Live}
 use Rattle.m11_unfold_rules.specs.Unfolding.{UnfoldedLine}
-use Rattle.m11_scan_values.specs.Quantities.{Quantity}
+use Rattle.m11_scan_expressions.specs.Quantities.{Quantity}
 use Rattle.m11_asm_rules.specs.Changes.{changed}
 use Rattle.m11_asm_rules.specs.Exports.{transfer}
 use Rattle.m11_asm_rules.specs.Lines.{Assign, Action, Operate, NoAction, SetCounter, after_line, change_of, action, action_of, line_change, operating, stands}

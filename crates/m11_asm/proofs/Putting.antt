@@ -38,7 +38,7 @@ use Rattle.m11_scan.specs.Views.{bits_of}
 use Rattle.m11_asm_symbol_list.specs.Sections.{section_entries}
 use Rattle.m11_asm_symbol_list.specs.Symbols.{symbol_entries}
 use Rattle.m11_unfold_rules.specs.Taking.{Live}
-use Rattle.m11_scan_values.specs.Quantities.{Quantity}
+use Rattle.m11_scan_expressions.specs.Quantities.{Quantity}
 use Rattle.m11_base_writes.proofs.Writing.{gains_nothing, stops_after, stops_before, writes_then}
 use Rattle.m11_asm.specs.Program.{Program, all_names, program_kept, directory_facts_in}
 use Rattle.m11_asm.specs.Writing.{Writing, WritingStands, begun, counted, counted_last, is_some_line, most_counted, opened}

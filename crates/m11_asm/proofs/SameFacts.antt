@@ -4,7 +4,7 @@ use Rattle.std.specs.Prelude.{slice_index}
 use Rattle.m11_base.specs.Rad50.{Name}
 use Rattle.m11_asm_directory.specs.FirstPass.{DirectoryFacts}
 use Rattle.m11_asm_rules.specs.Tables.{Table}
-use Rattle.m11_scan_values.specs.Quantities.{Quantity}
+use Rattle.m11_scan_expressions.specs.Quantities.{Quantity}
 
 abbrev facts_of : Table → List ℕ → List Name → List Name → Option Name → Option Name → Option Quantity → DirectoryFacts
 facts_of table sizes referred weak title identification transfer = record {

@@ -20,7 +20,7 @@ use Rattle.m11_asm_lines.specs.Passes.{TableState}
 use Rattle.m11_asm_symbol_list.specs.Sections.{section_entries}
 use Rattle.m11_asm_symbol_list.specs.Symbols.{symbol_entries}
 use Rattle.m11_unfold_rules.specs.Unfolding.{UnfoldedLine}
-use Rattle.m11_scan_values.specs.Quantities.{Quantity}
+use Rattle.m11_scan_expressions.specs.Quantities.{Quantity}
 
 pub record Program : Type 0 where
   -- what its lines give their names in the end, and which names they mention

@@ -4,7 +4,7 @@ use Rattle.m11_asm_listing.specs.declared.symbol_table.SectionEntry.{SectionEntr
 use Rattle.m11_asm_listing.specs.declared.symbol_table.SymbolEntry.{SymbolEntry}
 use Rattle.m11_obj_texts.specs.Texts.{TextParts}
 use Rattle.m11_obj_texts.specs.declared.directory.DirectoryRow.{DirectoryRow}
-use Rattle.m11_scan_values.specs.Quantities.{Quantity}
+use Rattle.m11_scan_expressions.specs.Quantities.{Quantity}
 use Rattle.m11_asm_outputs.specs.Object.{AllFit, IsOpenAfter, closed_records, head_contents}
 use Rattle.m11_asm_passes.specs.Lines.{NumberedLine}
 use Rattle.m11_asm.specs.Program.{Program}

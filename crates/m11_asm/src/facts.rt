@@ -14,7 +14,7 @@ ghost use Rattle.m11_asm_rules.specs.Sources.{last_or};
 ghost use Rattle.m11_asm_rules.specs.Tables.{Table as LineTable};
 ghost use Rattle.m11_asm_table.specs.Alike.{Alike};
 ghost use Rattle.m11_unfold_rules.specs.Unfolding.{UnfoldedLine};
-ghost use Rattle.m11_scan_values.specs.Quantities.{quantity};
+ghost use Rattle.m11_scan_expressions.specs.Quantities.{quantity};
 
 use indexmap::IndexSet;
 use m11_asm_directives::{ident, listed_names, title, transfer};
@@ -24,8 +24,8 @@ use m11_asm_rules::{Directive, Operator};
 use m11_asm_table::{Map, Table};
 use m11_base::Name;
 use m11_scan::Line;
+use m11_scan_expressions::Value;
 use m11_scan_statements::labels_and_body_stand_in_order;
-use m11_scan_values::Value;
 use std::alloc::{AllocError, Global};
 use std::marker::Model;
 
@@ -41,7 +41,7 @@ pub struct Facts {
 impl Model for Facts {
     ghost use Rattle.std.specs.Prelude.{option_map};
     ghost use Rattle.m11_asm.specs.Facts as spec;
-    ghost use Rattle.m11_scan_values.specs.Quantities.{quantity};
+    ghost use Rattle.m11_scan_expressions.specs.Quantities.{quantity};
 
     ghost Value = { spec.Facts };
 

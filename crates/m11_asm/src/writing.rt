@@ -23,7 +23,7 @@ ghost use Rattle.m11_asm.specs.Program.{Program, program_kept, directory_facts_i
 ghost use Rattle.m11_asm.specs.Writing.{WritingStands, begun, counted, counted_last, most_counted, opened};
 ghost use Rattle.m11_asm.specs.Written.{added_writes, closing_writes, flagged_count, head_before, last_location, last_writes, line_writes, message_writes, pieces_in};
 ghost use Rattle.m11_unfold_rules.specs.Unfolding.{UnfoldedLine};
-ghost use Rattle.m11_scan_values.specs.Quantities.{quantity};
+ghost use Rattle.m11_scan_expressions.specs.Quantities.{quantity};
 ghost use Rattle.m11_base_writes.specs.Outputs.{Output, optional_output, output_of};
 
 use crate::done::AsmDone;
@@ -44,7 +44,7 @@ use m11_asm_symbol_list::{section_entries, symbol_entries};
 use m11_base::Sink;
 use m11_obj_texts::{DirectoryRow, OpenText, PieceContent};
 use m11_scan::ErrorFlags;
-use m11_scan_values::Value;
+use m11_scan_expressions::Value;
 use std::alloc::{AllocError, Global};
 use std::marker::Model;
 use std::mem;
@@ -71,7 +71,7 @@ pub struct Writing {
 impl Model for Writing {
     ghost use Rattle.std.specs.Prelude.{option_map};
     ghost use Rattle.m11_asm.specs.Writing as spec;
-    ghost use Rattle.m11_scan_values.specs.Quantities.{quantity};
+    ghost use Rattle.m11_scan_expressions.specs.Quantities.{quantity};
 
     ghost Value = { spec.Writing };
 

@@ -7,7 +7,7 @@ use Rattle.std.proofs.lemmas.List.{drop-drop, drop_all, length-drop}
 use Rattle.m11_unfold_arguments.specs.Actuals.{ActualTexts, actuals_from, followed_by, given_as, given_by, unwanted, wanted_by}
 use Rattle.m11_unfold_arguments.specs.Conditions.{text_of}
 use Rattle.m11_unfold_arguments.specs.Digits.{digits_of}
-use Rattle.m11_unfold_arguments.specs.Expressions.{KnownSymbols, number_at}
+use Rattle.m11_scan_expressions.specs.Expressions.{KnownSymbols, number_at}
 use Rattle.m11_unfold_arguments.specs.Macros.{NextListed, formal_name, formals_after, formals_by, formals_within, listed_at, listed_by, listed_named}
 use Rattle.m11_unfold_arguments.specs.Macros.NextListed.{Ending, Formally}
 use Rattle.m11_base.specs.Devices.{Bytes}
@@ -19,14 +19,13 @@ use Rattle.m11_scan.specs.Cutting.{Lexeme, text_between, tokens_from}
 use Rattle.m11_scan.specs.Cuts.{AreOrdered}
 use Rattle.m11_scan.specs.Ends.{column_after, sort_in}
 use Rattle.m11_scan.specs.Expressions.{begin, taken}
-use Rattle.m11_scan.specs.ErrorFlags.{flag_I}
+use Rattle.m11_scan.specs.ErrorFlags.{flag_I, flag_if}
 use Rattle.m11_scan.specs.Numbers.{base_of}
 use Rattle.m11_scan.specs.Skipped.{has_skipped}
 use Rattle.m11_scan.specs.Texts.{bracketed, is_bare, separator_length}
 use Rattle.m11_scan_statements.specs.Actuals.{actual_in, after_blanks, bare_actual, bracketed_actual, digits_actual, next_actual, separator_at}
 use Rattle.m11_scan_statements.specs.Formals.{follows_question, formal_in, named, next_formal}
 use Rattle.m11_scan_statements.specs.Listed.{is_name}
-use Rattle.m11_scan_statements.specs.Statements.{flag_if}
 use Rattle.m11_scan_statements.specs.declared.actuals.Actual.{Actual}
 use Rattle.m11_scan_statements.specs.declared.actuals.ActualKind.{ActualKind}
 use Rattle.m11_scan_statements.specs.declared.actuals.ActualKind.TheVariants.{Bare, Bracketed, Digits}

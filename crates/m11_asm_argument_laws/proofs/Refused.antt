@@ -5,23 +5,22 @@ use Rattle.std.specs.Int.RustNames.{bit_or}
 use Rattle.std.proofs.lemmas.Bool.{false≢true}
 use Rattle.m11_unfold_arguments.specs.Conditions.{ConditionResult, actual_flags, asked, asked_by, compared, condition, defined, first_by, matched, named, named_by, numeric, refused, same, second_by, text_of}
 use Rattle.m11_unfold_arguments.specs.Definedness.{Tested, after_joint, after_symbol, joined_to, joining, names_at, names_in, tested}
-use Rattle.m11_unfold_arguments.specs.Expressions.{KnownSymbols, has_expression, number_at, number_flags, symbols_at}
-use Rattle.m11_unfold_arguments.specs.LeftOvers.{has_token, left_over, start_of}
-use Rattle.m11_unfold_arguments.specs.Remarks.{remarks_of}
+use Rattle.m11_scan_expressions.specs.Expressions.{KnownSymbols, has_expression, number_at, number_flags, symbols_at}
+use Rattle.m11_scan_expressions.specs.LeftOvers.{has_token, left_over, start_of}
+use Rattle.m11_scan_expressions.specs.Remarks.{remarks_of}
 use Rattle.m11_unfold_arguments.specs.Repeats.{remarks, rept_count, rounds_of}
 use Rattle.m11_unfold_arguments.specs.declared.definedness.Joint.{Joint}
 use Rattle.m11_unfold_arguments.specs.declared.definedness.SoFar.{SoFar}
 use Rattle.m11_base.specs.Devices.{Bytes}
 use Rattle.m11_scan.specs.Cutting.{Lexeme, tokens_from}
 use Rattle.m11_scan.specs.Ends.{expression_end}
-use Rattle.m11_scan.specs.ErrorFlags.{flag_A, flag_I, flag_Q}
+use Rattle.m11_scan.specs.ErrorFlags.{flag_A, flag_I, flag_Q, flag_if}
 use Rattle.m11_scan.specs.Skipped.{skipped_between}
 use Rattle.m11_scan.specs.declared.conditions.Condition.{Condition}
 use Rattle.m11_scan.specs.declared.conditions.Condition.TheVariants.{Zero, NotZero, Positive, Negative, NotNegative, NotPositive, Defined, NotDefined, Identical, Different}
 use Rattle.m11_scan_statements.specs.Actuals.{next_actual, separator_at}
-use Rattle.m11_scan_statements.specs.Statements.{flag_if}
 use Rattle.m11_scan_statements.specs.declared.actuals.Actual.{Actual}
-use Rattle.m11_scan_values.specs.declared.names.Symbol.{Symbol}
+use Rattle.m11_scan_expressions.specs.declared.names.Symbol.{Symbol}
 use Rattle.m11_asm_argument_laws.specs.Refusals.{HasBadName, HasFlag, IsSingleText, IsRefused, LacksArgument, asks_names, asks_number, asks_texts}
 use Rattle.m11_asm_argument_laws.specs.Refusals.HasBadName.{LaterName, MissingName, NoName}
 use Rattle.m11_asm_argument_laws.specs.Refusals.IsRefused.{Lacking, Unknown, Unnamed}

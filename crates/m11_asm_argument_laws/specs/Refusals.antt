@@ -4,7 +4,7 @@ use Rattle.std.specs.Prelude.{◌≡◌, ℕ, Bool, true, false, List, [], ◌�
 use Rattle.std.specs.Int.RustNames.{bit_and}
 use Rattle.m11_unfold_arguments.specs.Conditions.{condition_of}
 use Rattle.m11_unfold_arguments.specs.Definedness.{joining}
-use Rattle.m11_unfold_arguments.specs.Expressions.{has_expression}
+use Rattle.m11_scan_expressions.specs.Expressions.{has_expression}
 use Rattle.m11_unfold_arguments.specs.declared.definedness.Joint.{Joint}
 use Rattle.m11_base.specs.Devices.{Bytes}
 use Rattle.m11_scan.specs.Cutting.{Lexeme, tokens_from}
@@ -12,8 +12,8 @@ use Rattle.m11_scan.specs.declared.conditions.Condition.{Condition}
 use Rattle.m11_scan.specs.declared.conditions.Condition.TheVariants.{Zero, NotZero, Positive, Negative, NotNegative, NotPositive, Defined, NotDefined, Identical, Different}
 use Rattle.m11_scan_statements.specs.Actuals.{next_actual, separator_at}
 use Rattle.m11_scan_statements.specs.declared.actuals.Actual.{Actual}
-use Rattle.m11_scan_values.specs.declared.names.Symbol.{Symbol}
-use Rattle.m11_scan_values.specs.Terms.{symbol_in}
+use Rattle.m11_scan_expressions.specs.declared.names.Symbol.{Symbol}
+use Rattle.m11_scan_expressions.specs.Terms.{symbol_in}
 
 -- a set of flags has one of them
 abbrev pub HasFlag : ℕ → ℕ → Type 0

@@ -4,7 +4,7 @@
 ghost use Rattle.std.specs.Prelude.{◌≡◌, ℕ, false};
 ghost use Rattle.m11_asm_argument_laws.specs.Refusals.{HasFlag, IsRefused};
 ghost use Rattle.m11_unfold_arguments.specs.Conditions.{condition};
-ghost use Rattle.m11_unfold_arguments.specs.Expressions.{KnownSymbols, has_expression};
+ghost use Rattle.m11_scan_expressions.specs.Expressions.{KnownSymbols, has_expression};
 ghost use Rattle.m11_unfold_arguments.specs.Repeats.{remarks, rept_count};
 ghost use Rattle.m11_base.specs.Devices.{Bytes};
 ghost use Rattle.m11_scan.specs.ErrorFlags.{flag_A};

@@ -4,7 +4,7 @@
 ghost use Rattle.std.specs.Prelude.{◌≡◌, ◌+◌, ◌≤◌, ℕ, length, take};
 ghost use Rattle.m11_asm_argument_laws.specs.Lists.{AreActuals, AreFormals, AreNames};
 ghost use Rattle.m11_unfold_arguments.specs.Actuals.{ActualTexts, actuals_from};
-ghost use Rattle.m11_unfold_arguments.specs.Expressions.{KnownSymbols};
+ghost use Rattle.m11_scan_expressions.specs.Expressions.{KnownSymbols};
 ghost use Rattle.m11_unfold_arguments.specs.Macros.{formals_after};
 ghost use Rattle.m11_base.specs.Devices.{Bytes};
 ghost use Rattle.m11_scan_lines.specs.Line.{line_limit};

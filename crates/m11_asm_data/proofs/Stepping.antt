@@ -1,14 +1,14 @@
 -- Elements of lists are put one after the other.
 use Rattle.std.proofs.Common.{◌≡◌, ℕ, List, ◌∷◌, Bool, true, false, sym, ap, ◌∙◌}
 use Rattle.std.specs.Prelude.{if◌then◌else◌}
-use Rattle.m11_unfold_arguments.specs.Expressions.{KnownSymbols, has_expression, value_at}
+use Rattle.m11_scan_expressions.specs.Expressions.{KnownSymbols, has_expression, value_at}
 use Rattle.m11_asm_values.proofs.Joining.{followed_joins}
 use Rattle.m11_asm_rules.specs.Contents.{Emission, byte, element_value, followed_by, further, word}
 use Rattle.m11_asm_rules.specs.Meanings.{Map, known_at}
 use Rattle.m11_asm_rules.specs.Storage.{bytes_from, words_from}
 use Rattle.m11_asm_rules.specs.Tables.{Table}
 use Rattle.m11_asm_rules.specs.declared.meanings.Context.TheVariants.{MayBeGlobal}
-use Rattle.m11_scan_values.specs.Quantities.{Quantity, absolute}
+use Rattle.m11_scan_expressions.specs.Quantities.{Quantity, absolute}
 
 -- one thing, and then others
 pub step_on : (done new first rest more : Emission) → new ≡ followed_by done first → rest ≡ more

@@ -4,17 +4,16 @@
 ghost use Rattle.std.specs.Prelude.{◌≡◌, ◌≤◌, ◌∷◌, length, List};
 ghost use Rattle.std.specs.Int.RustNames.{bit_or};
 ghost use Rattle.m11_asm_rules.specs.Strings as spec;
-ghost use Rattle.m11_scan.specs.ErrorFlags.{flag_A};
+ghost use Rattle.m11_scan.specs.ErrorFlags.{flag_A, flag_if};
 ghost use Rattle.m11_scan.specs.Views.{bits_of};
 ghost use Rattle.m11_scan_statements.specs.Parts.{part_flags};
-ghost use Rattle.m11_scan_statements.specs.Statements.{flag_if};
 ghost use Rattle.m11_scan_statements.specs.declared.parts.Part.{Part};
 ghost use Rattle.m11_asm_data.specs.Seen.{parts_seen};
 
 use crate::parts::Parts;
 use m11_scan::{ErrorFlags, Line};
+use m11_scan_expressions::{column_in, left_over, skip_flags};
 use m11_scan_statements::{Part, PartKind};
-use m11_unfold_arguments::{column_in, left_over, skip_flags};
 
 // The flags of a text: A where it has no part; those of its parts; and those of what is left over.
 pub(crate) fn text_flags(line: &Line, start: usize, parts: &Parts) -> ErrorFlags

@@ -6,8 +6,8 @@ ghost use Rattle.m11_asm_data.specs.Seen.{parts_seen};
 
 use arrayvec::ArrayVec;
 use m11_scan::Line;
+use m11_scan_expressions::column_in;
 use m11_scan_statements::{Part, PartKind, next_part};
-use m11_unfold_arguments::column_in;
 
 /// The most parts of a line: each has two characters or more, but for the last one, which may lack its end.
 pub const PART_LIMIT: usize = 66;

@@ -6,15 +6,15 @@ ghost use Rattle.m11_asm_rules.specs.Contents.{followed_by};
 ghost use Rattle.m11_asm_rules.specs.Strings as spec;
 ghost use Rattle.m11_scan.specs.Views.{bits_of};
 ghost use Rattle.m11_asm_data.specs.Packing.{codes_of, packing};
-ghost use Rattle.m11_scan_values.specs.Quantities.{quantity};
+ghost use Rattle.m11_scan_expressions.specs.Quantities.{quantity};
 
 use crate::flags::text_flags;
 use crate::packing::Waiting;
 use crate::parts::{parts_at, text_size};
 use m11_asm_values::{Emission, LineContext};
 use m11_scan::{ErrorFlags, Line};
+use m11_scan_expressions::Value;
 use m11_scan_statements::{Part, PartKind};
-use m11_scan_values::Value;
 use std::alloc::AllocError;
 
 /// The size of a `.RAD50` in bytes: a word for three characters.

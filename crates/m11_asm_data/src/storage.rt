@@ -2,21 +2,20 @@
 //! directive", ".BYTE directive", ".LIMIT directive" and ".BLKB and .BLKW directives".)
 
 ghost use Rattle.std.specs.Prelude.{◌≡◌, ◌≤◌, ℕ, ◌∷◌, length, List, IfOk};
-ghost use Rattle.m11_unfold_arguments.specs.Expressions.{has_expression, number_flags, value_at};
+ghost use Rattle.m11_scan_expressions.specs.Expressions.{has_expression, number_flags, value_at};
 ghost use Rattle.m11_asm_rules.specs.Contents.{element_value, followed_by};
 ghost use Rattle.m11_asm_rules.specs.Elements as elements;
 ghost use Rattle.m11_asm_rules.specs.Meanings.{firm_known, known_at};
 ghost use Rattle.m11_asm_rules.specs.Storage as spec;
 ghost use Rattle.m11_asm_rules.specs.declared.meanings.Context.TheVariants.{MayBeGlobal};
 ghost use Rattle.m11_scan.specs.Views.{bits_of};
-ghost use Rattle.m11_scan_values.specs.Quantities.{quantity};
+ghost use Rattle.m11_scan_expressions.specs.Quantities.{quantity};
 
 use m11_asm_operands::elements_at;
 use m11_asm_table::{FirmNames, Table};
 use m11_asm_values::{Emission, LineContext, emit_byte, emit_word, further};
 use m11_scan::{ErrorFlags, Line, expression_end};
-use m11_scan_values::Value;
-use m11_unfold_arguments::{has_expression, left_over, skip_flags, value_at};
+use m11_scan_expressions::{Value, has_expression, left_over, skip_flags, value_at};
 use std::alloc::AllocError;
 
 /// The size of a `.LIMIT` in bytes.

@@ -1,8 +1,8 @@
 -- What names say of an expression, by what they were asked.
 use Rattle.std.proofs.Common.{◌≡◌, ℕ, ap, ◌∙◌}
 use Rattle.m11_base.specs.Devices.{Bytes}
-use Rattle.m11_scan_values.specs.Quantities.{Quantity}
-use Rattle.m11_unfold_arguments.specs.Expressions.{known_by, value_at}
+use Rattle.m11_scan_expressions.specs.Quantities.{Quantity}
+use Rattle.m11_scan_expressions.specs.Expressions.{known_by, value_at}
 use Rattle.m11_asm_rules.specs.Meanings.{Map, empty_map, firm_known, known_at, stands_for}
 use Rattle.m11_asm_rules.specs.declared.meanings.Context.{Context}
 use Rattle.m11_asm_rules.specs.declared.meanings.Context.TheVariants.{LocalOnly}

@@ -2,7 +2,7 @@
 use Rattle.std.proofs.Common.{◌≡◌, ℕ, List, [], ◌∷◌, Option, sym, ◌∙◌}
 use Rattle.std.specs.Int.Bits.{or_zero_l, or_zero_r}
 use Rattle.std.specs.Int.RustNames.{bit_or}
-use Rattle.m11_unfold_arguments.proofs.Joining.{or_joins}
+use Rattle.m11_scan_expressions.proofs.Joining.{or_joins}
 use Rattle.m11_base.specs.Devices.{Bytes}
 use Rattle.m11_asm_rules.specs.Psects.{attribute_named, differing, differing_flags}
 use Rattle.m11_asm_rules.specs.declared.sections.Section.{Section}

@@ -1,9 +1,9 @@
 //! `name=e`, `name==e` and `.=e`. (MACRO-11 Language Reference Manual, "Direct assignment statements" and "Current location counter".)
 
 ghost use Rattle.std.specs.Prelude.{◌≡◌, ◌≤◌, IfSome, length};
-ghost use Rattle.m11_unfold_arguments.specs.Expressions.{IsAlone, value_at};
+ghost use Rattle.m11_scan_expressions.specs.Expressions.{IsAlone, value_at};
 ghost use Rattle.m11_scan.specs.Views.{bits_of};
-ghost use Rattle.m11_scan_values.specs.Quantities.{quantity};
+ghost use Rattle.m11_scan_expressions.specs.Quantities.{quantity};
 ghost use Rattle.m11_asm_rules.specs.Assigning as spec;
 ghost use Rattle.m11_asm_rules.specs.Meanings.{known_at};
 ghost use Rattle.m11_asm_rules.specs.Tables.{location};
@@ -15,9 +15,8 @@ use m11_asm_rules::{Context, Definition, Key, Standing};
 use m11_asm_table::{FirmNames, Map, NamesAt, Table, register_flags};
 use m11_base::Name;
 use m11_scan::{ErrorFlags, Line, Token, expression_end, read_name};
+use m11_scan_expressions::{Value, has_token, single_term, value_at, value_by};
 use m11_scan_statements::Span;
-use m11_scan_values::Value;
-use m11_unfold_arguments::{has_token, single_term, value_at, value_by};
 
 /// The name that an assignment assigns its value to, if it is one.
 pub fn target(line: &Line, name: Span) -> Option<Name>

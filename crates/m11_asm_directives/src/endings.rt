@@ -3,15 +3,14 @@
 ghost use Rattle.std.specs.Prelude.{◌≡◌, ◌≤◌, length, option_map};
 ghost use Rattle.std.specs.Int.RustNames.{bit_and};
 ghost use Rattle.m11_scan.specs.Views.{bits_of};
-ghost use Rattle.m11_scan_values.specs.Quantities.{quantity};
+ghost use Rattle.m11_scan_expressions.specs.Quantities.{quantity};
 ghost use Rattle.m11_asm_rules.specs.Exports as spec;
 
 use crate::assigning::known_value;
 use bitflags::Flags;
 use m11_asm_table::{Map, Table, register_flags};
 use m11_scan::{ErrorFlags, Line, expression_end};
-use m11_scan_values::Value;
-use m11_unfold_arguments::{has_expression, left_over, skip_flags};
+use m11_scan_expressions::{Value, has_expression, left_over, skip_flags};
 
 /// The address where the program begins, if a `.END` has one.
 pub fn transfer(map: &Map<'_>, table: &Table, line: &Line, start: usize) -> Option<Value>

@@ -14,8 +14,8 @@ use arrayvec::ArrayVec;
 use m11_asm_operands::names_at;
 use m11_base::Name;
 use m11_scan::{ErrorFlags, LINE_LIMIT, Line, read_name};
+use m11_scan_expressions::{left_over, skip_flags};
 use m11_scan_statements::Span;
-use m11_unfold_arguments::{left_over, skip_flags};
 
 /// The most names of a list: it has no more than its line has characters, and one.
 pub const NAME_LIMIT: usize = LINE_LIMIT + 1;

@@ -2,7 +2,7 @@
 
 ghost use Rattle.std.specs.Prelude.{◌≡◌, ◌≤◌, length};
 ghost use Rattle.std.specs.Int.RustNames.{bit_or};
-ghost use Rattle.m11_unfold_arguments.specs.LeftOvers.{rest_flags};
+ghost use Rattle.m11_scan_expressions.specs.LeftOvers.{rest_flags};
 ghost use Rattle.m11_scan.specs.ErrorFlags.{flag_A};
 ghost use Rattle.m11_scan.specs.Views.{bits_of};
 ghost use Rattle.m11_asm_rules.specs.Exports as spec;
@@ -11,8 +11,8 @@ ghost use Rattle.m11_asm_directives.specs.Codes.{coded, coded_at};
 
 use m11_base::{Name, Rad50};
 use m11_scan::{ErrorFlags, Line};
+use m11_scan_expressions::{left_over, rest_flags, skip_flags};
 use m11_scan_statements::{Part, PartKind, next_part};
-use m11_unfold_arguments::{left_over, rest_flags, skip_flags};
 
 /// The name that a `.IDENT` gives the module: the first six characters of its text, where one outside RADIX-50 counts as a blank.
 pub fn ident(line: &Line, start: usize) -> Option<Name>

@@ -16,8 +16,8 @@ use crate::exports::bad_flags;
 use m11_asm_operands::names_at;
 use m11_asm_rules::Modes;
 use m11_scan::{ErrorFlags, Line, six_characters};
+use m11_scan_expressions::{has_token, left_over, rest_flags, skip_flags};
 use m11_scan_statements::Span;
-use m11_unfold_arguments::{has_token, left_over, rest_flags, skip_flags};
 
 // All but ME do nothing.
 const LISTING_WORDS: [[u8; 6]; 15] = [

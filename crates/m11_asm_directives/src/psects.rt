@@ -18,10 +18,9 @@ use m11_asm_rules::Section;
 use m11_asm_table::Table;
 use m11_base::blank_name;
 use m11_scan::{ErrorFlags, Line, Sort, next_token};
+use m11_scan_expressions::{column_in, flags_before, left_over, rest_flags, skip_flags};
 use m11_scan_statements::Span;
-use m11_unfold_arguments::{
-    NameAt, after_comma, column_in, flags_before, left_over, name_at, rest_flags, skip_flags,
-};
+use m11_unfold_arguments::{NameAt, after_comma, name_at};
 
 // The attributes of sections.
 const OF_ABSOLUTE: u8 = 0o104;

@@ -4,7 +4,7 @@ ghost use Rattle.std.specs.Prelude.{◌≡◌, ◌≤◌, length};
 ghost use Rattle.m11_scan.specs.Numbers.{number_of};
 ghost use Rattle.m11_scan.specs.Views.{bits_of};
 ghost use Rattle.m11_scan.specs.declared.radix.Radix.TheVariants.{Decimal};
-ghost use Rattle.m11_scan_values.specs.Terms.{front_of};
+ghost use Rattle.m11_scan_expressions.specs.Terms.{front_of};
 ghost use Rattle.m11_asm_rules.specs.Control as spec;
 ghost use Rattle.m11_asm_directives.specs.Changes.{change_seen};
 ghost use Rattle.m11_asm_directives.specs.Numbers.{is_large};
@@ -13,7 +13,7 @@ use crate::changes::Change;
 use bitflags::Flags;
 use m11_asm_rules::Modes;
 use m11_scan::{ErrorFlags, Line, Radix, Sort, next_token, read_number};
-use m11_unfold_arguments::{flags_before, left_over, rest_flags};
+use m11_scan_expressions::{flags_before, left_over, rest_flags};
 
 /// The radix that a `.RADIX` sets: that of its decimal digits, with a point or without, or 8 where nothing stands. A bad argument
 /// changes nothing.

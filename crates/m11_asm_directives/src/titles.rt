@@ -6,7 +6,7 @@ ghost use Rattle.m11_asm_rules.specs.Exports as spec;
 
 use m11_base::Name;
 use m11_scan::{ErrorFlags, Line, Sort, next_token, read_name};
-use m11_unfold_arguments::{flags_before, rest_flags};
+use m11_scan_expressions::{flags_before, rest_flags};
 
 /// The name that a `.TITLE` gives the module, if it is one. Any text may follow it.
 pub fn title(line: &Line, start: usize) -> Option<Name>

@@ -21,7 +21,7 @@ use Rattle.m11_asm_directory.specs.Names.{has_name, ordered}
 use Rattle.m11_asm_directory.specs.References.{is_open, is_open_by, reference_row, reference_rows, references}
 use Rattle.m11_asm_directory.specs.Rows.{all_section_rows, directory_rows, identification_rows, module_row, references_under, rows_under, section_row, section_rows}
 use Rattle.m11_asm_directory.specs.Transfers.{transfer_row}
-use Rattle.m11_scan_values.specs.Quantities.{Quantity}
+use Rattle.m11_scan_expressions.specs.Quantities.{Quantity}
 use Rattle.m11_asm_directory.proofs.InOrder.{ordered_same}
 
 -- ---- functions that agree

@@ -13,8 +13,8 @@ use Rattle.m11_asm_rules.specs.declared.definitions.Standing.{Standing}
 use Rattle.m11_asm_rules.specs.declared.definitions.Standing.TheVariants.{Known, Unknown}
 use Rattle.m11_asm_rules.specs.Definitions.{last_definition}
 use Rattle.m11_asm_rules.specs.Tables.{Table}
-use Rattle.m11_scan_values.specs.declared.kinds.Kind.{Kind}
-use Rattle.m11_scan_values.specs.declared.kinds.Kind.TheVariants as kind
+use Rattle.m11_scan_expressions.specs.declared.kinds.Kind.{Kind}
+use Rattle.m11_scan_expressions.specs.declared.kinds.Kind.TheVariants as kind
 
 -- a value of the kind lies in the section of the name: an absolute one in the absolute section
 abbrev pub lies_in : Name → Kind → Bool

@@ -3,7 +3,7 @@
 use Rattle.std.specs.Prelude.{ℕ, List, Option, option_map, slice_index}
 use Rattle.m11_base.specs.Rad50.{Name}
 use Rattle.m11_asm_rules.specs.Tables.{Table}
-use Rattle.m11_scan_values.specs.Quantities.{Quantity, quantity}
+use Rattle.m11_scan_expressions.specs.Quantities.{Quantity, quantity}
 use Rattle.m11_asm_directory.specs.declared.first_pass.FirstPass.{FirstPass}
 
 pub record DirectoryFacts : Type 0 where

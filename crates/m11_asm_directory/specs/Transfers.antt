@@ -5,9 +5,9 @@ use Rattle.m11_base.specs.Names.{absolute_name}
 use Rattle.m11_base.specs.Rad50.{Name}
 use Rattle.m11_obj_texts.specs.declared.directory.DirectoryRow.{DirectoryRow}
 use Rattle.m11_obj_texts.specs.declared.directory.DirectoryRow.TheVariants as row
-use Rattle.m11_scan_values.specs.declared.kinds.Kind.{Kind}
-use Rattle.m11_scan_values.specs.declared.kinds.Kind.TheVariants as kind
-use Rattle.m11_scan_values.specs.Quantities.{Quantity}
+use Rattle.m11_scan_expressions.specs.declared.kinds.Kind.{Kind}
+use Rattle.m11_scan_expressions.specs.declared.kinds.Kind.TheVariants as kind
+use Rattle.m11_scan_expressions.specs.Quantities.{Quantity}
 
 -- what counts from no section of this object is absolute
 abbrev pub home : Kind → Name

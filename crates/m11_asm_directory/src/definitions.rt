@@ -9,7 +9,7 @@ use m11_asm_rules::{Key, Standing};
 use m11_asm_table::Table;
 use m11_base::{Name, absolute_section};
 use m11_obj_texts::DirectoryRow;
-use m11_scan_values::Kind;
+use m11_scan_expressions::Kind;
 use std::alloc::AllocError;
 
 fn definition(name: Name, is_relocatable: bool, value: u16) -> DirectoryRow

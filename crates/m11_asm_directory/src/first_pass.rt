@@ -4,7 +4,7 @@
 use indexmap::IndexSet;
 use m11_asm_table::Table;
 use m11_base::Name;
-use m11_scan_values::Value;
+use m11_scan_expressions::Value;
 
 /// What the first pass finds.
 #[derive(Drop)]

@@ -1,14 +1,14 @@
 -- The values that the code of an instruction asks for: those of its registers, targets and numbers. (PDP-11/40 Processor Handbook,
 -- "Instruction set" and "Addressing modes".)
 use Rattle.std.specs.Prelude.{ℕ, List, [], ◌∷◌}
-use Rattle.m11_unfold_arguments.specs.Expressions.{value_at}
+use Rattle.m11_scan_expressions.specs.Expressions.{value_at}
 use Rattle.m11_base_instructions.specs.declared.instruction.Op.{Op}
 use Rattle.m11_asm_rules.specs.Codes.{LineContext, field_flags}
 use Rattle.m11_asm_rules.specs.declared.fields.Field.{Field}
 use Rattle.m11_asm_rules.specs.declared.fields.Field.TheVariants.{Operand, Register, Target, Number, Missing}
 use Rattle.m11_asm_rules.specs.declared.operands.Form.{Form}
 use Rattle.m11_asm_rules.specs.declared.operands.Form.TheVariants.{Absent, InRegister, Indexed, Unindexed, AfterCounter}
-use Rattle.m11_scan_values.specs.Quantities.{Quantity, absolute}
+use Rattle.m11_scan_expressions.specs.Quantities.{Quantity, absolute}
 
 -- the value of a field that asks for none
 abbrev pub no_value : Quantity

@@ -3,12 +3,12 @@
 ghost use Rattle.std.specs.Prelude.{◌≡◌, ◌<◌, ◌%◌, ◌==◌, ◌&&◌, nat_le};
 ghost use Rattle.m11_scan.specs.Views.{bits_of};
 ghost use Rattle.m11_asm_rules.specs.Branches as spec;
-ghost use Rattle.m11_scan_values.specs.Quantities.{quantity};
+ghost use Rattle.m11_scan_expressions.specs.Quantities.{quantity};
 
 use m11_asm_table::Table;
 use m11_asm_values::distance;
 use m11_scan::ErrorFlags;
-use m11_scan_values::Value;
+use m11_scan_expressions::Value;
 
 // 128 words back to 127 on, from the location after the branch.
 pub(crate) fn in_reach(bytes: u16) -> bool

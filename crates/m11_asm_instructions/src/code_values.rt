@@ -5,12 +5,12 @@ ghost use Rattle.std.specs.Prelude.{◌≡◌, IfSome};
 ghost use Rattle.m11_asm_operands.specs.Terms.{IsFieldTerm, IsFormTerm, IsTermIn};
 ghost use Rattle.m11_asm_instructions.specs.CodeValues as spec;
 ghost use Rattle.m11_asm_values.specs.LineContext.{line_context_of};
-ghost use Rattle.m11_scan_values.specs.Quantities.{quantity};
+ghost use Rattle.m11_scan_expressions.specs.Quantities.{quantity};
 
 use m11_asm_rules::{Field, Form};
 use m11_asm_values::LineContext;
 use m11_scan::{ErrorFlags, Token};
-use m11_scan_values::Value;
+use m11_scan_expressions::Value;
 
 // The value of a field that asks for none.
 fn no_value() -> Value

@@ -9,7 +9,7 @@ ghost use Rattle.m11_asm_operands.specs.ListedOperations.{is_listed};
 ghost use Rattle.m11_asm_rules.specs.Codes as spec;
 ghost use Rattle.m11_asm_rules.specs.Codes.{LineContext as Stated};
 ghost use Rattle.m11_scan.specs.Views.{bits_of};
-ghost use Rattle.m11_scan_values.specs.Quantities.{quantity};
+ghost use Rattle.m11_scan_expressions.specs.Quantities.{quantity};
 
 use crate::branches::{branch_offset, branch_reaches, loop_offset, loop_reaches, target_flags};
 use crate::operands::{as_register_flags, form_flags, operand_of, register};
@@ -18,7 +18,7 @@ use m11_asm_table::register_flags;
 use m11_asm_values::LineContext;
 use m11_base_instructions::{BareOp, Insn, Mode, NumberOp, Op, Operand, Register, RegisterOp};
 use m11_scan::ErrorFlags;
-use m11_scan_values::Value;
+use m11_scan_expressions::Value;
 
 // The operand in the first of some fields, whose value this is.
 fn operand_in(fields: &[Field], value: &Value) -> Operand

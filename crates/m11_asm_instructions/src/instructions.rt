@@ -12,7 +12,7 @@ ghost use Rattle.m11_asm_rules.specs.Fields.{forms_of, with_form};
 ghost use Rattle.m11_asm_rules.specs.Instructions as spec;
 ghost use Rattle.m11_asm_rules.specs.declared.operands.Form.{Form};
 ghost use Rattle.m11_scan.specs.Views.{bits_of};
-ghost use Rattle.m11_scan_values.specs.Quantities.{quantity};
+ghost use Rattle.m11_scan_expressions.specs.Quantities.{quantity};
 
 use crate::code_values::value_in;
 use crate::codes::{flags_in, instruction, others};
@@ -22,8 +22,7 @@ use m11_asm_rules::Field;
 use m11_asm_values::{Emission, LineContext, fixed, further};
 use m11_base_instructions::{Op, encode};
 use m11_scan::{ErrorFlags, Token};
-use m11_scan_values::Value;
-use m11_unfold_arguments::{left_over, skip_flags};
+use m11_scan_expressions::{Value, left_over, skip_flags};
 use std::alloc::AllocError;
 
 // The flags of fields, whose values these are.

@@ -2,7 +2,7 @@
 //! modes"; MACRO-11 Language Reference Manual, "Diagnostic error message summary", A and R.)
 
 ghost use Rattle.std.specs.Prelude.{◌≡◌, ◌*◌, ◌%◌, IfOk, IfSome};
-ghost use Rattle.m11_unfold_arguments.specs.Expressions.{IsAlone, value_at};
+ghost use Rattle.m11_scan_expressions.specs.Expressions.{IsAlone, value_at};
 ghost use Rattle.m11_base_instructions.specs.Operand.{register_of};
 ghost use Rattle.m11_asm_operands.specs.Terms.{IsFormTerm};
 ghost use Rattle.m11_asm_instructions.specs.CodeValues.{form_value};
@@ -12,13 +12,13 @@ ghost use Rattle.m11_asm_rules.specs.Codes.{LineContext as Stated};
 ghost use Rattle.m11_asm_rules.specs.Contents.{followed_by, word};
 ghost use Rattle.m11_asm_rules.specs.Operands.{words_of};
 ghost use Rattle.m11_scan.specs.Views.{bits_of};
-ghost use Rattle.m11_scan_values.specs.Quantities.{quantity};
+ghost use Rattle.m11_scan_expressions.specs.Quantities.{quantity};
 
 use m11_asm_rules::Form;
 use m11_asm_values::{Emission, LineContext, emit_word};
 use m11_base_instructions::{Mode, Operand, Register};
 use m11_scan::{ErrorFlags, Token};
-use m11_scan_values::Value;
+use m11_scan_expressions::Value;
 use std::alloc::AllocError;
 
 // The register of a value. A number that is no register counts modulo 8.

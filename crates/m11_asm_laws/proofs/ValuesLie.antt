@@ -6,7 +6,7 @@ use Rattle.m11_link_text.specs.Relocation.{following, less, modulo}
 use Rattle.m11_obj_texts.specs.declared.pieces.PieceContent.TheVariants.{Word}
 use Rattle.m11_asm_rules.specs.Relocations.{Here, InObject, InSection, Origin, Zero, is_moved, origin_of, relocation_by, row_of, stored, stored_as}
 use Rattle.m11_asm_rules.specs.Tables.{Table}
-use Rattle.m11_scan_values.specs.Quantities.{Quantity}
+use Rattle.m11_scan_expressions.specs.Quantities.{Quantity}
 use Rattle.m11_asm_laws.specs.Linked.{linked_bytes}
 use Rattle.m11_asm_laws.specs.Targets.{AreWords, LiesAt, address_of, stored_address}
 use Rattle.m11_asm_laws.proofs.Rows.{displaced_global_row, displaced_section_row, global_row, section_row}

@@ -9,7 +9,7 @@ ghost use Rattle.m11_obj_texts.specs.declared.pieces.PieceContent.TheVariants.{W
 ghost use Rattle.m11_obj_texts.specs.declared.pieces.RelocationKind.TheVariants as kind;
 ghost use Rattle.m11_asm_rules.specs.Relocations.{origin_of, stored};
 ghost use Rattle.m11_asm_rules.specs.Tables.{Table};
-ghost use Rattle.m11_scan_values.specs.Quantities.{Quantity};
+ghost use Rattle.m11_scan_expressions.specs.Quantities.{Quantity};
 ghost use Rattle.m11_asm_laws.specs.Linked.{linked_byte, linked_bytes, linked_word};
 ghost use Rattle.m11_asm_laws.specs.Targets.{AreWords, LiesAt, address_of, stored_address};
 

@@ -2,8 +2,8 @@
 use Rattle.std.proofs.Common.{◌≡◌, ◌∙◌, ℕ, Bool, true, false, List, [], ◌∷◌, Option, Some, None, refl, sym, ap}
 use Rattle.std.proofs.Math.Path.{fun_ext}
 use Rattle.std.specs.Option.{is_some}
-use Rattle.m11_unfold_arguments.specs.Expressions as expressions
-use Rattle.m11_unfold_arguments.specs.Expressions.{known_by, symbols_at, value_at}
+use Rattle.m11_scan_expressions.specs.Expressions as expressions
+use Rattle.m11_scan_expressions.specs.Expressions.{known_by, symbols_at, value_at}
 use Rattle.m11_base.specs.Devices.{Bytes}
 use Rattle.m11_base.specs.Rad50.{Name}
 use Rattle.m11_asm_rules.specs.Assignments.{all_firm, assigned, standing_of}
@@ -21,13 +21,13 @@ use Rattle.m11_asm_rules.specs.declared.meanings.Context.{Context}
 use Rattle.m11_asm_rules.specs.declared.meanings.Context.TheVariants.{LocalOnly}
 use Rattle.m11_asm_rules.specs.declared.sections.Section.{Section}
 use Rattle.m11_asm_rules.specs.declared.modes.Modes.{Modes}
-use Rattle.m11_scan_statements.specs.Statements.{flag_if}
+use Rattle.m11_scan.specs.ErrorFlags.{flag_if}
 use Rattle.m11_asm_table.specs.Alike.{Alike}
 use Rattle.m11_asm_table.proofs.Defined.{is_some_last}
-use Rattle.m11_scan_values.specs.declared.kinds.Kind.{Kind}
-use Rattle.m11_scan_values.specs.declared.names.Symbol.{Symbol}
-use Rattle.m11_scan_values.specs.declared.names.Symbol.TheVariants.{Ordinary, Local, Counter}
-use Rattle.m11_scan_values.specs.Quantities.{Quantity}
+use Rattle.m11_scan_expressions.specs.declared.kinds.Kind.{Kind}
+use Rattle.m11_scan_expressions.specs.declared.names.Symbol.{Symbol}
+use Rattle.m11_scan_expressions.specs.declared.names.Symbol.TheVariants.{Ordinary, Local, Counter}
+use Rattle.m11_scan_expressions.specs.Quantities.{Quantity}
 
 pub alike_itself : (table : Table) → Alike table table
 alike_itself table = record {

@@ -2,7 +2,7 @@
 use Rattle.std.proofs.Common.{◌≡◌, ◌∙◌, ◌≤◌, ℕ, ◌+◌, ◌-◌, ◌&&◌, ◌||◌, not, Bool, true, false, cond, if◌then◌else◌, List, [], ◌∷◌, ◌++◌, drop, get_or, length, take, Option, Some, None, Result, Ok, Err, IfErr, IfOk, refl, sym, ap, subst, arith}
 use Rattle.std.proofs.lemmas.List.{append-nil, append_assoc, take_all}
 use Rattle.std.specs.Prelude.{nat_lt}
-use Rattle.m11_unfold_arguments.specs.Expressions.{symbols_at, value_at}
+use Rattle.m11_scan_expressions.specs.Expressions.{symbols_at, value_at}
 use Rattle.m11_asm_faults.specs.declared.fault.AsmFault.{AsmFault}
 use Rattle.m11_base.specs.Devices.{Bytes}
 use Rattle.m11_base.specs.Rad50.{Name}
@@ -21,7 +21,7 @@ use Rattle.m11_asm_rules.specs.declared.definitions.Key.TheVariants.{Named}
 use Rattle.m11_asm_rules.specs.declared.meanings.Context.TheVariants.{LocalOnly}
 use Rattle.m11_asm_table.specs.Alike as tables
 use Rattle.m11_asm_table.specs.Alike.{Alike}
-use Rattle.m11_scan_values.specs.Quantities.{Quantity}
+use Rattle.m11_scan_expressions.specs.Quantities.{Quantity}
 use Rattle.m11_asm_lines.proofs.Alike.{alike_assigned, alike_labelled}
 use Rattle.m11_asm_lines.proofs.Passes.{counted_more}
 use Rattle.m11_asm_lines.proofs.Room.{overfills}

@@ -1,6 +1,6 @@
 -- Where `.=` goes is the same by a table and by its firm part.
 use Rattle.std.proofs.Common.{◌≡◌, ℕ, List, ap}
-use Rattle.m11_unfold_arguments.specs.Expressions.{value_at}
+use Rattle.m11_scan_expressions.specs.Expressions.{value_at}
 use Rattle.m11_asm_rules.proofs.FilledSizes.{table_twice}
 use Rattle.m11_asm_rules.specs.Assigning.{counter_change, counter_to}
 use Rattle.m11_asm_rules.specs.Meanings.{empty_map, known_at}

@@ -14,8 +14,8 @@ use Rattle.m11_asm_lines.specs.Faults.{Refuses}
 use Rattle.m11_asm_lines.specs.Labels.{FitsUpToLabel}
 use Rattle.m11_asm_lines.specs.UsedSymbols.{Adds, UsedNames, in_context, is_register, names_referred, with_name_used, registers_used, with_all, with_name, with_reference, with_register}
 use Rattle.m11_scan_statements.specs.declared.labels.Label.{Label}
-use Rattle.m11_scan_values.specs.declared.names.Symbol.{Symbol}
-use Rattle.m11_scan_values.specs.declared.names.Symbol.TheVariants.{Ordinary, Local, Counter}
+use Rattle.m11_scan_expressions.specs.declared.names.Symbol.{Symbol}
+use Rattle.m11_scan_expressions.specs.declared.names.Symbol.TheVariants.{Ordinary, Local, Counter}
 
 names_joined : (first second : List SymbolUse) (names : List Name)
     → with_uses (first ++ second) names ≡ with_uses second (with_uses first names)

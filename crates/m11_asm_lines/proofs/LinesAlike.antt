@@ -1,9 +1,9 @@
 -- Tables that are alike have the same lines: what a line changes, emits and mentions, and its flags.
 use Rattle.std.proofs.Common.{◌≡◌, ◌∙◌, ℕ, ◌*◌, Bool, true, false, if◌then◌else◌, List, [], ◌∷◌, Option, Some, None, refl, sym, ap}
 use Rattle.std.specs.Int.RustNames.{bit_or}
-use Rattle.m11_unfold_arguments.specs.Expressions as expressions
-use Rattle.m11_unfold_arguments.specs.Expressions.{has_expression, number_at, value_at}
-use Rattle.m11_unfold_arguments.specs.LeftOvers.{left_over, skip_flags}
+use Rattle.m11_scan_expressions.specs.Expressions as expressions
+use Rattle.m11_scan_expressions.specs.Expressions.{has_expression, number_at, value_at}
+use Rattle.m11_scan_expressions.specs.LeftOvers.{left_over, skip_flags}
 use Rattle.m11_base.specs.Devices.{Bytes}
 use Rattle.m11_base.specs.Rad50.{Name}
 use Rattle.m11_base_instructions.specs.declared.instruction.Op.{Op}
@@ -12,9 +12,9 @@ use Rattle.m11_scan_statements.specs.declared.parts.Part.{Part}
 use Rattle.m11_scan_statements.specs.declared.parts.PartKind.{PartKind}
 use Rattle.m11_scan_statements.specs.declared.parts.PartKind.TheVariants.{Text, Expression}
 use Rattle.m11_scan_statements.specs.declared.spans.Span.{Span}
-use Rattle.m11_scan_values.specs.Quantities.{Quantity}
+use Rattle.m11_scan_expressions.specs.Quantities.{Quantity}
 use Rattle.std.specs.List.{flat_map}
-use Rattle.m11_scan_statements.specs.Statements.{flag_if}
+use Rattle.m11_scan.specs.ErrorFlags.{flag_if}
 use Rattle.m11_asm_rules.specs.Alignment.{gap, gap_flags, location_for}
 use Rattle.m11_asm_rules.specs.Assigning as assigning
 use Rattle.m11_asm_rules.specs.Changes.{Change, Numbers}

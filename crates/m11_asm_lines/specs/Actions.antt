@@ -1,6 +1,6 @@
 -- What the definitions see of what stands after the labels of a line. (MACRO-11 Language Reference Manual, "Operator field".)
 use Rattle.std.specs.Prelude.{ℕ, ◌≤◌, Bool, true, IfSome, List}
-use Rattle.m11_unfold_arguments.specs.Expressions.{IsAlone}
+use Rattle.m11_scan_expressions.specs.Expressions.{IsAlone}
 use Rattle.m11_base.specs.Devices.{Bytes}
 use Rattle.m11_asm_operands.specs.ListedOperations.{has_listed_operation}
 use Rattle.m11_asm_operands.specs.Terms.{AreTerms}

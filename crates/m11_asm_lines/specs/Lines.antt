@@ -2,7 +2,7 @@
 -- "Source program format".)
 use Rattle.std.specs.Prelude.{ℕ, List}
 use Rattle.std.specs.Int.RustNames.{bit_or}
-use Rattle.m11_unfold_arguments.specs.LeftOvers.{skip_flags}
+use Rattle.m11_scan_expressions.specs.LeftOvers.{skip_flags}
 use Rattle.m11_base.specs.Devices.{Bytes}
 use Rattle.m11_scan_statements.specs.declared.bodies.Body.{Body}
 use Rattle.m11_unfold_rules.specs.Unfolding.{UnfoldedLine}

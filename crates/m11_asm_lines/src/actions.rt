@@ -14,8 +14,8 @@ use m11_asm_operands::{Fields, operator_named};
 use m11_asm_rules::{Directive, Operator};
 use m11_asm_table::Table;
 use m11_scan::{Line, six_characters};
+use m11_scan_expressions::single_term;
 use m11_scan_statements::{Assignment, Body, Span, labels_and_body_stand_in_order};
-use m11_unfold_arguments::single_term;
 
 /// What a line does after its labels: the manual's operator field, a direct assignment, or nothing of either.
 #[derive(Clone, Copy)]

@@ -2,7 +2,7 @@
 
 ghost use Rattle.std.specs.Prelude.{◌≡◌, ◌∷◌, [], ◌≤◌, false, IfOk, IfErr, IfSome, length};
 ghost use Rattle.std.specs.Option.{option_to_list};
-ghost use Rattle.m11_unfold_arguments.specs.Expressions.{IsAlone, symbols_at, symbols_in, value_at};
+ghost use Rattle.m11_scan_expressions.specs.Expressions.{IsAlone, symbols_at, symbols_in, value_at};
 ghost use Rattle.m11_asm_rules.specs.Assigning.{assignment};
 ghost use Rattle.m11_asm_rules.specs.Assignments as assignments;
 ghost use Rattle.m11_asm_rules.specs.Changes.{changed, with_value};
@@ -16,7 +16,7 @@ ghost use Rattle.m11_asm_lines.specs.Faults.{Overfills};
 ghost use Rattle.m11_asm_lines.specs.Passes.{Follows, Matches};
 ghost use Rattle.m11_scan.specs.Views.{lexeme};
 ghost use Rattle.m11_asm_table.specs.Alike as tables;
-ghost use Rattle.m11_scan_values.specs.Quantities.{quantity};
+ghost use Rattle.m11_scan_expressions.specs.Quantities.{quantity};
 
 use crate::items::value_item;
 use crate::pass::Pass;
@@ -28,9 +28,8 @@ use m11_asm_rules::{Definition, Key, Standing};
 use m11_asm_table::{Map, Table};
 use m11_base::Name;
 use m11_scan::{ErrorFlags, Line, Token};
+use m11_scan_expressions::{Remarks, Symbol, Value, read_symbols, symbol_of};
 use m11_scan_statements::{Assignment, Span};
-use m11_scan_values::{Symbol, Value, symbol_of};
-use m11_unfold_arguments::{Remarks, read_symbols};
 use std::alloc::{AllocError, Global};
 
 impl Pass {

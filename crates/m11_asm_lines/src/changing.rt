@@ -35,7 +35,7 @@ use m11_asm_table::Map;
 use m11_base::Name;
 use m11_base_instructions::Op;
 use m11_scan::Line;
-use m11_scan_values::Kind;
+use m11_scan_expressions::Kind;
 
 impl Pass {
     /// Applies the action of a line whose labels are defined, and returns what a listing shows of an assignment: the value, whether its name

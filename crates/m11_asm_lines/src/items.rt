@@ -4,7 +4,7 @@ ghost use Rattle.std.specs.Prelude.{◌≡◌, ◌∷◌, ◌++◌, [], IfOk};
 ghost use Rattle.std.specs.Option.{option_to_list};
 ghost use Rattle.m11_asm_directives.specs.Changes.{change_seen};
 ghost use Rattle.m11_asm_rules.specs.Items as spec;
-ghost use Rattle.m11_scan_values.specs.Quantities.{quantity};
+ghost use Rattle.m11_scan_expressions.specs.Quantities.{quantity};
 
 use bitflags::Flags;
 use m11_asm_directives::Change;
@@ -12,7 +12,7 @@ use m11_asm_listing::{Item, Mark};
 use m11_asm_rules::Modes;
 use m11_obj_texts::{PieceContent, RelocationKind};
 use m11_scan::ErrorFlags;
-use m11_scan_values::{Kind, Value};
+use m11_scan_expressions::{Kind, Value};
 use std::alloc::AllocError;
 
 /// Adds what is shown of a byte, a word or a pair of limits: its constant, and what a linker does to it.

@@ -1,7 +1,7 @@
 //! What a line changes and emits, and its flags, once its labels stand. (MACRO-11 Language Reference Manual, "Source program format".)
 
 ghost use Rattle.std.specs.Prelude.{◌≡◌, ◌≤◌, IfOk, IfSome, IsTrue, length};
-ghost use Rattle.m11_unfold_arguments.specs.Expressions.{IsAlone};
+ghost use Rattle.m11_scan_expressions.specs.Expressions.{IsAlone};
 ghost use Rattle.m11_asm_operands.specs.Reads.{fields_seen};
 ghost use Rattle.m11_asm_rules.specs.Contents.{followed_by};
 ghost use Rattle.m11_asm_rules.specs.Lines as spec;
@@ -17,8 +17,8 @@ use m11_asm_operators::emit_operator;
 use m11_asm_table::{Map, Table};
 use m11_asm_values::Emission;
 use m11_scan::{ErrorFlags, Line, Token};
+use m11_scan_expressions::skip_flags;
 use m11_scan_statements::{Assignment, Body};
-use m11_unfold_arguments::skip_flags;
 use std::alloc::AllocError;
 
 /// Adds what the action of a line emits at its locations, with the flags of its operator and arguments. The map says what the whole source

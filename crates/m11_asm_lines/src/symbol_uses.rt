@@ -3,7 +3,7 @@
 
 ghost use Rattle.std.specs.Prelude.{◌≡◌, ◌≤◌, ◌++◌, ◌∷◌, [], length, map, IfErr, IfSome};
 ghost use Rattle.std.specs.List.{flat_map};
-ghost use Rattle.m11_unfold_arguments.specs.Expressions.{IsAlone, symbols_at, symbols_in};
+ghost use Rattle.m11_scan_expressions.specs.Expressions.{IsAlone, symbols_at, symbols_in};
 ghost use Rattle.m11_asm_directives.specs.Changes.{change_seen, names_among};
 ghost use Rattle.m11_asm_operands.specs.Reads.{fields_seen};
 ghost use Rattle.m11_asm_operands.specs.Terms.{AreTerms, IsFieldTerm, IsFormTerm};
@@ -30,9 +30,8 @@ use m11_asm_operands::{FieldTerms, Fields, elements_at};
 use m11_asm_rules::{Context, Directive, Field, Form, Operator};
 use m11_base::Name;
 use m11_scan::{Line, Token, read_name};
+use m11_scan_expressions::{Remarks, Symbol, read_symbols, single_term, symbol_of};
 use m11_scan_statements::{Assignment, Label, LabelKind, Part, PartKind};
-use m11_scan_values::{Symbol, symbol_of};
-use m11_unfold_arguments::{Remarks, read_symbols, single_term};
 
 impl UsedSymbols {
     /// Adds the labels of a line. Errors are those of `add_all`, but `NoMemory` only at a label up to which no name is one too many.

@@ -12,7 +12,7 @@ use indexmap::IndexSet;
 use m11_asm_faults::AsmFault;
 use m11_asm_rules::Context;
 use m11_base::Name;
-use m11_scan_values::Symbol;
+use m11_scan_expressions::Symbol;
 use std::alloc::{AllocError, Global};
 use std::marker::Model;
 

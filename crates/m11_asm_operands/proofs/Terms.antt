@@ -1,6 +1,6 @@
 -- The terms of fields.
 use Rattle.std.proofs.Common.{◌≡◌, ℕ, List, [], ◌∷◌, Option, Some, None, IfSome}
-use Rattle.m11_unfold_arguments.specs.Expressions.{IsAlone}
+use Rattle.m11_scan_expressions.specs.Expressions.{IsAlone}
 use Rattle.m11_base.specs.Devices.{Bytes}
 use Rattle.m11_asm_operands.specs.Terms.{AreTerms, IsFieldTerm}
 use Rattle.m11_asm_rules.specs.declared.fields.Field.{Field}

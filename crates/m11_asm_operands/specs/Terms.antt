@@ -1,6 +1,6 @@
 -- The fields of an instruction whose expression is one term. (MACRO-11 Language Reference Manual, "Expressions".)
 use Rattle.std.specs.Prelude.{List, [], ◌∷◌, IfSome}
-use Rattle.m11_unfold_arguments.specs.Expressions.{IsAlone}
+use Rattle.m11_scan_expressions.specs.Expressions.{IsAlone}
 use Rattle.m11_base.specs.Devices.{Bytes}
 use Rattle.m11_asm_rules.specs.Codes.{others}
 use Rattle.m11_asm_rules.specs.declared.fields.Field.{Field}

@@ -2,7 +2,7 @@
 //! Manual, "Operand field".)
 
 ghost use Rattle.std.specs.Prelude.{◌≡◌, ◌≤◌, ◌*◌, ◌∷◌, [], length, IfSome, List, None};
-ghost use Rattle.m11_unfold_arguments.specs.Expressions.{IsAlone, has_expression, known_by};
+ghost use Rattle.m11_scan_expressions.specs.Expressions.{IsAlone, has_expression, known_by};
 ghost use Rattle.m11_base.specs.Devices.{Bytes};
 ghost use Rattle.m11_asm_operands.specs.Reads.{alone, bytes_in, field_seen, fields_seen, kinds_in};
 ghost use Rattle.m11_asm_operands.specs.Terms.{AreTerms, IsFieldTerm};
@@ -16,8 +16,8 @@ use arrayvec::ArrayVec;
 use m11_asm_rules::{Field, FieldKind, Form};
 use m11_base_instructions::Op;
 use m11_scan::{ErrorFlags, Line, Token};
-use m11_scan_values::Names;
-use m11_unfold_arguments::{after_comma, column_in, expression_end_at, has_expression};
+use m11_scan_expressions::{Names, column_in, expression_end_at, has_expression};
+use m11_unfold_arguments::after_comma;
 
 /// The fields of an instruction.
 #[derive(Drop)]

@@ -2,7 +2,7 @@
 //! "Addressing modes".)
 
 ghost use Rattle.std.specs.Prelude.{◌≡◌, ◌<◌, ◌≤◌, ◌∷◌, [], IfSome, MatchOption, length, Option};
-ghost use Rattle.m11_unfold_arguments.specs.Expressions.{IsAlone, IsNext, known_by, value_at};
+ghost use Rattle.m11_scan_expressions.specs.Expressions.{IsAlone, IsNext, known_by, value_at};
 ghost use Rattle.m11_base.specs.Devices.{Bytes};
 ghost use Rattle.m11_asm_operands.specs.Reads.{opens_after, read_seen};
 ghost use Rattle.m11_asm_operands.specs.Terms.{IsFormTerm};
@@ -12,14 +12,13 @@ ghost use Rattle.m11_scan.specs.Cutting.{tokens_from};
 ghost use Rattle.m11_scan.specs.Ends as ends;
 ghost use Rattle.m11_scan.specs.ErrorFlags.{flag_A};
 ghost use Rattle.m11_scan.specs.Views.{lexeme};
-ghost use Rattle.m11_scan_values.specs.Kinds.{is_register};
+ghost use Rattle.m11_scan_expressions.specs.Kinds.{is_register};
 
 use m11_asm_rules::Form;
 use m11_base_instructions::Mode;
 use m11_scan::{ErrorFlags, Line, Sort, Token, next_token, skipped_between};
-use m11_scan_values::Names;
-use m11_unfold_arguments::{
-    ExpressionEnd, column_in, expression_end_at, expression_end_from, value_by,
+use m11_scan_expressions::{
+    ExpressionEnd, Names, column_in, expression_end_at, expression_end_from, value_by,
 };
 
 /// An operand, as it stands in a line.

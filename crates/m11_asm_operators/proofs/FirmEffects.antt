@@ -1,7 +1,7 @@
 -- What an operator changes is the same by a table and by its firm part.
 use Rattle.std.proofs.Common.{◌≡◌, ℕ, ◌*◌, List, Option, refl, ap}
 use Rattle.std.specs.Prelude.{if◌then◌else◌}
-use Rattle.m11_unfold_arguments.specs.Expressions.{KnownSymbols, has_expression, number_at}
+use Rattle.m11_scan_expressions.specs.Expressions.{KnownSymbols, has_expression, number_at}
 use Rattle.m11_asm_rules.proofs.FilledSizes.{table_twice}
 use Rattle.m11_asm_rules.specs.Alignment.{gap, location_for}
 use Rattle.m11_asm_rules.specs.Effects.{change_by, directive_change, operator_change, steps}

@@ -33,7 +33,7 @@ use m11_asm_table::{Map, Table};
 use m11_asm_values::{Emission, LineContext, gap_flags, location_for};
 use m11_base_instructions::Op;
 use m11_scan::{ErrorFlags, Line};
-use m11_unfold_arguments::left_over;
+use m11_scan_expressions::left_over;
 use std::alloc::AllocError;
 
 /// Puts what an operator with these fields emits, whose name ends at a column of its line, with its flags. What has to stand at an even

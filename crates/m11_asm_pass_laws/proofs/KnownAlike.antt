@@ -1,6 +1,6 @@
 -- What the lines before a live line say it is the same under every map.
 use Rattle.std.proofs.Common.{◌≡◌, ◌∙◌, true, List, [], ◌∷◌, ◌++◌, refl, sym, ap}
-use Rattle.m11_unfold_arguments.specs.Expressions.{KnownSymbols}
+use Rattle.m11_scan_expressions.specs.Expressions.{KnownSymbols}
 use Rattle.m11_asm_passes.specs.Lines.{NumberedLine, givens, table_at}
 use Rattle.m11_asm_passes.specs.Refusals.{given_by}
 use Rattle.m11_asm_rules.specs.Lines.{after_line, line_change, stands}

@@ -5,15 +5,16 @@ use Rattle.std.specs.Int.RustNames.{bit_or}
 use Rattle.std.specs.Prelude.{false, not, ◌&&◌}
 use Rattle.std.specs.Option.{option_or}
 use Rattle.m11_unfold_arguments.specs.Definedness.{flag_U}
-use Rattle.m11_unfold_arguments.specs.Expressions as expressions
-use Rattle.m11_unfold_arguments.specs.Expressions.{has_expression, known_by, symbols_at, value_at}
-use Rattle.m11_unfold_arguments.specs.LeftOvers.{left_over, skip_flags}
+use Rattle.m11_scan_expressions.specs.Expressions as expressions
+use Rattle.m11_scan_expressions.specs.Expressions.{has_expression, known_by, symbols_at, value_at}
+use Rattle.m11_scan_expressions.specs.LeftOvers.{left_over, skip_flags}
 use Rattle.m11_base.specs.Devices.{Bytes}
 use Rattle.m11_base.specs.Rad50.{Name}
 use Rattle.m11_asm_listing.specs.declared.items.Item.{Item}
 use Rattle.m11_scan.specs.Ends.{expression_end}
 use Rattle.m11_scan_statements.specs.Labels.{labels_at, labels_end}
-use Rattle.m11_scan_statements.specs.Statements.{body_of, label_flags, flag_if}
+use Rattle.m11_scan.specs.ErrorFlags.{flag_if}
+use Rattle.m11_scan_statements.specs.Statements.{body_of, label_flags}
 use Rattle.m11_scan_statements.specs.declared.labels.Label.{Label}
 use Rattle.m11_scan_statements.specs.declared.labels.LabelKind.{LabelKind}
 use Rattle.m11_scan_statements.specs.declared.labels.LabelKind.TheVariants as label
@@ -25,9 +26,9 @@ use Rattle.m11_unfold_rules.specs.Acting.{act_fault}
 use Rattle.m11_unfold_rules.specs.Stages.{Stage}
 use Rattle.m11_unfold_rules.specs.Taking.{Live}
 use Rattle.m11_unfold_rules.specs.Unfolding.{UnfoldedLine}
-use Rattle.m11_scan_values.specs.Quantities.{Quantity}
-use Rattle.m11_scan_values.specs.declared.names.Symbol.{Symbol}
-use Rattle.m11_scan_values.specs.declared.names.Symbol.TheVariants.{Ordinary, Local, Counter}
+use Rattle.m11_scan_expressions.specs.Quantities.{Quantity}
+use Rattle.m11_scan_expressions.specs.declared.names.Symbol.{Symbol}
+use Rattle.m11_scan_expressions.specs.declared.names.Symbol.TheVariants.{Ordinary, Local, Counter}
 use Rattle.m11_asm_rules.specs.Alignment.{gap_flags, location_for}
 use Rattle.m11_asm_rules.specs.Assigning as assigning
 use Rattle.m11_asm_rules.specs.Assignments.{all_firm, assigned, standing_of}

@@ -27,7 +27,7 @@ use Rattle.m11_asm_rules.specs.declared.definitions.Standing.{Standing}
 use Rattle.m11_asm_rules.specs.declared.definitions.Standing.TheVariants.{Known}
 use Rattle.m11_asm_lines.specs.Moved.{is_at, is_in, is_location_of, flag_P, moved_key, moved_kind, moved_flags, moved_name}
 use Rattle.m11_scan_statements.specs.Labels.{labels_at}
-use Rattle.m11_scan_statements.specs.Statements.{flag_if}
+use Rattle.m11_scan.specs.ErrorFlags.{flag_if}
 use Rattle.m11_scan_statements.specs.declared.labels.Label.{Label}
 use Rattle.m11_scan_statements.specs.declared.labels.LabelKind.{LabelKind}
 use Rattle.m11_scan_statements.specs.declared.labels.LabelKind.TheVariants as kind

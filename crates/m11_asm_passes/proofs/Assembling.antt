@@ -3,8 +3,8 @@ use Rattle.std.proofs.Common.{◌≡◌, ◌∙◌, ◌<◌, ◌≤◌, ℕ, ◌
 use Rattle.std.specs.Prelude.{false, true}
 use Rattle.std.specs.Int.RustNames.{bit_or}
 use Rattle.std.specs.Option.{option_to_list}
-use Rattle.m11_unfold_arguments.specs.Remarks.{Remarks}
-use Rattle.m11_unfold_arguments.specs.Expressions.{KnownSymbols, known_by, value_at}
+use Rattle.m11_scan_expressions.specs.Remarks.{Remarks}
+use Rattle.m11_scan_expressions.specs.Expressions.{KnownSymbols, known_by, value_at}
 use Rattle.m11_asm_faults.specs.declared.fault.AsmFault.{AsmFault}
 use Rattle.m11_asm_faults.specs.declared.fault.AsmFault.TheVariants.{TooManySymbols, TooManySections, NoMemory}
 use Rattle.m11_base.specs.Devices.{Bytes}

@@ -1,7 +1,7 @@
 -- How many lines are taken: a line that becomes live is one more, and what its operator does takes none.
 use Rattle.std.proofs.Common.{◌≡◌, ◌≤◌, ℕ, ◌+◌, Bool, true, false, if◌then◌else◌, List, [], ◌∷◌, Option, Some, None, refl, subst, arith}
 use Rattle.m11_scan_lines.specs.Line.{SourceLine}
-use Rattle.m11_unfold_arguments.specs.Expressions.{KnownSymbols}
+use Rattle.m11_scan_expressions.specs.Expressions.{KnownSymbols}
 use Rattle.m11_unfold_arguments.specs.declared.directives.Directive.{Directive}
 use Rattle.m11_unfold_arguments.specs.declared.directives.Directive.TheVariants as word
 use Rattle.m11_base.specs.Devices.{Bytes}

@@ -2,7 +2,7 @@
 -- "Operator field" and "Symbols".)
 use Rattle.std.specs.Prelude.{ℕ, List, ◌++◌, map, Option}
 use Rattle.m11_base.specs.Devices.{Bytes}
-use Rattle.m11_unfold_arguments.specs.Remarks.{Remarks}
+use Rattle.m11_scan_expressions.specs.Remarks.{Remarks}
 use Rattle.m11_asm_rules.specs.Changes.{Change}
 use Rattle.m11_asm_rules.specs.Lines.{Action, change_of}
 use Rattle.m11_asm_rules.specs.declared.meanings.Context.TheVariants.{LocalOnly}

@@ -16,8 +16,8 @@ use crate::operating::{counter, is_shown, section_name};
 use crate::placed::PlacedLine;
 use m11_asm_lines::{Action, Pass};
 use m11_asm_values::Emission;
+use m11_scan_expressions::rest_flags;
 use m11_scan_statements::{Body, Statement};
-use m11_unfold_arguments::rest_flags;
 
 // Whether a statement has neither a label nor anything after its labels.
 pub(crate) fn is_blank(statement: &Statement) -> bool

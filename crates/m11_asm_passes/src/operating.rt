@@ -30,7 +30,7 @@ use m11_asm_table::Map;
 use m11_asm_values::{Emission, location_for};
 use m11_base::Name;
 use m11_scan::Line;
-use m11_unfold_arguments::Remarks;
+use m11_scan_expressions::Remarks;
 
 // Puts what a line emits, in place of what the line before it emitted.
 pub(crate) fn emit_line(

@@ -10,9 +10,9 @@ use Rattle.m11_asm.specs.Facts.{facts_of}
 use Rattle.m11_asm_rows.specs.RelocationRows.{named}
 use Rattle.m11_asm_rows.specs.Worked.{plain}
 use Rattle.m11_unfold_rules.specs.Unfolding.{UnfoldedLine}
-use Rattle.m11_scan_values.specs.Quantities.{Quantity}
-use Rattle.m11_scan_values.specs.declared.names.Symbol.{Symbol}
-use Rattle.m11_scan_values.specs.declared.names.Symbol.TheVariants.{Ordinary, Local, Counter}
+use Rattle.m11_scan_expressions.specs.Quantities.{Quantity}
+use Rattle.m11_scan_expressions.specs.declared.names.Symbol.{Symbol}
+use Rattle.m11_scan_expressions.specs.declared.names.Symbol.TheVariants.{Ordinary, Local, Counter}
 
 -- what a source gives
 pub record Gives : Type 0 where

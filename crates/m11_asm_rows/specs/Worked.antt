@@ -1,7 +1,7 @@
 -- Sources of a few lines, with what they emit at their locations. (MACRO-11 Language Reference Manual, "Source program format".)
 use Rattle.std.specs.Prelude.{ℕ, false, List, [], map, None}
 use Rattle.std.specs.List.{flat_map}
-use Rattle.m11_unfold_arguments.specs.Remarks.{no_remarks}
+use Rattle.m11_scan_expressions.specs.Remarks.{no_remarks}
 use Rattle.m11_base.specs.Names.{blank_name}
 use Rattle.m11_base.specs.Devices.{Bytes}
 use Rattle.m11_scan_lines.specs.Line.{line_of}

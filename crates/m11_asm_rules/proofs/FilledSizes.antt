@@ -1,6 +1,6 @@
 -- What each operator emits has as many bytes as its counter goes on by.
 use Rattle.std.proofs.Common.{◌≡◌, ◌∙◌, ℕ, suc, ◌+◌, ◌*◌, ◌/◌, Bool, true, false, List, [], ◌∷◌, ◌++◌, length, map, refl, ap, arith}
-use Rattle.m11_unfold_arguments.specs.Expressions.{KnownSymbols}
+use Rattle.m11_scan_expressions.specs.Expressions.{KnownSymbols}
 use Rattle.m11_base.specs.Devices.{Bytes}
 use Rattle.m11_obj_texts.specs.declared.pieces.PieceContent.{PieceContent}
 use Rattle.m11_scan_statements.specs.declared.parts.Part.{Part}

@@ -1,10 +1,10 @@
 -- Firm assignments are the same under every map.
 use Rattle.std.proofs.Common.{◌≡◌, ◌∙◌, ℕ, Bool, true, false, ◌&&◌, List, [], ◌∷◌, Option, Some, None, refl, sym, ap, true≢false}
 use Rattle.std.specs.Prelude.{⊤}
-use Rattle.m11_unfold_arguments.specs.Expressions.{symbols_at, value_at}
-use Rattle.m11_scan_values.specs.declared.names.Symbol.{Symbol}
-use Rattle.m11_scan_values.specs.declared.names.Symbol.TheVariants.{Ordinary, Local, Counter}
-use Rattle.m11_scan_values.specs.Quantities.{Quantity}
+use Rattle.m11_scan_expressions.specs.Expressions.{symbols_at, value_at}
+use Rattle.m11_scan_expressions.specs.declared.names.Symbol.{Symbol}
+use Rattle.m11_scan_expressions.specs.declared.names.Symbol.TheVariants.{Ordinary, Local, Counter}
+use Rattle.m11_scan_expressions.specs.Quantities.{Quantity}
 use Rattle.m11_asm_rules.proofs.FirmNames.{firm_option, last_firm, value_alike}
 use Rattle.m11_asm_rules.specs.Assignments.{all_firm, assigned, standing_of}
 use Rattle.m11_asm_rules.specs.Definitions.{Definition, Key, Named, Numbered, Standing, Unknown, firm_part, firm_standing, last_definition}

@@ -1,15 +1,15 @@
 -- Firm names stand for the same under every map.
 use Rattle.std.proofs.Common.{◌≡◌, ◌∙◌, ℕ, Bool, true, false, List, [], ◌∷◌, map, Option, Some, None, refl, sym, ap, true≢false}
-use Rattle.m11_unfold_arguments.specs.Expressions as expressions
+use Rattle.m11_scan_expressions.specs.Expressions as expressions
 use Rattle.m11_scan.specs.Cutting.{Lexeme, tokens_from}
 use Rattle.m11_scan.specs.declared.radix.Radix.{Radix}
-use Rattle.m11_scan_values.proofs.Meanings.{atom_agrees, first_agrees, others_agree, with_atom}
-use Rattle.m11_scan_values.specs.declared.names.Symbol.{Symbol}
-use Rattle.m11_scan_values.specs.declared.names.Symbol.TheVariants.{Ordinary, Local, Counter}
-use Rattle.m11_scan_values.specs.Quantities.{Quantity}
-use Rattle.m11_scan_values.specs.Symbols.{AgreeOn}
-use Rattle.m11_scan_values.specs.Terms.{Atom, Item, atom_of, item, symbol_in}
-use Rattle.m11_scan_values.specs.Values.{value_of}
+use Rattle.m11_scan_expressions.proofs.Meanings.{atom_agrees, first_agrees, others_agree, with_atom}
+use Rattle.m11_scan_expressions.specs.declared.names.Symbol.{Symbol}
+use Rattle.m11_scan_expressions.specs.declared.names.Symbol.TheVariants.{Ordinary, Local, Counter}
+use Rattle.m11_scan_expressions.specs.Quantities.{Quantity}
+use Rattle.m11_scan_expressions.specs.Symbols.{AgreeOn}
+use Rattle.m11_scan_expressions.specs.Terms.{Atom, Item, atom_of, item, symbol_in}
+use Rattle.m11_scan_expressions.specs.Values.{value_of}
 use Rattle.m11_asm_rules.specs.Definitions.{Definition, Key, Named, Numbered, firm_part, firm_parts, is_same, last_definition, later_or}
 use Rattle.m11_asm_rules.specs.Meanings.{AreFirm, Context, LocalOnly, Map, defined_or, empty_map, firm_known, is_firm, is_firm_in, known_at, stands_for, undefined}
 use Rattle.m11_asm_rules.specs.Tables.{Table, firm_table}

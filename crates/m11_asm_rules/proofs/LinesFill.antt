@@ -1,6 +1,6 @@
 -- What a line emits fills what its counter goes on by.
 use Rattle.std.proofs.Common.{◌≡◌, ◌∙◌, ℕ, ◌+◌, ◌*◌, ◌/◌, [], ◌∷◌, length, Option, refl, sym, ap, inl, inr}
-use Rattle.m11_unfold_arguments.specs.Expressions.{KnownSymbols}
+use Rattle.m11_scan_expressions.specs.Expressions.{KnownSymbols}
 use Rattle.m11_base.specs.Devices.{Bytes}
 use Rattle.m11_base_instructions.specs.declared.instruction.Op.{Op}
 use Rattle.m11_unfold_rules.specs.Unfolding.{UnfoldedLine}

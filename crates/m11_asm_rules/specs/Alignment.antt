@@ -1,7 +1,7 @@
 -- Even and odd locations. (MACRO-11 Language Reference Manual, "Diagnostic error message summary", B; ".EVEN directive" and ".ODD
 -- directive". That what has to stand at an even location goes on to the next one, by its operator alone, is this project's own.)
 use Rattle.std.specs.Prelude.{ℕ, ◌+◌, ◌-◌, ◌%◌, ◌==◌, Bool, if◌then◌else◌}
-use Rattle.m11_scan_statements.specs.Statements.{flag_if}
+use Rattle.m11_scan.specs.ErrorFlags.{flag_if}
 
 -- the set of the flag B
 abbrev pub flag_B : ℕ

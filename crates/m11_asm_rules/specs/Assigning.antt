@@ -4,17 +4,16 @@ use Rattle.std.specs.Prelude.{ℕ, ◌&&◌, Bool, true, false, if◌then◌else
 use Rattle.std.specs.List.{list_any}
 use Rattle.std.specs.Int.RustNames.{bit_or}
 use Rattle.m11_unfold_arguments.specs.Definedness.{flag_U}
-use Rattle.m11_unfold_arguments.specs.Expressions.{value_at}
-use Rattle.m11_unfold_arguments.specs.LeftOvers.{has_token}
+use Rattle.m11_scan_expressions.specs.Expressions.{value_at}
+use Rattle.m11_scan_expressions.specs.LeftOvers.{has_token}
 use Rattle.m11_base.specs.Devices.{Bytes}
 use Rattle.m11_base.specs.NameCharacters.{six_of}
 use Rattle.m11_base.specs.Rad50.{Name, is_same_name, name_of}
 use Rattle.m11_scan.specs.Cutting.{text_between, tokens_from}
 use Rattle.m11_scan.specs.Ends.{expression_end}
-use Rattle.m11_scan.specs.ErrorFlags.{flag_A, flag_Q}
-use Rattle.m11_scan_statements.specs.Statements.{flag_if}
+use Rattle.m11_scan.specs.ErrorFlags.{flag_A, flag_Q, flag_if}
 use Rattle.m11_scan_statements.specs.declared.spans.Span.{Span}
-use Rattle.m11_scan_values.specs.Quantities.{Quantity}
+use Rattle.m11_scan_expressions.specs.Quantities.{Quantity}
 use Rattle.m11_asm_rules.specs.Changes.{Assigns, Change, Counts, Keeps, Numbers}
 use Rattle.m11_asm_rules.specs.Contents.{register_flags}
 use Rattle.m11_asm_rules.specs.Definitions.{Definition, Named, Standing, Known, Unknown, is_labelled, last_definition}

@@ -2,10 +2,10 @@
 -- and that an assignment is firm where all its names are, is this project's own.)
 use Rattle.std.specs.Prelude.{ℕ, Bool, true, false, ◌&&◌, if◌then◌else◌, List, [], ◌∷◌, None}
 use Rattle.m11_unfold_arguments.specs.Definedness.{is_defined}
-use Rattle.m11_unfold_arguments.specs.Expressions.{symbols_at, value_at}
+use Rattle.m11_scan_expressions.specs.Expressions.{symbols_at, value_at}
 use Rattle.m11_base.specs.Devices.{Bytes}
-use Rattle.m11_scan_values.specs.declared.names.Symbol.{Symbol}
-use Rattle.m11_scan_values.specs.Quantities.{Quantity}
+use Rattle.m11_scan_expressions.specs.declared.names.Symbol.{Symbol}
+use Rattle.m11_scan_expressions.specs.Quantities.{Quantity}
 use Rattle.m11_asm_rules.specs.Definitions.{Definition, Key, Standing, Known, Unknown, is_labelled}
 use Rattle.m11_asm_rules.specs.Labels.{with_definition, with_doubly_defined}
 use Rattle.m11_asm_rules.specs.Meanings.{LocalOnly, Map, is_firm, known_at}

@@ -2,9 +2,8 @@
 -- "Diagnostic error message summary", A. That the offset of a target which can't be reached is 0, and that distances count modulo
 -- 65536, is this project's own.)
 use Rattle.std.specs.Prelude.{ℕ, ◌-◌, ◌/◌, ◌%◌, ◌==◌, ◌&&◌, ◌||◌, not, nat_le, Bool, if◌then◌else◌}
-use Rattle.m11_scan_values.specs.Quantities.{Quantity}
-use Rattle.m11_scan.specs.ErrorFlags.{flag_A}
-use Rattle.m11_scan_statements.specs.Statements.{flag_if}
+use Rattle.m11_scan_expressions.specs.Quantities.{Quantity}
+use Rattle.m11_scan.specs.ErrorFlags.{flag_A, flag_if}
 use Rattle.m11_asm_rules.specs.Relocations.{distance, is_here}
 use Rattle.m11_asm_rules.specs.Tables.{Table}
 

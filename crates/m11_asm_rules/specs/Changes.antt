@@ -3,7 +3,7 @@
 use Rattle.std.specs.Prelude.{ℕ, ◌+◌, ◌&&◌, not, Bool, true, false, if◌then◌else◌, List, [], ◌∷◌, ◌++◌, length, Option, Some, None}
 use Rattle.m11_base.specs.Devices.{Bytes}
 use Rattle.m11_base.specs.Rad50.{Name}
-use Rattle.m11_scan_values.specs.declared.kinds.Kind.TheVariants.{Absolute}
+use Rattle.m11_scan_expressions.specs.declared.kinds.Kind.TheVariants.{Absolute}
 use Rattle.m11_asm_rules.specs.Assignments.{with_assigned}
 use Rattle.m11_asm_rules.specs.Definitions.{Definition, Known, Named, is_labelled}
 use Rattle.m11_asm_rules.specs.Elements.{listed_names}

@@ -4,7 +4,7 @@
 use Rattle.std.specs.Prelude.{ℕ, ◌*◌, ◌%◌, not, nat_le, Bool, true, false, List, [], ◌∷◌}
 use Rattle.std.specs.Int.{cast_signed, w8}
 use Rattle.std.specs.Int.RustNames.{bit_or}
-use Rattle.m11_unfold_arguments.specs.Expressions.{KnownSymbols, number_at, value_at}
+use Rattle.m11_scan_expressions.specs.Expressions.{KnownSymbols, number_at, value_at}
 use Rattle.m11_base.specs.Devices.{Bytes}
 use Rattle.m11_base_instructions.specs.Encoding.{code_of, number_limit}
 use Rattle.m11_base_instructions.specs.Operand.{register_of}
@@ -20,11 +20,10 @@ use Rattle.m11_base_instructions.specs.declared.operand.Mode.TheVariants as mode
 use Rattle.m11_base_instructions.specs.declared.operand.Operand.{Operand}
 use Rattle.m11_base_instructions.specs.declared.operand.Register.{Register}
 use Rattle.m11_base_instructions.specs.declared.operand.Register.TheVariants.{R0, Pc}
-use Rattle.m11_scan.specs.ErrorFlags.{flag_T}
-use Rattle.m11_scan_statements.specs.Statements.{flag_if}
-use Rattle.m11_scan_values.specs.Kinds.{is_register, flag_R}
-use Rattle.m11_scan_values.specs.Operations.{absence}
-use Rattle.m11_scan_values.specs.Quantities.{Quantity}
+use Rattle.m11_scan.specs.ErrorFlags.{flag_T, flag_if}
+use Rattle.m11_scan_expressions.specs.Kinds.{is_register, flag_R}
+use Rattle.m11_scan_expressions.specs.Operations.{absence}
+use Rattle.m11_scan_expressions.specs.Quantities.{Quantity}
 use Rattle.m11_asm_rules.specs.Branches.{branch_offset, branch_reaches, loop_offset, loop_reaches, target_flags}
 use Rattle.m11_asm_rules.specs.Contents.{Emission, fixed_word, followed_by, further, nothing, emission, register_flags, word}
 use Rattle.m11_asm_rules.specs.declared.fields.Field.{Field}

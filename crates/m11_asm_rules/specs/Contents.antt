@@ -2,18 +2,17 @@
 -- "Diagnostic error message summary", R and T.)
 use Rattle.std.specs.Prelude.{ℕ, ◌+◌, ◌/◌, ◌%◌, ◌==◌, ◌||◌, not, Bool, false, if◌then◌else◌, List, [], ◌∷◌, ◌++◌, length}
 use Rattle.std.specs.Int.RustNames.{bit_or}
-use Rattle.m11_unfold_arguments.specs.Expressions.{KnownSymbols, has_expression, value_at}
+use Rattle.m11_scan_expressions.specs.Expressions.{KnownSymbols, has_expression, value_at}
 use Rattle.m11_base.specs.Devices.{Bytes}
 use Rattle.m11_base.specs.Rad50.{Name}
 use Rattle.m11_obj_texts.specs.declared.pieces.Piece.{Piece}
 use Rattle.m11_obj_texts.specs.declared.pieces.PieceContent.{PieceContent}
 use Rattle.m11_obj_texts.specs.declared.pieces.PieceContent.TheVariants.{Byte, Word}
 use Rattle.m11_obj_texts.specs.Pieces.{content_bytes}
-use Rattle.m11_scan.specs.ErrorFlags.{flag_T}
-use Rattle.m11_scan_statements.specs.Statements.{flag_if}
-use Rattle.m11_scan_values.specs.declared.kinds.Kind.{Kind}
-use Rattle.m11_scan_values.specs.Kinds.{is_register, flag_R}
-use Rattle.m11_scan_values.specs.Quantities.{Quantity, absolute}
+use Rattle.m11_scan.specs.ErrorFlags.{flag_T, flag_if}
+use Rattle.m11_scan_expressions.specs.declared.kinds.Kind.{Kind}
+use Rattle.m11_scan_expressions.specs.Kinds.{is_register, flag_R}
+use Rattle.m11_scan_expressions.specs.Quantities.{Quantity, absolute}
 use Rattle.m11_asm_rules.specs.Relocations.{fixed, stored}
 use Rattle.m11_asm_rules.specs.Tables.{Table}
 

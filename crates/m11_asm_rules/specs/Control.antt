@@ -5,17 +5,16 @@ use Rattle.std.specs.Prelude.{ℕ, ◌+◌, ◌==◌, not, Bool, true, false, if
 use Rattle.std.specs.List.{list_any}
 use Rattle.std.specs.Int.RustNames.{bit_or}
 use Rattle.std.specs.Str.{bytes_eq}
-use Rattle.m11_unfold_arguments.specs.LeftOvers.{has_token, left_over, flags_before, rest_flags, skip_flags}
+use Rattle.m11_scan_expressions.specs.LeftOvers.{has_token, left_over, flags_before, rest_flags, skip_flags}
 use Rattle.m11_base.specs.Devices.{Bytes}
 use Rattle.m11_scan.specs.Cutting.{Lexeme, tokens_from}
-use Rattle.m11_scan.specs.ErrorFlags.{flag_A}
+use Rattle.m11_scan.specs.ErrorFlags.{flag_A, flag_if}
 use Rattle.m11_scan.specs.Numbers.{number_of}
 use Rattle.m11_scan.specs.declared.radix.Radix.{Radix}
 use Rattle.m11_scan.specs.declared.radix.Radix.TheVariants.{Binary, Octal, Decimal}
 use Rattle.m11_scan.specs.declared.sort.Sort.{Sort}
 use Rattle.m11_scan.specs.declared.sort.Sort.TheVariants as sorts
-use Rattle.m11_scan_statements.specs.Statements.{flag_if}
-use Rattle.m11_scan_values.specs.Terms.{front_of}
+use Rattle.m11_scan_expressions.specs.Terms.{front_of}
 use Rattle.m11_asm_rules.specs.Changes.{Change, Keeps, Sets}
 use Rattle.m11_asm_rules.specs.Elements.{Names, bad_flags, names_at, texts_of}
 use Rattle.m11_asm_rules.specs.Tables.{Modes}

@@ -3,7 +3,7 @@
 use Rattle.std.specs.Prelude.{ℕ, false, if◌then◌else◌, length, Option, Some, None}
 use Rattle.std.specs.Int.RustNames.{bit_or}
 use Rattle.m11_unfold_arguments.specs.Conditions.{actual_flags, text_of}
-use Rattle.m11_unfold_arguments.specs.LeftOvers.{bad_flags, left_over, flags_before}
+use Rattle.m11_scan_expressions.specs.LeftOvers.{bad_flags, left_over, flags_before}
 use Rattle.m11_unfold_arguments.specs.Macros.{name_at}
 use Rattle.m11_unfold_arguments.specs.declared.macros.NameAt.{NameAt}
 use Rattle.m11_base.specs.Devices.{Bytes}

@@ -6,7 +6,7 @@ use Rattle.std.specs.Option.{is_some}
 use Rattle.m11_base.specs.Devices.{Bytes}
 use Rattle.m11_base.specs.Names.{name_in_words}
 use Rattle.m11_base.specs.Rad50.{Name, is_same_name}
-use Rattle.m11_scan_values.specs.declared.kinds.Kind.TheVariants.{Register}
+use Rattle.m11_scan_expressions.specs.declared.kinds.Kind.TheVariants.{Register}
 pub use Rattle.m11_asm_rules.specs.declared.definitions.Definition.{Definition}
 pub use Rattle.m11_asm_rules.specs.declared.definitions.Key.{Key}
 pub use Rattle.m11_asm_rules.specs.declared.definitions.Key.TheVariants.{Named, Numbered}

@@ -2,7 +2,7 @@
 -- (MACRO-11 Language Reference Manual, "General assembler directives"; PDP-11/40 Processor Handbook, "Instruction set".)
 use Rattle.std.specs.Prelude.{ℕ, ◌+◌, Option}
 use Rattle.std.specs.Int.RustNames.{bit_or}
-use Rattle.m11_unfold_arguments.specs.LeftOvers.{left_over}
+use Rattle.m11_scan_expressions.specs.LeftOvers.{left_over}
 use Rattle.m11_base.specs.Devices.{Bytes}
 use Rattle.m11_asm_rules.specs.Alignment.{gap, location_for, to_even, to_odd}
 use Rattle.m11_asm_rules.specs.Assigning.{number_flags}

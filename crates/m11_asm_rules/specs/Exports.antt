@@ -3,8 +3,8 @@
 -- ident is none, is this project's own.)
 use Rattle.std.specs.Prelude.{ℕ, ◌+◌, ◌-◌, ◌*◌, true, if◌then◌else◌, List, [], ◌∷◌, take, Option, Some, None}
 use Rattle.std.specs.Int.RustNames.{bit_and, bit_or}
-use Rattle.m11_unfold_arguments.specs.Expressions.{has_expression, value_at}
-use Rattle.m11_unfold_arguments.specs.LeftOvers.{left_over, flags_before, rest_flags, skip_flags}
+use Rattle.m11_scan_expressions.specs.Expressions.{has_expression, value_at}
+use Rattle.m11_scan_expressions.specs.LeftOvers.{left_over, flags_before, rest_flags, skip_flags}
 use Rattle.m11_base.specs.Devices.{Bytes}
 use Rattle.m11_base.specs.NameCharacters.{six_of}
 use Rattle.m11_base.specs.Rad50.{Name, name_of}
@@ -17,7 +17,7 @@ use Rattle.m11_scan_statements.specs.Parts.{next_part, part_flags}
 use Rattle.m11_scan_statements.specs.declared.parts.Part.{Part}
 use Rattle.m11_scan_statements.specs.declared.parts.PartKind.{PartKind}
 use Rattle.m11_scan_statements.specs.declared.parts.PartKind.TheVariants.{Text, Expression}
-use Rattle.m11_scan_values.specs.Quantities.{Quantity}
+use Rattle.m11_scan_expressions.specs.Quantities.{Quantity}
 use Rattle.m11_asm_rules.specs.Contents.{register_flags}
 use Rattle.m11_asm_rules.specs.Elements.{Names, bad_flags, names_at}
 use Rattle.m11_asm_rules.specs.Meanings.{LocalOnly, Map, known_at}

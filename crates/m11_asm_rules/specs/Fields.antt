@@ -3,7 +3,7 @@
 -- project's own.)
 use Rattle.std.specs.Prelude.{ℕ, if◌then◌else◌, List, [], ◌∷◌, Option, Some, None}
 use Rattle.std.specs.Int.RustNames.{bit_or}
-use Rattle.m11_unfold_arguments.specs.Expressions.{KnownSymbols, has_expression}
+use Rattle.m11_scan_expressions.specs.Expressions.{KnownSymbols, has_expression}
 use Rattle.m11_base.specs.Devices.{Bytes}
 use Rattle.m11_base_instructions.specs.declared.instruction.Op.{Op}
 use Rattle.m11_base_instructions.specs.declared.instruction.Op.TheVariants as op

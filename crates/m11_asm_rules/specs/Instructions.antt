@@ -2,7 +2,7 @@
 -- set" and "Addressing modes"; MACRO-11 Language Reference Manual, "Operand field".)
 use Rattle.std.specs.Prelude.{ℕ}
 use Rattle.std.specs.Int.RustNames.{bit_or}
-use Rattle.m11_unfold_arguments.specs.LeftOvers.{left_over, skip_flags}
+use Rattle.m11_scan_expressions.specs.LeftOvers.{left_over, skip_flags}
 use Rattle.m11_base.specs.Devices.{Bytes}
 use Rattle.m11_base_instructions.specs.declared.instruction.Op.{Op}
 use Rattle.m11_asm_rules.specs.Codes.{LineContext, code, words_from}

@@ -3,7 +3,7 @@
 use Rattle.std.specs.Prelude.{ℕ, ◌%◌, ◌==◌, ◌&&◌, ◌||◌, not, nat_le, Bool, if◌then◌else◌, List, [], ◌∷◌, ◌++◌}
 use Rattle.std.specs.List.{flat_map}
 use Rattle.m11_unfold_arguments.specs.Definedness.{is_defined}
-use Rattle.m11_unfold_arguments.specs.Expressions.{value_at}
+use Rattle.m11_scan_expressions.specs.Expressions.{value_at}
 use Rattle.m11_base.specs.Devices.{Bytes}
 use Rattle.m11_asm_listing.specs.declared.items.Item.{Item}
 use Rattle.m11_asm_listing.specs.declared.items.Item.TheVariants.{InByte, InWord}
@@ -14,9 +14,9 @@ use Rattle.m11_obj_texts.specs.declared.pieces.PieceContent.TheVariants.{Byte, W
 use Rattle.m11_obj_texts.specs.declared.pieces.RelocationKind.{RelocationKind}
 use Rattle.m11_obj_texts.specs.declared.pieces.RelocationKind.TheVariants as relocation
 use Rattle.m11_unfold_rules.specs.Unfolding.{UnfoldedLine}
-use Rattle.m11_scan_values.specs.declared.kinds.Kind.{Kind}
-use Rattle.m11_scan_values.specs.declared.kinds.Kind.TheVariants as kind
-use Rattle.m11_scan_values.specs.Quantities.{Quantity}
+use Rattle.m11_scan_expressions.specs.declared.kinds.Kind.{Kind}
+use Rattle.m11_scan_expressions.specs.declared.kinds.Kind.TheVariants as kind
+use Rattle.m11_scan_expressions.specs.Quantities.{Quantity}
 use Rattle.m11_asm_rules.specs.Changes.{Change, Numbers}
 use Rattle.m11_asm_rules.specs.Lines.{Assign, Action, Operate, NoAction, SetCounter, action, line_change, line_emission, stands}
 use Rattle.m11_asm_rules.specs.Meanings.{LocalOnly, Map, known_at}

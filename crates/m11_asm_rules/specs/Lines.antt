@@ -3,7 +3,7 @@
 -- project's own.)
 use Rattle.std.specs.Prelude.{ℕ, Bool, if◌then◌else◌, List, length, Option, Some, None}
 use Rattle.std.specs.Int.RustNames.{bit_or}
-use Rattle.m11_unfold_arguments.specs.LeftOvers.{skip_flags}
+use Rattle.m11_scan_expressions.specs.LeftOvers.{skip_flags}
 use Rattle.m11_base.specs.Devices.{Bytes}
 use Rattle.m11_base.specs.NameCharacters.{six_of}
 use Rattle.m11_obj_texts.specs.declared.pieces.Piece.{Piece}

@@ -4,12 +4,12 @@ use Rattle.std.specs.Prelude.{◌≡◌, ℕ, Bool, true, false, List, [], ◌�
 use Rattle.std.specs.Int.RustNames.{bit_or}
 use Rattle.m11_base.specs.Rad50.{Name}
 use Rattle.m11_unfold_arguments.specs.Definedness.{flag_U}
-use Rattle.m11_unfold_arguments.specs.Expressions as expressions
-use Rattle.m11_scan_statements.specs.Statements.{flag_if}
-use Rattle.m11_scan_values.specs.declared.kinds.Kind.TheVariants.{Reference}
-use Rattle.m11_scan_values.specs.declared.names.Symbol.{Symbol}
-use Rattle.m11_scan_values.specs.declared.names.Symbol.TheVariants.{Ordinary, Local, Counter}
-use Rattle.m11_scan_values.specs.Quantities.{Quantity, absolute}
+use Rattle.m11_scan_expressions.specs.Expressions as expressions
+use Rattle.m11_scan.specs.ErrorFlags.{flag_if}
+use Rattle.m11_scan_expressions.specs.declared.kinds.Kind.TheVariants.{Reference}
+use Rattle.m11_scan_expressions.specs.declared.names.Symbol.{Symbol}
+use Rattle.m11_scan_expressions.specs.declared.names.Symbol.TheVariants.{Ordinary, Local, Counter}
+use Rattle.m11_scan_expressions.specs.Quantities.{Quantity, absolute}
 pub use Rattle.m11_asm_rules.specs.declared.meanings.Context.{Context}
 pub use Rattle.m11_asm_rules.specs.declared.meanings.Context.TheVariants.{MayBeGlobal, LocalOnly}
 use Rattle.m11_asm_rules.specs.Definitions.{Definition, Key, Named, Numbered, Standing, Known, Unknown, has_key, last_definition}

@@ -7,7 +7,7 @@
 --   #n     immediate: 27            @#n         absolute: 37
 --   A      relative: 67             @A          relative deferred: 77
 use Rattle.std.specs.Prelude.{ℕ, ◌+◌, ◌*◌, ◌&&◌, not, Bool, true, false, if◌then◌else◌, List, [], ◌∷◌}
-use Rattle.m11_unfold_arguments.specs.Expressions.{KnownSymbols, value_at}
+use Rattle.m11_scan_expressions.specs.Expressions.{KnownSymbols, value_at}
 use Rattle.m11_base.specs.Devices.{Bytes}
 use Rattle.m11_base_instructions.specs.declared.operand.Mode.{Mode}
 use Rattle.m11_base_instructions.specs.declared.operand.Mode.TheVariants as mode
@@ -17,7 +17,7 @@ use Rattle.m11_scan.specs.ErrorFlags.{flag_A}
 use Rattle.m11_scan.specs.Skipped.{skipped_between}
 use Rattle.m11_scan.specs.declared.sort.Sort.{Sort}
 use Rattle.m11_scan.specs.declared.sort.Sort.TheVariants as sorts
-use Rattle.m11_scan_values.specs.Kinds.{is_register}
+use Rattle.m11_scan_expressions.specs.Kinds.{is_register}
 use Rattle.m11_asm_rules.specs.declared.operands.Form.{Form}
 use Rattle.m11_asm_rules.specs.declared.operands.Form.TheVariants.{Absent, InRegister, Indexed, Unindexed, AfterCounter}
 

@@ -3,16 +3,15 @@
 use Rattle.std.specs.Prelude.{ℕ, ◌-◌, ◌==◌, not, Bool, if◌then◌else◌, List, [], ◌∷◌, codes, find, bit_and, Option, Some, None}
 use Rattle.std.specs.Int.RustNames.{bit_or}
 use Rattle.std.specs.Str.{bytes_eq}
-use Rattle.m11_unfold_arguments.specs.LeftOvers.{left_over, flags_before, rest_flags, skip_flags}
+use Rattle.m11_scan_expressions.specs.LeftOvers.{left_over, flags_before, rest_flags, skip_flags}
 use Rattle.m11_unfold_arguments.specs.Macros.{name_at}
 use Rattle.m11_unfold_arguments.specs.declared.macros.NameAt.{NameAt}
 use Rattle.m11_base.specs.Devices.{Bytes}
 use Rattle.m11_base.specs.Names.{absolute_name, blank_name}
 use Rattle.m11_base.specs.Rad50.{Name}
 use Rattle.m11_scan.specs.Cutting.{Lexeme, tokens_from}
-use Rattle.m11_scan.specs.ErrorFlags.{flag_A}
+use Rattle.m11_scan.specs.ErrorFlags.{flag_A, flag_if}
 use Rattle.m11_scan_statements.specs.Listed.{is_comma}
-use Rattle.m11_scan_statements.specs.Statements.{flag_if}
 use Rattle.m11_asm_rules.specs.Elements.{Names, bad_flags, names_at, next_element, texts_of}
 use Rattle.m11_asm_rules.specs.Changes.{Change, Keeps, Selects}
 use Rattle.m11_asm_rules.specs.Sections.{Section, number_of, numbered, of_absolute, of_control, of_program}

@@ -5,9 +5,9 @@ use Rattle.m11_base.specs.Rad50.{Name, is_same_name}
 use Rattle.m11_obj_texts.specs.declared.pieces.RelocationKind.{RelocationKind}
 use Rattle.m11_obj_texts.specs.declared.pieces.RelocationKind.TheVariants as relocation
 use Rattle.m11_obj_texts.specs.declared.pieces.StoredConstant.{StoredConstant}
-use Rattle.m11_scan_values.specs.declared.kinds.Kind.{Kind}
-use Rattle.m11_scan_values.specs.declared.kinds.Kind.TheVariants as kind
-use Rattle.m11_scan_values.specs.Quantities.{Quantity}
+use Rattle.m11_scan_expressions.specs.declared.kinds.Kind.{Kind}
+use Rattle.m11_scan_expressions.specs.declared.kinds.Kind.TheVariants as kind
+use Rattle.m11_scan_expressions.specs.Quantities.{Quantity}
 use Rattle.m11_asm_rules.specs.Sections.{is_relocatable, numbered}
 use Rattle.m11_asm_rules.specs.Tables.{Table, section_name}
 

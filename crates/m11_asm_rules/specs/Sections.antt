@@ -3,8 +3,8 @@
 use Rattle.std.specs.Prelude.{ℕ, ◌==◌, not, Bool, false, true, if◌then◌else◌, List, [], ◌∷◌, position, bit_and, slice_index_or, Option}
 use Rattle.m11_base.specs.Names.{absolute_name, blank_name}
 use Rattle.m11_base.specs.Rad50.{Name, is_same_name}
-use Rattle.m11_scan_values.specs.declared.kinds.Kind.{Kind}
-use Rattle.m11_scan_values.specs.declared.kinds.Kind.TheVariants as kind
+use Rattle.m11_scan_expressions.specs.declared.kinds.Kind.{Kind}
+use Rattle.m11_scan_expressions.specs.declared.kinds.Kind.TheVariants as kind
 pub use Rattle.m11_asm_rules.specs.declared.sections.Section.{Section}
 
 abbrev pub section : Name → ℕ → Section

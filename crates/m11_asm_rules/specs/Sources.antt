@@ -6,7 +6,7 @@ use Rattle.std.specs.List.{flat_map}
 use Rattle.m11_base.specs.Devices.{Bytes}
 use Rattle.m11_base.specs.Rad50.{Name}
 use Rattle.m11_unfold_rules.specs.Unfolding.{UnfoldedLine}
-use Rattle.m11_scan_values.specs.Quantities.{Quantity}
+use Rattle.m11_scan_expressions.specs.Quantities.{Quantity}
 use Rattle.m11_asm_rules.specs.Elements.{listed_names}
 use Rattle.m11_asm_rules.specs.Exports.{ident, title, transfer}
 use Rattle.m11_asm_rules.specs.Lines.{Action, Operate, after_line, action, stands}

@@ -3,8 +3,8 @@
 -- follows an element without a comma is left over, is this project's own.)
 use Rattle.std.specs.Prelude.{ℕ, ◌*◌, false, if◌then◌else◌, List, [], ◌∷◌, length}
 use Rattle.std.specs.Int.RustNames.{bit_or}
-use Rattle.m11_unfold_arguments.specs.Expressions.{has_expression, number_at, number_flags}
-use Rattle.m11_unfold_arguments.specs.LeftOvers.{left_over, skip_flags}
+use Rattle.m11_scan_expressions.specs.Expressions.{has_expression, number_at, number_flags}
+use Rattle.m11_scan_expressions.specs.LeftOvers.{left_over, skip_flags}
 use Rattle.m11_base.specs.Devices.{Bytes}
 use Rattle.m11_obj_texts.specs.declared.pieces.PieceContent.TheVariants.{Limits}
 use Rattle.m11_scan.specs.Ends.{expression_end}

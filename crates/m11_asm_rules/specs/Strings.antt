@@ -4,20 +4,19 @@
 use Rattle.std.specs.Prelude.{ℕ, zero, suc, ◌+◌, ◌-◌, ◌*◌, ◌/◌, ◌%◌, nat_lt, Bool, true, false, if◌then◌else◌, List, [], ◌∷◌, ◌++◌, length, map, Option, Some, None, unwrap_or, is_none}
 use Rattle.std.specs.List.{list_any}
 use Rattle.std.specs.Int.RustNames.{bit_or}
-use Rattle.m11_unfold_arguments.specs.Expressions.{KnownSymbols, value_at}
-use Rattle.m11_unfold_arguments.specs.LeftOvers.{left_over, skip_flags}
+use Rattle.m11_scan_expressions.specs.Expressions.{KnownSymbols, value_at}
+use Rattle.m11_scan_expressions.specs.LeftOvers.{left_over, skip_flags}
 use Rattle.m11_base.specs.Devices.{Bytes}
 use Rattle.m11_base.specs.Rad50.{code_of}
 use Rattle.m11_obj_texts.specs.declared.pieces.PieceContent.{PieceContent}
 use Rattle.m11_scan.specs.Cutting.{text_between}
-use Rattle.m11_scan.specs.ErrorFlags.{flag_A, flag_T}
+use Rattle.m11_scan.specs.ErrorFlags.{flag_A, flag_T, flag_if}
 use Rattle.m11_scan_statements.specs.Parts.{next_part, part_flags}
-use Rattle.m11_scan_statements.specs.Statements.{flag_if}
 use Rattle.m11_scan_statements.specs.declared.parts.Part.{Part}
 use Rattle.m11_scan_statements.specs.declared.parts.PartKind.{PartKind}
 use Rattle.m11_scan_statements.specs.declared.parts.PartKind.TheVariants.{Text, Expression}
-use Rattle.m11_scan_values.specs.Operations.{absence}
-use Rattle.m11_scan_values.specs.Quantities.{Quantity}
+use Rattle.m11_scan_expressions.specs.Operations.{absence}
+use Rattle.m11_scan_expressions.specs.Quantities.{Quantity}
 use Rattle.m11_asm_rules.specs.Contents.{Emission, byte, fixed_byte, fixed_word, followed_by, further, nothing, emission, with_flags}
 use Rattle.m11_asm_rules.specs.Meanings.{LocalOnly, Map, MayBeGlobal, known_at}
 use Rattle.m11_asm_rules.specs.Tables.{Table}

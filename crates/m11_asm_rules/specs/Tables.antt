@@ -3,7 +3,7 @@
 use Rattle.std.specs.Prelude.{ℕ, Bool, false, List, [], ◌∷◌}
 use Rattle.m11_base.specs.Rad50.{Name}
 use Rattle.m11_scan.specs.declared.radix.Radix.TheVariants.{Octal}
-use Rattle.m11_scan_values.specs.declared.kinds.Kind.{Kind}
+use Rattle.m11_scan_expressions.specs.declared.kinds.Kind.{Kind}
 pub use Rattle.m11_asm_rules.specs.declared.modes.Modes.{Modes}
 use Rattle.m11_asm_rules.specs.Definitions.{Definition, Key, firm_parts, registers}
 use Rattle.m11_asm_rules.specs.Locations.{SectionMove, location_in}

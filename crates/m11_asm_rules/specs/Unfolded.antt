@@ -2,7 +2,7 @@
 -- Reference Manual, "Macro directives", "Conditional assembly directives" and "Symbols and expressions". That conditions and repeats ask
 -- firm names alone is this project's own.)
 use Rattle.std.specs.Prelude.{◌≡◌, List, [], ◌∷◌, ⊤}
-use Rattle.m11_unfold_arguments.specs.Expressions.{KnownSymbols}
+use Rattle.m11_scan_expressions.specs.Expressions.{KnownSymbols}
 use Rattle.m11_scan_lines.specs.Line.{SourceLine}
 use Rattle.m11_unfold_rules.specs.Stages.{Stage}
 use Rattle.m11_unfold_rules.specs.Unfolding.{UnfoldedLine, Unfolds}

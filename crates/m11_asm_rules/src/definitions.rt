@@ -1,7 +1,7 @@
 //! What lines define: names and local symbols. (MACRO-11 Language Reference Manual, "Symbols" and "Local symbols".)
 
 use m11_base::Name;
-use m11_scan_values::Kind;
+use m11_scan_expressions::Kind;
 
 /// What is defined.
 #[derive(Clone, Copy)]

@@ -1,7 +1,7 @@
 //! Laws of placing. Each is the contract of a function that does nothing.
 
 ghost use Rattle.std.specs.Prelude.{◌≡◌, ◌≢◌, ◌+◌, ◌≤◌, ◌%◌, ℕ, true, false, List, [], ◌∷◌, ◌++◌, map};
-ghost use Rattle.m11_unfold_arguments.specs.Expressions.{symbols_at, value_at};
+ghost use Rattle.m11_scan_expressions.specs.Expressions.{symbols_at, value_at};
 ghost use Rattle.m11_base.specs.Devices.{Bytes};
 ghost use Rattle.m11_scan_lines.specs.Line.{SourceLine};
 ghost use Rattle.m11_asm_rules.specs.Assignments.{assigned};

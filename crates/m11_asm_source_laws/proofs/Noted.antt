@@ -2,7 +2,7 @@
 use Rattle.std.proofs.Common.{◌≡◌, ◌∙◌, ℕ, ◌||◌, Bool, true, false, if◌then◌else◌, List, [], ◌∷◌, ◌++◌, Option, Some, None, refl, ap}
 use Rattle.std.proofs.lemmas.List.Folds.{list_any-append}
 use Rattle.std.specs.List.{list_any}
-use Rattle.m11_unfold_arguments.specs.LeftOvers.{has_token}
+use Rattle.m11_scan_expressions.specs.LeftOvers.{has_token}
 use Rattle.m11_unfold_arguments.specs.declared.macros.NameAt.{NameAt}
 use Rattle.m11_base.proofs.SameNames.{same_name_itself}
 use Rattle.m11_base.specs.Devices.{Bytes}
@@ -32,8 +32,8 @@ use Rattle.m11_asm_rules.specs.declared.operators.Operator.TheVariants as operat
 use Rattle.m11_asm_rules.specs.declared.modes.Modes.{Modes}
 use Rattle.m11_scan.specs.Cutting.{Lexeme, tokens_from}
 use Rattle.m11_scan.specs.declared.radix.Radix.{Radix}
-use Rattle.m11_scan_values.specs.declared.names.Symbol.{Symbol}
-use Rattle.m11_scan_values.specs.declared.names.Symbol.TheVariants.{Ordinary, Local, Counter}
+use Rattle.m11_scan_expressions.specs.declared.names.Symbol.{Symbol}
+use Rattle.m11_scan_expressions.specs.declared.names.Symbol.TheVariants.{Ordinary, Local, Counter}
 
 -- ---- a name that counts goes on counting, and one that is mentioned counts
 

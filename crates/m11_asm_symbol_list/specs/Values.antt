@@ -8,8 +8,8 @@ use Rattle.m11_asm_rules.specs.declared.definitions.Standing.{Standing}
 use Rattle.m11_asm_rules.specs.declared.definitions.Standing.TheVariants.{Known, Unknown}
 use Rattle.m11_asm_rules.specs.declared.sections.Section.{Section}
 use Rattle.m11_asm_rules.specs.Sections.{number_of}
-use Rattle.m11_scan_values.specs.declared.kinds.Kind.{Kind}
-use Rattle.m11_scan_values.specs.declared.kinds.Kind.TheVariants as kind
+use Rattle.m11_scan_expressions.specs.declared.kinds.Kind.{Kind}
+use Rattle.m11_scan_expressions.specs.declared.kinds.Kind.TheVariants as kind
 
 -- a location is shown with the number of its section. Each section of a definition is one of the table
 abbrev pub location_value : ℕ → Option ℕ → SymbolValue

@@ -18,7 +18,7 @@ use Rattle.m11_asm_rules.specs.declared.definitions.Standing.TheVariants.{Known,
 use Rattle.m11_asm_rules.specs.Tables.{Table, first_table}
 use Rattle.m11_asm_symbol_list.specs.Sections.{section_entries}
 use Rattle.m11_asm_symbol_list.specs.Symbols.{symbol_entries}
-use Rattle.m11_scan_values.specs.declared.kinds.Kind.TheVariants as kind
+use Rattle.m11_scan_expressions.specs.declared.kinds.Kind.TheVariants as kind
 
 abbrev pub name : Bytes → Name
 name characters = name_in_words characters

@@ -8,7 +8,7 @@ use m11_asm_listing::SymbolValue;
 use m11_asm_rules::Standing;
 use m11_asm_table::Table;
 use m11_base::Name;
-use m11_scan_values::Kind;
+use m11_scan_expressions::Kind;
 
 // A location, with the number of its section.
 fn location_value(table: &Table, number: u16, name: Name) -> SymbolValue

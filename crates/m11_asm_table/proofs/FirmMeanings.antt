@@ -1,11 +1,11 @@
 -- What a key stands for as far as it is firm.
 use Rattle.std.proofs.Common.{◌≡◌, ◌∙◌, Bool, Option, Some, None, refl, sym, ap}
 use Rattle.m11_unfold_arguments.specs.Definedness.{flag_U}
-use Rattle.m11_scan_values.specs.Quantities.{Quantity, absolute}
+use Rattle.m11_scan_expressions.specs.Quantities.{Quantity, absolute}
 use Rattle.m11_asm_rules.specs.declared.definitions.Key.{Key}
 use Rattle.m11_asm_rules.specs.Definitions.{firm_standing, has_key, last_definition}
 use Rattle.m11_asm_rules.specs.Meanings.{defined_or, empty_map, flag_D, meaning_of, quantity_of}
-use Rattle.m11_scan_statements.specs.Statements.{flag_if}
+use Rattle.m11_scan.specs.ErrorFlags.{flag_if}
 use Rattle.m11_asm_rules.specs.Tables.{Table, firm_table}
 use Rattle.m11_asm_rules.proofs.FirmNames.{firm_option, last_firm}
 use Rattle.m11_asm_table.specs.Asking.{given_by}

@@ -1,9 +1,9 @@
 -- What is asked when a symbol stands for something, and by which steps it is found. (MACRO-11 Language Reference Manual, "Symbols" and
 -- "Current location counter".)
 use Rattle.std.specs.Prelude.{ℕ, Bool, Option, Some, None}
-use Rattle.m11_scan_statements.specs.Statements.{flag_if}
-use Rattle.m11_scan_values.specs.declared.kinds.Kind.{Kind}
-use Rattle.m11_scan_values.specs.Quantities.{Quantity}
+use Rattle.m11_scan.specs.ErrorFlags.{flag_if}
+use Rattle.m11_scan_expressions.specs.declared.kinds.Kind.{Kind}
+use Rattle.m11_scan_expressions.specs.Quantities.{Quantity}
 use Rattle.m11_asm_rules.specs.declared.meanings.Context.{Context}
 use Rattle.m11_asm_rules.specs.Meanings.{Map, flag_D, quantity_of}
 use Rattle.m11_asm_rules.specs.Tables.{Table}

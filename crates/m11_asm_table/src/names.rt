@@ -2,8 +2,8 @@
 
 ghost use Rattle.std.specs.Prelude.{◌≡◌, Option, option_copied};
 ghost use Rattle.m11_scan.specs.Views.{bits_of};
-ghost use Rattle.m11_scan_statements.specs.Statements.{flag_if};
-ghost use Rattle.m11_scan_values.specs.Quantities.{absolute, quantity};
+ghost use Rattle.m11_scan.specs.ErrorFlags.{flag_if};
+ghost use Rattle.m11_scan_expressions.specs.Quantities.{absolute, quantity};
 ghost use Rattle.m11_asm_rules.specs.Contents.{register_flags};
 ghost use Rattle.m11_asm_rules.specs.Meanings.{empty_map, flag_D, meaning_of, quantity_of, stands_for, undefined};
 ghost use Rattle.m11_asm_rules.specs.declared.meanings.Context.TheVariants.{LocalOnly};
@@ -17,7 +17,7 @@ use crate::map::Map;
 use crate::table::Table;
 use m11_asm_rules::{Context, Key, Standing};
 use m11_scan::{ErrorFlags, Radix};
-use m11_scan_values::{Kind, Names, Symbol, Value};
+use m11_scan_expressions::{Kind, Names, Symbol, Value};
 use std::marker::Model;
 
 /// What symbols stand for where `.` is a location: the last definition before the line, or else that of the map.

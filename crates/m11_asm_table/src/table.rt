@@ -25,7 +25,7 @@ use indexmap::{IndexMap, IndexSet};
 use m11_asm_rules::{Definition, Key, Modes, Section, Standing};
 use m11_base::{Name, absolute_section, blank_name};
 use m11_scan::Radix;
-use m11_scan_values::{Kind, Symbol};
+use m11_scan_expressions::{Kind, Symbol};
 use std::alloc::{AllocError, Global};
 use std::marker::Model;
 

@@ -11,7 +11,7 @@ use m11_base::{Name, absolute_section, blank_name};
 use m11_obj::SectionFlags;
 use m11_obj_texts::DirectoryRow;
 use m11_scan::ErrorFlags;
-use m11_scan_values::{Kind, Value};
+use m11_scan_expressions::{Kind, Value};
 use std::alloc::{AllocError, Global};
 use std::process::Abort;
 use std::test::Fail;

@@ -1,16 +1,15 @@
 //! Where a line stands, and what is known there. (MACRO-11 Language Reference Manual, "Symbols" and "Expressions".)
 
 ghost use Rattle.std.specs.Prelude.{◌≡◌, IfSome};
-ghost use Rattle.m11_unfold_arguments.specs.Expressions as expressions;
-ghost use Rattle.m11_unfold_arguments.specs.Expressions.{IsAlone, known_by};
+ghost use Rattle.m11_scan_expressions.specs.Expressions as expressions;
+ghost use Rattle.m11_scan_expressions.specs.Expressions.{IsAlone, known_by};
 ghost use Rattle.m11_asm_values.specs.LineContext.{line_context_of, standpoint};
-ghost use Rattle.m11_scan_values.specs.Quantities.{quantity};
+ghost use Rattle.m11_scan_expressions.specs.Quantities.{quantity};
 
 use m11_asm_rules::Context;
 use m11_asm_table::{Map, NamesAt, Table};
 use m11_scan::{Line, Token};
-use m11_scan_values::{Names, Value, term_value};
-use m11_unfold_arguments::value_at;
+use m11_scan_expressions::{Names, Value, term_value, value_at};
 use std::marker::Model;
 
 /// Where a line stands: what a whole source gives its names in the end, what the lines before say, the location, and the line.

@@ -2,14 +2,14 @@
 //! Volume and File Formats Manual, "Object file format", RLD block.)
 
 ghost use Rattle.std.specs.Prelude.{◌≡◌};
-ghost use Rattle.m11_scan_values.specs.Quantities.{quantity};
+ghost use Rattle.m11_scan_expressions.specs.Quantities.{quantity};
 ghost use Rattle.m11_asm_rules.specs.Relocations as spec;
 
 use crate::line_context::LineContext;
 use m11_asm_table::Table;
 use m11_base::Name;
 use m11_obj_texts::{RelocationKind, StoredConstant};
-use m11_scan_values::{Kind, Value};
+use m11_scan_expressions::{Kind, Value};
 use std::marker::Model;
 
 // What a linker does to a value in a word or a byte; in a relative operand of a section with REL; and in one of a section with ABS.

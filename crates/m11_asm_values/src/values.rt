@@ -4,14 +4,14 @@ ghost use Rattle.std.specs.Prelude.{◌≡◌, IfOk};
 ghost use Rattle.m11_asm_rules.specs.Contents as spec;
 ghost use Rattle.m11_asm_rules.specs.Contents.{followed_by};
 ghost use Rattle.m11_scan.specs.Views.{bits_of};
-ghost use Rattle.m11_scan_values.specs.Quantities.{quantity};
+ghost use Rattle.m11_scan_expressions.specs.Quantities.{quantity};
 
 use crate::emission::Emission;
 use crate::line_context::LineContext;
 use crate::relocations::stored;
 use m11_asm_table::register_flags;
 use m11_scan::ErrorFlags;
-use m11_scan_values::Value;
+use m11_scan_expressions::Value;
 use std::alloc::AllocError;
 
 /// The location `size` bytes after another, modulo 65536.

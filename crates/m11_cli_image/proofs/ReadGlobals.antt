@@ -24,9 +24,9 @@ use Rattle.m11_asm_rules.specs.declared.definitions.Standing.{Standing}
 use Rattle.m11_asm_rules.specs.declared.definitions.Standing.TheVariants.{Known, Unknown}
 use Rattle.m11_asm_rules.specs.Definitions.{last_definition}
 use Rattle.m11_asm_rules.specs.declared.sections.Section.{Section}
-use Rattle.m11_scan_values.specs.declared.kinds.Kind.{Kind}
-use Rattle.m11_scan_values.specs.declared.kinds.Kind.TheVariants as kind
-use Rattle.m11_scan_values.specs.Quantities.{Quantity}
+use Rattle.m11_scan_expressions.specs.declared.kinds.Kind.{Kind}
+use Rattle.m11_scan_expressions.specs.declared.kinds.Kind.TheVariants as kind
+use Rattle.m11_scan_expressions.specs.Quantities.{Quantity}
 use Rattle.m11_cli_image.specs.Globals.{global_by, global_standing, global_under, globals_of, globals_under, in_source}
 use Rattle.m11_cli_image.proofs.ReadEntries.{definition_said, entries_by}
 use Rattle.m11_cli_image.proofs.ReadParts.{Seen, onto, seen_after}

@@ -24,7 +24,7 @@ use Rattle.m11_asm_rules.specs.declared.definitions.Standing.{Standing}
 use Rattle.m11_asm_rules.specs.declared.definitions.Standing.TheVariants.{Known, Unknown}
 use Rattle.m11_asm_rules.specs.Definitions.{last_definition}
 use Rattle.m11_asm_rules.specs.declared.sections.Section.{Section}
-use Rattle.m11_scan_values.specs.Quantities.{Quantity}
+use Rattle.m11_scan_expressions.specs.Quantities.{Quantity}
 use Rattle.m11_cli_image.specs.Objects.{transfer_at}
 use Rattle.m11_cli_image.specs.Sections.{OwnSection, attributes_entered, own_section, sections_of, size_entered}
 use Rattle.m11_cli_image.specs.Sources.{Source}

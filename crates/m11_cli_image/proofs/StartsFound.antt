@@ -7,9 +7,9 @@ use Rattle.m11_asm_directory.specs.Transfers.{home}
 use Rattle.m11_link_layout.specs.Transfers.{is_even}
 use Rattle.m11_link_layout.specs.declared.definition.Transfer.{Transfer}
 use Rattle.m11_link_text.specs.Relocation.{modulo}
-use Rattle.m11_scan_values.specs.declared.kinds.Kind.{Kind}
-use Rattle.m11_scan_values.specs.declared.kinds.Kind.TheVariants as kind
-use Rattle.m11_scan_values.specs.Quantities.{Quantity}
+use Rattle.m11_scan_expressions.specs.declared.kinds.Kind.{Kind}
+use Rattle.m11_scan_expressions.specs.declared.kinds.Kind.TheVariants as kind
+use Rattle.m11_scan_expressions.specs.Quantities.{Quantity}
 use Rattle.m11_cli_image.specs.Image.{addresses_of, all_starts, start_at, start_by, start_of}
 use Rattle.m11_cli_image.specs.Links.{beginning, beginning_at, transfer_of}
 use Rattle.m11_cli_image.specs.Objects.{transfer_at}

@@ -20,8 +20,8 @@ use Rattle.m11_asm_rules.specs.declared.definitions.Standing.TheVariants.{Known,
 use Rattle.m11_asm_rules.specs.Definitions.{last_definition}
 use Rattle.m11_asm_rules.specs.declared.sections.Section.{Section}
 use Rattle.m11_asm_rules.specs.Tables.{Table}
-use Rattle.m11_scan_values.specs.declared.kinds.Kind.{Kind}
-use Rattle.m11_scan_values.specs.declared.kinds.Kind.TheVariants as kind
+use Rattle.m11_scan_expressions.specs.declared.kinds.Kind.{Kind}
+use Rattle.m11_scan_expressions.specs.declared.kinds.Kind.TheVariants as kind
 use Rattle.m11_cli_image.specs.Sections.{contribution}
 use Rattle.m11_cli_image.specs.Sources.{Source}
 

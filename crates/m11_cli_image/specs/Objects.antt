@@ -23,7 +23,7 @@ use Rattle.m11_obj_texts.specs.Reading.{is_stored}
 use Rattle.m11_obj_texts.specs.Texts.{TextParts, cutting}
 use Rattle.m11_asm_rules.specs.declared.sections.Section.{Section}
 use Rattle.m11_asm_rules.specs.Sections.{of_absolute, section}
-use Rattle.m11_scan_values.specs.Quantities.{Quantity}
+use Rattle.m11_scan_expressions.specs.Quantities.{Quantity}
 use Rattle.m11_cli_image.specs.Globals.{globals_of, in_source}
 use Rattle.m11_cli_image.specs.Sections.{attributes_entered, sections_of, size_entered}
 use Rattle.m11_cli_image.specs.Sources.{Source}

@@ -8,9 +8,9 @@ use Rattle.m11_link_text.specs.Relocation.{following, modulo}
 use Rattle.m11_asm_rules.specs.Branches.{back, branch_offset, branch_reaches, in_reach, loop_offset, loop_reaches}
 use Rattle.m11_asm_rules.specs.Relocations.{distance, is_here, is_moved}
 use Rattle.m11_asm_rules.specs.Tables.{Table, section_name}
-use Rattle.m11_scan_values.specs.declared.kinds.Kind.{Kind}
-use Rattle.m11_scan_values.specs.declared.kinds.Kind.TheVariants as kind
-use Rattle.m11_scan_values.specs.Quantities.{Quantity}
+use Rattle.m11_scan_expressions.specs.declared.kinds.Kind.{Kind}
+use Rattle.m11_scan_expressions.specs.declared.kinds.Kind.TheVariants as kind
+use Rattle.m11_scan_expressions.specs.Quantities.{Quantity}
 use Rattle.m11_cli_image.specs.Addresses.{Addresses}
 use Rattle.m11_cli_image_laws.specs.Branching.{branch_distance, loop_distance}
 use Rattle.m11_cli_image_laws.specs.Lines.{address_in}

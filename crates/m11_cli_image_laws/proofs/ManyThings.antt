@@ -3,7 +3,7 @@ use Rattle.std.proofs.Common.{◌≡◌, ◌∙◌, ℕ, ◌<◌, Bool, true, fa
 use Rattle.m11_base.specs.Devices.{Bytes}
 use Rattle.m11_obj_texts.specs.declared.pieces.PieceContent.{PieceContent}
 use Rattle.m11_obj_texts.specs.declared.pieces.PieceContent.TheVariants.{Word}
-use Rattle.m11_unfold_arguments.specs.Expressions.{value_at}
+use Rattle.m11_scan_expressions.specs.Expressions.{value_at}
 use Rattle.m11_asm_rules.specs.Codes.{LineContext, form_words, is_relative}
 use Rattle.m11_asm_rules.specs.Codes as codes
 use Rattle.m11_asm_rules.specs.Contents.{content_size, element_value, fixed_byte, further, pieces_from}
@@ -18,7 +18,7 @@ use Rattle.m11_asm_rules.specs.declared.operands.Form.TheVariants.{Absent, InReg
 use Rattle.m11_scan_statements.specs.declared.parts.Part.{Part}
 use Rattle.m11_scan_statements.specs.declared.parts.PartKind.{PartKind}
 use Rattle.m11_scan_statements.specs.declared.parts.PartKind.TheVariants.{Text, Expression}
-use Rattle.m11_scan_values.specs.Quantities.{Quantity}
+use Rattle.m11_scan_expressions.specs.Quantities.{Quantity}
 use Rattle.m11_cli_image.specs.Addresses.{Addresses}
 use Rattle.m11_cli_image.specs.Pieces.{placed}
 use Rattle.m11_cli_image_laws.specs.Lines.{address_in, lying_from}

@@ -9,9 +9,9 @@ use Rattle.m11_obj_texts.specs.declared.pieces.PieceContent.TheVariants.{Byte, W
 use Rattle.m11_asm_rules.specs.Contents.{content_size, fixed_byte, fixed_word}
 use Rattle.m11_asm_rules.specs.Relocations.{Here, InObject, InSection, Origin, Zero, constant, is_moved, origin_of, relocation_by, row_of, stored}
 use Rattle.m11_asm_rules.specs.Tables.{Table, section_name}
-use Rattle.m11_scan_values.specs.declared.kinds.Kind.{Kind}
-use Rattle.m11_scan_values.specs.declared.kinds.Kind.TheVariants as kind
-use Rattle.m11_scan_values.specs.Quantities.{Quantity}
+use Rattle.m11_scan_expressions.specs.declared.kinds.Kind.{Kind}
+use Rattle.m11_scan_expressions.specs.declared.kinds.Kind.TheVariants as kind
+use Rattle.m11_scan_expressions.specs.Quantities.{Quantity}
 use Rattle.m11_cli_image.specs.Addresses.{Addresses}
 use Rattle.m11_cli_image.specs.Pieces.{bytes_at, number_at, spot}
 use Rattle.m11_cli_image_laws.specs.Lines.{address_in}

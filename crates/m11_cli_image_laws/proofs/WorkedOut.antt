@@ -5,7 +5,7 @@ use Rattle.m11_base.specs.Rad50.{alphabet, code_of}
 use Rattle.m11_link_modules.specs.Positions.{distinct}
 use Rattle.m11_asm_rules.specs.Lines.{line_change, line_emission}
 use Rattle.m11_scan.specs.Pieces.{first_piece}
-use Rattle.m11_scan_values.specs.Values.{value_of}
+use Rattle.m11_scan_expressions.specs.Values.{value_of}
 use Rattle.m11_cli_image.specs.Globals.{global}
 use Rattle.m11_cli_image.specs.Image.{addresses_of, all_placed}
 use Rattle.m11_cli_image.specs.Sections.{contribution}

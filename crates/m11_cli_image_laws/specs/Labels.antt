@@ -15,9 +15,9 @@ use Rattle.m11_asm_rules.specs.declared.definitions.Key.TheVariants.{Named}
 use Rattle.m11_asm_rules.specs.declared.definitions.Standing.TheVariants.{Known}
 use Rattle.m11_asm_rules.specs.declared.meanings.Context.{Context}
 use Rattle.m11_unfold_rules.specs.Unfolding.{UnfoldedLine}
-use Rattle.m11_scan_values.specs.declared.kinds.Kind.{Kind}
-use Rattle.m11_scan_values.specs.declared.names.Symbol.TheVariants.{Ordinary}
-use Rattle.m11_scan_values.specs.Quantities.{Quantity}
+use Rattle.m11_scan_expressions.specs.declared.kinds.Kind.{Kind}
+use Rattle.m11_scan_expressions.specs.declared.names.Symbol.TheVariants.{Ordinary}
+use Rattle.m11_scan_expressions.specs.Quantities.{Quantity}
 use Rattle.m11_cli_image.specs.Globals.{all_globals, globals_of}
 use Rattle.m11_cli_image.specs.Sources.{Source}
 

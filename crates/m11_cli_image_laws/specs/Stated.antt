@@ -3,7 +3,7 @@
 -- ".ASCII directive", ".RAD50 directive" and ".LIMIT directive".)
 use Rattle.std.specs.Prelude.{ℕ, ◌+◌, ◌*◌, ◌%◌, if◌then◌else◌, List, [], ◌∷◌, ◌++◌, map}
 use Rattle.std.specs.List.{flat_map}
-use Rattle.m11_unfold_arguments.specs.Expressions.{value_at}
+use Rattle.m11_scan_expressions.specs.Expressions.{value_at}
 use Rattle.m11_base.specs.Devices.{Bytes}
 use Rattle.m11_base_instructions.specs.Encoding.{code_of}
 use Rattle.m11_base_instructions.specs.declared.instruction.Op.{Op}
@@ -31,7 +31,7 @@ use Rattle.m11_scan_statements.specs.declared.parts.Part.{Part}
 use Rattle.m11_scan_statements.specs.declared.parts.PartKind.{PartKind}
 use Rattle.m11_scan_statements.specs.declared.parts.PartKind.TheVariants.{Text, Expression}
 use Rattle.m11_unfold_rules.specs.Unfolding.{UnfoldedLine}
-use Rattle.m11_scan_values.specs.Quantities.{Quantity}
+use Rattle.m11_scan_expressions.specs.Quantities.{Quantity}
 
 pub data Stated : Type 0 where
   -- a word or a byte that is the same in every program

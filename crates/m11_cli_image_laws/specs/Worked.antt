@@ -2,8 +2,8 @@
 -- "Relocation and linking".)
 use Rattle.std.specs.Prelude.{ℕ, ◌==◌, if◌then◌else◌, false, List, [], ◌∷◌, codes, None}
 use Rattle.std.specs.List.{flat_map}
-use Rattle.m11_unfold_arguments.specs.Expressions.{known_by}
-use Rattle.m11_unfold_arguments.specs.Remarks.{no_remarks}
+use Rattle.m11_scan_expressions.specs.Expressions.{known_by}
+use Rattle.m11_scan_expressions.specs.Remarks.{no_remarks}
 use Rattle.m11_base.specs.Devices.{Bytes}
 use Rattle.m11_scan_lines.specs.Line.{line_of}
 use Rattle.m11_asm_rules.specs.Meanings.{empty_map}
@@ -12,7 +12,7 @@ use Rattle.m11_asm_rules.specs.Locations.{size_in}
 use Rattle.m11_asm_rules.specs.Sources.{source_transfer}
 use Rattle.m11_scan.specs.declared.radix.Radix.TheVariants.{Octal}
 use Rattle.m11_unfold_rules.specs.Unfolding.{UnfoldedLine}
-use Rattle.m11_scan_values.specs.Quantities.{absolute}
+use Rattle.m11_scan_expressions.specs.Quantities.{absolute}
 use Rattle.m11_cli_image.specs.Addresses.{Addresses}
 use Rattle.m11_cli_image.specs.Sources.{Source}
 use Rattle.m11_cli_image_laws.specs.Agreement.{placed_pieces}

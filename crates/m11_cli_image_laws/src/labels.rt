@@ -7,7 +7,7 @@ ghost use Rattle.m11_cli_image.specs.Sources.{Source};
 ghost use Rattle.m11_asm_rules.specs.Tables.{location, section_name};
 ghost use Rattle.m11_asm_rules.specs.declared.meanings.Context.{Context};
 ghost use Rattle.m11_unfold_rules.specs.Unfolding.{UnfoldedLine};
-ghost use Rattle.m11_scan_values.specs.declared.kinds.Kind.{Kind};
+ghost use Rattle.m11_scan_expressions.specs.declared.kinds.Kind.{Kind};
 ghost use Rattle.m11_cli_image_laws.specs.Agreement.{AbsolutesAgree, AreOf};
 ghost use Rattle.m11_cli_image_laws.specs.Labels.{DefinesFirst, HasLabel, HasValue, LineOf, at_line, meaning_at};
 ghost use Rattle.m11_cli_image_laws.specs.Lines.{address_in};

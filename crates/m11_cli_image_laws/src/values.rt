@@ -10,7 +10,7 @@ ghost use Rattle.m11_asm_rules.specs.Relocations.{is_moved};
 ghost use Rattle.m11_asm_rules.specs.Tables.{Table, section_name};
 ghost use Rattle.m11_cpu_tape_laws.specs.Image.{byte_of};
 ghost use Rattle.m11_unfold_rules.specs.Unfolding.{UnfoldedLine};
-ghost use Rattle.m11_scan_values.specs.Quantities.{Quantity};
+ghost use Rattle.m11_scan_expressions.specs.Quantities.{Quantity};
 ghost use Rattle.m11_cli_image_laws.specs.Agreement.{AbsolutesAgree, AreOf};
 ghost use Rattle.m11_cli_image_laws.specs.Branching.{branch_distance, loop_distance};
 ghost use Rattle.m11_cli_image_laws.specs.Lines.{address_in, all_lying};

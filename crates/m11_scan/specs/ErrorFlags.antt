@@ -1,6 +1,6 @@
 -- The flags that flag a line, and sets of them. (MACRO-11 Language Reference Manual, "Diagnostic error message
 -- summary". That a set is a number, with a bit for each letter in the order of the alphabet, is this project's own.)
-use Rattle.std.specs.Prelude.{ℕ, ◌==◌, if◌then◌else◌, List, [], ◌∷◌}
+use Rattle.std.specs.Prelude.{ℕ, Bool, ◌==◌, if◌then◌else◌, List, [], ◌∷◌}
 use Rattle.std.specs.Int.RustNames.{bit_and}
 use Rattle.m11_base.specs.Devices.{Bytes}
 use Rattle.m11_scan.specs.declared.flags.Row.{Row}
@@ -55,3 +55,7 @@ flag_Q = 0o2000
 
 abbrev pub flag_T : ℕ
 flag_T = 0o10000
+
+-- a flag, where something holds
+abbrev pub flag_if : Bool → ℕ → ℕ
+flag_if holds flag = if holds then flag else 0

@@ -7,7 +7,7 @@ use Rattle.m11_base.specs.NameCharacters.{folded}
 use Rattle.m11_scan.specs.Characters.{is_digit}
 use Rattle.m11_scan.specs.Cutting.{Lexeme, tokens_from, tokens_of}
 use Rattle.std.specs.Int.RustNames.{bit_or}
-use Rattle.m11_scan.specs.ErrorFlags.{flag_A, flag_I, flag_L}
+use Rattle.m11_scan.specs.ErrorFlags.{flag_A, flag_I, flag_L, flag_if}
 use Rattle.m11_scan.specs.Numbers.{number_of}
 use Rattle.m11_scan.specs.declared.radix.Radix.TheVariants.{Decimal}
 use Rattle.m11_scan.specs.declared.sort.Sort.{Sort}
@@ -17,7 +17,7 @@ use Rattle.m11_scan_statements.specs.declared.labels.LabelKind.{LabelKind}
 use Rattle.m11_scan_statements.specs.Bodies.{assignment_to, body_in, body_or, operation, set_by}
 use Rattle.m11_scan_statements.specs.Labels.{before_labels, end_of, is_counter, kind_of, label_of, labelled, labels_at, labels_end, labels_in, local_kind, local_of, numbered}
 use Rattle.m11_scan_statements.specs.Listed.{names}
-use Rattle.m11_scan_statements.specs.Statements.{body_of, has_outside, flag_if, flags_of, label_flags}
+use Rattle.m11_scan_statements.specs.Statements.{body_of, has_outside, flags_of, label_flags}
 
 -- labels
 counter-folded : (text : List ℕ) → is_counter (map folded text) ≡ is_counter text

@@ -4,7 +4,7 @@ use Rattle.std.specs.List.{list_any}
 use Rattle.std.specs.Int.RustNames.{bit_or}
 use Rattle.m11_base.specs.Devices.{Bytes}
 use Rattle.m11_scan.specs.Cutting.{tokens_from}
-use Rattle.m11_scan.specs.ErrorFlags.{flag_A, flag_I, flag_L}
+use Rattle.m11_scan.specs.ErrorFlags.{flag_A, flag_I, flag_L, flag_if}
 use Rattle.m11_scan_lines.specs.Line.{SourceLine}
 use Rattle.m11_scan.specs.Skipped.{skipped_between}
 use Rattle.m11_scan_statements.specs.Bodies.{body_in}
@@ -26,9 +26,6 @@ is_outside Outside = true
 
 abbrev pub has_outside : List Label → Bool
 has_outside labels = list_any (λ label. is_outside label.kind) labels
-
-abbrev pub flag_if : Bool → ℕ → ℕ
-flag_if holds flag = if holds then flag else 0
 
 -- L for an over-long line, A for a local symbol outside 1 to 65535 among its labels, I for a skipped character up to a column
 abbrev pub flags_of : SourceLine → List Label → ℕ → ℕ

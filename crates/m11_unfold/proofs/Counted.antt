@@ -3,7 +3,7 @@ use Rattle.std.proofs.Common.{◌≡◌, ◌≤◌, ℕ, zero, suc, List, length
 use Rattle.std.proofs.lemmas.List.{length-append}
 use Rattle.std.specs.Prelude.{true}
 use Rattle.m11_unfold_arguments.specs.Actuals.{ActualTexts, actuals_from, given_as, given_by, wanted_by}
-use Rattle.m11_unfold_arguments.specs.Expressions.{KnownSymbols}
+use Rattle.m11_scan_expressions.specs.Expressions.{KnownSymbols}
 use Rattle.m11_unfold_arguments.specs.Macros.{FormalList, NextListed, Ending, Formally, formals_by, formals_within, header, listed_at, name_at, header_by}
 use Rattle.m11_unfold_arguments.specs.declared.macros.NameAt.{NameAt}
 use Rattle.m11_scan_lines.specs.Line.{line_limit}

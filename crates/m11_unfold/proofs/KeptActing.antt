@@ -4,7 +4,7 @@ use Rattle.std.specs.Prelude.{if◌then◌else◌, nat_le, nat_lt, drop, map}
 use Rattle.std.proofs.lemmas.Bool.Decides.{nat_tests}
 use Rattle.m11_unfold_arguments.specs.Actuals.{actuals_from}
 use Rattle.m11_unfold_arguments.specs.Conditions.{ConditionResult, condition}
-use Rattle.m11_unfold_arguments.specs.Expressions.{KnownSymbols}
+use Rattle.m11_scan_expressions.specs.Expressions.{KnownSymbols}
 use Rattle.m11_unfold_arguments.specs.Filling.{filled}
 use Rattle.m11_unfold_arguments.specs.Immediate as immediate
 use Rattle.m11_unfold_arguments.specs.Indefinite.{irpc, irp}

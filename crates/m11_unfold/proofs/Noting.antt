@@ -1,7 +1,7 @@
 -- What is noted in parts is what is noted at once.
 use Rattle.std.proofs.Common.{◌≡◌, ℕ, sym, ap}
-use Rattle.m11_unfold_arguments.specs.Remarks.{Remarks, joined, no_remarks, with_flags}
-use Rattle.m11_unfold_arguments.proofs.Joining.{joined_nothing, or_joins}
+use Rattle.m11_scan_expressions.specs.Remarks.{Remarks, joined, no_remarks, with_flags}
+use Rattle.m11_scan_expressions.proofs.Joining.{joined_nothing, or_joins}
 use Rattle.std.proofs.Common.{◌++◌}
 
 pub nothing_more : (a : Remarks) → a ≡ joined a no_remarks

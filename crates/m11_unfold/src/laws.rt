@@ -1,7 +1,7 @@
 //! The law that an unfolder's calls together give the unfolding of a source. It is the contract of a function that does nothing.
 
 ghost use Rattle.std.specs.Prelude.{◌≡◌, ◌++◌, ◌∷◌, Bool, List, [], Result, Ok};
-ghost use Rattle.m11_unfold_arguments.specs.Expressions.{KnownSymbols};
+ghost use Rattle.m11_scan_expressions.specs.Expressions.{KnownSymbols};
 ghost use Rattle.m11_unfold_bodies.specs.Left.{Line};
 ghost use Rattle.m11_scan_lines.specs.Line.{SourceLine};
 ghost use Rattle.m11_unfold_rules.specs.Histories.{with_more};

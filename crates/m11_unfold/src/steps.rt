@@ -1,6 +1,6 @@
 //! What an unfolder's calls return.
 
-use m11_unfold_arguments::Remarks;
+use m11_scan_expressions::Remarks;
 
 /// What comes next of a source.
 #[derive(Clone, Copy, PartialEq, Eq, Debug)]

@@ -4,8 +4,8 @@ use Rattle.std.specs.Int.RustNames.{bit_or}
 use Rattle.m11_unfold_arguments.specs.Conditions.{ConditionResult, verdict_of, remarks_in}
 use Rattle.m11_unfold_arguments.specs.declared.conditions.Verdict.{Verdict}
 use Rattle.m11_unfold_arguments.specs.Immediate.{comma_flags, immediate_remarks, statement_at}
-use Rattle.m11_unfold_arguments.specs.Remarks.{Remarks, joined, remarks_of, with_flags}
-use Rattle.m11_unfold_arguments.proofs.Joining.{or_joins}
+use Rattle.m11_scan_expressions.specs.Remarks.{Remarks, joined, remarks_of, with_flags}
+use Rattle.m11_scan_expressions.proofs.Joining.{or_joins}
 
 pub remarked_at_once : (line : List ℕ) (begin middle after : Remarks) (asked : ConditionResult) (verdict : Verdict) (flags end : ℕ)
     → {statement : Option ℕ} → verdict ≡ verdict_of asked → middle ≡ joined begin (remarks_in asked) → end ≡ verdict.end

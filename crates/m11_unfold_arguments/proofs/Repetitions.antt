@@ -4,12 +4,12 @@ use Rattle.m11_scan_lines.specs.Line.{line_limit}
 use Rattle.m11_scan_statements.specs.declared.actuals.Actual.{Actual}
 use Rattle.m11_unfold_arguments.specs.Actuals.{ActualTexts, actuals_from}
 use Rattle.m11_unfold_arguments.specs.Conditions.{actual_flags, text_of}
-use Rattle.m11_unfold_arguments.specs.Expressions.{KnownSymbols}
+use Rattle.m11_scan_expressions.specs.Expressions.{KnownSymbols}
 use Rattle.m11_unfold_arguments.specs.Indefinite.{listed_in, repeated}
-use Rattle.m11_unfold_arguments.specs.LeftOvers.{bad_flags, left_over, flags_before}
-use Rattle.m11_unfold_arguments.specs.Remarks.{Remarks, joined, remarks_of, with_flags}
+use Rattle.m11_scan_expressions.specs.LeftOvers.{bad_flags, left_over, flags_before}
+use Rattle.m11_scan_expressions.specs.Remarks.{Remarks, joined, remarks_of, with_flags}
 use Rattle.m11_unfold_arguments.specs.declared.indefinite.RepeatHeader.{RepeatHeader}
-use Rattle.m11_unfold_arguments.proofs.Joining.{joined_joins, joined_flags}
+use Rattle.m11_scan_expressions.proofs.Joining.{joined_joins, joined_flags}
 
 pub missing_noted : (line : List ℕ) (column : ℕ) (texts : Actual → ActualTexts) (begin after : Remarks) (flags : ℕ)
     (found : Option RepeatHeader) → None ≡ found → after ≡ with_flags begin flags → flags ≡ bad_flags line column

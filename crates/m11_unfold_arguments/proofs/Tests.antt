@@ -2,13 +2,13 @@
 use Rattle.std.proofs.Common.{◌≡◌, ℕ, Bool, List, [], ◌∷◌, drop, option_to_list, Option, Some, None, refl, sym, ap, ◌∙◌, subst}
 use Rattle.std.proofs.lemmas.List.{append_assoc}
 use Rattle.m11_scan.specs.Cutting.{Lexeme}
-use Rattle.m11_scan_values.specs.declared.names.Symbol.{Symbol}
-use Rattle.m11_scan_values.specs.Terms.{symbol_in}
+use Rattle.m11_scan_expressions.specs.declared.names.Symbol.{Symbol}
+use Rattle.m11_scan_expressions.specs.Terms.{symbol_in}
 use Rattle.m11_unfold_arguments.specs.declared.definedness.Joint.{Joint}
 use Rattle.m11_unfold_arguments.specs.declared.definedness.JointAt.{JointAt}
 use Rattle.m11_unfold_arguments.specs.declared.definedness.SoFar.{SoFar}
-use Rattle.m11_unfold_arguments.specs.Expressions.{KnownSymbols}
-use Rattle.m11_unfold_arguments.specs.Remarks.{Remarks, with_symbols}
+use Rattle.m11_scan_expressions.specs.Expressions.{KnownSymbols}
+use Rattle.m11_scan_expressions.specs.Remarks.{Remarks, with_symbols}
 use Rattle.m11_unfold_arguments.specs.Definedness.{Tested, after_joint, verdict_of, after_symbol, at_bad, at_last, joined_to, joining, joint_at, joint_in, names_in, symbol_first, tested}
 
 abbrev next_after : Bool → Option SoFar → Option JointAt → Option SoFar

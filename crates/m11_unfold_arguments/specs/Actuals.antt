@@ -5,17 +5,16 @@ use Rattle.std.specs.Prelude.{ℕ, zero, suc, true, List, [], ◌∷◌, ◌++�
 use Rattle.std.specs.Option.{is_some}
 use Rattle.std.specs.declared.alloc.Global.{Global}
 use Rattle.m11_base.specs.Devices.{Bytes}
-use Rattle.m11_scan.specs.ErrorFlags.{flag_Q}
+use Rattle.m11_scan.specs.ErrorFlags.{flag_Q, flag_if}
 use Rattle.m11_scan.specs.Numbers.{base_of}
 use Rattle.m11_scan_statements.specs.Actuals.{next_actual, separator_at}
-use Rattle.m11_scan_statements.specs.Statements.{flag_if}
 use Rattle.m11_scan_statements.specs.declared.actuals.Actual.{Actual}
 use Rattle.m11_scan_statements.specs.declared.actuals.ActualKind.{ActualKind}
 use Rattle.m11_scan_statements.specs.declared.actuals.ActualKind.TheVariants.{Bare, Bracketed, Digits}
 use Rattle.m11_unfold_arguments.specs.Conditions.{actual_flags, text_of}
 use Rattle.m11_unfold_arguments.specs.Digits.{digits_of}
-use Rattle.m11_unfold_arguments.specs.Expressions.{KnownSymbols, number_at, number_flags, symbols_at}
-use Rattle.m11_unfold_arguments.specs.Remarks.{Remarks, joined, no_remarks, remarks_of}
+use Rattle.m11_scan_expressions.specs.Expressions.{KnownSymbols, number_at, number_flags, symbols_at}
+use Rattle.m11_scan_expressions.specs.Remarks.{Remarks, joined, no_remarks, remarks_of}
 
 -- texts, and what reading them leaves
 pub record ActualTexts : Type 0 where

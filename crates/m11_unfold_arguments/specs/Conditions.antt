@@ -10,23 +10,22 @@ use Rattle.m11_scan.specs.Characters.{is_blank}
 use Rattle.m11_scan.specs.Conditions.{condition_named}
 use Rattle.m11_scan.specs.Cutting.{Lexeme, text_between, tokens_from}
 use Rattle.m11_scan.specs.Ends.{expression_end}
-use Rattle.m11_scan.specs.ErrorFlags.{flag_A}
+use Rattle.m11_scan.specs.ErrorFlags.{flag_A, flag_if}
 use Rattle.m11_scan.specs.Views.{bits_of}
 use Rattle.m11_scan.specs.declared.conditions.Condition.{Condition}
 use Rattle.m11_scan.specs.declared.conditions.Condition.TheVariants.{Zero, NotZero, Positive, Negative, NotNegative, NotPositive, Defined, NotDefined, Blank, NotBlank, Identical, Different}
 use Rattle.m11_scan.specs.declared.sort.Sort.{Sort}
 use Rattle.m11_scan.specs.declared.sort.Sort.TheVariants as sorts
 use Rattle.m11_scan_statements.specs.Actuals.{next_actual, separator_at}
-use Rattle.m11_scan_statements.specs.Statements.{flag_if}
 use Rattle.m11_scan_statements.specs.declared.actuals.Actual.{Actual}
 use Rattle.m11_scan_statements.specs.declared.actuals.Separator.{Separator}
-use Rattle.m11_scan_values.specs.declared.names.Symbol.{Symbol}
+use Rattle.m11_scan_expressions.specs.declared.names.Symbol.{Symbol}
 use Rattle.m11_unfold_arguments.specs.declared.conditions.Verdict.{Verdict}
 use Rattle.m11_unfold_arguments.specs.declared.conditions.Finding.{Finding}
 use Rattle.m11_unfold_arguments.specs.Definedness.{Tested, is_as, names_at}
-use Rattle.m11_unfold_arguments.specs.Expressions.{KnownSymbols, has_expression, number_at, number_flags, symbols_at}
-use Rattle.m11_unfold_arguments.specs.LeftOvers.{flags_before, skip_flags}
-use Rattle.m11_unfold_arguments.specs.Remarks.{Remarks, remarks_of}
+use Rattle.m11_scan_expressions.specs.Expressions.{KnownSymbols, has_expression, number_at, number_flags, symbols_at}
+use Rattle.m11_scan_expressions.specs.LeftOvers.{flags_before, skip_flags}
+use Rattle.m11_scan_expressions.specs.Remarks.{Remarks, remarks_of}
 
 -- whether a condition holds, the column after it, its flags, and the symbols that it read
 pub record ConditionResult : Type 0 where

@@ -6,14 +6,14 @@ use Rattle.m11_base.specs.Devices.{Bytes}
 use Rattle.m11_scan.specs.Cutting.{Lexeme, tokens_from}
 use Rattle.m11_scan.specs.declared.sort.Sort.{Sort}
 use Rattle.m11_scan.specs.declared.sort.Sort.TheVariants as sorts
-use Rattle.m11_scan_values.specs.declared.names.Symbol.{Symbol}
-use Rattle.m11_scan_values.specs.Quantities.{Quantity}
-use Rattle.m11_scan_values.specs.Terms.{symbol_in}
+use Rattle.m11_scan_expressions.specs.declared.names.Symbol.{Symbol}
+use Rattle.m11_scan_expressions.specs.Quantities.{Quantity}
+use Rattle.m11_scan_expressions.specs.Terms.{symbol_in}
 use Rattle.m11_unfold_arguments.specs.declared.definedness.Joint.{Joint}
 use Rattle.m11_unfold_arguments.specs.declared.definedness.Joint.TheVariants as joints
 use Rattle.m11_unfold_arguments.specs.declared.definedness.JointAt.{JointAt}
 use Rattle.m11_unfold_arguments.specs.declared.definedness.SoFar.{SoFar}
-use Rattle.m11_unfold_arguments.specs.Expressions.{KnownSymbols}
+use Rattle.m11_scan_expressions.specs.Expressions.{KnownSymbols}
 
 abbrev pub flag_U : ℕ
 flag_U = 0o20000

@@ -8,9 +8,9 @@ use Rattle.m11_scan.specs.ErrorFlags.{flag_A}
 use Rattle.m11_scan_statements.specs.Listed.{is_comma}
 use Rattle.m11_unfold_arguments.specs.declared.immediate.Immediate.{Immediate}
 use Rattle.m11_unfold_arguments.specs.Conditions.{ConditionResult, condition}
-use Rattle.m11_unfold_arguments.specs.Expressions.{KnownSymbols}
-use Rattle.m11_unfold_arguments.specs.LeftOvers.{left_over, skip_flags}
-use Rattle.m11_unfold_arguments.specs.Remarks.{Remarks, remarks_of}
+use Rattle.m11_scan_expressions.specs.Expressions.{KnownSymbols}
+use Rattle.m11_scan_expressions.specs.LeftOvers.{left_over, skip_flags}
+use Rattle.m11_scan_expressions.specs.Remarks.{Remarks, remarks_of}
 
 -- the column after the comma that stands next
 abbrev pub after_comma : List Lexeme → Option ℕ

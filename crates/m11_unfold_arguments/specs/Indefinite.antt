@@ -11,11 +11,11 @@ use Rattle.m11_scan_statements.specs.declared.actuals.ActualKind.{ActualKind}
 use Rattle.m11_scan_statements.specs.declared.actuals.ActualKind.TheVariants.{Bare, Bracketed, Digits}
 use Rattle.m11_unfold_arguments.specs.Actuals.{ActualTexts, actuals_from, followed_by, given_by, texts_of}
 use Rattle.m11_unfold_arguments.specs.Conditions.{actual_flags, text_of}
-use Rattle.m11_unfold_arguments.specs.Expressions.{KnownSymbols}
-use Rattle.m11_unfold_arguments.specs.LeftOvers.{bad_flags, left_over, flags_before}
+use Rattle.m11_scan_expressions.specs.Expressions.{KnownSymbols}
+use Rattle.m11_scan_expressions.specs.LeftOvers.{bad_flags, left_over, flags_before}
 use Rattle.m11_unfold_arguments.specs.Macros.{name_at}
 use Rattle.m11_unfold_arguments.specs.declared.macros.NameAt.{NameAt}
-use Rattle.m11_unfold_arguments.specs.Remarks.{Remarks, joined, remarks_of}
+use Rattle.m11_scan_expressions.specs.Remarks.{Remarks, joined, remarks_of}
 use Rattle.m11_unfold_arguments.specs.declared.indefinite.RepeatHeader.{RepeatHeader}
 use Rattle.m11_unfold_arguments.specs.declared.indefinite.Rounds.{Rounds}
 

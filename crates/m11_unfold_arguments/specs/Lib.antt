@@ -3,12 +3,9 @@ pub mod Conditions
 pub mod Definedness
 pub mod Digits
 pub mod Directives
-pub mod Expressions
 pub mod Filling
 pub mod Immediate
 pub mod Indefinite
 pub mod Laws
-pub mod LeftOvers
 pub mod Macros
-pub mod Remarks
 pub mod Repeats

@@ -21,7 +21,7 @@ use Rattle.m11_unfold_arguments.specs.declared.macros.FormalOrEnd.{FormalOrEnd}
 use Rattle.m11_unfold_arguments.specs.declared.macros.FormalOrEnd.TheVariants.{Last, More}
 use Rattle.m11_unfold_arguments.specs.declared.macros.MacroFormal.{MacroFormal}
 use Rattle.m11_unfold_arguments.specs.declared.macros.NameAt.{NameAt}
-use Rattle.m11_unfold_arguments.specs.LeftOvers.{bad_flags, flags_before, rest_flags, skip_flags}
+use Rattle.m11_scan_expressions.specs.LeftOvers.{bad_flags, flags_before, rest_flags, skip_flags}
 
 -- the name that a token is, if it is one that a line can define
 abbrev pub name_in : Sort → Bytes → Option Name

@@ -6,9 +6,9 @@ use Rattle.m11_base.specs.Devices.{Bytes}
 use Rattle.m11_scan.specs.Ends.{expression_end}
 use Rattle.m11_scan.specs.ErrorFlags.{flag_A}
 use Rattle.m11_unfold_arguments.specs.Conditions.{is_negative}
-use Rattle.m11_unfold_arguments.specs.Expressions.{KnownSymbols, has_expression, number_at, number_flags, symbols_at}
-use Rattle.m11_unfold_arguments.specs.LeftOvers.{left_over}
-use Rattle.m11_unfold_arguments.specs.Remarks.{Remarks, remarks_of}
+use Rattle.m11_scan_expressions.specs.Expressions.{KnownSymbols, has_expression, number_at, number_flags, symbols_at}
+use Rattle.m11_scan_expressions.specs.LeftOvers.{left_over}
+use Rattle.m11_scan_expressions.specs.Remarks.{Remarks, remarks_of}
 
 -- a negative number of rounds is none
 abbrev pub rounds_of : ℕ → ℕ

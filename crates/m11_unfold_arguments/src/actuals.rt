@@ -6,16 +6,14 @@ ghost use Rattle.std.specs.Option.{is_some};
 ghost use Rattle.m11_scan_statements.specs.Actuals.{next_actual};
 ghost use Rattle.m11_unfold_arguments.specs.Actuals as spec;
 ghost use Rattle.m11_unfold_arguments.specs.Actuals.{texts_of};
-ghost use Rattle.m11_unfold_arguments.specs.Expressions.{known_by};
-ghost use Rattle.m11_unfold_arguments.specs.Remarks.{joined};
+ghost use Rattle.m11_scan_expressions.specs.Expressions.{known_by};
+ghost use Rattle.m11_scan_expressions.specs.Remarks.{joined};
 
 use crate::conditions::actual_flags;
 use crate::digits::digits_of;
-use crate::expressions::number_at;
-use crate::remarks::Remarks;
 use m11_scan::{ErrorFlags, Line};
+use m11_scan_expressions::{Names, Remarks, number_at};
 use m11_scan_statements::{Actual, ActualKind, next_actual, separator_at};
-use m11_scan_values::Names;
 use std::alloc::{AllocError, Global};
 
 /// The texts of the actuals that stand in a line from a column on, of which at most `wanted` are taken. One more has Q, and neither it

@@ -6,19 +6,17 @@ ghost use Rattle.m11_scan.specs.Views.{bits_of, lexeme};
 ghost use Rattle.m11_scan_statements.specs.Actuals.{separator_at};
 ghost use Rattle.m11_unfold_arguments.specs.Conditions as spec;
 ghost use Rattle.m11_unfold_arguments.specs.Conditions.{IsFound, verdict_of, remarks_in};
-ghost use Rattle.m11_unfold_arguments.specs.Expressions.{known_by};
-ghost use Rattle.m11_unfold_arguments.specs.Remarks.{joined, with_symbols};
+ghost use Rattle.m11_scan_expressions.specs.Expressions.{known_by};
+ghost use Rattle.m11_scan_expressions.specs.Remarks.{joined, with_symbols};
 
 use crate::definedness::{is_as, names_at};
-use crate::expression_ends::begins_expression;
-use crate::expressions::number_from;
-use crate::left_overs::{column_in, rest_flags, skip_flags};
-use crate::remarks::Remarks;
 use m11_scan::{
     Condition, ErrorFlags, Line, Sort, Token, blanks_length, next_token, read_condition,
 };
+use m11_scan_expressions::{
+    Names, Remarks, begins_expression, column_in, number_from, rest_flags, skip_flags,
+};
 use m11_scan_statements::{Actual, next_actual, separator_at};
-use m11_scan_values::Names;
 use std::alloc::AllocError;
 
 /// What a condition says.
@@ -163,7 +161,7 @@ fn refused(end: u8) -> Finding
 }
 
 // EQ NE GT LT GE LE.
-#[tactic(auto, using(crate::proofs::Beginning::begins))]
+#[tactic(auto, using(m11_scan_expressions::proofs::Beginning::begins))]
 fn numeric<N: Names>(
     line: &Line,
     column: usize,

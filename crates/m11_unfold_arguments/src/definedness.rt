@@ -2,16 +2,15 @@
 
 ghost use Rattle.std.specs.Prelude.{◌≡◌, ◌<◌, ◌≤◌, ◌∷◌, [], drop, length, option_to_list, IfOk, IfSome};
 ghost use Rattle.m11_scan.specs.Cutting.{text_between, tokens_from};
-ghost use Rattle.m11_scan_values.specs.Quantities.{quantity};
-ghost use Rattle.m11_scan_values.specs.Terms.{symbol_in};
+ghost use Rattle.m11_scan_expressions.specs.Quantities.{quantity};
+ghost use Rattle.m11_scan_expressions.specs.Terms.{symbol_in};
 ghost use Rattle.m11_unfold_arguments.specs.Definedness as spec;
-ghost use Rattle.m11_unfold_arguments.specs.Expressions.{known_by};
-ghost use Rattle.m11_unfold_arguments.specs.Remarks.{with_symbols};
+ghost use Rattle.m11_scan_expressions.specs.Expressions.{known_by};
+ghost use Rattle.m11_scan_expressions.specs.Remarks.{with_symbols};
 
-use crate::remarks::Remarks;
 use bitflags::Flags;
 use m11_scan::{ErrorFlags, Line, Sort, Token, next_token};
-use m11_scan_values::{Names, Symbol, Value, next_symbol};
+use m11_scan_expressions::{Names, Remarks, Symbol, Value, next_symbol};
 use std::alloc::AllocError;
 
 // What joins two names.

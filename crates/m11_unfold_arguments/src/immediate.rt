@@ -4,15 +4,13 @@ ghost use Rattle.std.specs.Prelude.{◌≡◌, ◌<◌, ◌≤◌, length, IfOk,
 ghost use Rattle.m11_scan.specs.Cutting.{tokens_from};
 ghost use Rattle.m11_scan.specs.Views.{bits_of};
 ghost use Rattle.m11_scan_statements.specs.Listed.{is_comma};
-ghost use Rattle.m11_unfold_arguments.specs.Expressions.{known_by};
+ghost use Rattle.m11_scan_expressions.specs.Expressions.{known_by};
 ghost use Rattle.m11_unfold_arguments.specs.Immediate as spec;
-ghost use Rattle.m11_unfold_arguments.specs.Remarks.{joined};
+ghost use Rattle.m11_scan_expressions.specs.Remarks.{joined};
 
 use crate::conditions::condition;
-use crate::left_overs::{left_over, skip_flags};
-use crate::remarks::Remarks;
 use m11_scan::{ErrorFlags, Line, Sort, next_token};
-use m11_scan_values::Names;
+use m11_scan_expressions::{Names, Remarks, left_over, skip_flags};
 use std::alloc::AllocError;
 
 /// What `.IIF` says.

@@ -3,20 +3,18 @@
 ghost use Rattle.std.specs.Prelude.{◌≡◌, ◌≤◌, length, map, IfOk, IfSome};
 ghost use Rattle.m11_unfold_arguments.specs.Actuals.{texts_of};
 ghost use Rattle.m11_unfold_arguments.specs.Conditions.{text_of};
-ghost use Rattle.m11_unfold_arguments.specs.Expressions.{known_by};
+ghost use Rattle.m11_scan_expressions.specs.Expressions.{known_by};
 ghost use Rattle.m11_unfold_arguments.specs.Indefinite as spec;
 ghost use Rattle.m11_unfold_arguments.specs.Indefinite.{rounds_seen};
-ghost use Rattle.m11_unfold_arguments.specs.Remarks.{joined};
+ghost use Rattle.m11_scan_expressions.specs.Remarks.{joined};
 
 use crate::actuals::{actuals_from, text_of};
 use crate::conditions::actual_flags;
-use crate::left_overs::{bad_flags, flags_before, left_over};
 use crate::macros::name_at;
-use crate::remarks::Remarks;
 use m11_base::Name;
 use m11_scan::{LINE_LIMIT, Line};
+use m11_scan_expressions::{Names, Remarks, bad_flags, flags_before, left_over};
 use m11_scan_statements::{Actual, ActualKind, next_actual, separator_at};
-use m11_scan_values::Names;
 use std::alloc::{AllocError, Global};
 
 /// What `.IRP` or `.IRPC` repeats.

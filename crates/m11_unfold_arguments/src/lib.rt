@@ -8,24 +8,6 @@ mod directives;
 
 pub use directives::{Directive, directive_named, directive_of, operator, operator_in};
 
-// What reading arguments leaves beside their values: flags, and the symbols that were read.
-mod left_overs;
-mod remarks;
-
-pub use left_overs::{
-    bad_flags, column_in, flags_before, has_token, left_over, rest_flags, skip_flags,
-};
-pub use remarks::Remarks;
-
-// Expressions: how far they reach, and their values.
-mod expression_ends;
-mod expressions;
-
-pub use expression_ends::{
-    ExpressionEnd, expression_end_at, expression_end_from, has_expression, single_term,
-};
-pub use expressions::{read_symbols, value_at, value_by};
-
 // Conditions: `.IF` and `.IIF`.
 mod conditions;
 mod definedness;

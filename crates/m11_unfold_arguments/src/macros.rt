@@ -7,12 +7,11 @@ ghost use Rattle.m11_scan.specs.Views.{bits_of};
 ghost use Rattle.m11_scan_statements.specs.Labels.{is_counter};
 ghost use Rattle.m11_unfold_arguments.specs.Macros as spec;
 ghost use Rattle.m11_unfold_arguments.specs.Macros.{header_seen, listed_seen};
-ghost use Rattle.m11_unfold_arguments.specs.Remarks.{joined, remarks_of};
+ghost use Rattle.m11_scan_expressions.specs.Remarks.{joined, remarks_of};
 
-use crate::left_overs::{bad_flags, flags_before, rest_flags, skip_flags};
-use crate::remarks::Remarks;
 use m11_base::Name;
 use m11_scan::{ErrorFlags, LINE_LIMIT, Line, Sort, next_token, read_name};
+use m11_scan_expressions::{Remarks, bad_flags, flags_before, rest_flags, skip_flags};
 use m11_scan_statements::{Formal, NextFormal, next_formal, separator_at};
 use std::alloc::{AllocError, Global};
 

@@ -1,17 +1,13 @@
 //! The number of rounds of `.REPT`. (MACRO-11 Language Reference Manual, "Repeat block directive".)
 
 ghost use Rattle.std.specs.Prelude.{◌≡◌, ◌<◌, ◌≤◌, length, IfOk};
-ghost use Rattle.m11_unfold_arguments.specs.Expressions.{known_by};
-ghost use Rattle.m11_unfold_arguments.specs.Remarks.{joined};
+ghost use Rattle.m11_scan_expressions.specs.Expressions.{known_by};
+ghost use Rattle.m11_scan_expressions.specs.Remarks.{joined};
 ghost use Rattle.m11_unfold_arguments.specs.Repeats as spec;
 
 use crate::conditions::is_negative;
-use crate::expression_ends::has_expression;
-use crate::expressions::number_at;
-use crate::left_overs::left_over;
-use crate::remarks::Remarks;
 use m11_scan::{ErrorFlags, Line};
-use m11_scan_values::Names;
+use m11_scan_expressions::{Names, Remarks, has_expression, left_over, number_at};
 use std::alloc::AllocError;
 
 /// The number of rounds of a `.REPT`, read from a column of its line: 0 to 32767. A negative number gives none; a missing one gives

@@ -5,7 +5,7 @@ use Rattle.std.proofs.lemmas.List.{map-append}
 use Rattle.m11_base.specs.Devices.{Bytes}
 use Rattle.m11_scan_lines.specs.Line.{SourceLine}
 use Rattle.m11_unfold_arguments.specs.Directives.{directive}
-use Rattle.m11_unfold_arguments.specs.Expressions.{KnownSymbols}
+use Rattle.m11_scan_expressions.specs.Expressions.{KnownSymbols}
 use Rattle.m11_unfold_arguments.specs.declared.directives.Directive.{Directive}
 use Rattle.m11_unfold_arguments.specs.declared.directives.Directive.TheVariants as word
 use Rattle.m11_unfold_bodies.specs.Bodies.{Cut, cut_after, cut_at, depth_after, texts_of, with_line}

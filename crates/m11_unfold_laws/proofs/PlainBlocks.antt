@@ -6,8 +6,8 @@ use Rattle.m11_base.specs.Rad50.{Name}
 use Rattle.m11_scan_lines.specs.Line.{SourceLine, line_of}
 use Rattle.m11_unfold_arguments.specs.Actuals.{actuals_from}
 use Rattle.m11_unfold_arguments.specs.Conditions.{condition}
-use Rattle.m11_unfold_arguments.specs.Expressions.{KnownSymbols}
-use Rattle.m11_unfold_arguments.specs.Remarks.{Remarks}
+use Rattle.m11_scan_expressions.specs.Expressions.{KnownSymbols}
+use Rattle.m11_scan_expressions.specs.Remarks.{Remarks}
 use Rattle.m11_unfold_arguments.specs.declared.directives.Directive.TheVariants as word
 use Rattle.m11_unfold_bodies.specs.Bodies.{Cut, cut_after, cut_at, depth_after, size_of, texts_of, with_line}
 use Rattle.m11_unfold_bodies.specs.Left.{RemainingItem}

@@ -6,9 +6,9 @@ use Rattle.m11_scan_lines.specs.Line.{SourceLine}
 use Rattle.m11_unfold_arguments.specs.Actuals.{actuals_from}
 use Rattle.m11_unfold_arguments.specs.Conditions.{condition}
 use Rattle.m11_unfold_arguments.specs.Directives.{directive}
-use Rattle.m11_unfold_arguments.specs.Expressions.{KnownSymbols}
+use Rattle.m11_scan_expressions.specs.Expressions.{KnownSymbols}
 use Rattle.m11_unfold_arguments.specs.Immediate as immediate
-use Rattle.m11_unfold_arguments.specs.Remarks.{Remarks, remarks_of}
+use Rattle.m11_scan_expressions.specs.Remarks.{Remarks, remarks_of}
 use Rattle.m11_unfold_arguments.specs.declared.directives.Directive.{Directive}
 use Rattle.m11_unfold_arguments.specs.declared.directives.Directive.TheVariants as word
 use Rattle.m11_unfold_bodies.specs.Bodies.{cut_at}

@@ -3,7 +3,7 @@ use Rattle.std.proofs.Common.{◌≡◌, ◌∙◌, ℕ, zero, suc, Bool, true, 
 use Rattle.std.specs.Prelude.{not, if◌then◌else◌}
 use Rattle.m11_scan_lines.specs.Line.{SourceLine}
 use Rattle.m11_unfold_arguments.specs.Directives.{directive}
-use Rattle.m11_unfold_arguments.specs.Expressions.{KnownSymbols}
+use Rattle.m11_scan_expressions.specs.Expressions.{KnownSymbols}
 use Rattle.m11_unfold_bodies.specs.Conditions.{is_live_inside}
 use Rattle.m11_unfold_bodies.specs.Left.{RemainingItem, Line, count_in, has_mark, is_expanding, marks}
 use Rattle.m11_unfold_bodies.specs.declared.mark.Mark.{Mark}

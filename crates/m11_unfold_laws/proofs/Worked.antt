@@ -5,11 +5,11 @@ use Rattle.m11_base.specs.Rad50.{alphabet, code_of}
 use Rattle.m11_scan_lines.specs.Line.{SourceLine, line_of}
 use Rattle.m11_scan.specs.Pieces.{first_piece}
 use Rattle.m11_scan.specs.declared.radix.Radix.TheVariants.{Octal}
-use Rattle.m11_scan_values.specs.declared.names.Symbol.{Symbol}
-use Rattle.m11_scan_values.specs.Quantities.{Quantity}
-use Rattle.m11_scan_values.specs.Values.{value_of}
-use Rattle.m11_unfold_arguments.specs.Expressions.{KnownSymbols, known_by}
-use Rattle.m11_unfold_arguments.specs.Remarks.{no_remarks}
+use Rattle.m11_scan_expressions.specs.declared.names.Symbol.{Symbol}
+use Rattle.m11_scan_expressions.specs.Quantities.{Quantity}
+use Rattle.m11_scan_expressions.specs.Values.{value_of}
+use Rattle.m11_scan_expressions.specs.Expressions.{KnownSymbols, known_by}
+use Rattle.m11_scan_expressions.specs.Remarks.{no_remarks}
 use Rattle.m11_unfold_arguments.specs.declared.directives.Directive.TheVariants as word
 use Rattle.m11_unfold_rules.specs.Acting.{OwnDirective}
 use Rattle.m11_unfold_rules.specs.Stages.{Macro, Defines, start}

@@ -4,8 +4,8 @@
 ghost use Rattle.std.specs.Prelude.{◌≡◌, ◌+◌, ◌++◌, ◌∷◌, ℕ, List, [], true, false, None, Some, length, map};
 ghost use Rattle.m11_unfold_arguments.specs.Actuals.{actuals_from};
 ghost use Rattle.m11_unfold_arguments.specs.Conditions.{condition};
-ghost use Rattle.m11_unfold_arguments.specs.Expressions.{KnownSymbols};
-ghost use Rattle.m11_unfold_arguments.specs.Remarks.{Remarks};
+ghost use Rattle.m11_scan_expressions.specs.Expressions.{KnownSymbols};
+ghost use Rattle.m11_scan_expressions.specs.Remarks.{Remarks};
 ghost use Rattle.m11_unfold_arguments.specs.declared.directives.Directive.TheVariants as directive;
 ghost use Rattle.m11_base.specs.Devices.{Bytes};
 ghost use Rattle.m11_base.specs.Rad50.{Name};
@@ -17,8 +17,8 @@ ghost use Rattle.m11_unfold_rules.specs.Constructs.{IsPlainBody, condition_remar
 ghost use Rattle.m11_unfold_rules.specs.Laws.{AreForeign};
 ghost use Rattle.m11_unfold_rules.specs.Stages.{Repeats};
 ghost use Rattle.m11_unfold_rules.specs.Taking.{nesting};
-ghost use Rattle.m11_scan_values.specs.Quantities.{Quantity};
-ghost use Rattle.m11_scan_values.specs.declared.names.Symbol.{Symbol};
+ghost use Rattle.m11_scan_expressions.specs.Quantities.{Quantity};
+ghost use Rattle.m11_scan_expressions.specs.declared.names.Symbol.{Symbol};
 ghost use Rattle.m11_unfold_laws.specs.Laws.{HasLiveLines};
 ghost use Rattle.m11_unfold_laws.specs.Levels.{Level, Situation, beginning, counting, has_condition_left, operation_at, other_line, own_line, source_level, stage_of, within_condition, within_expansion};
 ghost use Rattle.m11_unfold_laws.specs.Putting.{Opens};

@@ -1,7 +1,7 @@
 //! Laws of the shapes of a source. Each is the contract of a function that does nothing.
 
 ghost use Rattle.std.specs.Prelude.{◌≡◌, ◌⊎◌, ◌++◌, ◌∷◌, ℕ, List, [], true, false, Option};
-ghost use Rattle.m11_unfold_arguments.specs.Expressions.{KnownSymbols};
+ghost use Rattle.m11_scan_expressions.specs.Expressions.{KnownSymbols};
 ghost use Rattle.m11_unfold_bodies.specs.Bodies.{PartialBody};
 ghost use Rattle.m11_unfold_bodies.specs.Left.{End, RemainingItem};
 ghost use Rattle.m11_unfold_bodies.specs.declared.mark.Mark.{Mark};

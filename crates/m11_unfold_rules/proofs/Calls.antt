@@ -6,8 +6,8 @@ use Rattle.std.proofs.lemmas.List.{length-map}
 use Rattle.m11_base.specs.Devices.{Bytes}
 use Rattle.m11_scan_lines.specs.Line.{SourceLine, line_of}
 use Rattle.m11_unfold_arguments.specs.Actuals.{actuals_from}
-use Rattle.m11_unfold_arguments.specs.Expressions.{KnownSymbols}
-use Rattle.m11_unfold_arguments.specs.Remarks.{Remarks}
+use Rattle.m11_scan_expressions.specs.Expressions.{KnownSymbols}
+use Rattle.m11_scan_expressions.specs.Remarks.{Remarks}
 use Rattle.m11_unfold_bodies.specs.Conditions.{no_conditions}
 use Rattle.m11_unfold_bodies.specs.Left.{RemainingItem, Line, End, depth, expanded, most_expansions}
 use Rattle.m11_unfold_bodies.specs.declared.mark.Mark.{Mark}

@@ -7,10 +7,10 @@ use Rattle.m11_base.specs.Rad50.{Name}
 use Rattle.m11_scan_lines.specs.Line.{SourceLine}
 use Rattle.m11_unfold_arguments.specs.Actuals.{ActualTexts, actuals_from}
 use Rattle.m11_unfold_arguments.specs.Conditions.{condition}
-use Rattle.m11_unfold_arguments.specs.Expressions.{KnownSymbols}
+use Rattle.m11_scan_expressions.specs.Expressions.{KnownSymbols}
 use Rattle.m11_unfold_arguments.specs.Filling.{FormalTexts, filled}
 use Rattle.m11_unfold_arguments.specs.Immediate as immediate
-use Rattle.m11_unfold_arguments.specs.Remarks.{remarks_of}
+use Rattle.m11_scan_expressions.specs.Remarks.{remarks_of}
 use Rattle.m11_unfold_arguments.specs.declared.directives.Directive.{Directive}
 use Rattle.m11_unfold_arguments.specs.declared.directives.Directive.TheVariants as word
 use Rattle.m11_unfold_bodies.specs.Bodies.{PartialBody, depth_after, size_of}

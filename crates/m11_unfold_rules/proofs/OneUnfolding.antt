@@ -1,7 +1,7 @@
 -- A source has one unfolding under what its lines say.
 use Rattle.std.proofs.Common.{◌≡◌, ◌∙◌, List, [], ◌∷◌, ◌++◌, append_assoc, append-nil, None, inl, inr, refl, sym, ap, subst}
 use Rattle.std.specs.Prelude.{◌⊎◌}
-use Rattle.m11_unfold_arguments.specs.Expressions.{KnownSymbols}
+use Rattle.m11_scan_expressions.specs.Expressions.{KnownSymbols}
 use Rattle.m11_unfold_rules.specs.Acting.{act}
 use Rattle.m11_unfold_rules.specs.Histories.{GoesOn, IsKnownBy}
 use Rattle.m11_unfold_rules.specs.Stages.{Stage}

@@ -6,8 +6,8 @@ use Rattle.m11_base.specs.Rad50.{Name}
 use Rattle.m11_scan_lines.specs.Line.{SourceLine}
 use Rattle.m11_unfold_arguments.specs.Conditions.{ConditionResult, condition}
 use Rattle.m11_unfold_arguments.specs.Directives.{directive}
-use Rattle.m11_unfold_arguments.specs.Expressions.{KnownSymbols}
-use Rattle.m11_unfold_arguments.specs.Remarks.{Remarks, remarks_of}
+use Rattle.m11_scan_expressions.specs.Expressions.{KnownSymbols}
+use Rattle.m11_scan_expressions.specs.Remarks.{Remarks, remarks_of}
 use Rattle.m11_unfold_arguments.specs.declared.directives.Directive.{Directive}
 use Rattle.m11_unfold_arguments.specs.declared.directives.Directive.TheVariants as word
 use Rattle.m11_unfold_bodies.specs.Conditions.{OpenConditions, closed, entering, is_live_inside, is_skipping, most_conditions, past, unnested}

@@ -6,9 +6,9 @@ use Rattle.std.proofs.lemmas.List.Sums.{sum_by-append}
 use Rattle.m11_base.specs.Devices.{Bytes}
 use Rattle.m11_base.specs.Rad50.{Name}
 use Rattle.m11_scan_lines.specs.Line.{SourceLine, line_of}
-use Rattle.m11_unfold_arguments.specs.Expressions.{KnownSymbols}
+use Rattle.m11_scan_expressions.specs.Expressions.{KnownSymbols}
 use Rattle.m11_unfold_arguments.specs.Indefinite.{Repeated, Repetition, irpc, irp}
-use Rattle.m11_unfold_arguments.specs.Remarks.{Remarks}
+use Rattle.m11_scan_expressions.specs.Remarks.{Remarks}
 use Rattle.m11_unfold_arguments.specs.Repeats as repeats
 use Rattle.m11_unfold_arguments.specs.declared.directives.Directive.TheVariants as word
 use Rattle.m11_unfold_bodies.specs.Bodies.{depth_after, size_of, texts_of}

@@ -12,13 +12,13 @@ use Rattle.m11_scan_statements.specs.declared.spans.Span.{Span}
 use Rattle.m11_unfold_arguments.specs.Actuals.{ActualTexts, actuals_from}
 use Rattle.m11_unfold_arguments.specs.Conditions.{ConditionResult, condition, remarks_in}
 use Rattle.m11_unfold_arguments.specs.Directives.{directive_named, operator}
-use Rattle.m11_unfold_arguments.specs.Expressions.{KnownSymbols}
+use Rattle.m11_scan_expressions.specs.Expressions.{KnownSymbols}
 use Rattle.m11_unfold_arguments.specs.Filling.{FormalTexts, filled}
 use Rattle.m11_unfold_arguments.specs.Immediate as immediate
 use Rattle.m11_unfold_arguments.specs.Indefinite.{Repeated, Repetition, irpc, irp}
 use Rattle.m11_unfold_arguments.specs.Macros.{MacroNamed, MacroHeader, header}
-use Rattle.m11_unfold_arguments.specs.LeftOvers.{left_over}
-use Rattle.m11_unfold_arguments.specs.Remarks.{Remarks, no_remarks, remarks_of, with_flags}
+use Rattle.m11_scan_expressions.specs.LeftOvers.{left_over}
+use Rattle.m11_scan_expressions.specs.Remarks.{Remarks, no_remarks, remarks_of, with_flags}
 use Rattle.m11_unfold_arguments.specs.Repeats as repeats
 use Rattle.m11_unfold_arguments.specs.declared.directives.Directive.{Directive}
 use Rattle.m11_unfold_arguments.specs.declared.directives.Directive.TheVariants as word

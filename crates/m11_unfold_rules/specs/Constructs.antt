@@ -6,10 +6,10 @@ use Rattle.m11_base.specs.Devices.{Bytes}
 use Rattle.m11_base.specs.Rad50.{Name}
 use Rattle.m11_scan_lines.specs.Line.{SourceLine}
 use Rattle.m11_unfold_arguments.specs.Conditions.{condition, remarks_in}
-use Rattle.m11_unfold_arguments.specs.Expressions.{KnownSymbols}
+use Rattle.m11_scan_expressions.specs.Expressions.{KnownSymbols}
 use Rattle.m11_unfold_arguments.specs.Indefinite.{Repetition}
-use Rattle.m11_unfold_arguments.specs.LeftOvers.{left_over}
-use Rattle.m11_unfold_arguments.specs.Remarks.{Remarks, no_remarks, with_flags}
+use Rattle.m11_scan_expressions.specs.LeftOvers.{left_over}
+use Rattle.m11_scan_expressions.specs.Remarks.{Remarks, no_remarks, with_flags}
 use Rattle.m11_unfold_bodies.specs.Bodies.{size_of}
 use Rattle.m11_unfold_bodies.specs.Conditions.{most_conditions}
 use Rattle.m11_unfold_bodies.specs.Left.{RemainingItem, Line, bytes_held, conditions_open, depth, most_expansions}

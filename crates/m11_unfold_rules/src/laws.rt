@@ -3,7 +3,7 @@
 ghost use Rattle.std.specs.Prelude.{◌≡◌, ◌⊎◌, ◌+◌, ◌<◌, ◌≤◌, ◌++◌, ◌∷◌, ℕ, List, [], Some, true, false, length, map};
 ghost use Rattle.m11_unfold_arguments.specs.Actuals.{actuals_from};
 ghost use Rattle.m11_unfold_arguments.specs.Conditions.{condition};
-ghost use Rattle.m11_unfold_arguments.specs.Expressions.{KnownSymbols};
+ghost use Rattle.m11_scan_expressions.specs.Expressions.{KnownSymbols};
 ghost use Rattle.m11_unfold_arguments.specs.Indefinite.{Repetition, irpc, irp};
 ghost use Rattle.m11_unfold_arguments.specs.Repeats as repeats;
 ghost use Rattle.m11_unfold_arguments.specs.declared.directives.Directive.TheVariants as directive;

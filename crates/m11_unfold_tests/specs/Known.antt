@@ -1,10 +1,10 @@
 -- What names stand for in the tests of unfolding.
 use Rattle.std.specs.Prelude.{◌==◌, if◌then◌else◌}
 use Rattle.m11_base.specs.Rad50.{Name}
-use Rattle.m11_scan_values.specs.declared.kinds.Kind.TheVariants.{Absolute}
-use Rattle.m11_scan_values.specs.declared.names.Symbol.{Symbol}
-use Rattle.m11_scan_values.specs.declared.names.Symbol.TheVariants.{Ordinary, Local, Counter}
-use Rattle.m11_scan_values.specs.Quantities.{Quantity}
+use Rattle.m11_scan_expressions.specs.declared.kinds.Kind.TheVariants.{Absolute}
+use Rattle.m11_scan_expressions.specs.declared.names.Symbol.{Symbol}
+use Rattle.m11_scan_expressions.specs.declared.names.Symbol.TheVariants.{Ordinary, Local, Counter}
+use Rattle.m11_scan_expressions.specs.Quantities.{Quantity}
 
 -- 0, with the flag U
 abbrev pub unknown : Quantity

@@ -1,7 +1,7 @@
 //! Sources, what becomes live of them, and what the lines of unfolding's own note.
 
 ghost use Rattle.std.specs.Prelude.{◌≡◌, [], true, Ok};
-ghost use Rattle.m11_scan_values.specs.Quantities.{quantity};
+ghost use Rattle.m11_scan_expressions.specs.Quantities.{quantity};
 ghost use Rattle.m11_unfold_tests.specs.Known.{of_name, unknown};
 
 mod awkward_sources;
@@ -12,7 +12,7 @@ mod sources;
 
 use m11_base::Name;
 use m11_scan::{ErrorFlags, Line};
-use m11_scan_values::{Names, Radix, Symbol, Value};
+use m11_scan_expressions::{Names, Radix, Symbol, Value};
 use m11_unfold::{Act, Step, Unfolder};
 use m11_unfold_arguments::operator;
 use m11_unfold_rules::UnfoldFault;

@@ -7,8 +7,8 @@ use m11_asm_operands::{Fields, fields_at};
 use m11_asm_rules::{Field, Form};
 use m11_base_instructions::{DoubleOp, Mode, Op, Size};
 use m11_scan::{Line, skipped_between};
+use m11_scan_expressions::Radix;
 use m11_scan_statements::{Body, LabelKind, Span, labels_of, statement};
-use m11_scan_values::Radix;
 use std::process::Abort;
 
 const LINE: &str = "L:: MOV (R1)+,@-(R2) ;X";

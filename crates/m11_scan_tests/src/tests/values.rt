@@ -1,13 +1,13 @@
 //! Values of expressions. (MACRO-11 Language Reference Manual, "Terms" and "Expressions".)
 
 ghost use Rattle.std.specs.Prelude.{◌≡◌};
-ghost use Rattle.m11_scan_values.specs.Quantities.{quantity};
+ghost use Rattle.m11_scan_expressions.specs.Quantities.{quantity};
 ghost use Rattle.m11_scan_tests.specs.Known.{of_kind, of_name};
 
 use super::same;
 use m11_base::{Name, absolute_section, blank_name};
 use m11_scan::{ErrorFlags, Line, expression_at, read_name};
-use m11_scan_values::{Kind, Names, Radix, Symbol, Value, expression_value};
+use m11_scan_expressions::{Kind, Names, Radix, Symbol, Value, expression_value};
 use std::process::Abort;
 
 // A and B stand in one section, C in another one, R1 is a register, X another object's; other names are unknown.

@@ -1,10 +1,10 @@
 use Rattle.std.proofs.Common.{◌≡◌, IfOk, subst, sym, ap, ◌∙◌}
-use Rattle.m11_unfold_arguments.specs.Expressions.{value_at}
+use Rattle.m11_scan_expressions.specs.Expressions.{value_at}
 use Rattle.m11_asm_values.specs.LineContext.{Standpoint, line_context_of}
 use Rattle.m11_asm_rules.specs.Contents.{Emission, byte, followed_by}
 use Rattle.m11_asm_rules.specs.Strings.{part_bytes}
 use Rattle.m11_scan_statements.specs.declared.parts.PartKind.{PartKind}
-use Rattle.m11_scan_values.specs.Quantities.{Quantity}
+use Rattle.m11_scan_expressions.specs.Quantities.{Quantity}
 use Rattle.m11_asm_data.proofs.ascii.emit_part_bytes.Goals as goal
 
 pub returns-in-Expression : goal.returns-in-Expression

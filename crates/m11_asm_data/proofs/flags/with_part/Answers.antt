@@ -1,6 +1,6 @@
 use Rattle.std.proofs.Common.{ℕ, ap, ◌∙◌}
 use Rattle.std.specs.Int.RustNames.{bit_or}
-use Rattle.m11_unfold_arguments.proofs.Joining.{or_joins}
+use Rattle.m11_scan_expressions.proofs.Joining.{or_joins}
 use Rattle.m11_asm_rules.specs.Strings.{parts_flags, skipped_flags}
 use Rattle.m11_scan.specs.Views.{bits_of}
 use Rattle.m11_scan_statements.specs.Parts.{part_flags}

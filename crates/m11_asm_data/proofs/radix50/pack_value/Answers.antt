@@ -1,7 +1,7 @@
 use Rattle.std.proofs.Common.{◌%◌, [], ◌∷◌}
 use Rattle.m11_asm_rules.specs.Strings.{value_codes}
 use Rattle.m11_asm_data.proofs.Packs.{codes_after}
-use Rattle.m11_scan_values.specs.Quantities.{quantity}
+use Rattle.m11_scan_expressions.specs.Quantities.{quantity}
 use Rattle.m11_asm_data.proofs.radix50.pack_value.Goals as goal
 
 pub returns : goal.returns

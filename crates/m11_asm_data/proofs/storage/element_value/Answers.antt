@@ -1,5 +1,5 @@
 use Rattle.std.proofs.Common.{List, ℕ, ap, ◌∙◌}
-use Rattle.m11_unfold_arguments.specs.Expressions.{has_expression, value_at}
+use Rattle.m11_scan_expressions.specs.Expressions.{has_expression, value_at}
 use Rattle.m11_asm_data.proofs.Stepping.{of_element}
 use Rattle.m11_asm_values.specs.LineContext.{Standpoint, line_context_of}
 use Rattle.m11_asm_data.proofs.storage.element_value.Goals as goal

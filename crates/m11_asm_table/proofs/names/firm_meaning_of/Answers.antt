@@ -1,6 +1,6 @@
 use Rattle.std.proofs.Common.{◌∙◌, ap}
 use Rattle.m11_asm_rules.specs.Meanings.{flag_D, quantity_of}
-use Rattle.m11_scan_statements.specs.Statements.{flag_if}
+use Rattle.m11_scan.specs.ErrorFlags.{flag_if}
 use Rattle.m11_asm_table.proofs.FirmMeanings.{firm_known, firm_unknown}
 use Rattle.m11_asm_table.proofs.names.firm_meaning_of.Goals as goal
 

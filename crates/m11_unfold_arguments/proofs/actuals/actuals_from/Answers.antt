@@ -2,10 +2,10 @@ use Rattle.std.proofs.Common.{◌≡◌, ◌≤◌, suc, ◌-◌, List, ℕ, ◌
 use Rattle.m11_scan_statements.specs.Actuals.{separator_at}
 use Rattle.m11_scan_statements.specs.declared.actuals.Separator.{Separator}
 use Rattle.m11_unfold_arguments.specs.Actuals.{ActualTexts, actuals_from, given_by, texts_of}
-use Rattle.m11_unfold_arguments.specs.Expressions.{known_by}
-use Rattle.m11_unfold_arguments.specs.Remarks.{Remarks, joined}
+use Rattle.m11_scan_expressions.specs.Expressions.{known_by}
+use Rattle.m11_scan_expressions.specs.Remarks.{Remarks, joined}
 use Rattle.m11_unfold_arguments.proofs.Calls.{actual_on, no_actual}
-use Rattle.m11_unfold_arguments.proofs.Joining.{joined_joins, joined_nothing}
+use Rattle.m11_scan_expressions.proofs.Joining.{joined_joins, joined_nothing}
 use Rattle.m11_unfold_arguments.proofs.Texts.{texts_on}
 use Rattle.m11_unfold_arguments.proofs.actuals.actuals_from.Goals as goal
 

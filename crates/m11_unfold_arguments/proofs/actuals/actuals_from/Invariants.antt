@@ -1,7 +1,7 @@
 use Rattle.std.proofs.Common.{◌≡◌, ◌≤◌, ◌++◌, length}
 use Rattle.m11_unfold_arguments.specs.Actuals.{actuals_from, texts_of}
-use Rattle.m11_unfold_arguments.specs.Expressions.{known_by}
-use Rattle.m11_unfold_arguments.specs.Remarks.{joined}
+use Rattle.m11_scan_expressions.specs.Expressions.{known_by}
+use Rattle.m11_scan_expressions.specs.Remarks.{joined}
 use Rattle.m11_unfold_arguments.proofs.actuals.actuals_from.Given as goal
 
 abbrev pub invariant-actuals : goal.invariant-actuals

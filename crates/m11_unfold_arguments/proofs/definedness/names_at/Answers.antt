@@ -1,7 +1,7 @@
 use Rattle.std.proofs.Common.{Bool, Some, length, refl, sym, ap, ◌∙◌, arith}
 use Rattle.m11_scan.specs.Cutting.{tokens_from}
 use Rattle.m11_scan.specs.Views.{lexeme}
-use Rattle.m11_unfold_arguments.specs.Expressions.{known_by}
+use Rattle.m11_scan_expressions.specs.Expressions.{known_by}
 use Rattle.m11_unfold_arguments.proofs.Tests.{bad_exit, last_exit, next_exit}
 use Rattle.m11_unfold_arguments.proofs.definedness.names_at.Goals as goal
 

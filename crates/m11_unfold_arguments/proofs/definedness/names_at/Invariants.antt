@@ -1,7 +1,7 @@
 use Rattle.std.proofs.Common.{◌≤◌, ◌-◌, length}
 use Rattle.m11_scan.specs.Cutting.{tokens_from}
 use Rattle.m11_unfold_arguments.specs.Definedness.{names_at, names_in, tested}
-use Rattle.m11_unfold_arguments.specs.Expressions.{known_by}
+use Rattle.m11_scan_expressions.specs.Expressions.{known_by}
 use Rattle.m11_unfold_arguments.proofs.Tests.{Leads}
 use Rattle.m11_unfold_arguments.proofs.definedness.names_at.Given as goal
 

@@ -1,5 +1,5 @@
 use Rattle.m11_unfold_arguments.specs.Conditions.{condition}
-use Rattle.m11_unfold_arguments.specs.Expressions.{known_by}
+use Rattle.m11_scan_expressions.specs.Expressions.{known_by}
 use Rattle.m11_unfold_arguments.proofs.Immediately.{remarked_at_once}
 use Rattle.m11_unfold_arguments.proofs.immediate.iif.Goals as goal
 

@@ -1,7 +1,7 @@
 use Rattle.std.proofs.Common.{ℕ, true, ap, ◌∙◌}
-use Rattle.m11_unfold_arguments.specs.Expressions.{known_by}
+use Rattle.m11_scan_expressions.specs.Expressions.{known_by}
 use Rattle.m11_unfold_arguments.specs.Indefinite.{begun_at, listed}
-use Rattle.m11_unfold_arguments.specs.LeftOvers.{left_over}
+use Rattle.m11_scan_expressions.specs.LeftOvers.{left_over}
 use Rattle.m11_unfold_arguments.proofs.Repetitions.{missing_noted, rounds_noted}
 use Rattle.m11_unfold_arguments.proofs.indefinite.irp.Goals as goal
 

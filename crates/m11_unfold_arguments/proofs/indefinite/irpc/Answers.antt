@@ -1,6 +1,6 @@
 use Rattle.std.proofs.Common.{ℕ, false, ap, ◌∙◌}
 use Rattle.m11_unfold_arguments.specs.Indefinite.{begun_at, spelled}
-use Rattle.m11_unfold_arguments.specs.LeftOvers.{left_over}
+use Rattle.m11_scan_expressions.specs.LeftOvers.{left_over}
 use Rattle.m11_unfold_arguments.proofs.Repetitions.{missing_noted, rounds_noted}
 use Rattle.m11_unfold_arguments.proofs.indefinite.irpc.Goals as goal
 

@@ -1,8 +1,8 @@
 use Rattle.std.proofs.Common.{◌≡◌, List, ℕ, subst, IfOk}
 use Rattle.m11_scan_lines.specs.Line.{line_limit}
 use Rattle.m11_unfold_arguments.specs.Actuals.{actuals_from, texts_of}
-use Rattle.m11_unfold_arguments.specs.Expressions.{known_by}
-use Rattle.m11_unfold_arguments.specs.Remarks.{Remarks}
+use Rattle.m11_scan_expressions.specs.Expressions.{known_by}
+use Rattle.m11_scan_expressions.specs.Remarks.{Remarks}
 use Rattle.m11_unfold_arguments.proofs.Repetitions.{inner_noted}
 use Rattle.m11_unfold_arguments.proofs.indefinite.listed_in.Goals as goal
 

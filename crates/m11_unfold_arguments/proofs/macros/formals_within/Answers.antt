@@ -8,7 +8,7 @@ use Rattle.m11_unfold_arguments.specs.Macros.{FormalList, formals_within, listed
 use Rattle.m11_unfold_arguments.specs.declared.macros.FormalOrEnd.TheVariants.{Last}
 use Rattle.m11_unfold_arguments.specs.declared.macros.MacroFormal.{MacroFormal}
 use Rattle.m11_unfold_arguments.proofs.Headers.{formal_on, listed_on}
-use Rattle.m11_unfold_arguments.proofs.Joining.{or_joins}
+use Rattle.m11_scan_expressions.proofs.Joining.{or_joins}
 use Rattle.m11_unfold_arguments.proofs.macros.formals_within.Goals as goal
 
 pub returns-in-Last-clause-list : goal.returns-in-Last-clause-list

@@ -1,5 +1,5 @@
 use Rattle.std.proofs.Common.{◌∙◌, ℕ, ap, subst}
-use Rattle.m11_unfold_arguments.specs.Expressions.{value_at}
+use Rattle.m11_scan_expressions.specs.Expressions.{value_at}
 use Rattle.m11_asm_rules.specs.Assigning.{assignment}
 use Rattle.m11_asm_rules.specs.Changes.{changed}
 use Rattle.m11_asm_rules.specs.Items.{value_items}

@@ -1,10 +1,10 @@
 use Rattle.std.proofs.Common.{◌∙◌, ap}
-use Rattle.m11_unfold_arguments.specs.Expressions.{symbols_at}
+use Rattle.m11_scan_expressions.specs.Expressions.{symbols_at}
 use Rattle.m11_asm_rules.specs.Assignments.{all_firm}
 use Rattle.m11_asm_rules.specs.declared.definitions.Key.TheVariants.{Named}
 use Rattle.m11_asm_lines.proofs.Assigning.{assigns, assigns_so, gives}
 use Rattle.m11_asm_lines.specs.Passes.{TableState}
-use Rattle.m11_scan_values.specs.Quantities.{quantity}
+use Rattle.m11_scan_expressions.specs.Quantities.{quantity}
 use Rattle.m11_asm_rules.specs.declared.definitions.Definition.{Definition}
 use Rattle.m11_asm_lines.proofs.Assigning.{overfills_assigned}
 use Rattle.m11_asm_lines.proofs.pass.Pass.define_assigned.Goals as goal

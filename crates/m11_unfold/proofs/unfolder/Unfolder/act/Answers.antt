@@ -1,4 +1,4 @@
-use Rattle.m11_unfold_arguments.specs.Expressions.{known_by}
+use Rattle.m11_scan_expressions.specs.Expressions.{known_by}
 use Rattle.m11_unfold.specs.Views.{stage_of}
 use Rattle.m11_unfold.proofs.KeptActing.{kept_acted}
 use Rattle.m11_unfold.proofs.unfolder.Unfolder.act.Goals as goal

@@ -1,0 +1,15 @@
+mod BeforeTerms
+mod Cases
+mod Exits
+mod FirstOperators
+mod Folds
+mod FurtherFlags
+mod Groups
+mod LastOperators
+mod SingleTerms
+pub mod Meanings
+mod OpenBrackets
+mod Parts
+mod Tokens
+pub mod Beginning
+pub mod Joining

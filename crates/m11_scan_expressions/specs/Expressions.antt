@@ -1,0 +1,98 @@
+-- An expression that stands at a column of a line, where only an absolute number may stand. (MACRO-11 Language Reference Manual,
+-- "Expressions".)
+use Rattle.std.specs.Prelude.{◌≡◌, ℕ, ◌&&◌, Bool, true, false, not, List, [], ◌∷◌, map, take, Option, Some, None}
+use Rattle.std.specs.Int.RustNames.{bit_or}
+use Rattle.m11_base.specs.Devices.{Bytes}
+use Rattle.m11_scan.specs.Cutting.{Lexeme, tokens_from}
+use Rattle.m11_scan.specs.Ends.{expression_end, sort_in}
+use Rattle.m11_scan.specs.Views.{lexeme}
+use Rattle.m11_scan.specs.declared.cutting.Token.{Token}
+use Rattle.m11_scan.specs.Expressions.{expression_length, role_of}
+use Rattle.m11_scan.specs.declared.expressions.Role.{Role}
+use Rattle.m11_scan.specs.declared.expressions.Role.TheVariants.{Term, Sign, Operator}
+use Rattle.m11_scan.specs.declared.radix.Radix.{Radix}
+use Rattle.m11_scan_expressions.specs.declared.names.Symbol.{Symbol}
+use Rattle.m11_scan_expressions.specs.Operations.{absence}
+use Rattle.m11_scan_expressions.specs.Quantities.{Quantity}
+use Rattle.m11_scan_expressions.specs.Symbols.{with_symbol}
+use Rattle.m11_scan_expressions.specs.Terms.{item, symbol_in}
+use Rattle.m11_scan_expressions.specs.Values.{value_of}
+use Rattle.m11_scan_expressions.specs.LeftOvers.{has_token, skip_flags}
+
+-- what names say: the radix, and what each symbol stands for
+pub record KnownSymbols : Type 0 where
+  pub radix : Radix
+  pub stands_for : Symbol → Quantity
+
+abbrev pub known_by : Radix → (Symbol → Quantity) → KnownSymbols
+known_by radix stands_for = record { radix = radix; stands_for = stands_for }
+
+-- the expression that tokens begin with
+abbrev pub expression_in : List Lexeme → List Lexeme
+expression_in tokens = take (expression_length (map sort_in tokens)) tokens
+
+-- an expression stands at a column: a token with which one can begin
+abbrev pub has_expression : Bytes → ℕ → Bool
+has_expression line column = has_token (expression_in (tokens_from line column))
+
+abbrev pub value_in : KnownSymbols → List Lexeme → Quantity
+value_in known tokens = value_of known.radix (map (item known.stands_for) (expression_in tokens))
+
+-- the symbols that tokens read, in order
+abbrev pub symbols_in : List Lexeme → List Symbol
+symbols_in [] = []
+symbols_in (token ∷ tokens) = with_symbol (symbol_in token.sort token.text) (symbols_in tokens)
+
+-- the value of the expression at a column
+abbrev pub value_at : KnownSymbols → Bytes → ℕ → Quantity
+value_at known line column = value_in known (tokens_from line column)
+
+-- the number of the expression at a column, whatever its kind
+abbrev pub number_at : KnownSymbols → Bytes → ℕ → ℕ
+number_at known line column = (value_at known line column).number
+
+-- the flags of the expression at a column: those of its value, that of a kind which isn't absolute, and I for a skipped character in it
+abbrev pub number_flags : KnownSymbols → Bytes → ℕ → ℕ
+number_flags known line column =
+    bit_or (bit_or (value_at known line column).flags (absence (value_at known line column).kind))
+    (skip_flags line column (expression_end line column))
+
+-- the symbols that it reads
+abbrev pub symbols_at : Bytes → ℕ → List Symbol
+symbols_at line column = symbols_in (expression_in (tokens_from line column))
+
+-- ---- one term
+
+abbrev pub is_term : Role → Bool
+is_term Term = true
+is_term role = false
+
+-- what stands between two terms
+abbrev pub joins : Role → Bool
+joins Sign = true
+joins Operator = true
+joins role = false
+
+-- an expression that has a term before some tokens goes no further
+abbrev pub ends_before : List Lexeme → Bool
+ends_before [] = true
+ends_before (token ∷ tokens) = not (joins (role_of token.sort))
+
+-- the expression that tokens begin with is one term
+abbrev pub is_single : List Lexeme → Bool
+is_single [] = false
+is_single (token ∷ tokens) = is_term (role_of token.sort) && ends_before tokens
+
+-- what stands next after a term joins it to another one
+abbrev pub joins_next : Option Token → Bool
+joins_next (Some token) = joins (role_of token.sort)
+joins_next None = false
+
+-- a token of a line is a term, and the expression at a column
+abbrev pub IsAlone : Bytes → ℕ → Token → Type 0
+IsAlone line column term =
+    (role_of term.sort ≡ Term) × (expression_in (tokens_from line column) ≡ lexeme line term ∷ [])
+
+-- a token is the one that stands next in a line from a column on
+abbrev pub IsNext : Bytes → ℕ → Token → Type 0
+IsNext line column token = tokens_from line column ≡ lexeme line token ∷ tokens_from line token.end

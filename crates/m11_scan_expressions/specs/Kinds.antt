@@ -1,0 +1,43 @@
+-- What values count from, and which of them operators may join. (MACRO-11 Language Reference Manual, "Evaluating relocatable and
+-- absolute expressions". That registers may be joined with absolute numbers, and what becomes of a pair that may not stand
+-- together, is this project's own.)
+use Rattle.std.specs.Prelude.{ℕ, Bool, true, false, if◌then◌else◌, Option, Some, None}
+use Rattle.m11_base.specs.Rad50.{is_same_name}
+use Rattle.m11_scan.specs.ErrorFlags.{flag_A}
+use Rattle.m11_scan_expressions.specs.declared.kinds.Kind.{Kind}
+use Rattle.m11_scan_expressions.specs.declared.kinds.Kind.TheVariants.{Absolute, Section, Register, Reference}
+use Rattle.m11_scan_expressions.specs.declared.operators.Operator.{Operator}
+use Rattle.m11_scan_expressions.specs.declared.operators.Operator.TheVariants.{Add, Subtract}
+
+-- the kind of what an operator makes of two kinds; any other two may not stand together
+--   +  an absolute number and any kind, on either side   that kind
+--   -  any kind, less an absolute number                 that kind
+--   -  two of one section                                absolute
+--   any operator, two absolute numbers                   absolute
+abbrev pub kind_of : Operator → Kind → Kind → Option Kind
+kind_of Add kind Absolute = Some kind
+kind_of Add Absolute kind = Some kind
+kind_of Subtract kind Absolute = Some kind
+kind_of Subtract (Section one) (Section other) = if is_same_name one other then Some Absolute else None
+kind_of operator Absolute Absolute = Some Absolute
+kind_of operator left right = None
+
+abbrev pub is_absolute : Kind → Bool
+is_absolute Absolute = true
+is_absolute (Section name) = false
+is_absolute Register = false
+is_absolute (Reference name) = false
+
+abbrev pub is_register : Kind → Bool
+is_register Absolute = false
+is_register (Section name) = false
+is_register Register = true
+is_register (Reference name) = false
+
+-- the set of the flag R
+abbrev pub flag_R : ℕ
+flag_R = 0o4000
+
+-- the flag of operands that may not stand where they do: R where one of them is a register, else A
+abbrev pub refusal : Bool → ℕ
+refusal has_register = if has_register then flag_R else flag_A

@@ -1,0 +1,49 @@
+-- What is meant by an operator between two parts of an expression, and by terms of one token with operators between them.
+use Rattle.std.specs.Prelude.{◌≡◌, false, List, [], ◌∷◌, Some, None}
+use Rattle.m11_scan.specs.Expressions.{begin, role_of}
+use Rattle.m11_scan.specs.declared.expressions.Role.TheVariants.{Term}
+use Rattle.m11_scan.specs.declared.expressions.Within.{Within}
+use Rattle.m11_scan.specs.declared.radix.Radix.{Radix}
+use Rattle.m11_scan.specs.declared.sort.Sort.{Sort}
+use Rattle.m11_scan_expressions.specs.declared.operators.Operator.{Operator}
+use Rattle.m11_scan_expressions.specs.Operations.{combined}
+use Rattle.m11_scan_expressions.specs.Splits.{after, last_operator, operator_at, operator_of}
+use Rattle.m11_scan_expressions.specs.Quantities.{Quantity}
+use Rattle.m11_scan_expressions.specs.Terms.{Item, atom_value}
+use Rattle.m11_scan_expressions.specs.Values.{sorts_of}
+
+-- where an expression has come to after some tokens
+abbrev pub within_after : Within → List Sort → Within
+within_after within [] = within
+within_after within (sort ∷ sorts) = within_after (after (role_of sort) within) sorts
+
+-- a token is an operator outside brackets after some others
+abbrev pub IsOperator : Operator → List Item → Item → Type 0
+IsOperator operator front mark = operator_at mark.sort (within_after begin (sorts_of front)) ≡ Some operator
+
+-- tokens are one term: no operator stands in them outside brackets
+abbrev pub IsTerm : List Item → Type 0
+IsTerm items = last_operator begin (sorts_of items) ≡ None
+
+-- an operator, its token, and the one token of the term after it
+pub record Step : Type 0 where
+  pub operator : Operator
+  pub mark : Item
+  pub term : Item
+
+-- the tokens of steps
+abbrev pub written : List Step → List Item
+written [] = []
+written (step ∷ steps) = step.mark ∷ step.term ∷ written steps
+
+-- each is an operator after a term, and a term of one token
+pub data AreSteps : List Step → Type 0 where
+  NoStep : AreSteps []
+  OneMore : (step : Step) (steps : List Step) → operator_of false step.mark.sort ≡ Some step.operator
+      → role_of step.term.sort ≡ Term → AreSteps steps → AreSteps (step ∷ steps)
+
+-- one operator after the other is applied to the value so far
+abbrev pub left_fold : Radix → Quantity → List Step → Quantity
+left_fold radix value [] = value
+left_fold radix value (step ∷ steps) =
+    left_fold radix (combined step.operator value (atom_value radix step.term.atom)) steps

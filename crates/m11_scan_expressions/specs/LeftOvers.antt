@@ -1,0 +1,40 @@
+-- What is left over of a line after its arguments, and of one whose argument is bad. (MACRO-11 Language Reference Manual,
+-- "Diagnostic error message summary", A, Q and I.)
+use Rattle.std.specs.Prelude.{ℕ, Bool, true, false, List, [], ◌∷◌, length}
+use Rattle.std.specs.Int.RustNames.{bit_or}
+use Rattle.m11_base.specs.Devices.{Bytes}
+use Rattle.m11_scan.specs.Cutting.{Lexeme, tokens_from}
+use Rattle.m11_scan.specs.ErrorFlags.{flag_A, flag_I, flag_Q, flag_if}
+use Rattle.m11_scan.specs.Skipped.{skipped_between}
+
+-- I for a skipped character between two columns
+abbrev pub skip_flags : Bytes → ℕ → ℕ → ℕ
+skip_flags line start end = flag_if (skipped_between line start end) flag_I
+
+-- I for a skipped character from a column on
+abbrev pub rest_flags : Bytes → ℕ → ℕ
+rest_flags line column = skip_flags line column (length line)
+
+-- some token stands there
+abbrev pub has_token : List Lexeme → Bool
+has_token [] = false
+has_token (token ∷ tokens) = true
+
+-- Q for a token from a column on, I for a skipped character
+abbrev pub left_over : Bytes → ℕ → ℕ
+left_over line column =
+    bit_or (flag_if (has_token (tokens_from line column)) flag_Q) (rest_flags line column)
+
+-- A for an argument that is bad or missing at a column, from where on nothing more is read: I for a skipped character in all of
+-- the rest
+abbrev pub bad_flags : Bytes → ℕ → ℕ
+bad_flags line column = bit_or flag_A (rest_flags line column)
+
+-- the column where the first of some tokens begins, or the line's end
+abbrev pub start_of : Bytes → List Lexeme → ℕ
+start_of line [] = length line
+start_of line (token ∷ tokens) = token.start
+
+-- I for a skipped character before the token that stands next from a column on
+abbrev pub flags_before : Bytes → ℕ → ℕ
+flags_before line column = skip_flags line column (start_of line (tokens_from line column))

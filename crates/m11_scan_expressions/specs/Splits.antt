@@ -1,0 +1,58 @@
+-- Where operators stand in an expression. (MACRO-11 Language Reference Manual, "Binary operators" and "Expressions".)
+use Rattle.std.specs.Prelude.{suc, ◌+◌, ◌-◌, ◌==◌, Bool, true, false, if◌then◌else◌, List, [], ◌∷◌, Option, Some, None}
+use Rattle.m11_scan.specs.Expressions.{role_of}
+use Rattle.m11_scan.specs.declared.expressions.Role.{Role}
+use Rattle.m11_scan.specs.declared.expressions.Role.TheVariants as roles
+use Rattle.m11_scan.specs.declared.expressions.Within.{Within}
+use Rattle.m11_scan.specs.declared.sort.Sort.{Sort}
+use Rattle.m11_scan.specs.declared.sort.Sort.TheVariants as sorts
+use Rattle.m11_scan_expressions.specs.declared.expressions.Split.{Split}
+use Rattle.m11_scan_expressions.specs.declared.operators.Operator.{Operator}
+use Rattle.m11_scan_expressions.specs.declared.operators.Operator.TheVariants.{Add, Subtract, Multiply, Divide, And, Or}
+
+-- the operator that a token of a sort is between two terms: where a term is due `+` and `-` stand before it, and the others after
+-- one that is missing
+abbrev pub operator_of : Bool → Sort → Option Operator
+operator_of is_due sorts.Plus = if is_due then None else Some Add
+operator_of is_due sorts.Minus = if is_due then None else Some Subtract
+operator_of is_due sorts.Times = Some Multiply
+operator_of is_due sorts.Over = Some Divide
+operator_of is_due sorts.And = Some And
+operator_of is_due sorts.Or = Some Or
+operator_of is_due sort = None
+
+-- the operator that a token is where it stands, outside brackets
+abbrev pub operator_at : Sort → Within → Option Operator
+operator_at sort within = if within.depth == 0 then operator_of within.is_due sort else None
+
+-- where an expression has come to after a token of a role: a term is due after what stands before one, after operators and after `<`
+abbrev pub after : Role → Within → Within
+after roles.Term within = record { depth = within.depth; is_due = false }
+after roles.Prefix within = record { depth = within.depth; is_due = true }
+after roles.Sign within = record { depth = within.depth; is_due = true }
+after roles.Operator within = record { depth = within.depth; is_due = true }
+after roles.Opens within = record { depth = within.depth + 1; is_due = true }
+after roles.Closes within = record { depth = within.depth - 1; is_due = false }
+after roles.Foreign within = within
+
+-- an operator here, or one that stands later
+abbrev pub later : Option Operator → Option Split → Option Split
+later here (Some split) = Some (record { index = suc split.index; operator = split.operator })
+later (Some operator) None = Some (record { index = 0; operator = operator })
+later None None = None
+
+-- the last operator between two terms that stands outside brackets
+abbrev pub last_operator : Within → List Sort → Option Split
+last_operator within [] = None
+last_operator within (sort ∷ sorts) = later (operator_at sort within) (last_operator (after (role_of sort) within) sorts)
+
+-- an operator here, or the first one that stands later
+abbrev pub first_or : Option Operator → Option Split → Option Split
+first_or (Some operator) more = Some (record { index = 0; operator = operator })
+first_or None (Some split) = Some (record { index = suc split.index; operator = split.operator })
+first_or None None = None
+
+-- the first operator between two terms that stands outside brackets
+abbrev pub first_operator : Within → List Sort → Option Split
+first_operator within [] = None
+first_operator within (sort ∷ sorts) = first_or (operator_at sort within) (first_operator (after (role_of sort) within) sorts)

@@ -1,0 +1,104 @@
+-- What a token is in an expression: its sort, and its value where it is a term. (MACRO-11 Language Reference Manual, "Terms", "Symbols",
+-- "Local symbols", "Current location counter", "Numbers", "ASCII conversion" and "Radix-50 operator". That a term with too few characters
+-- is missing, and that a local symbol outside 1 to 65535 is 0 with A, is this project's own.)
+use Rattle.std.specs.Prelude.{◌+◌, ◌-◌, ◌*◌, ◌%◌, ◌==◌, if◌then◌else◌, Bool, false, [], ◌∷◌, length, take, Option, Some, None}
+use Rattle.m11_base.specs.Devices.{Bytes}
+use Rattle.m11_base.specs.NameCharacters.{six_of}
+use Rattle.m11_base.specs.Rad50.{Name, name_of}
+use Rattle.m11_scan.specs.Cutting.{Lexeme}
+use Rattle.m11_scan.specs.ErrorFlags.{flag_A}
+use Rattle.m11_scan.specs.Names.{packed_flags, packed_word}
+use Rattle.m11_scan.specs.Numbers.{number_flags, number_of}
+use Rattle.m11_scan.specs.declared.radix.Radix.{Radix}
+use Rattle.m11_scan.specs.declared.radix.Radix.TheVariants.{Decimal}
+use Rattle.m11_scan.specs.declared.sort.Sort.{Sort}
+use Rattle.m11_scan.specs.declared.sort.Sort.TheVariants as sorts
+use Rattle.m11_scan_expressions.specs.declared.names.Symbol.{Symbol}
+use Rattle.m11_scan_expressions.specs.declared.names.Symbol.TheVariants.{Ordinary, Local, Counter}
+use Rattle.m11_scan_expressions.specs.Quantities.{Quantity, absolute, missing}
+
+-- a term by itself: digits, whose value the radix decides, or a value
+pub data Atom : Type 0 where
+  Digits : Bytes → Atom
+  Fixed : Quantity → Atom
+
+-- a token in an expression
+pub record Item : Type 0 where
+  pub sort : Sort
+  pub atom : Atom
+
+-- the number of digits in a radix
+abbrev pub number : Radix → Bytes → Quantity
+number radix digits = absolute (number_of radix digits % 65536) (number_flags radix digits)
+
+abbrev pub atom_value : Radix → Atom → Quantity
+atom_value radix (Digits digits) = number radix digits
+atom_value radix (Fixed value) = value
+
+-- the symbol of a name
+abbrev pub ordinary : Option Name → Option Symbol
+ordinary (Some name) = Some (Ordinary name)
+ordinary None = None
+
+abbrev pub is_counter : Bytes → Bool
+is_counter [] = false
+is_counter (byte ∷ []) = byte == 0o56
+is_counter (byte ∷ next ∷ rest) = false
+
+abbrev pub name_symbol : Bytes → Option Symbol
+name_symbol text = if is_counter text then Some Counter else ordinary (name_of (six_of text))
+
+-- all but the last character
+abbrev pub front_of : Bytes → Bytes
+front_of text = take (length text - 1) text
+
+-- the local symbol of a decimal number: one over 65535 has a flag
+abbrev pub local_of : Quantity → Option Symbol
+local_of value = if value.number == 0 then None else (if value.flags == 0 then Some (Local value.number) else None)
+
+abbrev pub local_symbol : Bytes → Option Symbol
+local_symbol digits = local_of (number Decimal digits)
+
+-- the symbol that a token reads, if it reads one
+abbrev pub symbol_in : Sort → Bytes → Option Symbol
+symbol_in sorts.Name text = name_symbol text
+symbol_in sorts.LocalSymbol text = local_symbol (front_of text)
+symbol_in sort text = None
+
+-- what a symbol stands for, or a value in its place
+abbrev pub meaning_or : (Symbol → Quantity) → Quantity → Option Symbol → Quantity
+meaning_or stands_for other (Some symbol) = stands_for symbol
+meaning_or stands_for other None = other
+
+-- `'` and a character
+abbrev pub character : Bytes → Quantity
+character (mark ∷ first ∷ rest) = absolute first 0
+character (mark ∷ []) = missing
+character [] = missing
+
+-- `"` and two characters, the first one in the low byte
+abbrev pub two_characters : Bytes → Quantity
+two_characters (mark ∷ first ∷ second ∷ rest) = absolute (first + 256 * second) 0
+two_characters (mark ∷ first ∷ []) = missing
+two_characters (mark ∷ []) = missing
+two_characters [] = missing
+
+-- `^R` and the characters after it
+abbrev pub packed : Bytes → Quantity
+packed (mark ∷ flag ∷ characters) = absolute (packed_word characters) (packed_flags characters)
+packed (mark ∷ []) = missing
+packed [] = missing
+
+-- what a token of a sort and a text is as a term
+abbrev pub atom_of : (Symbol → Quantity) → Sort → Bytes → Atom
+atom_of stands_for sorts.Name text = Fixed (meaning_or stands_for missing (symbol_in sorts.Name text))
+atom_of stands_for sorts.LocalSymbol text = Fixed (meaning_or stands_for (absolute 0 flag_A) (symbol_in sorts.LocalSymbol text))
+atom_of stands_for sorts.Number text = Digits text
+atom_of stands_for sorts.DecimalNumber text = Fixed (number Decimal (front_of text))
+atom_of stands_for sorts.Character text = Fixed (character text)
+atom_of stands_for sorts.TwoCharacters text = Fixed (two_characters text)
+atom_of stands_for sorts.Packed text = Fixed (packed text)
+atom_of stands_for sort text = Fixed missing
+
+abbrev pub item : (Symbol → Quantity) → Lexeme → Item
+item stands_for token = record { sort = token.sort; atom = atom_of stands_for token.sort token.text }

@@ -1,0 +1,67 @@
+-- What values expressions have. (MACRO-11 Language Reference Manual, "Terms" and "Expressions": operators go from left to right, and
+-- none before another.) An expression is a list of tokens, each with its value as a term.
+use Rattle.std.specs.Prelude.{ℕ, zero, suc, nat_lt, List, [], ◌∷◌, length, map, take, drop, Option, Some, None}
+use Rattle.m11_base.specs.Devices.{Bytes}
+use Rattle.m11_scan.specs.Expressions.{begin}
+use Rattle.m11_scan.specs.Views.{lexeme}
+use Rattle.m11_scan.specs.declared.cutting.Token.{Token}
+use Rattle.m11_scan.specs.declared.radix.Radix.{Radix}
+use Rattle.m11_scan.specs.declared.sort.Sort.{Sort}
+use Rattle.m11_scan_expressions.specs.declared.expressions.LeftOperand.{LeftOperand}
+use Rattle.m11_scan_expressions.specs.declared.expressions.Split.{Split}
+use Rattle.m11_scan_expressions.specs.declared.names.Symbol.{Symbol}
+use Rattle.m11_scan_expressions.specs.declared.prefixes.Prefix.{Prefix}
+use Rattle.m11_scan_expressions.specs.Operations.{combined}
+use Rattle.m11_scan_expressions.specs.Splits.{last_operator}
+use Rattle.m11_scan_expressions.specs.Prefixes.{applied, prefix_of, radix_under, reach}
+use Rattle.m11_scan_expressions.specs.Quantities.{Quantity, missing, quantity}
+use Rattle.m11_scan_expressions.specs.Terms.{Item, atom_value, item}
+
+abbrev pub item_sort : Item → Sort
+item_sort item = item.sort
+
+abbrev pub sorts_of : List Item → List Sort
+sorts_of items = map item_sort items
+
+-- the value of a term: what stands before it is applied to the value of what it stands before
+abbrev pub term_value : (Radix → List Item → Quantity) → Radix → Item → List Item → Option Prefix → Quantity
+term_value value radix item items None = atom_value radix item.atom
+term_value value radix item items (Some prefix) =
+    applied prefix (nat_lt (reach prefix (sorts_of items)) (length items))
+    (value (radix_under prefix radix) (take (reach prefix (sorts_of items)) items))
+
+-- the value of an expression by its last operator outside brackets: what the operator makes of the values of what stands before it and
+-- after it. Without such an operator it is a term, which may be missing.
+abbrev pub split_value : (Radix → List Item → Quantity) → Radix → List Item → Option Split → Quantity
+split_value value radix items (Some split) =
+    combined split.operator (value radix (take split.index items)) (value radix (drop (suc split.index) items))
+split_value value radix [] None = missing
+split_value value radix (item ∷ items) None = term_value value radix item items (prefix_of item.sort)
+
+-- the value of an expression by the values of its parts, each of which is shorter
+abbrev pub by_parts : (Radix → List Item → Quantity) → Radix → List Item → Quantity
+by_parts value radix items = split_value value radix items (last_operator begin (sorts_of items))
+
+abbrev pub value_within : ℕ → Radix → List Item → Quantity
+value_within zero radix items = missing
+value_within (suc bound) radix items = by_parts (λ r i. value_within bound r i) radix items
+
+-- the value of an expression in a radix
+unfoldable pub value_of : Radix → List Item → Quantity
+value_of radix items = value_within (length items) radix items
+
+-- what tokens of a line are, where symbols stand for something
+abbrev pub seen : (Symbol → Quantity) → Bytes → Token → Item
+seen stands_for line token = item stands_for (lexeme line token)
+
+abbrev pub items_of : (Symbol → Quantity) → Bytes → List Token → List Item
+items_of stands_for line tokens = map (seen stands_for line) tokens
+
+-- the value of tokens that are one term
+abbrev pub value_as_term : Radix → List Item → Quantity
+value_as_term radix items = split_value value_of radix items None
+
+-- a value joined to what stands before it
+abbrev pub carried : Option LeftOperand → Quantity → Quantity
+carried None value = value
+carried (Some left) value = combined left.operator (quantity left.value) value

@@ -1,0 +1,188 @@
+//! Whether an expression stands in a line, how far it reaches, and whether it is one term. (MACRO-11 Language Reference Manual,
+//! "Expressions".)
+
+ghost use Rattle.std.specs.Prelude.{◌≡◌, ◌≤◌, ◌∷◌, [], length, IfSome, MatchOption};
+ghost use Rattle.std.specs.Option.{is_some};
+ghost use Rattle.m11_scan.specs.Cutting.{tokens_from};
+ghost use Rattle.m11_scan.specs.Ends.{expression_end};
+ghost use Rattle.m11_scan.specs.Expressions.{begin, goes_on, role_of};
+ghost use Rattle.m11_scan.specs.Views.{lexeme};
+ghost use Rattle.m11_scan_expressions.specs.Expressions as spec;
+ghost use Rattle.m11_scan_expressions.specs.Expressions.{IsAlone, IsNext};
+
+use crate::left_overs::column_in;
+use m11_scan::{Line, Role, Sort, Token, expression_end, next_token, role_of};
+
+/// Whether an expression stands in a line from a column on: a token with which one can begin.
+#[tactic(auto, using(crate::proofs::Beginning::begins))]
+pub fn has_expression(line: &Line, column: usize) -> bool
+    requires { column ≤ length line.now.text }
+    ensures { result ≡ spec.has_expression line.now.text column }
+{
+    match next_token(line, column) {
+        Some(token) => begins_expression(token.sort),
+        None => false,
+    }
+}
+
+/// Whether an expression can begin with a token.
+pub fn begins_expression(sort: Sort) -> bool
+    ensures { result ≡ is_some (goes_on (role_of sort) begin) }
+{
+    match role_of(sort) {
+        Role::Closes | Role::Foreign => false,
+        _ => true,
+    }
+}
+
+/// How far the expression at a column reaches.
+#[derive(Clone, Copy)]
+pub struct ExpressionEnd {
+    /// The column after it.
+    pub end: u8,
+    /// The token that stands next after it, if one does.
+    pub next: Option<Token>,
+    /// Its one token, where it is one term.
+    pub term: Option<Token>,
+}
+
+/// How far the expression at a column of a line reaches. Where none stands there, it ends at that column.
+// speed: a call would hand two tokens on by memory.
+#[inline(always)]
+pub fn expression_end_at(line: &Line, column: usize) -> ExpressionEnd
+    requires { column ≤ length line.now.text }
+    ensures end { result.end ≡ expression_end line.now.text column }
+    ensures next { MatchOption result.next (tokens_from line.now.text result.end ≡ [])
+        (λ token. tokens_from line.now.text result.end ≡ lexeme line.now.text token ∷ tokens_from line.now.text token.end) }
+    ensures term { IfSome result.term (λ term. IsAlone line.now.text column term) }
+    ensures least { column ≤ result.end }
+    ensures within { result.end ≤ length line.now.text }
+    ensures next_within { IfSome result.next (λ token. token.end ≤ length line.now.text) }
+{
+    match next_token(line, column) {
+        Some(token) => expression_end_from(line, column, token),
+        None => long_expression_end(line, column),
+    }
+}
+
+/// Where the expression at a column ends, whose first token was cut already.
+// speed: a call would hand two tokens on by memory.
+#[inline(always)]
+pub fn expression_end_from(line: &Line, column: usize, token: Token) -> ExpressionEnd
+    requires token { IsNext line.now.text column token }
+    requires least { column ≤ token.end }
+    requires within { token.end ≤ length line.now.text }
+    ensures end { result.end ≡ expression_end line.now.text column }
+    ensures next { MatchOption result.next (tokens_from line.now.text result.end ≡ [])
+        (λ token. tokens_from line.now.text result.end ≡ lexeme line.now.text token ∷ tokens_from line.now.text token.end) }
+    ensures term { IfSome result.term (λ term. IsAlone line.now.text column term) }
+    ensures least { column ≤ result.end }
+    ensures within { result.end ≤ length line.now.text }
+    ensures next_within { IfSome result.next (λ token. token.end ≤ length line.now.text) }
+{
+    match single_from(line, column, token) {
+        Some(single) => ExpressionEnd {
+            end: single.term.end,
+            next: single.next,
+            term: Some(single.term),
+        },
+        None => long_expression_end(line, column),
+    }
+}
+
+// Where an expression ends whose tokens are cut one after the other.
+fn long_expression_end(line: &Line, column: usize) -> ExpressionEnd
+    requires { column ≤ length line.now.text }
+    ensures end { result.end ≡ expression_end line.now.text column }
+    ensures next { MatchOption result.next (tokens_from line.now.text result.end ≡ [])
+        (λ token. tokens_from line.now.text result.end ≡ lexeme line.now.text token ∷ tokens_from line.now.text token.end) }
+    ensures term { IfSome result.term (λ term. IsAlone line.now.text column term) }
+    ensures least { column ≤ result.end }
+    ensures within { result.end ≤ length line.now.text }
+    ensures next_within { IfSome result.next (λ token. token.end ≤ length line.now.text) }
+{
+    let end = expression_end(line, column);
+    ExpressionEnd {
+        end: column_in(line, end),
+        next: next_token(line, end),
+        term: None,
+    }
+}
+
+/// The one token of the expression at a column, where it is one term. Most expressions are, and of those no token need be cut past the next
+/// one.
+// speed: a call would save and restore more than it asks.
+#[inline(always)]
+pub fn single_term(line: &Line, column: usize) -> Option<Token>
+    requires { column ≤ length line.now.text }
+    ensures alone { IfSome result (λ term. IsAlone line.now.text column term) }
+    ensures found { is_some result ≡ spec.is_single (tokens_from line.now.text column) }
+{
+    let single = single_at(line, column)?;
+    Some(single.term)
+}
+
+// A term that is an expression, and what stands after it.
+#[derive(Clone, Copy)]
+pub struct SingleTerm {
+    pub(crate) term: Token,
+    pub(crate) next: Option<Token>,
+}
+
+// The term that is the expression at a column, if one is.
+// speed: a call would save and restore more than it asks.
+#[inline(always)]
+pub(crate) fn single_at(line: &Line, column: usize) -> Option<SingleTerm>
+    requires { column ≤ length line.now.text }
+    ensures alone { IfSome result (λ single. IsAlone line.now.text column single.term) }
+    ensures found { is_some result ≡ spec.is_single (tokens_from line.now.text column) }
+    ensures end { IfSome result (λ single. single.term.end ≡ expression_end line.now.text column) }
+    ensures least { IfSome result (λ single. column ≤ single.term.end) }
+    ensures within { IfSome result (λ single. single.term.end ≤ length line.now.text) }
+{
+    let token = next_token(line, column)?;
+    single_from(line, column, token)
+}
+
+// The term that is the expression at a column, if the token that stands next from there on is one.
+// speed: a call would save and restore more than it asks.
+#[inline(always)]
+pub(crate) fn single_from(line: &Line, column: usize, term: Token) -> Option<SingleTerm>
+    requires token { IsNext line.now.text column term }
+    requires least { column ≤ term.end }
+    requires within { term.end ≤ length line.now.text }
+    ensures alone { IfSome result (λ single. IsAlone line.now.text column single.term) }
+    ensures found { is_some result ≡ spec.is_single (tokens_from line.now.text column) }
+    ensures end { IfSome result (λ single. single.term.end ≡ expression_end line.now.text column) }
+    ensures next { IfSome result (λ single. MatchOption single.next (tokens_from line.now.text single.term.end ≡ [])
+        (λ token. tokens_from line.now.text single.term.end ≡ lexeme line.now.text token ∷ tokens_from line.now.text token.end)) }
+    ensures least { IfSome result (λ single. column ≤ single.term.end) }
+    ensures within { IfSome result (λ single. single.term.end ≤ length line.now.text) }
+    ensures next_within { IfSome result (λ single. IfSome single.next (λ token. token.end ≤ length line.now.text)) }
+{
+    if !is_term(term.sort) {
+        return None;
+    }
+    let next = next_token(line, usize::from(term.end));
+    if joins(next) {
+        None
+    } else {
+        Some(SingleTerm { term, next })
+    }
+}
+
+fn is_term(sort: Sort) -> bool
+    ensures { result ≡ spec.is_term (role_of sort) }
+{
+    matches!(role_of(sort), Role::Term)
+}
+
+// Whether what stands next after a term joins it to another one.
+fn joins(next: Option<Token>) -> bool
+    ensures { result ≡ spec.joins_next next }
+{
+    match next {
+        Some(token) => matches!(role_of(token.sort), Role::Sign | Role::Operator),
+        None => false,
+    }
+}

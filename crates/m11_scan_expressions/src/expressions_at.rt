@@ -1,0 +1,246 @@
+//! Expressions that stand at a column of a line. (MACRO-11 Language Reference Manual, "Expressions".)
+
+ghost use Rattle.std.specs.Prelude.{◌≡◌, ◌≤◌, length, IfOk, IfSome};
+ghost use Rattle.m11_scan.specs.Ends.{expression_end};
+ghost use Rattle.m11_scan.specs.Views.{bits_of};
+ghost use Rattle.m11_scan_expressions.specs.Quantities.{quantity};
+ghost use Rattle.m11_scan_expressions.specs.Expressions as spec;
+ghost use Rattle.m11_scan_expressions.specs.Expressions.{IsAlone, IsNext, known_by};
+ghost use Rattle.m11_scan_expressions.specs.Remarks.{with_symbols};
+
+use crate::expression_ends::{SingleTerm, single_at, single_from, single_term};
+use crate::expressions::{expression_value, term_value};
+use crate::left_overs::{column_in, skip_flags};
+use crate::names::Names;
+use crate::remarks::Remarks;
+use crate::values::Value;
+use m11_scan::{ErrorFlags, Line, Token, expression_at};
+use std::alloc::AllocError;
+
+/// The number of an expression.
+#[derive(Clone, Copy, PartialEq, Eq, Debug)]
+pub struct ExpressionNumber {
+    /// Its number, whatever its kind.
+    pub value: u16,
+    /// Its flags, that of a kind which isn't absolute, and I for a skipped character in it.
+    pub flags: ErrorFlags,
+    /// The column after it.
+    pub end: u8,
+}
+
+/// The number of the expression at a column, where only an absolute one may stand. Its symbols are added to the remarks.
+///
+/// Error: memory for the symbols was refused.
+pub fn number_at<N: Names>(
+    line: &Line,
+    column: usize,
+    names: &N,
+    remarks: &mut Remarks,
+) -> Result<ExpressionNumber, AllocError>
+    requires { column ≤ length line.now.text }
+    ensures value { IfOk result (λ number. number.value
+        ≡ spec.number_at (known_by (N.base names.now) (N.stands_for names.now)) line.now.text column) }
+    ensures flags { IfOk result (λ number. bits_of number.flags
+        ≡ spec.number_flags (known_by (N.base names.now) (N.stands_for names.now)) line.now.text column) }
+    ensures end { IfOk result (λ number. number.end ≡ expression_end line.now.text column) }
+    ensures least { IfOk result (λ number. column ≤ number.end) }
+    ensures most { IfOk result (λ number. number.end ≤ length line.now.text) }
+    ensures remarks { IfOk result (λ _. remarks.new ≡ with_symbols remarks.old (spec.symbols_at line.now.text column)) }
+{
+    number_by(line, column, single_at(line, column), names, remarks)
+}
+
+/// The number at a column, as `number_at` gives it, where the first token was cut already.
+///
+/// Error: memory for the symbols was refused.
+// speed: a call would hand tokens on by memory.
+#[inline(always)]
+pub fn number_from<N: Names>(
+    line: &Line,
+    column: usize,
+    token: Token,
+    names: &N,
+    remarks: &mut Remarks,
+) -> Result<ExpressionNumber, AllocError>
+    requires token { IsNext line.now.text column token }
+    requires least { column ≤ token.end }
+    requires within { token.end ≤ length line.now.text }
+    ensures value { IfOk result (λ number. number.value
+        ≡ spec.number_at (known_by (N.base names.now) (N.stands_for names.now)) line.now.text column) }
+    ensures flags { IfOk result (λ number. bits_of number.flags
+        ≡ spec.number_flags (known_by (N.base names.now) (N.stands_for names.now)) line.now.text column) }
+    ensures end { IfOk result (λ number. number.end ≡ expression_end line.now.text column) }
+    ensures least { IfOk result (λ number. column ≤ number.end) }
+    ensures most { IfOk result (λ number. number.end ≤ length line.now.text) }
+    ensures remarks { IfOk result (λ _. remarks.new ≡ with_symbols remarks.old (spec.symbols_at line.now.text column)) }
+{
+    number_by(
+        line,
+        column,
+        single_from(line, column, token),
+        names,
+        remarks,
+    )
+}
+
+// The number at a column, with its one term where it is one.
+// speed: a call would hand tokens on by memory.
+#[inline(always)]
+fn number_by<N: Names>(
+    line: &Line,
+    column: usize,
+    single: Option<SingleTerm>,
+    names: &N,
+    remarks: &mut Remarks,
+) -> Result<ExpressionNumber, AllocError>
+    requires within { column ≤ length line.now.text }
+    requires alone { IfSome single (λ single. IsAlone line.now.text column single.term) }
+    requires end { IfSome single (λ single. single.term.end ≡ expression_end line.now.text column) }
+    requires least { IfSome single (λ single. column ≤ single.term.end) }
+    requires most { IfSome single (λ single. single.term.end ≤ length line.now.text) }
+    ensures value { IfOk result (λ number. number.value
+        ≡ spec.number_at (known_by (N.base names.now) (N.stands_for names.now)) line.now.text column) }
+    ensures flags { IfOk result (λ number. bits_of number.flags
+        ≡ spec.number_flags (known_by (N.base names.now) (N.stands_for names.now)) line.now.text column) }
+    ensures end { IfOk result (λ number. number.end ≡ expression_end line.now.text column) }
+    ensures least { IfOk result (λ number. column ≤ number.end) }
+    ensures most { IfOk result (λ number. number.end ≤ length line.now.text) }
+    ensures remarks { IfOk result (λ _. remarks.new ≡ with_symbols remarks.old (spec.symbols_at line.now.text column)) }
+{
+    let read = read_expression(line, column, single, names, remarks)?;
+    let value = read.value;
+    let flags = value
+        .flags
+        .with(value.kind.absence())
+        .with(skip_flags(line, column, usize::from(read.end)));
+    Ok(ExpressionNumber {
+        value: value.number,
+        flags,
+        end: read.end,
+    })
+}
+
+// The value of an expression, and the column after it.
+#[derive(Clone, Copy)]
+pub(crate) struct Reading {
+    pub(crate) value: Value,
+    pub(crate) end: u8,
+}
+
+// Reads the expression at a column, with its one term where it is one. Its symbols are added to the remarks.
+// speed: a call would hand tokens on by memory.
+#[inline(always)]
+fn read_expression<N: Names>(
+    line: &Line,
+    column: usize,
+    single: Option<SingleTerm>,
+    names: &N,
+    remarks: &mut Remarks,
+) -> Result<Reading, AllocError>
+    requires within { column ≤ length line.now.text }
+    requires alone { IfSome single (λ single. IsAlone line.now.text column single.term) }
+    requires end { IfSome single (λ single. single.term.end ≡ expression_end line.now.text column) }
+    requires least { IfSome single (λ single. column ≤ single.term.end) }
+    requires most { IfSome single (λ single. single.term.end ≤ length line.now.text) }
+    ensures value { IfOk result (λ read. quantity read.value
+        ≡ spec.value_at (known_by (N.base names.now) (N.stands_for names.now)) line.now.text column) }
+    ensures end { IfOk result (λ read. read.end ≡ expression_end line.now.text column) }
+    ensures least { IfOk result (λ read. column ≤ read.end) }
+    ensures most { IfOk result (λ read. read.end ≤ length line.now.text) }
+    ensures remarks { IfOk result (λ _. remarks.new ≡ with_symbols remarks.old (spec.symbols_at line.now.text column)) }
+{
+    match single {
+        Some(single) => {
+            remarks.add_symbols(&[single.term], line)?;
+            Ok(Reading {
+                value: term_value(&single.term, line, names),
+                end: single.term.end,
+            })
+        }
+        None => read_tokens(line, column, names, remarks),
+    }
+}
+
+// Reads any expression. Each token is cut once.
+// speed: a call, since in the caller room for its tokens would be cleared also where it is one term.
+#[inline(never)]
+fn read_tokens<N: Names>(
+    line: &Line,
+    column: usize,
+    names: &N,
+    remarks: &mut Remarks,
+) -> Result<Reading, AllocError>
+    requires { column ≤ length line.now.text }
+    ensures value { IfOk result (λ read. quantity read.value
+        ≡ spec.value_at (known_by (N.base names.now) (N.stands_for names.now)) line.now.text column) }
+    ensures end { IfOk result (λ read. read.end ≡ expression_end line.now.text column) }
+    ensures least { IfOk result (λ read. column ≤ read.end) }
+    ensures most { IfOk result (λ read. read.end ≤ length line.now.text) }
+    ensures remarks { IfOk result (λ _. remarks.new ≡ with_symbols remarks.old (spec.symbols_at line.now.text column)) }
+{
+    let expression = expression_at(line, column);
+    let tokens = expression.tokens.as_slice();
+    remarks.add_symbols(tokens, line)?;
+    Ok(Reading {
+        value: expression_value(tokens, line, names),
+        end: column_in(line, expression.end),
+    })
+}
+
+/// The value of the expression at a column. Where none stands, a term is missing.
+// speed: a call would hand the value on by memory.
+#[inline(always)]
+pub fn value_at<N: Names>(line: &Line, column: usize, names: &N) -> Value
+    requires { column ≤ length line.now.text }
+    ensures { quantity result
+        ≡ spec.value_at (known_by (N.base names.now) (N.stands_for names.now)) line.now.text column }
+{
+    value_by(line, column, single_term(line, column), names)
+}
+
+/// The value of the expression at a column, with its one token where it was found to be one term.
+pub fn value_by<N: Names>(line: &Line, column: usize, term: Option<Token>, names: &N) -> Value
+    requires within { column ≤ length line.now.text }
+    requires term { IfSome term (λ term. IsAlone line.now.text column term) }
+    ensures { quantity result
+        ≡ spec.value_at (known_by (N.base names.now) (N.stands_for names.now)) line.now.text column }
+{
+    match term {
+        Some(term) => term_value(&term, line, names),
+        None => long_value(line, column, names),
+    }
+}
+
+// The value of any expression.
+// speed: a call, since in the caller room for its tokens would be cleared also where it is one term.
+#[inline(never)]
+fn long_value<N: Names>(line: &Line, column: usize, names: &N) -> Value
+    requires { column ≤ length line.now.text }
+    ensures { quantity result
+        ≡ spec.value_at (known_by (N.base names.now) (N.stands_for names.now)) line.now.text column }
+{
+    expression_value(expression_at(line, column).tokens.as_slice(), line, names)
+}
+
+/// Adds the symbols that the expression at a column reads, in order. Error: memory may be refused.
+// speed: inline as `single_term` is, which is most of it.
+#[inline(always)]
+pub fn read_symbols(line: &Line, column: usize, remarks: &mut Remarks) -> Result<(), AllocError>
+    requires { column ≤ length line.now.text }
+    ensures { IfOk result (λ _. remarks.new ≡ with_symbols remarks.old (spec.symbols_at line.now.text column)) }
+{
+    match single_term(line, column) {
+        Some(term) => remarks.add_symbols(&[term], line),
+        None => read_all_symbols(line, column, remarks),
+    }
+}
+
+// Adds the symbols of any expression.
+// speed: a call, since in the caller room for its tokens would be cleared also where it is one term.
+#[inline(never)]
+fn read_all_symbols(line: &Line, column: usize, remarks: &mut Remarks) -> Result<(), AllocError>
+    requires { column ≤ length line.now.text }
+    ensures { IfOk result (λ _. remarks.new ≡ with_symbols remarks.old (spec.symbols_at line.now.text column)) }
+{
+    remarks.add_symbols(expression_at(line, column).tokens.as_slice(), line)
+}

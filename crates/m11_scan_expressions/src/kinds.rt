@@ -1,0 +1,80 @@
+//! What a value counts from. (MACRO-11 Language Reference Manual, "Evaluating relocatable and absolute expressions".)
+
+ghost use Rattle.std.specs.Prelude.{◌≡◌, if◌then◌else◌, Some, None};
+ghost use Rattle.m11_base.specs.Rad50.{is_same_name};
+ghost use Rattle.m11_scan_expressions.specs.Kinds.{is_register, kind_of, refusal};
+ghost use Rattle.m11_scan.specs.Views.{bits_of};
+ghost use Rattle.m11_scan_expressions.specs.Operations.{absence};
+
+use crate::operators::Operator;
+use m11_base::Name;
+use m11_scan::ErrorFlags;
+
+/// What the number of a value counts from.
+#[derive(Clone, Copy, PartialEq, Eq, Debug)]
+pub enum Kind {
+    /// From 0: the number is the value.
+    Absolute,
+    /// From the beginning of the section with this name.
+    Section(Name),
+    /// The number is that of a register.
+    Register,
+    /// From the location that this name has in another object.
+    Reference(Name),
+}
+
+impl Kind {
+    /// Whether it is a register.
+    pub fn is_register(self) -> bool
+        ensures { result ≡ is_register self }
+    {
+        matches!(&self, Kind::Register)
+    }
+
+    /// The flag of the kind where only an absolute number may stand: R for a register, A for any other.
+    pub fn absence(self) -> ErrorFlags
+        ensures { bits_of result ≡ absence self }
+    {
+        match self {
+            Kind::Absolute => ErrorFlags::none(),
+            Kind::Register => refusal(true),
+            Kind::Section(_) | Kind::Reference(_) => refusal(false),
+        }
+    }
+}
+
+// The kind of what an operator makes of two kinds, where they may stand with it.
+pub(crate) fn kind_of(operator: Operator, left: Kind, right: Kind) -> Option<Kind>
+    ensures { result ≡ kind_of operator left right }
+{
+    match (operator, &left, &right) {
+        (_, Kind::Absolute, Kind::Absolute) => Some(Kind::Absolute),
+        (Operator::Add, kind, Kind::Absolute) => Some(*kind),
+        (Operator::Add, Kind::Absolute, kind) => Some(*kind),
+        (Operator::Subtract, kind, Kind::Absolute) => Some(*kind),
+        (Operator::Subtract, Kind::Section(one), Kind::Section(other)) => apart(*one, *other),
+        _ => None,
+    }
+}
+
+// What is between two locations: a number, where both lie in one section.
+fn apart(one: Name, other: Name) -> Option<Kind>
+    ensures { result ≡ (if is_same_name one other then Some Kind.Absolute else None) }
+{
+    if one == other {
+        Some(Kind::Absolute)
+    } else {
+        None
+    }
+}
+
+// The flag of an operand that may not stand where it does: R for a register, else A.
+pub(crate) fn refusal(is_register: bool) -> ErrorFlags
+    ensures { bits_of result ≡ refusal is_register }
+{
+    if is_register {
+        ErrorFlags::R
+    } else {
+        ErrorFlags::A
+    }
+}

@@ -1,0 +1,90 @@
+//! Laws of the values of expressions. Each is the contract of a function that does nothing.
+
+ghost use Rattle.std.specs.Prelude.{◌≡◌, ◌∷◌, ◌++◌, [], List, codes, length, map};
+ghost use Rattle.m11_base.specs.Devices.{Bytes};
+ghost use Rattle.m11_scan.specs.Cutting.{Lexeme, tokens_of};
+ghost use Rattle.m11_scan.specs.Expressions.{expression_length, role_of};
+ghost use Rattle.m11_scan.specs.declared.expressions.Role.TheVariants.{Prefix, Sign, Term};
+ghost use Rattle.m11_scan.specs.declared.radix.Radix.{Radix};
+ghost use Rattle.m11_scan.specs.declared.radix.Radix.TheVariants.{Binary, Decimal, Octal};
+ghost use Rattle.m11_scan.specs.declared.sort.Sort.TheVariants.{BinaryRadix, Complement, DecimalRadix, OctalRadix};
+ghost use Rattle.m11_scan.specs.declared.sort.Sort.TheVariants.{Greater, Less, Minus, Percent, Plus};
+ghost use Rattle.m11_scan_expressions.specs.declared.operators.Operator.{Operator};
+ghost use Rattle.m11_scan_expressions.specs.Laws.{AreSteps, IsOperator, IsTerm, Step, left_fold, written};
+ghost use Rattle.m11_scan_expressions.specs.Operations.{as_register, combined, complemented, negated};
+ghost use Rattle.m11_scan.specs.declared.cutting.Token.{Token};
+ghost use Rattle.m11_scan_expressions.specs.declared.names.Symbol.{Symbol};
+ghost use Rattle.m11_scan_expressions.specs.Quantities.{Quantity, absolute};
+ghost use Rattle.m11_scan_expressions.specs.Symbols.{AgreeOn, AreSame, symbols_of};
+ghost use Rattle.m11_scan_expressions.specs.Terms.{Item, atom_value, item};
+ghost use Rattle.m11_scan_expressions.specs.Values.{items_of, sorts_of, value_of};
+
+/// An operator outside brackets with one term after it joins the values of what stands before it and of that term.
+#[tactic(auto, using(crate::proofs::Folds::joined_value))]
+pub fn an_operator_joins_its_sides()
+    ensures { (radix : Radix) (front back : List Item) (mark : Item) (operator : Operator)
+        → IsOperator operator front mark → IsTerm back
+        → value_of radix (front ++ mark ∷ back) ≡ combined operator (value_of radix front) (value_of radix back) }
+{}
+
+/// Where terms of one token are joined by operators, these are applied from left to right.
+#[tactic(auto, using(crate::proofs::Folds::folded_value))]
+pub fn operators_apply_from_left_to_right()
+    ensures { (radix : Radix) (first : Item) (steps : List Step) → role_of first.sort ≡ Term → AreSteps steps
+        → value_of radix (first ∷ written steps) ≡ left_fold radix (atom_value radix first.atom) steps }
+{}
+
+/// Brackets round an expression of which nothing is left over make a term of its value and its flags. Where one of its own
+/// brackets isn't closed, the `>` closes that one, and the outer one isn't closed.
+#[tactic(auto, using(crate::proofs::OpenBrackets::bracketed_value))]
+pub fn brackets_keep_the_value()
+    ensures { (radix : Radix) (less greater : Item) (items : List Item) → less.sort ≡ Less → greater.sort ≡ Greater
+        → expression_length (sorts_of items) ≡ length items
+        → value_of radix (less ∷ (items ++ greater ∷ [])) ≡ value_of radix items }
+{}
+
+/// A token that is a term, an expression in brackets, and a term after a sign or another prefix are terms: no operator stands in
+/// them outside brackets.
+pub fn terms_are_made_of_terms()
+    ensures token { (token : Item) → role_of token.sort ≡ Term → IsTerm (token ∷ []) }
+    ensures signed { (mark : Item) (term : List Item) → role_of mark.sort ≡ Sign → IsTerm term → IsTerm (mark ∷ term) }
+    ensures prefixed { (mark : Item) (term : List Item) → role_of mark.sort ≡ Prefix → IsTerm term → IsTerm (mark ∷ term) }
+    ensures bracketed { (less greater : Item) (items : List Item) → less.sort ≡ Less → greater.sort ≡ Greater
+        → expression_length (sorts_of items) ≡ length items → IsTerm (less ∷ (items ++ greater ∷ [])) }
+{}
+
+/// What stands before a term applies to the value of the whole term: `+` leaves it, `-` negates it, `^C` complements it, and `%`
+/// makes a register of it. `^B`, `^O` and `^D` give it the value that it has in their radix, also where it stands in brackets.
+pub fn prefixes_apply_to_the_term_after_them()
+    ensures plus { (radix : Radix) (mark : Item) (term : List Item) → mark.sort ≡ Plus → IsTerm term
+        → value_of radix (mark ∷ term) ≡ value_of radix term }
+    ensures minus { (radix : Radix) (mark : Item) (term : List Item) → mark.sort ≡ Minus → IsTerm term
+        → value_of radix (mark ∷ term) ≡ negated (value_of radix term) }
+    ensures complement { (radix : Radix) (mark : Item) (term : List Item) → mark.sort ≡ Complement → IsTerm term
+        → value_of radix (mark ∷ term) ≡ complemented (value_of radix term) }
+    ensures register { (radix : Radix) (mark : Item) (term : List Item) → mark.sort ≡ Percent → IsTerm term
+        → value_of radix (mark ∷ term) ≡ as_register (value_of radix term) }
+    ensures binary { (radix : Radix) (mark : Item) (term : List Item) → mark.sort ≡ BinaryRadix → IsTerm term
+        → value_of radix (mark ∷ term) ≡ value_of Binary term }
+    ensures octal { (radix : Radix) (mark : Item) (term : List Item) → mark.sort ≡ OctalRadix → IsTerm term
+        → value_of radix (mark ∷ term) ≡ value_of Octal term }
+    ensures decimal { (radix : Radix) (mark : Item) (term : List Item) → mark.sort ≡ DecimalRadix → IsTerm term
+        → value_of radix (mark ∷ term) ≡ value_of Decimal term }
+    ensures in_brackets { (radix : Radix) (stands_for : Symbol → Quantity)
+        → value_of radix (map (item stands_for) (tokens_of (codes "^D<10+10>"))) ≡ absolute 0o24 0 }
+{}
+
+/// Two meanings of symbols that agree on those which an expression reads give it the same value in the same radix.
+#[tactic(auto, using(crate::proofs::Meanings::agreeing_values))]
+pub fn symbols_that_are_read_decide()
+    ensures { (radix : Radix) (line : Bytes) (first second : Symbol → Quantity) (tokens : List Token)
+        → AgreeOn (symbols_of line tokens) first second
+        → value_of radix (items_of first line tokens) ≡ value_of radix (items_of second line tokens) }
+{}
+
+/// Tokens that differ in the case of letters alone, outside `'c` and `"cc`, have the same value.
+#[tactic(auto, using(crate::proofs::Cases::same_values))]
+pub fn case_makes_no_difference()
+    ensures { (radix : Radix) (stands_for : Symbol → Quantity) (first second : List Lexeme) → AreSame first second
+        → value_of radix (map (item stands_for) first) ≡ value_of radix (map (item stands_for) second) }
+{}

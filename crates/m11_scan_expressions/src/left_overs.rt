@@ -1,0 +1,76 @@
+//! What is left over of a line after its arguments. (MACRO-11 Language Reference Manual, "Diagnostic error message summary".)
+
+ghost use Rattle.std.specs.Prelude.{◌≡◌, ◌≤◌, length};
+ghost use Rattle.m11_scan.specs.Cutting.{tokens_from};
+ghost use Rattle.m11_scan.specs.Views.{bits_of};
+ghost use Rattle.m11_scan_expressions.specs.LeftOvers as spec;
+
+use m11_scan::{ErrorFlags, Line, next_token, skipped_between};
+
+/// The flags of what stands in a line from a column on, where nothing more is wanted: Q for a token, I for a skipped character.
+pub fn left_over(line: &Line, column: usize) -> ErrorFlags
+    requires { column ≤ length line.now.text }
+    ensures { bits_of result ≡ spec.left_over line.now.text column }
+{
+    ErrorFlags::Q
+        .when(has_token(line, column))
+        .with(rest_flags(line, column))
+}
+
+/// Whether a token stands in a line from a column on.
+pub fn has_token(line: &Line, column: usize) -> bool
+    requires { column ≤ length line.now.text }
+    ensures { result ≡ spec.has_token (tokens_from line.now.text column) }
+{
+    match next_token(line, column) {
+        Some(_) => true,
+        None => false,
+    }
+}
+
+/// I for a skipped character from a column on.
+pub fn rest_flags(line: &Line, column: usize) -> ErrorFlags
+    requires { column ≤ length line.now.text }
+    ensures { bits_of result ≡ spec.rest_flags line.now.text column }
+{
+    skip_flags(line, column, line.text().len())
+}
+
+/// A for an argument that is bad or missing at a column of a line. Nothing more is read there: I for a skipped character in all of
+/// the rest.
+pub fn bad_flags(line: &Line, column: usize) -> ErrorFlags
+    requires { column ≤ length line.now.text }
+    ensures { bits_of result ≡ spec.bad_flags line.now.text column }
+{
+    ErrorFlags::A.with(rest_flags(line, column))
+}
+
+/// I for a skipped character before the token that stands next from a column on, or before the line's end.
+pub fn flags_before(line: &Line, column: usize) -> ErrorFlags
+    requires { column ≤ length line.now.text }
+    ensures { bits_of result ≡ spec.flags_before line.now.text column }
+{
+    match next_token(line, column) {
+        Some(token) => skip_flags(line, column, usize::from(token.start)),
+        None => rest_flags(line, column),
+    }
+}
+
+/// I for a skipped character between two columns, if both are in the line and in this order.
+pub fn skip_flags(line: &Line, start: usize, end: usize) -> ErrorFlags
+    ensures { bits_of result ≡ spec.skip_flags line.now.text start end }
+{
+    if start <= end && end <= line.text().len() {
+        ErrorFlags::I.when(skipped_between(line, start, end))
+    } else {
+        ErrorFlags::none()
+    }
+}
+
+/// A column of a line in one byte.
+pub fn column_in(line: &Line, column: usize) -> u8
+    requires { column ≤ length line.now.text }
+    ensures { result ≡ column }
+{
+    column.min(line.text().len()) as u8
+}

@@ -1,0 +1,146 @@
+//! The values of terms that are one token. (MACRO-11 Language Reference Manual, "Terms".)
+
+ghost use Rattle.std.specs.Prelude.{◌≡◌};
+ghost use Rattle.m11_scan.specs.Views.{bits_of, lexeme};
+ghost use Rattle.m11_scan_expressions.specs.Quantities.{absolute, quantity};
+ghost use Rattle.m11_scan_expressions.specs.Terms as spec;
+ghost use Rattle.m11_scan_expressions.specs.Terms.{atom_value, is_counter, item, local_symbol, name_symbol, symbol_in};
+
+use crate::names::{Names, Symbol};
+use crate::values::Value;
+use m11_base::Name;
+use m11_scan::{ErrorFlags, Line, Number, Radix, Sort, Token, read_name, read_number, read_packed};
+
+// The value of a token that is a term.
+pub(crate) fn atom<N: Names>(token: &Token, radix: Radix, line: &Line, names: &N) -> Value
+    ensures { quantity result
+        ≡ atom_value radix (item (N.stands_for names.now) (lexeme line.now.text token.now)).atom }
+{
+    let text = token.text(line);
+    match token.sort {
+        Sort::Name => meaning_or(names, symbol_in(Sort::Name, text), Value::missing()),
+        Sort::LocalSymbol => meaning_or(
+            names,
+            symbol_in(Sort::LocalSymbol, text),
+            Value::absolute(0, ErrorFlags::A),
+        ),
+        Sort::Number => of_number(read_number(text, radix)),
+        Sort::DecimalNumber => of_number(read_number(front_of(text), Radix::Decimal)),
+        Sort::Character => character(text),
+        Sort::TwoCharacters => two_characters(text),
+        Sort::Packed => packed(text),
+        _ => Value::missing(),
+    }
+}
+
+fn of_number(number: Number) -> Value
+    ensures { quantity result ≡ absolute number.value (bits_of number.flags) }
+{
+    Value::absolute(number.value, number.flags)
+}
+
+// speed: inline, since each symbol of an expression comes here, and a call would hand its result on by memory.
+#[inline(always)]
+fn meaning_or<N: Names>(names: &N, symbol: Option<Symbol>, other: Value) -> Value
+    ensures { quantity result ≡ spec.meaning_or (N.stands_for names.now) (quantity other) symbol }
+{
+    match symbol {
+        Some(symbol) => names.meaning(symbol),
+        None => other,
+    }
+}
+
+// The symbol that a token of a sort and a text reads, if it reads one.
+// speed: inline, since each symbol of an expression comes here, and a call would hand its result on by memory.
+#[inline(always)]
+pub(crate) fn symbol_in(sort: Sort, text: &[u8]) -> Option<Symbol>
+    ensures { result ≡ symbol_in sort text.now }
+{
+    match sort {
+        Sort::Name => name_symbol(text),
+        Sort::LocalSymbol => local_symbol(front_of(text)),
+        _ => None,
+    }
+}
+
+// speed: inline, since each symbol of an expression comes here, and a call would hand its result on by memory.
+#[inline(always)]
+fn name_symbol(text: &[u8]) -> Option<Symbol>
+    ensures { result ≡ name_symbol text.now }
+{
+    if is_counter(text) {
+        Some(Symbol::Counter)
+    } else {
+        ordinary(read_name(text))
+    }
+}
+
+fn is_counter(text: &[u8]) -> bool
+    ensures { result ≡ is_counter text.now }
+{
+    matches!(text, [b'.'])
+}
+
+fn ordinary(name: Option<Name>) -> Option<Symbol>
+    ensures { result ≡ spec.ordinary name }
+{
+    match name {
+        Some(name) => Some(Symbol::Ordinary(name)),
+        None => None,
+    }
+}
+
+// The local symbol of digits.
+fn local_symbol(digits: &[u8]) -> Option<Symbol>
+    ensures { result ≡ local_symbol digits.now }
+{
+    let number = read_number(digits, Radix::Decimal);
+    if number.value == 0 {
+        return None;
+    }
+    if number.flags == ErrorFlags::none() {
+        Some(Symbol::Local(number.value))
+    } else {
+        None
+    }
+}
+
+// All but the last character.
+fn front_of(text: &[u8]) -> &[u8]
+    ensures { result.now ≡ spec.front_of text.now }
+{
+    &text[..text.len().saturating_sub(1)]
+}
+
+fn character(text: &[u8]) -> Value
+    ensures { quantity result ≡ spec.character text.now }
+{
+    match text {
+        [_, first, ..] => Value::absolute(u16::from(*first), ErrorFlags::none()),
+        _ => Value::missing(),
+    }
+}
+
+fn two_characters(text: &[u8]) -> Value
+    ensures { quantity result ≡ spec.two_characters text.now }
+{
+    match text {
+        [_, first, second, ..] => {
+            Value::absolute(
+                u16::from(*first) + 256 * u16::from(*second),
+                ErrorFlags::none(),
+            )
+        }
+        _ => Value::missing(),
+    }
+}
+
+// The word of the characters after `^R`.
+fn packed(text: &[u8]) -> Value
+    ensures { quantity result ≡ spec.packed text.now }
+{
+    match text {
+        [_, _, characters @ ..] => of_number(read_packed(characters)),
+        _ => Value::missing(),
+    }
+}

@@ -1,9 +1,0 @@
-pub mod Kinds
-pub mod Quantities
-pub mod Operations
-pub mod Terms
-pub mod Prefixes
-pub mod Splits
-pub mod Values
-pub mod Laws
-pub mod Symbols
