@@ -4,6 +4,7 @@ use Rattle.std.specs.Prelude.{◌-◌, ◌==◌, ◌&&◌, ◌||◌, if◌then�
 use Rattle.std.specs.List.{prefix_len}
 use Rattle.std.proofs.lemmas.Bool.{cases_lt, eqb-true}
 use Rattle.std.proofs.lemmas.List.{drop-drop, drop_all, length-drop}
+use Rattle.m11_scan_lines.specs.Classes.{is_bare, is_blank}
 use Rattle.m11_unfold_arguments.specs.Actuals.{ActualTexts, actuals_from, followed_by, given_as, given_by, unwanted, wanted_by}
 use Rattle.m11_unfold_arguments.specs.Conditions.{text_of}
 use Rattle.m11_unfold_arguments.specs.Digits.{digits_of}
@@ -14,7 +15,6 @@ use Rattle.m11_base.specs.Devices.{Bytes}
 use Rattle.m11_base.specs.Rad50.{Name}
 use Rattle.m11_scan_lines.specs.Line.{line_limit}
 use Rattle.m11_scan.proofs.OrderedTokens.{tokens_from-ordered}
-use Rattle.m11_scan.specs.Characters.{is_blank}
 use Rattle.m11_scan.specs.Cutting.{Lexeme, text_between, tokens_from}
 use Rattle.m11_scan.specs.Cuts.{AreOrdered}
 use Rattle.m11_scan.specs.Ends.{column_after, sort_in}
@@ -22,7 +22,7 @@ use Rattle.m11_scan.specs.Expressions.{begin, taken}
 use Rattle.m11_scan.specs.ErrorFlags.{flag_I, flag_if}
 use Rattle.m11_scan.specs.Numbers.{base_of}
 use Rattle.m11_scan.specs.Skipped.{has_skipped}
-use Rattle.m11_scan.specs.Texts.{bracketed, is_bare, separator_length}
+use Rattle.m11_scan.specs.Texts.{bracketed, separator_length}
 use Rattle.m11_scan_statements.specs.Actuals.{actual_in, after_blanks, bare_actual, bracketed_actual, digits_actual, next_actual, separator_at}
 use Rattle.m11_scan_statements.specs.Formals.{follows_question, formal_in, named, next_formal}
 use Rattle.m11_scan_statements.specs.Listed.{is_name}

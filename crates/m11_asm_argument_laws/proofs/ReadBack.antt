@@ -6,8 +6,8 @@ use Rattle.std.proofs.Math.Nat.{div-add-mod, div-lt_iff_lt-mul, mod-lt, pow-suc,
 use Rattle.std.proofs.lemmas.Bool.{le-leb, le-ltb, lt-leb, ltb-false, ltb-true}
 use Rattle.std.proofs.lemmas.List.{length-append}
 use Rattle.std.proofs.lemmas.Nat.{pow-add}
+use Rattle.m11_scan_lines.specs.Classes.{is_digit}
 use Rattle.m11_unfold_arguments.specs.Digits.{digits_of, last_digits}
-use Rattle.m11_scan.specs.Characters.{is_digit}
 use Rattle.m11_scan.specs.Cuts.{form_of, number_form}
 use Rattle.m11_scan.specs.ErrorFlags.{flag_N, flag_T}
 use Rattle.m11_scan.specs.Numbers.{base_of, has_digit_outside, number_flags, number_of, spelled}

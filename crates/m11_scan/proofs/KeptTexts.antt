@@ -4,14 +4,15 @@ use Rattle.std.specs.Prelude.{◌==◌, ◌||◌, if◌then◌else◌, drop, len
 use Rattle.std.specs.List.{list_any, prefix_len}
 use Rattle.std.proofs.lemmas.Bool.{cases_Bool, eqb-true, false≢true, true≢false}
 use Rattle.m11_base.specs.NameCharacters.{is_name_character}
-use Rattle.m11_scan.specs.Characters.{is_blank, is_digit}
+use Rattle.m11_scan_lines.specs.Classes.{is_blank, is_digit, is_kept, is_mark}
 use Rattle.m11_scan.specs.Cutting.{pieces_after}
 use Rattle.m11_scan.specs.Pieces.{caret_piece, doubled_piece, first_piece, mark_form, mark_piece, number_ending, number_piece, token}
-use Rattle.m11_scan.specs.Skipped.{has_skipped, has_unkept, is_kept, is_skipped}
+use Rattle.m11_scan.specs.Skipped.{has_skipped, has_unkept, is_skipped}
 use Rattle.m11_scan.specs.declared.pieces.Piece.{Piece}
-use Rattle.m11_scan.specs.declared.sort.Form.TheVariants.{Blank, Comment}
+use Rattle.m11_scan.specs.declared.sort.Form.{Form}
+use Rattle.m11_scan.specs.declared.sort.Form.TheVariants.{Cut, Blank, Comment}
 use Rattle.m11_scan.specs.declared.sort.Sort.{Sort}
-use Rattle.m11_scan.specs.declared.sort.Sort.TheVariants.{Name, Number, DecimalNumber, LocalSymbol, Character, TwoCharacters, Colon, TwoColons, Equals, TwoEquals}
+use Rattle.m11_scan.specs.declared.sort.Sort.TheVariants.{Name, Number, DecimalNumber, LocalSymbol, Character, TwoCharacters, Plus, Minus, Times, Over, And, Or, Less, Greater, Percent, NumberSign, At, Open, Close, Comma, Colon, TwoColons, Equals, TwoEquals}
 
 abbrev IsKept : Piece → Type 0
 IsKept piece = is_skipped piece.form ≡ false
@@ -54,12 +55,27 @@ classes_kept false false true is_comment number name space comment mark one two 
 classes_kept false false false true number name space comment mark one two three four five = four
 classes_kept false false false false number name space comment mark one two three four five = five refl refl
 
-mark_kept : (is_name is_space is_other : Bool) → (is_name || is_space || not is_other) ≡ true → is_name ≡ false → is_space ≡ false
-    → is_other ≡ false
-mark_kept true is_space is_other kept name space = absurd (true≢false name)
-mark_kept false true is_other kept name space = absurd (true≢false space)
-mark_kept false false true kept name space = absurd (false≢true kept)
-mark_kept false false false kept name space = refl
+-- a mark is a piece by itself, and no other character is
+either_formed : (is : Bool) (sort : Sort) (others : Bool) (form : Form) → others ≡ not (is_skipped form)
+    → (is || others) ≡ not (is_skipped (if is then Cut sort else form))
+either_formed true sort others form e = refl
+either_formed false sort others form e = e
+
+marks_formed : (byte : ℕ) → is_mark byte ≡ not (is_skipped (mark_form byte))
+marks_formed byte =
+    either_formed (byte == 0o53) Plus _ _ (either_formed (byte == 0o55) Minus _ _ (either_formed (byte == 0o52) Times _ _
+    (either_formed (byte == 0o57) Over _ _ (either_formed (byte == 0o46) And _ _ (either_formed (byte == 0o41) Or _ _
+    (either_formed (byte == 0o74) Less _ _ (either_formed (byte == 0o76) Greater _ _ (either_formed (byte == 0o45) Percent _ _
+    (either_formed (byte == 0o43) NumberSign _ _ (either_formed (byte == 0o100) At _ _ (either_formed (byte == 0o50) Open _ _
+    (either_formed (byte == 0o51) Close _ _ (either_formed (byte == 0o54) Comma _ _ (either_formed (byte == 0o72) Colon _ _
+    (either_formed (byte == 0o75) Equals _ _ refl)))))))))))))))
+
+mark_kept : (is_name is_space is_mark is_other : Bool) → is_mark ≡ not is_other → (is_name || is_space || is_mark) ≡ true
+    → is_name ≡ false → is_space ≡ false → is_other ≡ false
+mark_kept true is_space is_mark is_other same kept name space = absurd (true≢false name)
+mark_kept false true is_mark is_other same kept name space = absurd (true≢false space)
+mark_kept false false is_mark true same kept name space = absurd (false≢true (sym same ∙ kept))
+mark_kept false false is_mark false same kept name space = refl
 
 no_caret : (byte : ℕ) → is_kept byte ≡ true → (byte == 0o136) ≡ true → ⊥
 no_caret byte kept is =
@@ -78,7 +94,7 @@ piece_kept byte rest kept =
     (doubled_piece 0o72 Colon TwoColons rest) (doubled_piece 0o75 Equals TwoEquals rest)
     (record { form = mark_form byte; length = 1 }) (no_caret byte kept) (doubled_kept 0o72 Colon TwoColons rest)
     (doubled_kept 0o75 Equals TwoEquals rest)
-    (mark_kept (is_name_character byte) (is_blank byte) (is_skipped (mark_form byte)) kept name space))
+    (mark_kept (is_name_character byte) (is_blank byte) (is_mark byte) (is_skipped (mark_form byte)) (marks_formed byte) kept name space))
 
 -- ---- where a piece ends that begins with a character that is kept
 

@@ -9,4 +9,3 @@ pub mod Packed
 mod Spelling
 mod WrittenExpressions
 mod TableOfCodes
-mod TableOfKinds

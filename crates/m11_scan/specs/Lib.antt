@@ -1,4 +1,3 @@
-pub mod Characters
 pub mod Codes
 pub mod Ends
 pub mod Expressions

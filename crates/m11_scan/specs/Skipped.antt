@@ -1,11 +1,9 @@
 -- Characters that begin no token. (MACRO-11 Language Reference Manual, "Character set". That such a character is skipped wherever
 -- tokens are looked for is this project's own.)
-use Rattle.std.specs.Prelude.{ℕ, Bool, true, false, not, ◌||◌, ◌==◌, if◌then◌else◌, [], ◌∷◌}
+use Rattle.std.specs.Prelude.{ℕ, Bool, true, false, not, ◌==◌, if◌then◌else◌, [], ◌∷◌}
 use Rattle.std.specs.List.{list_any}
 use Rattle.m11_base.specs.Devices.{Bytes}
-use Rattle.m11_base.specs.NameCharacters.{is_name_character}
-use Rattle.m11_scan.specs.Characters.{is_blank}
-use Rattle.m11_scan.specs.Pieces.{mark_form}
+use Rattle.m11_scan_lines.specs.Classes.{is_kept}
 use Rattle.m11_scan.specs.declared.sort.Form.{Form}
 use Rattle.m11_scan.specs.declared.sort.Form.TheVariants.{Cut, Blank, Comment, Skipped}
 use Rattle.m11_scan.specs.declared.pieces.Piece.{Piece}
@@ -20,10 +18,6 @@ is_skipped Skipped = true
 -- some piece of a text is a character that begins no token
 abbrev pub has_skipped : Bytes → Bool
 has_skipped text = list_any (λ (piece : Piece). is_skipped piece.form) (pieces_of text)
-
--- a character that is never skipped, where no piece before it takes it: but for `^`, each that begins a token, and blanks
-abbrev pub is_kept : ℕ → Bool
-is_kept byte = is_name_character byte || is_blank byte || not (is_skipped (mark_form byte))
 
 -- a text has a character before its comment that may be skipped
 abbrev pub has_unkept : Bytes → Bool

@@ -1,10 +1,10 @@
 -- Texts that a directive or a call of a macro takes from its line itself. (MACRO-11 Language Reference Manual, ".ASCII directive"
 -- and "Arguments in macro definitions and macro calls". That a text without its end goes to the end of the line is this
 -- project's own.)
-use Rattle.std.specs.Prelude.{ℕ, zero, suc, ◌+◌, Bool, true, false, not, ◌||◌, ◌==◌, if◌then◌else◌, [], ◌∷◌, drop}
+use Rattle.std.specs.Prelude.{ℕ, zero, suc, ◌+◌, Bool, true, false, not, ◌==◌, if◌then◌else◌, [], ◌∷◌, drop}
 use Rattle.std.specs.List.{list_any, prefix_len}
 use Rattle.m11_base.specs.Devices.{Bytes}
-use Rattle.m11_scan.specs.Characters.{is_blank}
+use Rattle.m11_scan_lines.specs.Classes.{is_blank}
 use Rattle.m11_scan.specs.declared.texts.Enclosed.{Enclosed}
 
 -- the text up to the first delimiter, or to the end
@@ -30,10 +30,6 @@ inside (suc depth) (byte ∷ text) =
 
 abbrev pub bracketed : Bytes → Enclosed
 bracketed text = inside zero text
-
--- a character of an actual that isn't bracketed
-abbrev pub is_bare : ℕ → Bool
-is_bare byte = not (is_blank byte || (byte == 0o54 || byte == 0o73))
 
 -- blanks, and what stands after them: a comma with the blanks after it, or nothing that separates
 abbrev pub comma_length : Bytes → ℕ

@@ -4,14 +4,11 @@
 #![tactic(auto)]
 
 // The characters of a line, and its flags.
-mod characters;
 mod codes;
 mod flags;
 
-pub use characters::{digits_length, name_length};
-pub use codes::is_name_character;
 pub use flags::ErrorFlags;
-pub use m11_scan_lines::{LINE_LIMIT, Line};
+pub use m11_scan_lines::{Class, LINE_LIMIT, Line, is_of, run_length};
 
 // The pieces that a line is cut into, and the tokens among them.
 mod cutting;
@@ -45,7 +42,7 @@ mod conditions;
 mod texts;
 
 pub use conditions::{Condition, read_condition};
-pub use texts::{Enclosed, bare_length, blanks_length, bracketed, delimited, separator_length};
+pub use texts::{Enclosed, bracketed, delimited, separator_length};
 
 // Laws of the one cut of a line, of expressions and of brackets.
 mod laws;

@@ -2,12 +2,11 @@
 //! set".)
 
 ghost use Rattle.std.specs.Prelude.{◌≡◌, ℕ, ◌+◌, ◌<◌, ◌≤◌, ◌∷◌, false, true, length};
-ghost use Rattle.m11_scan.specs.Characters.{is_blank, is_digit};
+ghost use Rattle.m11_scan_lines.specs.Classes.{is_blank, is_digit};
 ghost use Rattle.m11_scan.specs.Pieces as spec;
 
-use crate::characters::{digits_length, is_blank, is_digit, name_length};
-use crate::codes::is_name_character;
 use crate::sort::{Form, Sort};
+use m11_scan_lines::{Class, is_of, run_length};
 
 /// A piece of a line: a token, a blank, the comment, or a character that begins no token.
 #[derive(Clone, Copy, PartialEq, Eq, Debug)]
@@ -29,7 +28,7 @@ pub(crate) fn first_piece(text: &[u8]) -> Piece
 {
     // most pieces are blanks, so nothing else is asked for before them
     let first = text[0];
-    if is_blank(first) {
+    if is_of(first, Class::Blank) {
         Piece {
             form: Form::Blank,
             length: 1,
@@ -48,10 +47,10 @@ fn other_piece(first: u8, rest: &[u8]) -> Piece
     ensures begins { 0 < result.length }
     ensures within { result.length ≤ length rest.now + 1 }
 {
-    if is_digit(first) {
+    if is_of(first, Class::Digit) {
         number_piece(rest)
-    } else if is_name_character(first) {
-        token(Sort::Name, name_length(rest) + 1)
+    } else if is_of(first, Class::Name) {
+        token(Sort::Name, run_length(rest, Class::Name) + 1)
     } else if first == b';' {
         Piece {
             form: Form::Comment,
@@ -77,7 +76,7 @@ fn number_piece(rest: &[u8]) -> Piece
     ensures begins { 0 < result.length }
     ensures within { result.length ≤ length rest.now + 1 }
 {
-    let digits = digits_length(rest);
+    let digits = run_length(rest, Class::Digit);
     match &rest[digits..] {
         [b'.', ..] => token(Sort::DecimalNumber, digits + 2),
         [b'$', ..] => token(Sort::LocalSymbol, digits + 2),
@@ -115,7 +114,7 @@ fn caret_piece(rest: &[u8]) -> Piece
         [b'O' | b'o', ..] => token(Sort::OctalRadix, 2),
         [b'D' | b'd', ..] => token(Sort::DecimalRadix, 2),
         [b'C' | b'c', ..] => token(Sort::Complement, 2),
-        [b'R' | b'r', more @ ..] => token(Sort::Packed, name_length(more) + 2),
+        [b'R' | b'r', more @ ..] => token(Sort::Packed, run_length(more, Class::Name) + 2),
         _ => Piece {
             form: Form::Skipped,
             length: 1,

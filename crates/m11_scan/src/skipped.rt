@@ -3,10 +3,9 @@
 ghost use Rattle.std.specs.Prelude.{◌≡◌, ◌≤◌, length};
 ghost use Rattle.m11_scan.specs.Skipped.{has_skipped, has_unkept, is_skipped, skipped_between};
 
-use crate::codes::is_kept;
 use crate::pieces::first_piece;
 use crate::sort::Form;
-use m11_scan_lines::Line;
+use m11_scan_lines::{Class, Line, is_of};
 
 /// Whether some character between two columns of a line begins no token, and is part of none. Such a character is skipped, and
 /// its line has I.
@@ -36,7 +35,7 @@ fn has_unkept(text: &[u8]) -> bool
 {
     let mut rest = text;
     'bytes: while let [byte, tail @ ..] = rest {
-        if !is_kept(*byte) {
+        if !is_of(*byte, Class::Kept) {
             return *byte != b';';
         }
         rest = tail;

@@ -2,11 +2,9 @@
 //! directive" and "Arguments in macro definitions and macro calls".)
 
 ghost use Rattle.std.specs.Prelude.{◌≡◌, ◌<◌, ◌≤◌, length, true};
-ghost use Rattle.std.specs.List.{prefix_len};
-ghost use Rattle.m11_scan.specs.Characters.{is_blank};
-ghost use Rattle.m11_scan.specs.Texts.{bracketed, delimited, is_bare, separator_length};
+ghost use Rattle.m11_scan.specs.Texts.{bracketed, delimited, separator_length};
 
-use crate::characters::is_blank;
+use m11_scan_lines::{Class, run_length};
 
 /// A text between two delimiters, or one whose second delimiter is missing.
 #[derive(Clone, Copy, PartialEq, Eq, Debug)]
@@ -71,54 +69,14 @@ pub fn bracketed(text: &[u8]) -> Enclosed
     }
 }
 
-/// How many characters an actual has that isn't bracketed: those before a comma, a blank, a tab or a `;`.
-pub fn bare_length(text: &[u8]) -> usize
-    ensures length { result ≡ prefix_len is_bare text.now }
-    ensures within { result ≤ length text.now }
-{
-    let mut count = 0;
-    let mut rest = text;
-    'characters: while let [byte, tail @ ..] = rest {
-        if !is_bare(*byte) {
-            return count;
-        }
-        count += 1;
-        rest = tail;
-    }
-    count
-}
-
-fn is_bare(byte: u8) -> bool
-    ensures { result ≡ is_bare byte }
-{
-    !(is_blank(byte) || byte == b',' || byte == b';')
-}
-
-/// How many blanks and tabs a text begins with.
-pub fn blanks_length(text: &[u8]) -> usize
-    ensures length { result ≡ prefix_len is_blank text.now }
-    ensures within { result ≤ length text.now }
-{
-    let mut count = 0;
-    let mut rest = text;
-    'blanks: while let [byte, tail @ ..] = rest {
-        if !is_blank(*byte) {
-            return count;
-        }
-        count += 1;
-        rest = tail;
-    }
-    count
-}
-
 /// How many characters separate two actuals: blanks, one comma, or both. It may be none.
 pub fn separator_length(text: &[u8]) -> usize
     ensures length { result ≡ separator_length text.now }
     ensures within { result ≤ length text.now }
 {
-    let blanks = blanks_length(text);
+    let blanks = run_length(text, Class::Blank);
     match &text[blanks..] {
-        [b',', rest @ ..] => blanks_length(rest) + blanks + 1,
+        [b',', rest @ ..] => run_length(rest, Class::Blank) + blanks + 1,
         _ => blanks,
     }
 }

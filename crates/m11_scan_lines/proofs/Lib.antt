@@ -7,5 +7,5 @@ pub mod SourceSteps
 pub mod Runs
 pub mod PlainFronts
 pub mod ShortLines
-pub mod TableOfBytes
+pub mod TableOfClasses
 pub mod PlainTexts

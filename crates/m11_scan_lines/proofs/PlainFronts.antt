@@ -2,7 +2,7 @@
 use Rattle.std.proofs.Common.{◌≡◌, arith, ℕ, suc, ◌+◌, Bool, true, false, cond, List, [], ◌∷◌, take, refl, arith}
 use Rattle.std.specs.Bool.{IsTrue}
 use Rattle.std.specs.List.{AllByRecursion, prefix_len}
-use Rattle.m11_scan_lines.specs.OpenLine.{is_plain}
+use Rattle.m11_scan_lines.specs.Classes.{is_plain}
 
 abbrev Plain : List ℕ → Type 0
 Plain bytes = AllByRecursion (λ byte. IsTrue (is_plain byte)) bytes

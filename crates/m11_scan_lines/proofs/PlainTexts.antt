@@ -6,7 +6,7 @@ use Rattle.std.proofs.lemmas.List.{append-nil, map-append, take_all}
 use Rattle.m11_scan_lines.specs.Laws.{ArePlainTexts, IsPlainText, with_line_feed, written}
 use Rattle.m11_scan_lines.specs.Line.{line_limit, line_of}
 use Rattle.m11_scan_lines.specs.Lines.{HasNoLineFeed, RawLine, cleaned, cut, line_text, without_return}
-use Rattle.m11_scan_lines.specs.OpenLine.{is_plain}
+use Rattle.m11_scan_lines.specs.Classes.{is_plain}
 use Rattle.m11_scan_lines.proofs.Cuts.{bytes_of, cut_joined, cut_line_feed, cut_open, raw}
 
 -- ---- a byte that is kept as it is

@@ -5,9 +5,10 @@ use Rattle.std.specs.Bool.{IsTrue}
 use Rattle.std.specs.List.{AllByRecursion}
 use Rattle.std.proofs.lemmas.List.{length-append, append-nil, take-append-drop}
 use Rattle.std.proofs.Math.Seq.{take-append_seam}
+use Rattle.m11_scan_lines.specs.Classes.{is_plain}
 use Rattle.m11_scan_lines.specs.Lines.{HasNoLineFeed}
 use Rattle.m11_scan_lines.specs.Line.{with_bytes}
-use Rattle.m11_scan_lines.specs.OpenLine.{OpenLine, with_byte, with_all, with_plain, with_return, is_plain}
+use Rattle.m11_scan_lines.specs.OpenLine.{OpenLine, with_byte, with_all, with_plain, with_return}
 use Rattle.m11_scan_lines.specs.Sources.{TookOf}
 use Rattle.m11_scan_lines.proofs.MoreBytes.{with_bytes-more}
 

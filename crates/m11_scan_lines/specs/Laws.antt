@@ -2,7 +2,7 @@
 use Rattle.std.specs.Prelude.{◌≡◌, ⊤, true, List, [], ◌∷◌, ◌++◌}
 use Rattle.m11_base.specs.Devices.{Bytes}
 use Rattle.m11_scan_lines.specs.Lines.{RawLine}
-use Rattle.m11_scan_lines.specs.OpenLine.{is_plain}
+use Rattle.m11_scan_lines.specs.Classes.{is_plain}
 
 -- a text without NULs, line feeds, form feeds and CRs
 abbrev pub IsPlainText : Bytes → Type 0

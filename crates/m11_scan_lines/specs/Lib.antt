@@ -1,4 +1,5 @@
 pub mod Lines
+pub mod Classes
 pub mod Line
 pub mod OpenLine
 pub mod Sources

@@ -1,5 +1,5 @@
 -- A line whose end has not come yet, kept in bounded room. (This project's own.)
-use Rattle.std.specs.Prelude.{ℕ, Bool, true, false, not, ◌||◌, ◌==◌, if◌then◌else◌, [], ◌∷◌}
+use Rattle.std.specs.Prelude.{ℕ, Bool, true, false, ◌==◌, if◌then◌else◌, [], ◌∷◌}
 use Rattle.m11_base.specs.Devices.{Bytes}
 use Rattle.m11_scan_lines.specs.Line.{SourceLine, no_line, with_bytes}
 use Rattle.m11_scan_lines.specs.Lines.{as_read, is_empty}
@@ -35,7 +35,3 @@ with_all line (byte ∷ bytes) = with_all (with_byte line byte) bytes
 -- whether no character came
 abbrev pub is_unbegun : OpenLine → Bool
 is_unbegun line = if line.has_return then false else is_empty line.kept.text
-
--- neither NUL, line feed, form feed nor CR
-abbrev pub is_plain : ℕ → Bool
-is_plain byte = not (byte == 0 || byte == 0o12 || byte == 0o14 || byte == 0o15)

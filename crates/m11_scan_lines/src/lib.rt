@@ -2,10 +2,12 @@
 //! another. (MACRO-11 Language Reference Manual, "Source program format".)
 #![tactic(auto)]
 
-// A line, and one whose end has not come yet.
+// Classes of characters, a line, and one whose end has not come yet.
+mod classes;
 mod line;
 mod open_line;
 
+pub use classes::{Class, is_of, run_length};
 pub use line::{LINE_LIMIT, Line};
 
 // The reader of the lines of one source, and of several.

@@ -3,10 +3,12 @@
 ghost use Rattle.std.specs.Prelude.{◌≡◌, ◌≤◌, ◌∷◌, [], false, length, take};
 ghost use Rattle.std.specs.List.{AllByRecursion, prefix_len};
 ghost use Rattle.std.specs.Bool.{IsTrue};
+ghost use Rattle.m11_scan_lines.specs.Classes.{is_plain};
 ghost use Rattle.m11_scan_lines.specs.Lines.{as_read};
-ghost use Rattle.m11_scan_lines.specs.OpenLine.{is_plain, is_unbegun, nothing_open, with_byte, with_plain, with_return};
+ghost use Rattle.m11_scan_lines.specs.OpenLine.{is_unbegun, nothing_open, with_byte, with_plain, with_return};
 ghost use Rattle.m11_scan_lines.specs.Sources.{TookOf};
 
+use crate::classes::{Class, is_of, run_length};
 use crate::line::Line;
 use std::marker::Model;
 
@@ -176,67 +178,22 @@ fn plain_run(bytes: &[u8]) -> usize
         }
         rest = tail;
     }
-    bytes.len() - rest.len() + short_run(rest)
+    bytes.len() - rest.len() + run_length(rest, Class::Plain)
 }
 
 // How many of four bytes are kept before the first that isn't.
 fn plain_of_four(first: u8, second: u8, third: u8, fourth: u8) -> usize
     ensures { result ≡ prefix_len is_plain (first ∷ second ∷ third ∷ fourth ∷ []) }
 {
-    if !is_plain(first) {
+    if !is_of(first, Class::Plain) {
         0
-    } else if !is_plain(second) {
+    } else if !is_of(second, Class::Plain) {
         1
-    } else if !is_plain(third) {
+    } else if !is_of(third, Class::Plain) {
         2
-    } else if !is_plain(fourth) {
+    } else if !is_of(fourth, Class::Plain) {
         3
     } else {
         4
     }
-}
-
-// How many bytes, from the first on, are kept as they are. They are looked at one by one.
-fn short_run(bytes: &[u8]) -> usize
-    ensures run { result ≡ prefix_len is_plain bytes.now }
-    ensures within { result ≤ length bytes.now }
-{
-    let mut count = 0;
-    let mut rest = bytes;
-    'bytes: while let [byte, tail @ ..] = rest {
-        if !is_plain(*byte) {
-            return count;
-        }
-        count += 1;
-        rest = tail;
-    }
-    count
-}
-
-// For each byte 1 where it is kept as it is, in rows of sixteen. Each byte of a source is looked at in both passes.
-#[rattlefmt::skip]
-static PLAIN: [u8; 256] = [
-    0, 1, 1, 1, 1, 1, 1, 1, 1, 1, 0, 1, 0, 0, 1, 1,
-    1, 1, 1, 1, 1, 1, 1, 1, 1, 1, 1, 1, 1, 1, 1, 1,
-    1, 1, 1, 1, 1, 1, 1, 1, 1, 1, 1, 1, 1, 1, 1, 1,
-    1, 1, 1, 1, 1, 1, 1, 1, 1, 1, 1, 1, 1, 1, 1, 1,
-    1, 1, 1, 1, 1, 1, 1, 1, 1, 1, 1, 1, 1, 1, 1, 1,
-    1, 1, 1, 1, 1, 1, 1, 1, 1, 1, 1, 1, 1, 1, 1, 1,
-    1, 1, 1, 1, 1, 1, 1, 1, 1, 1, 1, 1, 1, 1, 1, 1,
-    1, 1, 1, 1, 1, 1, 1, 1, 1, 1, 1, 1, 1, 1, 1, 1,
-    1, 1, 1, 1, 1, 1, 1, 1, 1, 1, 1, 1, 1, 1, 1, 1,
-    1, 1, 1, 1, 1, 1, 1, 1, 1, 1, 1, 1, 1, 1, 1, 1,
-    1, 1, 1, 1, 1, 1, 1, 1, 1, 1, 1, 1, 1, 1, 1, 1,
-    1, 1, 1, 1, 1, 1, 1, 1, 1, 1, 1, 1, 1, 1, 1, 1,
-    1, 1, 1, 1, 1, 1, 1, 1, 1, 1, 1, 1, 1, 1, 1, 1,
-    1, 1, 1, 1, 1, 1, 1, 1, 1, 1, 1, 1, 1, 1, 1, 1,
-    1, 1, 1, 1, 1, 1, 1, 1, 1, 1, 1, 1, 1, 1, 1, 1,
-    1, 1, 1, 1, 1, 1, 1, 1, 1, 1, 1, 1, 1, 1, 1, 1,
-];
-
-#[tactic(auto, using(crate::proofs::TableOfBytes::each_listed))]
-fn is_plain(byte: u8) -> bool
-    ensures { result ≡ is_plain byte }
-{
-    PLAIN[usize::from(byte)] != 0
 }

@@ -5,9 +5,9 @@ use Rattle.std.specs.Prelude.{ℕ, Bool, true, false, ◌||◌, ◌==◌, if◌t
 use Rattle.std.specs.List.{prefix_len}
 use Rattle.m11_base.specs.Devices.{Bytes}
 use Rattle.m11_base.specs.NameCharacters.{is_name_character}
+use Rattle.m11_scan_lines.specs.Classes.{is_blank}
 use Rattle.m11_scan.specs.declared.sort.Sort.{Sort}
 use Rattle.m11_scan.specs.declared.sort.Sort.TheVariants as sorts
-use Rattle.m11_scan.specs.Characters.{is_blank}
 use Rattle.m11_scan.specs.Cutting.{Lexeme}
 use Rattle.m11_scan.specs.Skipped.{skipped_between}
 use Rattle.m11_scan_statements.specs.Labels.{is_counter}

@@ -4,6 +4,7 @@
 use Rattle.std.specs.Prelude.{◌≡◌, ℕ, ◌+◌, Bool, true, false, not, ◌&&◌, ◌||◌, ◌==◌, nat_le, nat_lt, if◌then◌else◌, List, [], ◌∷◌, drop, Option, Some, None}
 use Rattle.std.specs.List.{prefix_len}
 use Rattle.m11_base.specs.Devices.{Bytes}
+use Rattle.m11_scan_lines.specs.Classes.{is_unprinted}
 use Rattle.m11_scan.specs.declared.sort.Sort.{Sort}
 use Rattle.m11_scan.specs.declared.sort.Sort.TheVariants.{Greater}
 use Rattle.m11_scan.specs.declared.texts.Enclosed.{Enclosed}
@@ -14,10 +15,6 @@ use Rattle.m11_scan.specs.Texts.{delimited}
 use Rattle.m11_scan_statements.specs.declared.parts.Part.{Part}
 use Rattle.m11_scan_statements.specs.declared.parts.PartKind.{PartKind}
 use Rattle.m11_scan_statements.specs.declared.parts.PartKind.TheVariants.{Text, Expression}
-
--- a blank, or a character that doesn't print
-abbrev pub is_unprinted : ℕ → Bool
-is_unprinted byte = nat_le byte 0o40 || nat_lt 0o176 byte
 
 abbrev pub is_closing : Sort → Bool
 is_closing Greater = true

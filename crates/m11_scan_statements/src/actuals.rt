@@ -5,9 +5,7 @@ ghost use Rattle.std.specs.Prelude.{◌≡◌, ◌+◌, ◌<◌, ◌≤◌, leng
 ghost use Rattle.m11_scan_statements.specs.Actuals as spec;
 
 use crate::spans::{Span, text_from};
-use m11_scan::{
-    Enclosed, Line, bare_length, blanks_length, bracketed, expression_end, separator_length,
-};
+use m11_scan::{Class, Enclosed, Line, bracketed, expression_end, run_length, separator_length};
 
 /// How an actual is written.
 #[derive(Clone, Copy, PartialEq, Eq, Debug)]
@@ -50,7 +48,7 @@ pub fn separator_at(line: &Line, column: usize) -> Separator
     ensures most { result.end ≤ length line.now.text }
 {
     let text = text_from(line, column);
-    let blanks = blanks_length(text);
+    let blanks = run_length(text, Class::Blank);
     Separator {
         has_comma: begins_with_comma(&text[blanks..]),
         end: (column + separator_length(text)) as u8,
@@ -72,7 +70,7 @@ pub fn next_actual(line: &Line, column: usize, gives_digits: bool) -> Option<Act
     ensures begins { IfSome result (λ actual. actual.inside.start ≤ actual.end) }
     ensures most { IfSome result (λ actual. actual.end ≤ length line.now.text) }
 {
-    let start = column + blanks_length(text_from(line, column));
+    let start = column + run_length(text_from(line, column), Class::Blank);
     match text_from(line, start) {
         [] | [b';', ..] => None,
         [b'<', ..] => Some(bracketed_actual(line, start + 1)),
@@ -120,7 +118,7 @@ fn bare_actual(line: &Line, start: usize) -> Actual
     ensures begins { result.inside.start ≤ result.end }
     ensures most { result.end ≤ length line.now.text }
 {
-    let end = start + bare_length(text_from(line, start));
+    let end = start + run_length(text_from(line, start), Class::Bare);
     whole_actual(ActualKind::Bare, start as u8, end as u8)
 }
 

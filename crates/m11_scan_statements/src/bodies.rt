@@ -9,7 +9,7 @@ ghost use Rattle.m11_scan_statements.specs.Bodies as spec;
 use crate::labels::is_counter;
 use crate::listed::is_name;
 use crate::spans::Span;
-use m11_scan::{Line, Sort, Token, blanks_length, is_name_character, next_token, skipped_between};
+use m11_scan::{Class, Line, Sort, Token, is_of, next_token, run_length, skipped_between};
 
 /// An assignment to a name.
 #[derive(Clone, Copy, PartialEq, Eq, Debug)]
@@ -93,7 +93,7 @@ fn begins_operand(line: &Line, column: usize) -> bool
     ensures { result ≡ spec.begins_operand (drop column line.now.text) }
 {
     let text = &line.text()[column..];
-    match &text[blanks_length(text)..] {
+    match &text[run_length(text, Class::Blank)..] {
         [first, ..] => is_operand_start(*first),
         [] => true,
     }
@@ -103,7 +103,7 @@ fn begins_operand(line: &Line, column: usize) -> bool
 fn is_operand_start(byte: u8) -> bool
     ensures { result ≡ spec.is_operand_start byte }
 {
-    is_name_character(byte) || matches!(byte, b'#' | b'@' | b'(' | b'-')
+    is_of(byte, Class::Name) || matches!(byte, b'#' | b'@' | b'(' | b'-')
 }
 
 fn assigned(line: &Line, target: Token, equals: Token) -> Option<Body>

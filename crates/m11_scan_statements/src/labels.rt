@@ -11,7 +11,7 @@ use crate::spans::Span;
 use arrayvec::ArrayVec;
 use bitflags::Flags;
 use m11_scan::{
-    ErrorFlags, Line, Radix, Sort, Token, digits_length, next_token, read_number, token_at,
+    Class, ErrorFlags, Line, Radix, Sort, Token, next_token, read_number, run_length, token_at,
 };
 
 /// What a label is.
@@ -210,7 +210,7 @@ fn local_kind(colon: Sort, text: &[u8]) -> Option<LabelKind>
 fn numbered(text: &[u8]) -> LabelKind
     ensures { result ≡ spec.numbered text.now }
 {
-    let digits = &text[..digits_length(text)];
+    let digits = &text[..run_length(text, Class::Digit)];
     let number = read_number(digits, Radix::Decimal);
     let is_large = number.flags.contains(ErrorFlags::T);
     if is_large || number.value == 0 {

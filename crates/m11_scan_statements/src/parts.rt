@@ -1,13 +1,14 @@
 //! The parts of the text of `.ASCII`, `.ASCIZ` and `.RAD50`. (MACRO-11 Language Reference Manual, ".ASCII directive".)
 
 ghost use Rattle.std.specs.Prelude.{◌≡◌, ◌+◌, ◌<◌, ◌≤◌, length, true, IfSome};
-ghost use Rattle.std.specs.List.{prefix_len};
 ghost use Rattle.m11_scan_lines.specs.Line.{line_limit};
 ghost use Rattle.m11_scan.specs.Views.{bits_of};
 ghost use Rattle.m11_scan_statements.specs.Parts as spec;
 
 use crate::spans::{Span, text_from};
-use m11_scan::{Enclosed, ErrorFlags, Line, Sort, delimited, expression_end, next_token};
+use m11_scan::{
+    Class, Enclosed, ErrorFlags, Line, Sort, delimited, expression_end, next_token, run_length,
+};
 
 /// How a part is written.
 #[derive(Clone, Copy, PartialEq, Eq, Debug, Default)]
@@ -55,36 +56,13 @@ pub fn next_part(line: &Line, column: usize, is_first: bool) -> Option<Part>
     ensures most { IfSome result (λ part. part.end ≤ length line.now.text) }
     ensures limited { length line.now.text ≤ line_limit }
 {
-    let start = column + unprinted_length(text_from(line, column));
+    let start = column + run_length(text_from(line, column), Class::Unprinted);
     match text_from(line, start) {
         [] => None,
         [b';', ..] if !is_first => None,
         [b'<', ..] => Some(expression_part(line, start + 1)),
         [delimiter, ..] => Some(text_part(line, start + 1, *delimiter)),
     }
-}
-
-// How many blanks, and characters that don't print, a text begins with.
-fn unprinted_length(text: &[u8]) -> usize
-    ensures length { result ≡ prefix_len spec.is_unprinted text.now }
-    ensures within { result ≤ length text.now }
-{
-    let mut count = 0;
-    let mut rest = text;
-    'characters: while let [byte, tail @ ..] = rest {
-        if !is_unprinted(*byte) {
-            return count;
-        }
-        count += 1;
-        rest = tail;
-    }
-    count
-}
-
-fn is_unprinted(byte: u8) -> bool
-    ensures { result ≡ spec.is_unprinted byte }
-{
-    byte <= b' ' || byte > b'~'
 }
 
 fn text_part(line: &Line, start: usize, delimiter: u8) -> Part

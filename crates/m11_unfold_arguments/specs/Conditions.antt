@@ -6,7 +6,7 @@ use Rattle.std.specs.Str.{bytes_eq}
 use Rattle.std.specs.Int.RustNames.{bit_or}
 use Rattle.m11_base.specs.Devices.{Bytes}
 use Rattle.m11_base.specs.NameCharacters.{six_of}
-use Rattle.m11_scan.specs.Characters.{is_blank}
+use Rattle.m11_scan_lines.specs.Classes.{is_blank}
 use Rattle.m11_scan.specs.Conditions.{condition_named}
 use Rattle.m11_scan.specs.Cutting.{Lexeme, text_between, tokens_from}
 use Rattle.m11_scan.specs.Ends.{expression_end}

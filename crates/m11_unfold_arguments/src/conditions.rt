@@ -11,7 +11,7 @@ ghost use Rattle.m11_scan_expressions.specs.Remarks.{joined, with_symbols};
 
 use crate::definedness::{is_as, names_at};
 use m11_scan::{
-    Condition, ErrorFlags, Line, Sort, Token, blanks_length, next_token, read_condition,
+    Class, Condition, ErrorFlags, Line, Sort, Token, next_token, read_condition, run_length,
 };
 use m11_scan_expressions::{
     Names, Remarks, begins_expression, column_in, number_from, rest_flags, skip_flags,
@@ -265,7 +265,7 @@ fn blank(line: &Line, column: usize, wants_blank: bool) -> Finding
 fn is_blank_text(text: &[u8]) -> bool
     ensures { result ≡ spec.is_blank_text text.now }
 {
-    blanks_length(text) == text.len()
+    run_length(text, Class::Blank) == text.len()
 }
 
 /// A for an argument without its `>`.

@@ -6,7 +6,7 @@ ghost use Rattle.m11_unfold_bodies.specs.Substitution as spec;
 
 use crate::text::Text;
 use m11_base::Name;
-use m11_scan::{Line, is_name_character, name_length, read_name};
+use m11_scan::{Class, Line, is_of, read_name, run_length};
 
 /// Puts into a line a body's text in a round of an expansion: each run of name characters that is a formal by its first six gives
 /// way to that formal's actual, and with it one `'` directly before it and one directly after it. What is past 132
@@ -63,7 +63,7 @@ fn piece_length(text: &[u8]) -> usize
         ≡ spec.piece_of (take result text.now) ∷ spec.pieces_of (drop result text.now) }
     ensures text { spec.text_of (spec.piece_of (take result text.now)) ≡ take result text.now }
 {
-    let length = name_length(text);
+    let length = run_length(text, Class::Name);
     if length == 0 { 1 } else { length }
 }
 
@@ -84,7 +84,7 @@ fn actual_for<'a>(formals: &[Name], actuals: &'a [Text], piece: &[u8]) -> Option
 {
     match piece {
         [byte, ..] => {
-            if is_name_character(*byte) {
+            if is_of(*byte, Class::Name) {
                 actual_of(formals, actuals, read_name(piece))
             } else {
                 None

@@ -1,7 +1,7 @@
 //! Lines of awkward characters from a fixed sequence: what is read from them lies in them in order, and nothing is lost.
 
 use super::{part_after, same, token_after};
-use m11_scan::{Line, Token, blanks_length, skipped_between};
+use m11_scan::{Class, Line, Token, run_length, skipped_between};
 use m11_scan_statements::{Body, Statement, labels_of, next_actual, separator_at, statement};
 use std::process::Abort;
 
@@ -119,7 +119,7 @@ fn check_actuals(rt: &impl Abort, line: &Line) {
             }
             None => {
                 let rest = &line.text()[column..];
-                let after = rest.get(blanks_length(rest)).copied();
+                let after = rest.get(run_length(rest, Class::Blank)).copied();
                 same(rt, &"after the actuals", &after.unwrap_or(b';'), &b';');
                 return;
             }

@@ -2,7 +2,7 @@
 //! macro definitions and macro calls".)
 
 use super::same;
-use m11_scan::{Enclosed, bare_length, bracketed, delimited, separator_length};
+use m11_scan::{Class, Enclosed, bracketed, delimited, run_length, separator_length};
 use std::process::Abort;
 
 // What stands after an opening character, how much of it is inside, and whether its end stands there.
@@ -84,7 +84,7 @@ fn actuals_end_at_what_separates_them(rt: HostRuntime) {
         same(
             &rt,
             &row.text,
-            &bare_length(row.text.as_bytes()),
+            &run_length(row.text.as_bytes(), Class::Bare),
             &row.length,
         );
     }

@@ -1,7 +1,7 @@
 use Rattle.std.proofs.Common.{ℕ, take, sym, subst}
 use Rattle.std.specs.Bool.{IsTrue}
 use Rattle.std.specs.List.{AllByRecursion}
-use Rattle.m11_scan_lines.specs.OpenLine.{is_plain}
+use Rattle.m11_scan_lines.specs.Classes.{is_plain}
 use Rattle.m11_scan_lines.proofs.PlainFronts.{front_plain}
 use Rattle.m11_scan_lines.proofs.open_line.plain_length.Goals as goal
 

@@ -1,6 +1,6 @@
 use Rattle.std.proofs.Common.{◌≡◌, ◌+◌, ◌≤◌, ◌-◌, length}
 use Rattle.std.specs.List.{prefix_len}
-use Rattle.m11_scan_lines.specs.OpenLine.{is_plain}
+use Rattle.m11_scan_lines.specs.Classes.{is_plain}
 use Rattle.m11_scan_lines.proofs.open_line.plain_run.Given as goal
 
 abbrev pub invariant-eights : goal.invariant-eights
