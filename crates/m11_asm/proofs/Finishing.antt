@@ -4,7 +4,8 @@ use Rattle.std.proofs.lemmas.List.Sums.{count_by-le-length}
 use Rattle.std.specs.Prelude.{OnOk}
 use Rattle.m11_asm_outputs.specs.Object.{AllFit, object_contents}
 use Rattle.m11_asm_faults.specs.declared.fault.AsmFault.{AsmFault}
-use Rattle.m11_asm_outputs.specs.Outputs.{AreFlushed, Gains, Outputs, Write, Writes, assembly}
+use Rattle.m11_asm_outputs.specs.Outputs.{Gains, Writes, assembly}
+use Rattle.m11_base_writes.specs.Outputs.{AreFlushed, Outputs, Write}
 use Rattle.m11_asm.specs.Facts.{Facts}
 use Rattle.m11_asm.specs.First.{Symbols}
 use Rattle.m11_scan_lines.specs.Line.{SourceLine}

@@ -1,7 +1,8 @@
 -- Both passes make the run.
 use Rattle.std.proofs.Common.{◌≤◌, ℕ, List, length, Result, Ok, Err, refl, sym, subst, inr}
 use Rattle.m11_asm_faults.specs.declared.fault.AsmFault.{AsmFault}
-use Rattle.m11_asm_outputs.specs.Outputs.{AreFlushed, Gains, Outputs, Write}
+use Rattle.m11_asm_outputs.specs.Outputs.{Gains}
+use Rattle.m11_base_writes.specs.Outputs.{AreFlushed, Outputs, Write}
 use Rattle.m11_asm.specs.First.{Symbols}
 use Rattle.m11_asm_passes.specs.Lines.{NumberedLine, givens}
 use Rattle.m11_asm_rules.specs.Limits.{most_sections}

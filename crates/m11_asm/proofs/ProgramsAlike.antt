@@ -7,7 +7,8 @@ use Rattle.m11_asm_outputs.specs.Object.{object_contents}
 use Rattle.m11_asm_faults.specs.declared.fault.AsmFault.{AsmFault}
 use Rattle.m11_asm_faults.specs.declared.fault.AsmFault.TheVariants as fault
 use Rattle.m11_asm_outputs.specs.Object.{content_writes, head_contents, records_closed_by}
-use Rattle.m11_asm_outputs.specs.Outputs.{Gains, Outputs, StopsBetween, StopsIn, Write}
+use Rattle.m11_asm_outputs.specs.Outputs.{Gains, StopsBetween, StopsIn}
+use Rattle.m11_base_writes.specs.Outputs.{Outputs, Write}
 use Rattle.m11_base.specs.Devices.{Bytes}
 use Rattle.m11_scan_lines.specs.Line.{SourceLine}
 use Rattle.m11_asm_listing_writes.specs.Listed.{all_to_listing, lines_of, listing_writes}

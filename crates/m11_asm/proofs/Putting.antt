@@ -8,7 +8,8 @@ use Rattle.m11_asm_outputs.specs.Object.{IsOpenAfter, content_writes, head_conte
 use Rattle.m11_asm_outputs.proofs.Closing.{closed-append, closed_from_nothing, in_parts, no_closed_records}
 use Rattle.m11_asm_outputs.proofs.Fitting.{all_fit-append, fit_as}
 use Rattle.m11_obj.specs.Records.{EndOfModule}
-use Rattle.m11_asm_outputs.specs.Outputs.{Gains, Outputs, Stops, Write, Writes, assembly, to_messages}
+use Rattle.m11_asm_outputs.specs.Outputs.{Gains, Stops, Writes, assembly}
+use Rattle.m11_base_writes.specs.Outputs.{Outputs, Write, to_messages}
 use Rattle.m11_base.specs.Devices.{Bytes}
 use Rattle.m11_base.specs.Rad50.{Name}
 use Rattle.m11_asm_directory.specs.Rows.{directory_rows}

@@ -4,7 +4,7 @@
 use Rattle.std.specs.Prelude.{◌≡◌, ℕ, true, false, List, [], ◌++◌, length, None, Some}
 use Rattle.m11_asm_faults.specs.Faults.{of_lines}
 use Rattle.m11_asm_faults.specs.declared.fault.AsmFault.{AsmFault}
-use Rattle.m11_asm_outputs.specs.Outputs.{Write}
+use Rattle.m11_base_writes.specs.Outputs.{Write}
 use Rattle.m11_scan_lines.specs.Line.{SourceLine}
 use Rattle.m11_scan_lines.specs.declared.fault.LineFault.{LineFault}
 use Rattle.m11_asm_passes.specs.Lines.{NumberedLine, PassLines, givens}

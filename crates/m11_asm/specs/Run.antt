@@ -1,7 +1,7 @@
 -- What a run of the assembler does. (This project's own.)
 use Rattle.std.specs.Prelude.{◌≡◌, ◌⊎◌, List, Result, Ok, Err}
 use Rattle.m11_asm_faults.specs.declared.fault.AsmFault.{AsmFault}
-use Rattle.m11_asm_outputs.specs.Outputs.{Outputs}
+use Rattle.m11_base_writes.specs.Outputs.{Outputs}
 use Rattle.m11_asm_passes.specs.Lines.{NumberedLine, givens}
 use Rattle.m11_asm.specs.Program.{program_of}
 use Rattle.m11_asm.specs.declared.done.AsmDone.{AsmDone}

@@ -1,7 +1,7 @@
 -- The second pass over feeds, call by call. (This project's own.)
 use Rattle.std.specs.Prelude.{Result, Ok, Err}
 use Rattle.m11_asm_faults.specs.declared.fault.AsmFault.{AsmFault}
-use Rattle.m11_asm_outputs.specs.Outputs.{Outputs}
+use Rattle.m11_base_writes.specs.Outputs.{Outputs}
 use Rattle.m11_asm.specs.Program.{Program}
 use Rattle.m11_asm.specs.Second.{SecondStands, SecondState}
 use Rattle.m11_asm.specs.Extents.{SecondGives}

@@ -22,7 +22,7 @@ use Rattle.m11_asm_rules.specs.Placements.{LinePlacement, placement}
 use Rattle.m11_asm_rules.specs.Sources.{directed, end_in}
 use Rattle.m11_asm_rules.specs.Tables.{Table, location}
 use Rattle.m11_asm_outputs.specs.Object.{content_writes, head_contents, last_records, records_closed_by}
-use Rattle.m11_asm_outputs.specs.Outputs.{Write, flushes, to_messages}
+use Rattle.m11_base_writes.specs.Outputs.{Write, flushes, to_messages}
 use Rattle.m11_asm_passes.specs.Lines.{NumberedLine, givens, table_at}
 use Rattle.m11_asm_passes.specs.Placed.{all_flags}
 use Rattle.m11_asm.specs.Program.{Program}

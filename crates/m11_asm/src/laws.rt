@@ -4,7 +4,8 @@ ghost use Rattle.std.specs.Prelude.{List, Ok};
 ghost use Rattle.m11_asm.specs.Outcome.{Assembled, HasOutcome};
 ghost use Rattle.m11_asm.specs.Passes.{Pass, Reads};
 ghost use Rattle.m11_asm.specs.Run.{AsmRuns};
-ghost use Rattle.m11_asm_outputs.specs.Outputs.{AreFlushed, Gains, Outputs, Write};
+ghost use Rattle.m11_asm_outputs.specs.Outputs.{Gains};
+ghost use Rattle.m11_base_writes.specs.Outputs.{AreFlushed, Outputs, Write};
 ghost use Rattle.m11_scan_line_laws.specs.Readings.{Reading};
 ghost use Rattle.m11_asm.specs.declared.done.AsmDone.{AsmDone};
 

@@ -35,5 +35,5 @@ mod run;
 
 pub use done::AsmDone;
 pub use laws::a_run_writes_the_outcome_of_its_sources;
-pub use m11_asm_faults::{AsmFault, AsmOutput};
+pub use m11_asm_faults::AsmFault;
 pub use run::asm_run;

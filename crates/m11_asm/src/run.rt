@@ -4,7 +4,7 @@ ghost use Rattle.std.specs.Prelude.{◌≡◌};
 ghost use Rattle.m11_asm.specs.Extents.{AsmGives};
 ghost use Rattle.m11_asm.specs.Passes.{pass_of};
 ghost use Rattle.m11_asm.specs.Run.{AsmRuns, AsmRunsOr};
-ghost use Rattle.m11_asm_outputs.specs.Outputs.{outputs_of};
+ghost use Rattle.m11_base_writes.specs.Outputs.{outputs_of};
 
 use crate::done::AsmDone;
 use crate::first_reading::read_first;

@@ -2,7 +2,8 @@
 
 ghost use Rattle.std.specs.Prelude.{◌≡◌, [], List, None, Some, Err, IfOk, false, length};
 ghost use Rattle.std.specs.Result.{result_err};
-ghost use Rattle.m11_asm_outputs.specs.Outputs.{Gains, Outputs, outputs_of};
+ghost use Rattle.m11_asm_outputs.specs.Outputs.{Gains};
+ghost use Rattle.m11_base_writes.specs.Outputs.{Outputs, outputs_of};
 ghost use Rattle.m11_scan_lines.specs.Line.{SourceLine};
 ghost use Rattle.m11_asm_passes.specs.Lines.{NumberedLine};
 ghost use Rattle.m11_asm.specs.Program.{Program, program_in};

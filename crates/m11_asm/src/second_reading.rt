@@ -3,7 +3,7 @@
 ghost use Rattle.std.specs.Prelude.{[]};
 ghost use Rattle.m11_asm.specs.Passes.{pass_of};
 ghost use Rattle.m11_asm.specs.SecondReading.{PutsAll, PutsLines};
-ghost use Rattle.m11_asm_outputs.specs.Outputs.{Outputs, outputs_of};
+ghost use Rattle.m11_base_writes.specs.Outputs.{Outputs, outputs_of};
 ghost use Rattle.m11_asm.specs.Program.{Program, program_in};
 ghost use Rattle.m11_asm.specs.Second.{SecondStands};
 

@@ -5,7 +5,8 @@
 ghost use Rattle.std.specs.Prelude.{◌≡◌, ◌≤◌, ◌++◌, ◌∷◌, [], List, IfOk, OnOk, length, option_map};
 ghost use Rattle.m11_asm_outputs.specs.Object.{AllFit, IsOpenAfter, content_writes, head_contents, last_records, object_contents, records_closed_by};
 ghost use Rattle.m11_obj.specs.Records.{EndOfModule};
-ghost use Rattle.m11_asm_outputs.specs.Outputs.{AreFlushed, Writes, flushes, outputs, outputs_of, to_messages};
+ghost use Rattle.m11_asm_outputs.specs.Outputs.{Writes};
+ghost use Rattle.m11_base_writes.specs.Outputs.{AreFlushed, flushes, outputs, outputs_of, to_messages};
 ghost use Rattle.m11_asm_directory.specs.FirstPass.{directory_facts};
 ghost use Rattle.m11_asm_listing_writes.specs.Listed.{listing_writes};
 ghost use Rattle.m11_asm_listing.specs.Messages.{count_line};
@@ -24,7 +25,7 @@ ghost use Rattle.m11_asm.specs.Writing.{WritingStands, begun, counted, counted_l
 ghost use Rattle.m11_asm.specs.Written.{added_writes, closing_writes, flagged_count, head_before, last_location, last_writes, line_writes, message_writes, pieces_in};
 ghost use Rattle.m11_unfold_rules.specs.Unfolding.{UnfoldedLine};
 ghost use Rattle.m11_scan_expressions.specs.Quantities.{quantity};
-ghost use Rattle.m11_base_writes.specs.Outputs.{Output, optional_output, output_of};
+ghost use Rattle.m11_base_writes.specs.States.{OutputState, optional_output, output_of};
 
 use crate::done::AsmDone;
 use crate::facts::Facts;
@@ -35,13 +36,12 @@ use m11_asm_faults::AsmFault;
 use m11_asm_lines::{Action, Pass, UsedSymbols};
 use m11_asm_listing::{Item, SectionEntry, SymbolEntry};
 use m11_asm_listing_writes::{put_listed, put_placed, put_symbol_table};
-use m11_asm_outputs::{
-    flush_files, open_text, put_count, put_flagged, put_head, put_last, put_pieces,
-};
+use m11_asm_outputs::{open_text, put_count, put_flagged, put_head, put_last, put_pieces};
 use m11_asm_passes::PlacedLine;
 use m11_asm_rules::{Directive, Operator};
 use m11_asm_symbol_list::{section_entries, symbol_entries};
 use m11_base::Sink;
+use m11_base_writes::flush_files;
 use m11_obj_texts::{DirectoryRow, OpenText, PieceContent};
 use m11_scan::ErrorFlags;
 use m11_scan_expressions::Value;
@@ -149,7 +149,7 @@ impl Writing {
     // speed: inline, since each placed line comes here, and only the first one finds no head.
     #[inline(always)]
     fn begin<S: Sink>(&mut self, object: &mut S) -> Result<(), AsmFault>
-        ensures writes { (program : Program) (lines : List NumberedLine) (listing messages : Output)
+        ensures writes { (program : Program) (lines : List NumberedLine) (listing messages : OutputState)
             → WritingStands program lines self.old → Writes
             (outputs (output_of S.Sink object.old) listing messages)
             (outputs (output_of S.Sink object.new) listing messages) (head_before program lines) result }
@@ -172,7 +172,7 @@ impl Writing {
         contents: &[PieceContent],
         object: &mut S,
     ) -> Result<(), AsmFault>
-        ensures writes { (before : List Piece) → IsOpenAfter before self.old.text → (listing messages : Output) → Writes
+        ensures writes { (before : List Piece) → IsOpenAfter before self.old.text → (listing messages : OutputState) → Writes
             (outputs (output_of S.Sink object.old) listing messages)
             (outputs (output_of S.Sink object.new) listing messages)
             (content_writes (records_closed_by before (pieces_from line.now.section line.now.location contents.now))) result }
@@ -201,7 +201,7 @@ impl Writing {
         contents: &[PieceContent],
         listing: &mut Option<T>,
     ) -> Result<(), AsmFault>
-        ensures writes { (map : Map) (table : Table) (given : UnfoldedLine) (emission : Emission) (object messages : Output)
+        ensures writes { (map : Map) (table : Table) (given : UnfoldedLine) (emission : Emission) (object messages : OutputState)
             → IsPlaced map table given line.now emission → emission.contents ≡ contents.now → Writes
             (outputs object (optional_output T.Sink listing.old) messages)
             (outputs object (optional_output T.Sink listing.new) messages)
@@ -222,7 +222,7 @@ impl Writing {
         messages: &mut U,
     ) -> Result<(), AsmFault>
         requires { length text.now ≤ 132 }
-        ensures writes { (object listing : Output) → Writes
+        ensures writes { (object listing : OutputState) → Writes
             (outputs object listing (output_of U.Sink messages.old))
             (outputs object listing (output_of U.Sink messages.new))
             (message_writes (bits_of flags) number text.now) result }
@@ -277,7 +277,7 @@ impl Writing {
         listing: &mut Option<T>,
         messages: &mut U,
     ) -> Result<(), AsmFault>
-        ensures writes { (object : Output) → Writes
+        ensures writes { (object : OutputState) → Writes
             (outputs object (optional_output T.Sink listing.old) (output_of U.Sink messages.old))
             (outputs object (optional_output T.Sink listing.new) (output_of U.Sink messages.new))
             (added_writes (record { read = read; has_end = has_ended }) location) result }
@@ -330,7 +330,7 @@ fn flush_and_count<S: Sink, T: Sink, U: Sink>(
         (flushes ++ to_messages (count_line flagged) ∷ []) result }
     ensures flushed { OnOk result (AreFlushed (outputs_of S.Sink T.Sink U.Sink object.new listing.new messages.new)) }
 {
-    flush_files(object, listing)?;
+    flush_files::<S, T, AsmFault>(object, listing)?;
     put_count(messages, flagged)
 }
 

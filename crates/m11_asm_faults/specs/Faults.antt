@@ -1,14 +1,14 @@
--- The faults of an assembly, each with its number and its name, and the names of the outputs. (This project's own: no
--- manual speaks of them. The printed line of a fault is made of these.)
-use Rattle.std.specs.Prelude.{ℕ, List, codes}
+-- The faults of an assembly, each with its number and its name, and where writes have ended by them. (This project's own:
+-- no manual speaks of them. The printed line of a fault is made of these.)
+use Rattle.std.specs.Prelude.{ℕ, List, Option, Some, None, codes}
 use Rattle.m11_scan_lines.specs.declared.fault.LineFault.{LineFault}
 use Rattle.m11_scan_lines.specs.declared.fault.LineFault.TheVariants as line
 use Rattle.m11_unfold_rules.specs.declared.fault.UnfoldFault.{UnfoldFault}
 use Rattle.m11_unfold_rules.specs.declared.fault.UnfoldFault.TheVariants as unfolded
 use Rattle.m11_asm_faults.specs.declared.fault.AsmFault.{AsmFault}
 use Rattle.m11_asm_faults.specs.declared.fault.AsmFault.TheVariants.{Read, Write, TooManySymbols, TooManySections, Unfold, TooMuchSource, NoMemory}
-use Rattle.m11_asm_faults.specs.declared.fault.AsmOutput.{AsmOutput}
-use Rattle.m11_asm_faults.specs.declared.fault.AsmOutput.TheVariants.{Object, Listing, Messages}
+use Rattle.m11_base_writes.specs.Writes.{Between, In, Stop}
+use Rattle.m11_base_writes.specs.declared.outputs.Output.{Output}
 
 -- the number of a fault
 abbrev pub number_of : AsmFault → ℕ
@@ -30,11 +30,11 @@ name_of (Unfold inner) = codes "Unfold"
 name_of TooMuchSource = codes "TooMuchSource"
 name_of NoMemory = codes "NoMemory"
 
--- the name of an output
-abbrev pub output_name : AsmOutput → List ℕ
-output_name Object = codes "OBJECT"
-output_name Listing = codes "LISTING"
-output_name Messages = codes "MESSAGES"
+-- the faults at which writes end early: an output failed, or memory was refused
+abbrev pub stop_of : AsmFault → Option (Stop Output)
+stop_of (Write output) = Some (In output)
+stop_of NoMemory = Some Between
+stop_of _ = None
 
 -- what a fault of reading lines is to an assembly: both limits of source are one
 abbrev pub of_lines : LineFault → AsmFault

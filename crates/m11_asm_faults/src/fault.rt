@@ -1,24 +1,14 @@
 //! What can go wrong in an assembly, each with its number and name.
 
 ghost use Rattle.std.specs.Prelude.{◌≡◌};
-ghost use Rattle.m11_asm_faults.specs.Faults.{of_lines, of_unfolding};
+ghost use Rattle.m11_asm_faults.specs.Faults.{of_lines, of_unfolding, stop_of};
 ghost use Rattle.m11_asm_faults.specs.declared.fault.AsmFault.TheVariants.{NoMemory};
 
+use m11_base_writes::{Output, OutputFault};
 use m11_scan_lines::LineFault;
 use m11_unfold_rules::UnfoldFault;
 use std::alloc::{AllocError, AllocFailed};
 use thiserror::Error;
-
-/// An output of the assembler.
-#[derive(Clone, Copy, Debug, PartialEq, Eq)]
-pub enum AsmOutput {
-    /// The object module.
-    Object,
-    /// The listing.
-    Listing,
-    /// The messages.
-    Messages,
-}
 
 /// Why an assembly ended early.
 #[derive(Clone, Copy, Debug, PartialEq, Eq, Error)]
@@ -26,9 +16,9 @@ pub enum AsmFault {
     /// 1: a source could not be read.
     #[error("a source could not be read")]
     Read,
-    /// 2: an output could not be written.
+    /// 2: an output could not be written. The product is the object, and the report the listing.
     #[error("an output could not be written")]
-    Write(AsmOutput),
+    Write(Output),
     /// 3: more than 4,096 names besides those of the registers, or more than 16,384 local symbols.
     #[error("too many symbols")]
     TooManySymbols,
@@ -44,21 +34,6 @@ pub enum AsmFault {
     /// 90: memory was refused.
     #[error("no memory")]
     NoMemory,
-}
-
-impl AsmOutput {
-    ghost use Rattle.m11_asm_faults.specs.Faults.{output_name};
-
-    /// The name that the line of a write fault has for this output.
-    pub fn name(self) -> &'static str
-        ensures { result.now ≡ output_name self }
-    {
-        match self {
-            AsmOutput::Object => "OBJECT",
-            AsmOutput::Listing => "LISTING",
-            AsmOutput::Messages => "MESSAGES",
-        }
-    }
 }
 
 impl AsmFault {
@@ -93,6 +68,14 @@ impl AsmFault {
             AsmFault::TooMuchSource => "TooMuchSource",
             AsmFault::NoMemory => "NoMemory",
         }
+    }
+}
+
+impl OutputFault for AsmFault {
+    ghost stop = { stop_of };
+
+    fn of_output(output: Output) -> AsmFault {
+        AsmFault::Write(output)
     }
 }
 

@@ -3,4 +3,4 @@
 
 mod fault;
 
-pub use fault::{AsmFault, AsmOutput};
+pub use fault::AsmFault;

@@ -4,7 +4,8 @@ use Rattle.std.specs.Prelude.{◌==◌, ◌||◌, is_some}
 use Rattle.std.specs.List.{flat_map}
 use Rattle.std.specs.Option.{option_to_list}
 use Rattle.m11_asm_listing_writes.proofs.ListedLines.{none_listed}
-use Rattle.m11_asm_outputs.specs.Outputs.{Gains, Outputs, Write, assembly, outputs}
+use Rattle.m11_asm_outputs.specs.Outputs.{Gains, assembly}
+use Rattle.m11_base_writes.specs.Outputs.{Outputs, Write, outputs}
 use Rattle.m11_asm_listing_writes.specs.Listed.{all_to_listing}
 use Rattle.m11_base.specs.Devices.{Bytes}
 use Rattle.m11_base.specs.declared.sink.Sink.{Ghosts}
@@ -23,19 +24,19 @@ use Rattle.m11_asm_rules.specs.Meanings.{Map}
 use Rattle.m11_asm_rules.specs.Tables.{Table, location}
 use Rattle.m11_unfold_rules.specs.Taking.{Live}
 use Rattle.m11_unfold_rules.specs.Unfolding.{UnfoldedLine}
-use Rattle.m11_base_writes.specs.Outputs.{Output, no_output, optional_output}
+use Rattle.m11_base_writes.specs.States.{OutputState, no_output, optional_output}
 use Rattle.m11_base_writes.proofs.Writing.{gains_nothing}
 use Rattle.m11_asm_listing_writes.specs.Listed.{lines_of, listing_writes}
 
 -- ---- without a listing
 
-absent_by : (object messages : Output) (lines : List Bytes) (is_there : Bool)
+absent_by : (object messages : OutputState) (lines : List Bytes) (is_there : Bool)
     → Gains (outputs object no_output messages) (outputs object no_output messages) (if is_there then all_to_listing lines else [])
 absent_by object messages lines true = none_listed object messages lines
 absent_by object messages lines false = gains_nothing assembly (outputs object no_output messages)
 
 pub absent : {T : Type 0} (known : Ghosts T) (listing : Option T) → is_some listing ≡ false
-    → (object messages : Output) (map : Map) (table : Table) (flags number : ℕ) (given : UnfoldedLine)
+    → (object messages : OutputState) (map : Map) (table : Table) (flags number : ℕ) (given : UnfoldedLine)
     → Gains (outputs object (optional_output known listing) messages) (outputs object (optional_output known listing) messages)
     (listing_writes map table flags number given)
 unfolding listing_writes

@@ -10,25 +10,27 @@ use Rattle.m11_asm_listing.specs.SymbolTable.{empty_line, last_lines, section_li
 use Rattle.m11_asm_listing.specs.declared.items.Item.{Item}
 use Rattle.m11_asm_listing.specs.declared.symbol_table.SectionEntry.{SectionEntry}
 use Rattle.m11_asm_listing.specs.declared.symbol_table.SymbolEntry.{SymbolEntry}
-use Rattle.m11_base_writes.specs.Outputs.{Output, no_output}
+use Rattle.m11_base_writes.specs.States.{OutputState, no_output}
 use Rattle.m11_base_writes.proofs.Writing.{gains_nothing, gains_then}
-use Rattle.m11_asm_outputs.specs.Outputs.{Gains, Outputs, Stops, Write, Writes, assembly, outputs, to_listing}
+use Rattle.m11_asm_outputs.specs.Outputs.{Gains, Stops, Writes, assembly}
+use Rattle.m11_base_writes.specs.Outputs.{Outputs, Write, outputs, to_report}
 use Rattle.m11_asm_listing_writes.specs.Listed.{all_to_listing}
 use Rattle.m11_asm_outputs.proofs.Looping.{item_left}
-use Rattle.m11_asm_outputs.proofs.Writing.{to_no_listing}
+use Rattle.m11_asm_faults.specs.Faults.{stop_of}
+use Rattle.m11_base_writes.proofs.Putting.{to_no_report}
 
 -- ---- a line by another name
 
-pub gains_line : (a b : Outputs) (xs ys : Bytes) → xs ≡ ys → Gains a b (to_listing xs ∷ []) → Gains a b (to_listing ys ∷ [])
-gains_line a b xs ys is h = let P : Bytes → Type 0 = λ these. Gains a b (to_listing these ∷ []) in subst P is h
+pub gains_line : (a b : Outputs) (xs ys : Bytes) → xs ≡ ys → Gains a b (to_report xs ∷ []) → Gains a b (to_report ys ∷ [])
+gains_line a b xs ys is h = let P : Bytes → Type 0 = λ these. Gains a b (to_report these ∷ []) in subst P is h
 
-pub stops_line : (a b : Outputs) (xs ys : Bytes) (stopped : AsmFault) → xs ≡ ys → Stops a b (to_listing xs ∷ []) stopped
-    → Stops a b (to_listing ys ∷ []) stopped
-stops_line a b xs ys stopped is h = let P : Bytes → Type 0 = λ these. Stops a b (to_listing these ∷ []) stopped in subst P is h
+pub stops_line : (a b : Outputs) (xs ys : Bytes) (stopped : AsmFault) → xs ≡ ys → Stops a b (to_report xs ∷ []) stopped
+    → Stops a b (to_report ys ∷ []) stopped
+stops_line a b xs ys stopped is h = let P : Bytes → Type 0 = λ these. Stops a b (to_report these ∷ []) stopped in subst P is h
 
 pub writes_line : {A : Type 0} (a b : Outputs) (xs ys : Bytes) (result : Result A AsmFault) → xs ≡ ys
-    → Writes a b (to_listing xs ∷ []) result → Writes a b (to_listing ys ∷ []) result
-writes_line a b xs ys result is h = let P : Bytes → Type 0 = λ these. Writes a b (to_listing these ∷ []) result in subst P is h
+    → Writes a b (to_report xs ∷ []) result → Writes a b (to_report ys ∷ []) result
+writes_line a b xs ys result is h = let P : Bytes → Type 0 = λ these. Writes a b (to_report these ∷ []) result in subst P is h
 
 -- no writes at all
 pub writes_nothing : (a : Outputs) (ws : List Write) → ws ≡ [] → Gains a a ws
@@ -37,7 +39,7 @@ writes_nothing a ws none = let P : List Write → Type 0 = λ w. Gains a a w in 
 -- ---- further items
 
 pub further_split : (location : ℕ) (items : List Item) → 1 ≤ length items → all_to_listing (further_lines location items)
-    ≡ (to_listing (further_line location items) ∷ [])
+    ≡ (to_report (further_line location items) ∷ [])
     ++ all_to_listing (further_lines (location_after location (take 3 items)) (drop 3 items))
 further_split location [] some = absurd (omega (arith, some))
 further_split location (one ∷ []) some = refl
@@ -47,13 +49,13 @@ further_split location (one ∷ two ∷ three ∷ items) some = refl
 -- after its first three, at the location after them
 pub further_rest : (location next : ℕ) (items shown left : List Item) → 1 ≤ length items → shown ≡ take 3 items → left ≡ drop 3 items
     → next ≡ location_after location shown → all_to_listing (further_lines location items)
-    ≡ (to_listing (further_line location items) ∷ []) ++ all_to_listing (further_lines next left)
+    ≡ (to_report (further_line location items) ∷ []) ++ all_to_listing (further_lines next left)
 further_rest location next items shown left some first others goes =
     further_split location items some
-    ∙ ap (λ (l : List Item). (to_listing (further_line location items) ∷ []) ++ all_to_listing (further_lines (location_after location l) (drop 3 items)))
+    ∙ ap (λ (l : List Item). (to_report (further_line location items) ∷ []) ++ all_to_listing (further_lines (location_after location l) (drop 3 items)))
     (sym first)
-    ∙ ap (λ (n : ℕ). (to_listing (further_line location items) ∷ []) ++ all_to_listing (further_lines n (drop 3 items))) (sym goes)
-    ∙ ap (λ (l : List Item). (to_listing (further_line location items) ∷ []) ++ all_to_listing (further_lines next l)) (sym others)
+    ∙ ap (λ (n : ℕ). (to_report (further_line location items) ∷ []) ++ all_to_listing (further_lines n (drop 3 items))) (sym goes)
+    ∙ ap (λ (l : List Item). (to_report (further_line location items) ∷ []) ++ all_to_listing (further_lines next l)) (sym others)
 
 pub less_left : (items left : List Item) → 1 ≤ length items → left ≡ drop 3 items → length left < length items
 less_left items left some is =
@@ -76,17 +78,17 @@ module _ {X : Type 0} (line : X → Bytes) where
   lines_left things = all_to_listing (map line things)
 
   pub line_split : (things : List X) (index : ℕ) (thing : X) → index < length things → thing ≡ get_or things index thing
-      → lines_left (drop index things) ≡ (to_listing (line thing) ∷ []) ++ lines_left (drop (index + 1) things)
+      → lines_left (drop index things) ≡ (to_report (line thing) ∷ []) ++ lines_left (drop (index + 1) things)
   line_split things index thing within is = ap lines_left (item_left things index thing within is)
 
 -- ---- a listing that is left out takes all
 
-pub none_listed : (object messages : Output) (lines : List Bytes)
+pub none_listed : (object messages : OutputState) (lines : List Bytes)
     → Gains (outputs object no_output messages) (outputs object no_output messages) (all_to_listing lines)
 none_listed object messages [] = gains_nothing assembly (outputs object no_output messages)
 none_listed object messages (line ∷ lines) =
     gains_then assembly (outputs object no_output messages) (outputs object no_output messages) (outputs object no_output messages)
-    (to_listing line ∷ []) (all_to_listing lines) (to_no_listing {A = ℕ} object messages line 0) (none_listed object messages lines)
+    (to_report line ∷ []) (all_to_listing lines) (to_no_report stop_of {A = ℕ} object messages line 0) (none_listed object messages lines)
 
 -- ---- the parts of a symbol table
 
@@ -108,8 +110,8 @@ module _ (symbols : List SymbolEntry) (sections : List SectionEntry) (count : �
 
   pub table_parts : title ++ (names ++ (gap ++ (areas ++ last))) ≡ all_to_listing (last_lines symbols sections count)
   table_parts =
-      sym (map-append to_listing ((empty_line ∷ title_line ∷ map symbol_line symbols) ++ empty_line ∷ map section_line sections)
+      sym (map-append to_report ((empty_line ∷ title_line ∷ map symbol_line symbols) ++ empty_line ∷ map section_line sections)
       (empty_line ∷ count_line count ∷ [])
       ∙ ap (λ (ws : List Write). ws ++ last)
-      (map-append to_listing (empty_line ∷ title_line ∷ map symbol_line symbols) (empty_line ∷ map section_line sections))
+      (map-append to_report (empty_line ∷ title_line ∷ map symbol_line symbols) (empty_line ∷ map section_line sections))
       ∙ append_assoc (title ++ names) (gap ++ areas) last)

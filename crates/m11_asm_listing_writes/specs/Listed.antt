@@ -1,7 +1,7 @@
 -- What the listing of an assembly has of its lines, and after them. (MACRO-11 Language Reference Manual, "Listing control directives" and
 -- "Table of contents and symbol table". That the counter which a line shows is that before it, is this project's own.)
 use Rattle.std.specs.Prelude.{ℕ, if◌then◌else◌, List, [], map as each}
-use Rattle.m11_asm_outputs.specs.Outputs.{Write, to_listing}
+use Rattle.m11_base_writes.specs.Outputs.{Write, to_report}
 use Rattle.m11_base.specs.Devices.{Bytes}
 use Rattle.m11_asm_listing.specs.Listing.{listed_lines}
 use Rattle.m11_scan.specs.ErrorFlags.{flags_text}
@@ -13,7 +13,7 @@ use Rattle.m11_asm_rules.specs.Tables.{Table, location}
 
 -- lines, one after the other
 abbrev pub all_to_listing : List Bytes → List Write
-all_to_listing lines = each to_listing lines
+all_to_listing lines = each to_report lines
 
 -- ---- a line of the source, after a table
 

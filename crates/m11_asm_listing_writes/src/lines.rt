@@ -4,14 +4,15 @@ ghost use Rattle.std.specs.Prelude.{◌≡◌, ◌≤◌, length, take, drop};
 ghost use Rattle.m11_asm_listing.specs.Listing.{further_lines, listed_lines};
 ghost use Rattle.m11_scan.specs.ErrorFlags.{flags_text};
 ghost use Rattle.m11_scan.specs.Views.{bits_of};
-ghost use Rattle.m11_base_writes.specs.Outputs.{Output, optional_output};
-ghost use Rattle.m11_asm_outputs.specs.Outputs.{Writes, outputs};
+ghost use Rattle.m11_base_writes.specs.States.{OutputState, optional_output};
+ghost use Rattle.m11_asm_outputs.specs.Outputs.{Writes};
+ghost use Rattle.m11_base_writes.specs.Outputs.{outputs};
 ghost use Rattle.m11_asm_listing_writes.specs.Listed.{all_to_listing};
 
 use m11_asm_faults::AsmFault;
 use m11_asm_listing::{Item, further_line, listed_line, location_after};
-use m11_asm_outputs::put_listing;
 use m11_base::Sink;
+use m11_base_writes::put_report;
 use m11_scan::ErrorFlags;
 
 /// The lines of a source line: its flags, its number, the location of the counter before it, its items, which lie from another location on,
@@ -28,13 +29,13 @@ pub fn put_listed<T: Sink>(
     text: &[u8],
 ) -> Result<(), AsmFault>
     requires { length text.now ≤ 132 }
-    ensures { (object messages : Output) → Writes
+    ensures { (object messages : OutputState) → Writes
         (outputs object (optional_output T.Sink listing.old) messages)
         (outputs object (optional_output T.Sink listing.new) messages)
         (all_to_listing (listed_lines (flags_text (bits_of flags)) number location first_item_location items.now text.now)) result }
 {
     let line = listed_line(flags.text().as_slice(), number, location, items, text);
-    put_listing(listing, line.as_slice())?;
+    put_report::<T, AsmFault>(listing, line.as_slice())?;
     let (shown, more) = three(items);
     put_further(listing, location_after(first_item_location, shown), more)
 }
@@ -53,7 +54,7 @@ fn put_further<T: Sink>(
     location: u16,
     items: &[Item],
 ) -> Result<(), AsmFault>
-    ensures { (object messages : Output) → Writes
+    ensures { (object messages : OutputState) → Writes
         (outputs object (optional_output T.Sink listing.old) messages)
         (outputs object (optional_output T.Sink listing.new) messages)
         (all_to_listing (further_lines location items.now)) result }
@@ -61,7 +62,7 @@ fn put_further<T: Sink>(
     let mut location = location;
     let mut left = items;
     'lines: while !left.is_empty() {
-        put_listing(listing, further_line(location, left).as_slice())?;
+        put_report::<T, AsmFault>(listing, further_line(location, left).as_slice())?;
         let (shown, more) = three(left);
         location = location_after(location, shown);
         left = more;

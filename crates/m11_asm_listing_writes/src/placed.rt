@@ -2,7 +2,8 @@
 
 ghost use Rattle.std.specs.Prelude.{◌≡◌, ◌++◌, ◌==◌, ◌||◌, IfOk, not};
 ghost use Rattle.std.specs.Option.{option_to_list};
-ghost use Rattle.m11_asm_outputs.specs.Outputs.{Writes, outputs};
+ghost use Rattle.m11_asm_outputs.specs.Outputs.{Writes};
+ghost use Rattle.m11_base_writes.specs.Outputs.{outputs};
 ghost use Rattle.m11_asm_passes.specs.Placed.{IsPlaced};
 ghost use Rattle.m11_asm_rules.specs.Contents.{Emission};
 ghost use Rattle.m11_asm_rules.specs.Items.{items_of};
@@ -11,7 +12,7 @@ ghost use Rattle.m11_asm_rules.specs.Tables.{Table};
 ghost use Rattle.m11_scan.specs.Views.{bits_of};
 ghost use Rattle.m11_asm_listing_writes.specs.Listed.{listing_writes};
 ghost use Rattle.m11_unfold_rules.specs.Unfolding.{UnfoldedLine};
-ghost use Rattle.m11_base_writes.specs.Outputs.{Output, optional_output};
+ghost use Rattle.m11_base_writes.specs.States.{OutputState, optional_output};
 
 use crate::lines::put_listed;
 use bitflags::Flags;
@@ -37,7 +38,7 @@ pub fn put_placed<T: Sink>(
     contents: &[PieceContent],
     listing: &mut Option<T>,
 ) -> Result<(), AsmFault>
-    ensures { (map : Map) (table : Table) (given : UnfoldedLine) (emission : Emission) (object messages : Output)
+    ensures { (map : Map) (table : Table) (given : UnfoldedLine) (emission : Emission) (object messages : OutputState)
         → IsPlaced map table given line.now emission → emission.contents ≡ contents.now → Writes
         (outputs object (optional_output T.Sink listing.old) messages)
         (outputs object (optional_output T.Sink listing.new) messages)

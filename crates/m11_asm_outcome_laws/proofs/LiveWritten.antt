@@ -8,7 +8,8 @@ use Rattle.m11_asm.specs.declared.done.AsmDone.{AsmDone}
 use Rattle.m11_asm_faults.specs.declared.fault.AsmFault.{AsmFault}
 use Rattle.m11_asm_faults.specs.declared.fault.AsmFault.TheVariants as fault
 use Rattle.m11_asm_outputs.specs.Object.{AllFit, object_contents}
-use Rattle.m11_asm_outputs.specs.Outputs.{Gains, Outputs}
+use Rattle.m11_asm_outputs.specs.Outputs.{Gains}
+use Rattle.m11_base_writes.specs.Outputs.{Outputs}
 use Rattle.m11_base.specs.Devices.{Bytes}
 use Rattle.m11_base.specs.Feed.{Text}
 use Rattle.m11_asm_passes.specs.Lines.{NumberedLine}

@@ -2,7 +2,7 @@
 use Rattle.std.proofs.Common.{◌≡◌, ◌∙◌, ℕ, ◌+◌, Bool, true, false, if◌then◌else◌, List, [], ◌∷◌, ◌++◌, cond, count_by, ap, arith, refl}
 use Rattle.std.proofs.lemmas.List.Sums.{sum_by-append, sum_by-cons}
 use Rattle.m11_asm_outputs.specs.Object.{content_write, content_writes, head_contents, last_records, records_closed_by}
-use Rattle.m11_asm_outputs.specs.Outputs.{Write, flushes, to_listing, to_messages}
+use Rattle.m11_base_writes.specs.Outputs.{Write, flushes, to_messages, to_report}
 use Rattle.m11_base.specs.Devices.{Bytes}
 use Rattle.m11_asm_listing_writes.specs.Listed.{added_lines, all_to_listing, lines_of, listing_writes}
 use Rattle.m11_asm_listing.specs.Messages.{count_line, message_line}
@@ -37,7 +37,7 @@ of_contents (content ∷ contents) =
 of_listing : (lines : List Bytes) → messages_in (all_to_listing lines) ≡ 0
 of_listing [] = refl
 of_listing (line ∷ lines) =
-    sum_by-cons one_if_message (to_listing line) (all_to_listing lines) ∙ omega (arith, of_listing lines)
+    sum_by-cons one_if_message (to_report line) (all_to_listing lines) ∙ omega (arith, of_listing lines)
 
 listed_or_not : (lines : List Bytes) (listed : Bool) → messages_in (if listed then all_to_listing lines else []) ≡ 0
 listed_or_not lines true = of_listing lines

@@ -5,10 +5,11 @@ use Rattle.std.proofs.lemmas.Grind.{flat_map-append}
 use Rattle.m11_asm.proofs.LinesWritten.{pieces_more}
 use Rattle.m11_asm.specs.Program.{Program}
 use Rattle.m11_asm.specs.Written.{EndOfSource, added_writes, closing_writes, flagged_count, head_before, is_flagged, last_location, last_writes, flag_E, flags_at, line_writes, message_writes, pieces_in, program_writes, written, written_after}
-use Rattle.m11_asm_faults.specs.declared.fault.AsmOutput.TheVariants.{Object}
+use Rattle.m11_base_writes.specs.declared.outputs.Output.TheVariants.{Product}
 use Rattle.m11_asm_outputs.proofs.Closing.{all_records, closed-append}
 use Rattle.m11_asm_outputs.specs.Object.{closed_records, content_writes, head_contents, last_records, object_contents, records_closed_by}
-use Rattle.m11_asm_outputs.specs.Outputs.{Write, assembly, flushes, to_messages}
+use Rattle.m11_asm_outputs.specs.Outputs.{assembly}
+use Rattle.m11_base_writes.specs.Outputs.{Write, flushes, to_messages}
 use Rattle.m11_base.specs.Devices.{Bytes}
 use Rattle.m11_asm_listing_writes.specs.Listed.{added_lines, all_to_listing, lines_of, listing_writes}
 use Rattle.m11_asm_listing.specs.Messages.{count_line, message_line}
@@ -31,13 +32,13 @@ use Rattle.m11_asm_outcome_laws.specs.Outputs.{content_block}
 -- ---- what goes to the object
 
 abbrev gains : List Write → Bytes
-gains writes = gained assembly Object writes
+gains writes = gained assembly Product writes
 
 abbrev blocks : List Content → Bytes
 blocks contents = flat_map content_block contents
 
 of_both : (xs ys : List Write) → gains (xs ++ ys) ≡ gains xs ++ gains ys
-of_both xs ys = gained-append assembly Object xs ys
+of_both xs ys = gained-append assembly Product xs ys
 
 both_blocks : (xs ys : List Content) → blocks (xs ++ ys) ≡ blocks xs ++ blocks ys
 both_blocks xs ys = flat_map-append content_block xs ys

@@ -4,10 +4,11 @@ use Rattle.std.specs.List.{concat, cons_option}
 use Rattle.std.proofs.lemmas.List.Folds.{concat-append}
 use Rattle.m11_asm.specs.Program.{Program}
 use Rattle.m11_asm.specs.Written.{EndOfSource, added_writes, closing_writes, flagged_count, head_before, is_flagged, last_location, last_writes, flag_E, flags_at, line_writes, message_writes, pieces_in, program_writes, written, written_after}
-use Rattle.m11_asm_faults.specs.declared.fault.AsmOutput.{AsmOutput}
-use Rattle.m11_asm_faults.specs.declared.fault.AsmOutput.TheVariants.{Listing, Messages}
+use Rattle.m11_base_writes.specs.declared.outputs.Output.{Output}
+use Rattle.m11_base_writes.specs.declared.outputs.Output.TheVariants.{Report, Messages}
 use Rattle.m11_asm_outputs.specs.Object.{content_writes, head_contents, last_records, records_closed_by}
-use Rattle.m11_asm_outputs.specs.Outputs.{Write, assembly, flushes, to_messages}
+use Rattle.m11_asm_outputs.specs.Outputs.{assembly}
+use Rattle.m11_base_writes.specs.Outputs.{Write, flushes, to_messages}
 use Rattle.m11_base.specs.Devices.{Bytes}
 use Rattle.m11_asm_listing_writes.specs.Listed.{added_lines, all_to_listing, lines_of, listing_writes}
 use Rattle.m11_asm_listing.specs.Messages.{count_line, message_line}
@@ -22,10 +23,10 @@ use Rattle.m11_base_writes.specs.Writes.{gained}
 use Rattle.m11_asm_outcome_laws.specs.Outputs.{added_listed, added_message, listed, listed_after, listing_lines, message_lines, message_of, messages_after}
 
 -- what writes make for an output
-abbrev Makes : AsmOutput → List Write → List Bytes → Type 0
+abbrev Makes : Output → List Write → List Bytes → Type 0
 Makes output writes lines = gained assembly output writes ≡ concat lines
 
-module _ (output : AsmOutput) where
+module _ (output : Output) where
   none_made : Makes output [] []
   unfolding gained
   none_made = refl
@@ -48,31 +49,31 @@ module _ (output : AsmOutput) where
 
 -- ---- for the listing
 
-contents_unlisted : (contents : List Content) → Makes Listing (content_writes contents) []
+contents_unlisted : (contents : List Content) → Makes Report (content_writes contents) []
 unfolding content_writes gained
 contents_unlisted [] = refl
 contents_unlisted (content ∷ contents) = contents_unlisted contents
 
-lines_made : (lines : List Bytes) → Makes Listing (all_to_listing lines) lines
+lines_made : (lines : List Bytes) → Makes Report (all_to_listing lines) lines
 unfolding gained
 lines_made [] = refl
 lines_made (line ∷ lines) = ap (λ (t : Bytes). line ++ t) (lines_made lines)
 
-message_unlisted : (bytes : Bytes) → Makes Listing (to_messages bytes ∷ []) []
+message_unlisted : (bytes : Bytes) → Makes Report (to_messages bytes ∷ []) []
 unfolding gained
 message_unlisted bytes = refl
 
-end_unlisted : (bytes : Bytes) → Makes Listing (flushes ++ to_messages bytes ∷ []) []
+end_unlisted : (bytes : Bytes) → Makes Report (flushes ++ to_messages bytes ∷ []) []
 unfolding gained
 end_unlisted bytes = refl
 
-if_listed : (lines : List Bytes) (b : Bool) → Makes Listing (if b then all_to_listing lines else []) (if b then lines else [])
+if_listed : (lines : List Bytes) (b : Bool) → Makes Report (if b then all_to_listing lines else []) (if b then lines else [])
 if_listed lines true = lines_made lines
-if_listed lines false = none_made Listing
+if_listed lines false = none_made Report
 
-if_unlisted : (bytes : Bytes) (b : Bool) → Makes Listing (if b then to_messages bytes ∷ [] else []) []
+if_unlisted : (bytes : Bytes) (b : Bool) → Makes Report (if b then to_messages bytes ∷ [] else []) []
 if_unlisted bytes true = message_unlisted bytes
-if_unlisted bytes false = none_made Listing
+if_unlisted bytes false = none_made Report
 
 -- ---- for the messages
 
@@ -115,9 +116,9 @@ one_more (Some line) lines = refl
 module _ (program : Program) where
   -- ---- the lines of a source
 
-  head_unlisted : (before : List NumberedLine) → Makes Listing (head_before program before) []
+  head_unlisted : (before : List NumberedLine) → Makes Report (head_before program before) []
   head_unlisted [] = contents_unlisted (head_contents program.rows)
-  head_unlisted (line ∷ before) = none_made Listing
+  head_unlisted (line ∷ before) = none_made Report
 
   head_unsaid : (before : List NumberedLine) → Makes Messages (head_before program before) []
   head_unsaid [] = contents_unsaid (head_contents program.rows)
@@ -134,7 +135,7 @@ module _ (program : Program) where
   abbrev to_say : List NumberedLine → NumberedLine → List Write
   to_say before line = message_writes (flags_at program before line) line.number line.given.live.line.text
 
-  listed_made : (before : List NumberedLine) (line : NumberedLine) → Makes Listing (to_list before line) (listed program before line)
+  listed_made : (before : List NumberedLine) (line : NumberedLine) → Makes Report (to_list before line) (listed program before line)
   unfolding listing_writes
   listed_made before line =
       if_listed (lines_of program.map (table_at program.map before) (flags_at program before line) line.number line.given)
@@ -147,15 +148,15 @@ module _ (program : Program) where
       (is_listed (after_line program.map (table_at program.map before) line.given) line.given (flags_at program before line))
 
   line_made : (before : List NumberedLine) (line : NumberedLine)
-      → Makes Listing (head_before program before ++ line_writes program before line) (listed program before line)
+      → Makes Report (head_before program before ++ line_writes program before line) (listed program before line)
   unfolding line_writes
   line_made before line =
       let text = message_line (flags_text (flags_at program before line)) line.number line.given.live.line.text in
-      then_made Listing (head_before program before) (line_writes program before line) [] (listed program before line)
+      then_made Report (head_before program before) (line_writes program before line) [] (listed program before line)
       (head_unlisted before)
-      (then_made Listing (content_writes (closed before line)) (to_list before line ++ to_say before line) []
+      (then_made Report (content_writes (closed before line)) (to_list before line ++ to_say before line) []
       (listed program before line) (contents_unlisted (closed before line))
-      (then_skipped Listing (to_list before line) (to_say before line) (listed program before line) (listed_made before line)
+      (then_skipped Report (to_list before line) (to_say before line) (listed program before line) (listed_made before line)
       (if_unlisted text (is_flagged (flags_at program before line)))))
 
   abbrev line_said : List NumberedLine → NumberedLine → Option Bytes
@@ -174,10 +175,10 @@ module _ (program : Program) where
       (if_said text (is_flagged (flags_at program before line)))))
 
   all_listed : (before lines : List NumberedLine)
-      → Makes Listing (written_after program before lines) (listed_after program before lines)
-  all_listed before [] = none_made Listing
+      → Makes Report (written_after program before lines) (listed_after program before lines)
+  all_listed before [] = none_made Report
   all_listed before (line ∷ lines) =
-      then_made Listing (head_before program before ++ line_writes program before line)
+      then_made Report (head_before program before ++ line_writes program before line)
       (written_after program (before ++ line ∷ []) lines) (listed program before line)
       (listed_after program (before ++ line ∷ []) lines) (line_made before line) (all_listed (before ++ line ∷ []) lines)
 
@@ -190,7 +191,7 @@ module _ (program : Program) where
       (written_after program (before ++ line ∷ []) lines) (lines_if (line_said before line)) rest (line_says before line)
       (all_said (before ++ line ∷ []) lines) ∙ ap concat (one_more (line_said before line) rest)
 
-  written_listed : (lines : List NumberedLine) → Makes Listing (written program lines) (listed_after program [] lines)
+  written_listed : (lines : List NumberedLine) → Makes Report (written program lines) (listed_after program [] lines)
   unfolding written
   written_listed lines = all_listed [] lines
 
@@ -203,12 +204,12 @@ module _ (program : Program) where
   abbrev last_text : ℕ → Bytes
   last_text number = message_line (flags_text flag_E) number []
 
-  added_is_listed : (ended : EndOfSource) (counter : ℕ) → Makes Listing (added_writes ended counter) (added_listed ended counter)
+  added_is_listed : (ended : EndOfSource) (counter : ℕ) → Makes Report (added_writes ended counter) (added_listed ended counter)
   added_is_listed ended counter =
       let added = added_lines flag_E ended.read counter in
       let message = message_writes flag_E ended.read [] in
-      if_added Listing ended.has_end (all_to_listing added ++ message) added
-      (then_skipped Listing (all_to_listing added) message added (lines_made added)
+      if_added Report ended.has_end (all_to_listing added ++ message) added
+      (then_skipped Report (all_to_listing added) message added (lines_made added)
       (if_unlisted (last_text ended.read) (is_flagged flag_E)))
 
   added_is_said : (ended : EndOfSource) (counter : ℕ) → Makes Messages (added_writes ended counter) (added_message ended)
@@ -226,11 +227,11 @@ module _ (program : Program) where
     abbrev table : List Bytes
     table = last_lines program.symbols program.sections count
 
-    closing_listed : Makes Listing (closing_writes (pieces_in program.map lines) program.symbols program.sections count) table
+    closing_listed : Makes Report (closing_writes (pieces_in program.map lines) program.symbols program.sections count) table
     closing_listed =
-        then_made Listing (content_writes ends) (all_to_listing table ++ (flushes ++ to_messages (count_line count) ∷ [])) [] table
+        then_made Report (content_writes ends) (all_to_listing table ++ (flushes ++ to_messages (count_line count) ∷ [])) [] table
         (contents_unlisted ends)
-        (then_skipped Listing (all_to_listing table) (flushes ++ to_messages (count_line count) ∷ []) table (lines_made table)
+        (then_skipped Report (all_to_listing table) (flushes ++ to_messages (count_line count) ∷ []) table (lines_made table)
         (end_unlisted (count_line count)))
 
     closing_said : Makes Messages (closing_writes (pieces_in program.map lines) program.symbols program.sections count)
@@ -251,14 +252,14 @@ module _ (program : Program) where
     abbrev added_after : List Write
     added_after = added_writes ended (last_location program lines)
 
-    pub listing_is_its_lines : Makes Listing (program_writes program lines ended) (listing_lines program lines ended)
+    pub listing_is_its_lines : Makes Report (program_writes program lines ended) (listing_lines program lines ended)
     listing_is_its_lines =
         let added = added_listed ended (last_location program lines) in
-        then_made Listing (written program lines) (last_writes program lines ended) (listed_after program [] lines)
+        then_made Report (written program lines) (last_writes program lines ended) (listed_after program [] lines)
         (added ++ table lines count) (written_listed lines)
-        (then_made Listing (head_before program lines) (added_after ++ closing) [] (added ++ table lines count)
+        (then_made Report (head_before program lines) (added_after ++ closing) [] (added ++ table lines count)
         (head_unlisted lines)
-        (then_made Listing added_after closing added (table lines count) (added_is_listed ended (last_location program lines))
+        (then_made Report added_after closing added (table lines count) (added_is_listed ended (last_location program lines))
         (closing_listed lines count)))
 
     pub messages_are_their_lines : Makes Messages (program_writes program lines ended) (message_lines program lines ended)

@@ -2,8 +2,9 @@
 use Rattle.std.proofs.Common.{◌≡◌, ◌∙◌, ℕ, List, ◌++◌, Option, Some, None, sym, ap, subst}
 use Rattle.std.specs.Io.KnownBytes.{Appends}
 use Rattle.m11_asm.specs.Outcome.{Assembled, HasOutcome, Outcome}
-use Rattle.m11_asm_faults.specs.declared.fault.AsmOutput.{AsmOutput}
-use Rattle.m11_asm_outputs.specs.Outputs.{Gains, Outputs, Write, assembly}
+use Rattle.m11_base_writes.specs.declared.outputs.Output.{Output}
+use Rattle.m11_asm_outputs.specs.Outputs.{Gains, assembly}
+use Rattle.m11_base_writes.specs.Outputs.{Outputs, Write}
 use Rattle.m11_base.specs.Devices.{Bytes}
 use Rattle.m11_scan_line_laws.specs.Readings.{Reading}
 use Rattle.m11_base_writes.specs.Writes.{gained}
@@ -17,7 +18,7 @@ abbrev writes_in : Outcome → List Write → List Write
 writes_in (Assembled writes flagged) others = writes
 writes_in other others = others
 
-holds : (output : AsmOutput) (before : Bytes) (old new : Outputs) (writes : List Write) → (old output).text ≡ Some before
+holds : (output : Output) (before : Bytes) (old new : Outputs) (writes : List Write) → (old output).text ≡ Some before
     → Gains old new writes → (new output).text ≡ Some (before ++ gained assembly output writes)
 holds output before old new writes known gains =
     let P : Option Bytes → Type 0 = λ text. Appends text (new output).text (gained assembly output writes) in
@@ -27,7 +28,7 @@ pub left_alike : ((first second : Reading) (one other : Outcome) → HasOutcome 
     → (first second : Reading) (writes others : List Write) (flagged count : ℕ)
     → HasOutcome first second (Assembled writes flagged) → HasOutcome first second (Assembled others count)
     → (old new with_old with_new : Outputs) → Gains old new writes → Gains with_old with_new others
-    → (output : AsmOutput) (before : Bytes) → (old output).text ≡ Some before → (with_old output).text ≡ Some before
+    → (output : Output) (before : Bytes) → (old output).text ≡ Some before → (with_old output).text ≡ Some before
     → (new output).text ≡ (with_new output).text
 left_alike once first second writes others flagged count has has_other old new with_old with_new gains gains_other output before known known_other =
     let same : writes ≡ others =

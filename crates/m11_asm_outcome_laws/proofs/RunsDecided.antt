@@ -9,7 +9,8 @@ use Rattle.m11_asm.specs.Written.{EndOfSource, flagged_count, head_before, last_
 use Rattle.m11_asm.specs.declared.done.AsmDone.{AsmDone}
 use Rattle.m11_asm_faults.specs.declared.fault.AsmFault.{AsmFault}
 use Rattle.m11_asm_faults.specs.declared.fault.AsmFault.TheVariants as fault
-use Rattle.m11_asm_outputs.specs.Outputs.{AreFlushed, Gains, Outputs, Stops, StopsBetween, StopsIn, Write, assembly}
+use Rattle.m11_asm_outputs.specs.Outputs.{Gains, Stops, StopsBetween, StopsIn, assembly}
+use Rattle.m11_base_writes.specs.Outputs.{AreFlushed, Outputs, Write}
 use Rattle.m11_base.specs.Devices.{Bytes}
 use Rattle.m11_base.specs.Feed.{Text}
 use Rattle.m11_scan_lines.specs.Line.{SourceLine}

@@ -6,7 +6,8 @@ use Rattle.m11_asm.specs.Passes.{Pass, Reads, ReadsFirst, ReadsSecond, WritesLin
 use Rattle.m11_asm.specs.Run.{AsmRuns}
 use Rattle.m11_asm_faults.specs.declared.fault.AsmFault.{AsmFault}
 use Rattle.m11_asm_faults.specs.declared.fault.AsmFault.TheVariants as fault
-use Rattle.m11_asm_outputs.specs.Outputs.{Gains, Outputs, Write, assembly}
+use Rattle.m11_asm_outputs.specs.Outputs.{Gains, assembly}
+use Rattle.m11_base_writes.specs.Outputs.{Outputs, Write}
 use Rattle.m11_asm_passes.specs.Lines.{NumberedLine, givens}
 use Rattle.m11_asm_rules.specs.Meanings.{empty_map}
 use Rattle.m11_scan_line_laws.specs.Readings.{Reading}

@@ -6,7 +6,8 @@ use Rattle.m11_asm.specs.Written.{EndOfSource, pieces_in, program_writes}
 use Rattle.m11_asm.specs.declared.done.AsmDone.{AsmDone}
 use Rattle.m11_asm_faults.specs.declared.fault.AsmFault.{AsmFault}
 use Rattle.m11_asm_outputs.specs.Object.{AllFit, object_contents}
-use Rattle.m11_asm_outputs.specs.Outputs.{AreFlushed, Gains, Outputs}
+use Rattle.m11_asm_outputs.specs.Outputs.{Gains}
+use Rattle.m11_base_writes.specs.Outputs.{AreFlushed, Outputs}
 use Rattle.m11_base.specs.Devices.{Bytes}
 use Rattle.m11_asm_passes.specs.Lines.{NumberedLine}
 use Rattle.m11_asm_rules.specs.Meanings.{empty_map}

@@ -1,7 +1,7 @@
 -- How many messages writes are. (MACRO-11 Language Reference Manual, "Diagnostic error message summary".)
 use Rattle.std.specs.Prelude.{ℕ, Bool, List, count_by}
-use Rattle.m11_asm_faults.specs.declared.fault.AsmOutput.TheVariants.{Messages}
-use Rattle.m11_asm_outputs.specs.Outputs.{Write, is_output}
+use Rattle.m11_base_writes.specs.declared.outputs.Output.TheVariants.{Messages}
+use Rattle.m11_base_writes.specs.Outputs.{Write, is_output}
 
 abbrev pub is_message : Write → Bool
 is_message write = is_output write.output Messages

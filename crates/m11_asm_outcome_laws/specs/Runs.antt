@@ -4,7 +4,7 @@ use Rattle.m11_asm.specs.Outcome.{HasOutcome, Refused}
 use Rattle.m11_asm.specs.Passes.{Pass, Reads}
 use Rattle.m11_asm_faults.specs.declared.fault.AsmFault.{AsmFault}
 use Rattle.m11_asm_faults.specs.declared.fault.AsmFault.TheVariants as fault
-use Rattle.m11_asm_outputs.specs.Outputs.{Write}
+use Rattle.m11_base_writes.specs.Outputs.{Write}
 use Rattle.m11_scan_line_laws.specs.Readings.{Reading}
 
 -- a fault of the sources: a limit is passed. The others are those of devices and of memory

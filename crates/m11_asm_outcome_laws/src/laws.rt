@@ -5,8 +5,9 @@ ghost use Rattle.m11_asm.specs.Outcome.{Assembled, Ends, HasOutcome, Outcome, Re
 ghost use Rattle.m11_asm.specs.Passes.{Pass};
 ghost use Rattle.m11_asm.specs.Run.{AsmRuns};
 ghost use Rattle.m11_asm_faults.specs.declared.fault.AsmFault.{AsmFault};
-ghost use Rattle.m11_asm_faults.specs.declared.fault.AsmOutput.{AsmOutput};
-ghost use Rattle.m11_asm_outputs.specs.Outputs.{Gains, Outputs, Write};
+ghost use Rattle.m11_base_writes.specs.declared.outputs.Output.{Output};
+ghost use Rattle.m11_asm_outputs.specs.Outputs.{Gains};
+ghost use Rattle.m11_base_writes.specs.Outputs.{Outputs, Write};
 ghost use Rattle.m11_base.specs.Devices.{Bytes};
 ghost use Rattle.m11_asm_outcome_laws.specs.Messages.{messages_in};
 ghost use Rattle.m11_asm_outcome_laws.specs.OneText.{IsDecidedByFirst, Repeats, program_after};
@@ -88,7 +89,7 @@ pub fn a_listing_changes_no_other_output()
     ensures { (first second : Reading) (writes others : List Write) (flagged count : ℕ)
         → HasOutcome first second (Assembled writes flagged) → HasOutcome first second (Assembled others count)
         → (old new with_old with_new : Outputs) → Gains old new writes → Gains with_old with_new others
-        → (output : AsmOutput) (before : Bytes) → (old output).text ≡ Some before → (with_old output).text ≡ Some before
+        → (output : Output) (before : Bytes) → (old output).text ≡ Some before → (with_old output).text ≡ Some before
         → (new output).text ≡ (with_new output).text }
 {
     sources_have_one_outcome();

@@ -4,7 +4,7 @@ ghost use Rattle.std.specs.Prelude.{◌≡◌, List};
 ghost use Rattle.std.specs.List.{concat, flat_map};
 ghost use Rattle.m11_asm.specs.Program.{Program};
 ghost use Rattle.m11_asm.specs.Written.{EndOfSource, pieces_in, program_writes};
-ghost use Rattle.m11_asm_faults.specs.declared.fault.AsmOutput.TheVariants.{Listing, Messages, Object};
+ghost use Rattle.m11_base_writes.specs.declared.outputs.Output.TheVariants.{Report, Messages, Product};
 ghost use Rattle.m11_asm_outputs.specs.Object.{object_contents};
 ghost use Rattle.m11_asm_outputs.specs.Outputs.{assembly};
 ghost use Rattle.m11_asm_outcome_laws.specs.Outputs.{content_block, listing_lines, message_lines};
@@ -17,7 +17,7 @@ ghost use Rattle.m11_base_writes.specs.Writes.{gained};
 #[tactic(auto, using(crate::proofs::ObjectWritten::object_is_its_blocks))]
 pub fn the_object_is_the_blocks_of_its_contents()
     ensures { (program : Program) (lines : List NumberedLine) (ended : EndOfSource)
-        → gained assembly Object (program_writes program lines ended)
+        → gained assembly Product (program_writes program lines ended)
         ≡ flat_map content_block (object_contents program.rows (pieces_in program.map lines)) }
 {}
 
@@ -26,7 +26,7 @@ pub fn the_object_is_the_blocks_of_its_contents()
 #[tactic(auto, using(crate::proofs::OutputLines::listing_is_its_lines))]
 pub fn the_listing_is_its_lines()
     ensures { (program : Program) (lines : List NumberedLine) (ended : EndOfSource)
-        → gained assembly Listing (program_writes program lines ended)
+        → gained assembly Report (program_writes program lines ended)
         ≡ concat (listing_lines program lines ended) }
 {}
 

@@ -8,43 +8,44 @@ use Rattle.m11_obj.specs.Records.{Content, EndOfGsd, record_data}
 use Rattle.m11_obj_texts.specs.Blocks.{AreRecords}
 use Rattle.m11_obj_texts.specs.declared.directory.DirectoryRow.{DirectoryRow}
 use Rattle.m11_asm_outputs.specs.Object.{block_writes, content_writes, head_contents, records_filled_by, rest_records}
-use Rattle.m11_asm_outputs.specs.Outputs.{Gains, Outputs, Stops, Write, Writes, to_object}
+use Rattle.m11_asm_outputs.specs.Outputs.{Gains, Stops, Writes}
+use Rattle.m11_base_writes.specs.Outputs.{Outputs, Write, to_product}
 use Rattle.m11_asm_outputs.proofs.Fitting.{head_in_two}
 use Rattle.m11_asm_outputs.proofs.Looping.{content_writes-append}
 
 blocks_mapped : (blocks : List (ArrayVec ℕ))
-    → map (λ content. to_object (block content.items)) blocks
-    ≡ map (λ content. to_object (block content)) (map (λ content. content.items) blocks)
+    → map (λ content. to_product (block content.items)) blocks
+    ≡ map (λ content. to_product (block content)) (map (λ content. content.items) blocks)
 blocks_mapped [] = refl
 blocks_mapped (content ∷ blocks) =
-    ap (λ (t : List Write). to_object (block content.items) ∷ t) (blocks_mapped blocks)
+    ap (λ (t : List Write). to_product (block content.items) ∷ t) (blocks_mapped blocks)
 
 contents_mapped : (contents : List Content)
-    → map (λ content. to_object (block (record_data content))) contents
-    ≡ map (λ content. to_object (block content)) (map record_data contents)
+    → map (λ content. to_product (block (record_data content))) contents
+    ≡ map (λ content. to_product (block content)) (map record_data contents)
 contents_mapped [] = refl
 contents_mapped (content ∷ contents) =
-    ap (λ (t : List Write). to_object (block (record_data content)) ∷ t) (contents_mapped contents)
+    ap (λ (t : List Write). to_product (block (record_data content)) ∷ t) (contents_mapped contents)
 
 -- blocks that hold records are written as those records are
 pub as_records : (blocks : List (ArrayVec ℕ)) (contents : List Content) → AreRecords blocks contents
     → block_writes blocks ≡ content_writes contents
 unfolding block_writes content_writes
 as_records blocks contents h = blocks_mapped blocks
-    ∙ ap (λ (t : List Bytes). map (λ content. to_object (block content)) t) h.0 ∙ sym (contents_mapped contents)
+    ∙ ap (λ (t : List Bytes). map (λ content. to_product (block content)) t) h.0 ∙ sym (contents_mapped contents)
 
 pub no_blocks : block_writes [] ≡ []
 unfolding block_writes
 no_blocks = refl
 
-pub one_block : (content : ArrayVec ℕ) → block_writes (content ∷ []) ≡ to_object (block content.items) ∷ []
+pub one_block : (content : ArrayVec ℕ) → block_writes (content ∷ []) ≡ to_product (block content.items) ∷ []
 unfolding block_writes
 one_block content = refl
 
 pub blocks_left : (blocks rest : List (ArrayVec ℕ)) (content : ArrayVec ℕ) → blocks ≡ content ∷ rest
-    → block_writes blocks ≡ (to_object (block content.items) ∷ []) ++ block_writes rest
+    → block_writes blocks ≡ (to_product (block content.items) ∷ []) ++ block_writes rest
 unfolding block_writes
-blocks_left blocks rest content e = ap (λ (t : List (ArrayVec ℕ)). map (λ content. to_object (block content.items)) t) e
+blocks_left blocks rest content e = ap (λ (t : List (ArrayVec ℕ)). map (λ content. to_product (block content.items)) t) e
 
 pub blocks_end : (blocks : List (ArrayVec ℕ)) → blocks ≡ [] → block_writes blocks ≡ []
 blocks_end blocks e = ap block_writes e ∙ no_blocks

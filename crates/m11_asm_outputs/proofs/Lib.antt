@@ -4,4 +4,3 @@ pub mod Fitting
 pub mod Growing
 pub mod Looping
 pub mod Taking
-pub mod Writing

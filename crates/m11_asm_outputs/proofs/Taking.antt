@@ -3,27 +3,29 @@
 use Rattle.std.proofs.Common.{◌≡◌, List, [], ◌∷◌, ◌++◌, refl, sym, ap, subst, ◌∙◌, append_assoc, append-nil}
 use Rattle.m11_asm_faults.specs.declared.fault.AsmFault.{AsmFault}
 use Rattle.m11_obj.specs.Records.{Content}
-use Rattle.m11_base_writes.specs.Outputs.{Output}
+use Rattle.m11_base_writes.specs.States.{OutputState}
 use Rattle.m11_asm_outputs.specs.Object.{added, content_writes, AllFit}
-use Rattle.m11_asm_outputs.specs.Outputs.{Outputs, Gains, Stops}
+use Rattle.m11_asm_outputs.specs.Outputs.{Gains, Stops, assembly}
+use Rattle.m11_base_writes.specs.Outputs.{Outputs}
 use Rattle.m11_asm_outputs.proofs.Fitting.{all_fit-append, fit_as}
 use Rattle.m11_asm_outputs.proofs.Growing.{added-append, added-nil}
-use Rattle.m11_asm_outputs.proofs.Looping.{Leads, content_writes-append, no_contents, stopped_there, wrote_all, wrote_one}
+use Rattle.m11_base_writes.proofs.Looping.{Leads, stopped_there, wrote_all, wrote_one}
+use Rattle.m11_asm_outputs.proofs.Looping.{content_writes-append, no_contents}
 
 -- some of the items were taken: what is held stands after them, what the others add is left to be written, and where that fits all fits
 pub record Taken {A S : Type 0} (made : List A → List Content) (Holds : List A → S → Type 0)
-    (start now : Output → Output → Outputs) (old new : S) (all left : List A) : Type 0 where
+    (start now : OutputState → OutputState → Outputs) (old new : S) (all left : List A) : Type 0 where
   pub done : List A
   pub split : all ≡ done ++ left
   pub holds : (before : List A) → Holds before old → Holds (before ++ done) new
-  pub leads : (before : List A) → Holds before old → (listing messages : Output)
-      → Leads (Unit {0}) (start listing messages) (now listing messages)
+  pub leads : (before : List A) → Holds before old → (listing messages : OutputState)
+      → Leads assembly (Unit {0}) (start listing messages) (now listing messages)
       (content_writes (added made (before ++ done) left)) (content_writes (added made before all))
   pub fits : (before : List A) → Holds before old → AllFit (added made (before ++ done) left) → AllFit (added made before all)
 
 module _ {A S : Type 0} (made : List A → List Content)
     (grows : (xs ys : List A) → (more : List Content) × (made (xs ++ ys) ≡ made xs ++ more))
-    (Holds : List A → S → Type 0) (start : Output → Output → Outputs) (old : S) (all : List A) where
+    (Holds : List A → S → Type 0) (start : OutputState → OutputState → Outputs) (old : S) (all : List A) where
   pub none_taken : Taken made Holds start start old old all all
   none_taken = record {
     done = [];
@@ -31,13 +33,13 @@ module _ {A S : Type 0} (made : List A → List Content)
     holds = λ before h. let P : List A → Type 0 = λ items. Holds items old in subst P (sym (append-nil before)) h;
     leads = λ before h listing messages.
         let P : List A → Type 0 =
-        λ items. Leads (Unit {0}) (start listing messages) (start listing messages) (content_writes (added made items all))
+        λ items. Leads assembly (Unit {0}) (start listing messages) (start listing messages) (content_writes (added made items all))
         (content_writes (added made before all)) in
         subst P (sym (append-nil before)) (λ new result writes. writes);
     fits = λ before h fit. fit_as _ _ (ap (λ (items : List A). added made items all) (append-nil before)) fit;
   }
 
-  module _ (now : Output → Output → Outputs) (new : S) (item : A) (rest left : List A) (e : left ≡ item ∷ rest)
+  module _ (now : OutputState → OutputState → Outputs) (new : S) (item : A) (rest left : List A) (e : left ≡ item ∷ rest)
       (taken : Taken made Holds start now old new all left) where
     left_is : (before : List A) → content_writes (added made before left)
         ≡ content_writes (added made before (item ∷ [])) ++ content_writes (added made (before ++ item ∷ []) rest)
@@ -46,8 +48,8 @@ module _ {A S : Type 0} (made : List A → List Content)
         ∙ ap content_writes (added-append made grows before (item ∷ []) rest)
         ∙ content_writes-append (added made before (item ∷ [])) (added made (before ++ item ∷ []) rest)
 
-    pub one_taken : (later : Output → Output → Outputs) (new' : S)
-        → ((before : List A) → Holds before new → (listing messages : Output)
+    pub one_taken : (later : OutputState → OutputState → Outputs) (new' : S)
+        → ((before : List A) → Holds before new → (listing messages : OutputState)
         → Gains (now listing messages) (later listing messages) (content_writes (added made before (item ∷ []))))
         → ((before : List A) → Holds before new → Holds (before ++ item ∷ []) new')
         → ((before : List A) → Holds before new → AllFit (added made before (item ∷ [])))
@@ -59,7 +61,7 @@ module _ {A S : Type 0} (made : List A → List Content)
           let P : List A → Type 0 = λ items. Holds items new' in
           subst P (append_assoc before taken.done (item ∷ [])) (holds (before ++ taken.done) (taken.holds before h));
       leads = λ before h listing messages.
-          wrote_one (start listing messages) (now listing messages) (content_writes (added made before all))
+          wrote_one assembly (start listing messages) (now listing messages) (content_writes (added made before all))
           (later listing messages) (content_writes (added made (before ++ taken.done) (item ∷ [])))
           (content_writes (added made (before ++ (taken.done ++ item ∷ [])) rest))
           (content_writes (added made (before ++ taken.done) left))
@@ -76,23 +78,23 @@ module _ {A S : Type 0} (made : List A → List Content)
           (fit_as _ _ (ap (λ (t : List A). added made t rest) (sym (append_assoc before taken.done (item ∷ [])))) rest_fits)));
     }
 
-    pub stopped_at : (before : List A) → Holds before old → (listing messages : Output) (end : Outputs) (stopped : AsmFault)
+    pub stopped_at : (before : List A) → Holds before old → (listing messages : OutputState) (end : Outputs) (stopped : AsmFault)
         → ((done : List A) → Holds done new
         → Stops (now listing messages) end (content_writes (added made done (item ∷ []))) stopped)
         → Stops (start listing messages) end (content_writes (added made before all)) stopped
     stopped_at before h listing messages end stopped stops =
-        stopped_there (start listing messages) (now listing messages) (content_writes (added made before all)) end
+        stopped_there assembly (start listing messages) (now listing messages) (content_writes (added made before all)) end
         (content_writes (added made (before ++ taken.done) (item ∷ [])))
         (content_writes (added made ((before ++ taken.done) ++ item ∷ []) rest))
         (content_writes (added made (before ++ taken.done) left)) stopped (left_is (before ++ taken.done))
         (taken.leads before h listing messages) (stops (before ++ taken.done) (taken.holds before h))
 
-  module _ (now : Output → Output → Outputs) (new : S) (left : List A) (e : left ≡ [])
+  module _ (now : OutputState → OutputState → Outputs) (new : S) (left : List A) (e : left ≡ [])
       (taken : Taken made Holds start now old new all left) where
-    pub all_written : (before : List A) → Holds before old → (listing messages : Output)
+    pub all_written : (before : List A) → Holds before old → (listing messages : OutputState)
         → Gains (start listing messages) (now listing messages) (content_writes (added made before all))
     all_written before h listing messages =
-        wrote_all {A = Unit {0}} (start listing messages) (now listing messages) (content_writes (added made before all))
+        wrote_all assembly {A = Unit {0}} (start listing messages) (now listing messages) (content_writes (added made before all))
         (content_writes (added made (before ++ taken.done) left)) tt
         (ap (λ (t : List A). content_writes (added made (before ++ taken.done) t)) e
         ∙ ap content_writes (sym (added-nil made grows (before ++ taken.done))) ∙ no_contents)

@@ -13,7 +13,7 @@ use Rattle.m11_obj_texts.specs.OpenText as text
 use Rattle.m11_obj_texts.specs.Texts.{TextParts, cutting, texts_after, records_of, text_records}
 use Rattle.m11_obj_texts.specs.declared.directory.DirectoryRow.{DirectoryRow}
 use Rattle.m11_obj_texts.specs.declared.pieces.Piece.{Piece}
-use Rattle.m11_asm_outputs.specs.Outputs.{Write, to_object}
+use Rattle.m11_base_writes.specs.Outputs.{Write, to_product}
 
 -- ---- the whole object
 
@@ -31,7 +31,7 @@ AllFit contents = AllByRecursion Fits contents
 
 -- each record is written as a block
 abbrev pub content_write : Content → Write
-content_write content = to_object (block (record_data content))
+content_write content = to_product (block (record_data content))
 
 unfoldable pub content_writes : List Content → List Write
 content_writes contents = map content_write contents
@@ -91,4 +91,4 @@ BlockFits block = (content : Content) → content_of block.items ≡ Ok content 
 
 -- contents as they stand in blocks
 unfoldable pub block_writes : List (ArrayVec ℕ) → List Write
-block_writes blocks = map (λ content. to_object (block content.items)) blocks
+block_writes blocks = map (λ content. to_product (block content.items)) blocks

@@ -2,11 +2,6 @@
 //! listing and of the messages. No source is read here, and no line is understood.
 #![tactic(auto)]
 
-// Each write to an output, whole or with its fault.
-mod outputs;
-
-pub use outputs::{flush_files, put_listing, put_message, put_record};
-
 // The records of the object.
 mod object;
 

@@ -4,13 +4,14 @@ ghost use Rattle.std.specs.Prelude.{◌≤◌, ◌≢◌, [], ◌∷◌, length,
 ghost use Rattle.m11_asm_listing.specs.Messages.{count_line, message_line};
 ghost use Rattle.m11_scan.specs.ErrorFlags.{flags_text};
 ghost use Rattle.m11_scan.specs.Views.{bits_of};
-ghost use Rattle.m11_base_writes.specs.Outputs.{Output, output_of};
-ghost use Rattle.m11_asm_outputs.specs.Outputs.{Writes, outputs, to_messages};
+ghost use Rattle.m11_base_writes.specs.States.{OutputState, output_of};
+ghost use Rattle.m11_asm_outputs.specs.Outputs.{Writes};
+ghost use Rattle.m11_base_writes.specs.Outputs.{outputs, to_messages};
 
-use crate::outputs::put_message;
 use m11_asm_faults::AsmFault;
 use m11_asm_listing::{count_line, message_line};
 use m11_base::Sink;
+use m11_base_writes::put_message;
 use m11_scan::ErrorFlags;
 
 /// The message on a flagged line: its flags, its number and its text, which has at most 132 bytes.
@@ -23,7 +24,7 @@ pub fn put_flagged<U: Sink>(
     text: &[u8],
 ) -> Result<(), AsmFault>
     requires { length text.now ≤ 132 }
-    ensures writes { (object listing : Output) → Writes
+    ensures writes { (object listing : OutputState) → Writes
         (outputs object listing (output_of U.Sink messages.old))
         (outputs object listing (output_of U.Sink messages.new))
         (to_messages (message_line (flags_text (bits_of flags)) number text.now) ∷ []) result }
@@ -37,7 +38,7 @@ pub fn put_flagged<U: Sink>(
 ///
 /// Fault: `Write` of the messages.
 pub fn put_count<U: Sink>(messages: &mut U, count: u32) -> Result<(), AsmFault>
-    ensures writes { (object listing : Output) → Writes
+    ensures writes { (object listing : OutputState) → Writes
         (outputs object listing (output_of U.Sink messages.old))
         (outputs object listing (output_of U.Sink messages.new)) (to_messages (count_line count) ∷ []) result }
     ensures no_memory { IfErr result (λ fault. fault ≢ AsmFault.NoMemory) }

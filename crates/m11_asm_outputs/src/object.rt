@@ -10,14 +10,15 @@ ghost use Rattle.m11_obj_texts.specs.Texts.{records_of};
 ghost use Rattle.m11_obj_texts.specs.declared.directory.DirectoryRow.{DirectoryRow};
 ghost use Rattle.m11_obj_texts.specs.declared.pieces.Piece.{Piece};
 ghost use Rattle.m11_asm_rules.specs.Contents.{content_size, further, pieces_from};
-ghost use Rattle.m11_base_writes.specs.Outputs.{Output, output_of};
+ghost use Rattle.m11_base_writes.specs.States.{OutputState, output_of};
 ghost use Rattle.m11_asm_outputs.specs.Object.{AllFit, BlockFits, IsOpenAfter, WaitsAfter, block_writes, content_writes, head_contents, last_records, records_closed_by, records_filled_by, rest_records};
-ghost use Rattle.m11_asm_outputs.specs.Outputs.{Writes, outputs};
+ghost use Rattle.m11_asm_outputs.specs.Outputs.{Writes};
+ghost use Rattle.m11_base_writes.specs.Outputs.{outputs};
 
-use crate::outputs::put_record;
 use m11_asm_faults::AsmFault;
 use m11_base::{Name, Sink};
-use m11_obj::{Block, Record};
+use m11_base_writes::put_product;
+use m11_obj::{Block, Record, block_bytes};
 use m11_obj_texts::{DirectoryRow, OpenDirectory, OpenText, Piece, PieceContent, Text};
 use std::alloc::Global;
 
@@ -29,7 +30,7 @@ pub fn put_head<S: Sink>(
     object: &mut S,
     rows: &[DirectoryRow],
 ) -> Result<(), AsmFault>
-    ensures writes { (listing messages : Output) → Writes
+    ensures writes { (listing messages : OutputState) → Writes
         (outputs (output_of S.Sink object.old) listing messages)
         (outputs (output_of S.Sink object.new) listing messages) (content_writes (head_contents rows.now)) result }
     ensures fit { OnOk result (AllFit (head_contents rows.now)) }
@@ -46,7 +47,7 @@ fn put_rows<S: Sink>(
     waiting: &mut OpenDirectory,
     rows: &[DirectoryRow],
 ) -> Result<(), AsmFault>
-    ensures writes { (before : List DirectoryRow) → WaitsAfter before waiting.old → (listing messages : Output) → Writes
+    ensures writes { (before : List DirectoryRow) → WaitsAfter before waiting.old → (listing messages : OutputState) → Writes
         (outputs (output_of S.Sink object.old) listing messages)
         (outputs (output_of S.Sink object.new) listing messages)
         (content_writes (records_filled_by before rows.now)) result }
@@ -71,7 +72,7 @@ fn put_row<S: Sink>(
     waiting: &mut OpenDirectory,
     row: &DirectoryRow,
 ) -> Result<(), AsmFault>
-    ensures writes { (before : List DirectoryRow) → WaitsAfter before waiting.old → (listing messages : Output) → Writes
+    ensures writes { (before : List DirectoryRow) → WaitsAfter before waiting.old → (listing messages : OutputState) → Writes
         (outputs (output_of S.Sink object.old) listing messages)
         (outputs (output_of S.Sink object.new) listing messages)
         (content_writes (records_filled_by before (row.now ∷ []))) result }
@@ -89,7 +90,7 @@ fn put_directory_end<S: Sink>(
     object: &mut S,
     waiting: OpenDirectory,
 ) -> Result<(), AsmFault>
-    ensures writes { (rows : List DirectoryRow) → WaitsAfter rows waiting → (listing messages : Output) → Writes
+    ensures writes { (rows : List DirectoryRow) → WaitsAfter rows waiting → (listing messages : OutputState) → Writes
         (outputs (output_of S.Sink object.old) listing messages)
         (outputs (output_of S.Sink object.new) listing messages)
         (content_writes (rest_records rows ++ EndOfGsd ∷ [])) result }
@@ -107,7 +108,7 @@ fn put_if_full<S: Sink>(
     content: &Option<Block>,
 ) -> Result<(), AsmFault>
     ensures writes { (contents : List Content) → AreRecords (option_to_list content.now) contents
-        → (listing messages : Output) → Writes
+        → (listing messages : OutputState) → Writes
         (outputs (output_of S.Sink object.old) listing messages)
         (outputs (output_of S.Sink object.new) listing messages) (content_writes contents) result }
     ensures fit { (contents : List Content) → AreRecords (option_to_list content.now) contents → AllFit contents }
@@ -140,7 +141,7 @@ pub fn put_pieces<S: Sink>(
     location: u16,
     contents: &[PieceContent],
 ) -> Result<(), AsmFault>
-    ensures writes { (before : List Piece) → IsOpenAfter before text.old → (listing messages : Output) → Writes
+    ensures writes { (before : List Piece) → IsOpenAfter before text.old → (listing messages : OutputState) → Writes
         (outputs (output_of S.Sink object.old) listing messages)
         (outputs (output_of S.Sink object.new) listing messages)
         (content_writes (records_closed_by before (pieces_from section location contents.now))) result }
@@ -179,7 +180,7 @@ fn put_piece<S: Sink>(
     text: &mut OpenText,
     piece: &Piece,
 ) -> Result<(), AsmFault>
-    ensures writes { (before : List Piece) → IsOpenAfter before text.old → (listing messages : Output) → Writes
+    ensures writes { (before : List Piece) → IsOpenAfter before text.old → (listing messages : OutputState) → Writes
         (outputs (output_of S.Sink object.old) listing messages)
         (outputs (output_of S.Sink object.new) listing messages)
         (content_writes (records_closed_by before (piece.now ∷ []))) result }
@@ -203,7 +204,7 @@ fn put_closing<S: Sink>(
     text: &mut OpenText,
     piece: &Piece,
 ) -> Result<(), AsmFault>
-    ensures writes { (before : List Piece) → IsOpenAfter before text.old → (listing messages : Output) → Writes
+    ensures writes { (before : List Piece) → IsOpenAfter before text.old → (listing messages : OutputState) → Writes
         (outputs (output_of S.Sink object.old) listing messages)
         (outputs (output_of S.Sink object.new) listing messages)
         (content_writes (records_closed_by before (piece.now ∷ []))) result }
@@ -219,7 +220,7 @@ fn put_closing<S: Sink>(
 ///
 /// Faults: `Write` of the object, and `NoMemory` before a record.
 pub fn put_last<S: Sink>(alloc: Global, object: &mut S, text: OpenText) -> Result<(), AsmFault>
-    ensures writes { (pieces : List Piece) → IsOpenAfter pieces text → (listing messages : Output) → Writes
+    ensures writes { (pieces : List Piece) → IsOpenAfter pieces text → (listing messages : OutputState) → Writes
         (outputs (output_of S.Sink object.old) listing messages)
         (outputs (output_of S.Sink object.new) listing messages)
         (content_writes (last_records pieces ++ EndOfModule ∷ [])) result }
@@ -236,7 +237,7 @@ fn put_if_closed<S: Sink>(
     object: &mut S,
     text: &Option<Text>,
 ) -> Result<(), AsmFault>
-    ensures writes { (listing messages : Output) → Writes
+    ensures writes { (listing messages : OutputState) → Writes
         (outputs (output_of S.Sink object.old) listing messages)
         (outputs (output_of S.Sink object.new) listing messages) (content_writes (records_in text.now)) result }
     ensures fit { OnOk result (AllFit (records_in text.now)) }
@@ -249,7 +250,7 @@ fn put_if_closed<S: Sink>(
 
 // The records of a text.
 fn put_text<S: Sink>(alloc: Global, object: &mut S, text: &Text) -> Result<(), AsmFault>
-    ensures writes { (listing messages : Output) → Writes
+    ensures writes { (listing messages : OutputState) → Writes
         (outputs (output_of S.Sink object.old) listing messages)
         (outputs (output_of S.Sink object.new) listing messages) (content_writes (records_of text.now)) result }
     ensures fit { OnOk result (AllFit (records_of text.now)) }
@@ -259,7 +260,7 @@ fn put_text<S: Sink>(alloc: Global, object: &mut S, text: &Text) -> Result<(), A
 
 // Contents, each as a block.
 fn put_blocks<S: Sink>(alloc: Global, object: &mut S, contents: &[Block]) -> Result<(), AsmFault>
-    ensures writes { (listing messages : Output) → Writes
+    ensures writes { (listing messages : OutputState) → Writes
         (outputs (output_of S.Sink object.old) listing messages)
         (outputs (output_of S.Sink object.new) listing messages) (block_writes contents.now) result }
     ensures fit { OnOk result (AllByRecursion BlockFits contents.now) }
@@ -286,4 +287,14 @@ fn are_bytes(bytes: &[u8])
     ensures { All (λ byte. byte < 256) bytes.now }
 {
     let _bytes = bytes;
+}
+
+// The block of a record of this content.
+fn put_record<S: Sink>(alloc: Global, object: &mut S, content: &Block) -> Result<(), AsmFault>
+    ensures { (listing messages : OutputState) → Writes
+        (outputs (output_of S.Sink object.old) listing messages)
+        (outputs (output_of S.Sink object.new) listing messages) (to_product (block content.now.items) ∷ []) result }
+{
+    let block = block_bytes(alloc, content.as_slice())?;
+    put_product(object, block.as_slice())
 }

@@ -1,1 +1,3 @@
+pub mod Looping
+pub mod Putting
 pub mod Writing

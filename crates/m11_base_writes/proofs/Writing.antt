@@ -3,7 +3,7 @@ use Rattle.std.proofs.Common.{◌≡◌, ◌≢◌, ℕ, Bool, true, false, List
 use Rattle.std.proofs.lemmas.Grind.{flat_map-append}
 use Rattle.std.specs.Io.KnownBytes.{Appends}
 use Rattle.m11_base.proofs.Known.{Appends-Appends}
-use Rattle.m11_base_writes.specs.Outputs.{Output, Puts}
+use Rattle.m11_base_writes.specs.States.{OutputState, Puts}
 use Rattle.m11_base_writes.specs.Writes.{Kinds, Stop, In, Between, Write, to_output, gained, gained_by, GainTexts, Gains, StopsIn, StopsBetween, StopsAt, Stops, Writes, LeavesBeginnings, Finishes, flushes}
 
 pub keeps : (text : Option (List ℕ)) → Appends text text []
@@ -18,11 +18,11 @@ module _ {O E : Type 0} (kinds : Kinds O E) where
   unfolding gained
   gained-append output xs ys = flat_map-append (gained_by kinds output) xs ys
 
-  pub texts_stay : (a : O → Output) → GainTexts kinds a a []
+  pub texts_stay : (a : O → OutputState) → GainTexts kinds a a []
   unfolding gained
   texts_stay a output = keeps (a output).text
 
-  pub texts_then : (a b c : O → Output) (xs ys : List (Write O)) → GainTexts kinds a b xs → GainTexts kinds b c ys
+  pub texts_then : (a b c : O → OutputState) (xs ys : List (Write O)) → GainTexts kinds a b xs → GainTexts kinds b c ys
       → GainTexts kinds a c (xs ++ ys)
   texts_then a b c xs ys h k output = rw (gained-append output xs ys)
       (Appends-Appends (a output).text (b output).text (c output).text (gained kinds output xs) (gained kinds output ys)
@@ -30,17 +30,17 @@ module _ {O E : Type 0} (kinds : Kinds O E) where
 
   -- ---- writes
 
-  pub gains_nothing : (a : O → Output) → Gains kinds a a []
+  pub gains_nothing : (a : O → OutputState) → Gains kinds a a []
   gains_nothing a = record { texts = texts_stay a; faults = λ output. refl }
 
-  pub gains_then : (a b c : O → Output) (xs ys : List (Write O)) → Gains kinds a b xs → Gains kinds b c ys
+  pub gains_then : (a b c : O → OutputState) (xs ys : List (Write O)) → Gains kinds a b xs → Gains kinds b c ys
       → Gains kinds a c (xs ++ ys)
   gains_then a b c xs ys h k = record {
     texts = texts_then a b c xs ys h.texts k.texts;
     faults = λ output. k.faults output ∙ h.faults output;
   }
 
-  ends_before : (a b : O → Output) (xs ys : List (Write O)) (stop : Option (Stop O)) → StopsAt kinds a b xs stop
+  ends_before : (a b : O → OutputState) (xs ys : List (Write O)) (stop : Option (Stop O)) → StopsAt kinds a b xs stop
       → StopsAt kinds a b (xs ++ ys) stop
   ends_before a b xs ys (Some (In failed)) h = record {
     done = h.done;
@@ -61,7 +61,7 @@ module _ {O E : Type 0} (kinds : Kinds O E) where
   }
   ends_before a b xs ys None h = absurd h
 
-  ends_after : (a b c : O → Output) (xs ys : List (Write O)) (stop : Option (Stop O)) → Gains kinds a b xs
+  ends_after : (a b c : O → OutputState) (xs ys : List (Write O)) (stop : Option (Stop O)) → Gains kinds a b xs
       → StopsAt kinds b c ys stop → StopsAt kinds a c (xs ++ ys) stop
   ends_after a b c xs ys (Some (In failed)) g h = record {
     done = xs ++ h.done;
@@ -84,47 +84,47 @@ module _ {O E : Type 0} (kinds : Kinds O E) where
   ends_after a b c xs ys None g h = absurd h
 
   -- what stopped among some writes stopped among these and more
-  pub stops_before : (a b : O → Output) (xs ys : List (Write O)) (fault : E) → Stops kinds a b xs fault
+  pub stops_before : (a b : O → OutputState) (xs ys : List (Write O)) (fault : E) → Stops kinds a b xs fault
       → Stops kinds a b (xs ++ ys) fault
   stops_before a b xs ys fault h = ends_before a b xs ys (kinds.stop fault) h
 
   -- writes that stopped after others that were made
-  pub stops_after : (a b c : O → Output) (xs ys : List (Write O)) (fault : E) → Gains kinds a b xs
+  pub stops_after : (a b c : O → OutputState) (xs ys : List (Write O)) (fault : E) → Gains kinds a b xs
       → Stops kinds b c ys fault → Stops kinds a c (xs ++ ys) fault
   stops_after a b c xs ys fault g h = ends_after a b c xs ys (kinds.stop fault) g h
 
-  pub writes_then : {A : Type 0} (a b c : O → Output) (xs ys : List (Write O)) (result : Result A E)
+  pub writes_then : {A : Type 0} (a b c : O → OutputState) (xs ys : List (Write O)) (result : Result A E)
       → Gains kinds a b xs → Writes kinds b c ys result → Writes kinds a c (xs ++ ys) result
   writes_then a b c xs ys (Ok done) g h = gains_then a b c xs ys g h
   writes_then a b c xs ys (Err fault) g h = stops_after a b c xs ys fault g h
 
   -- a call has returned the fault
-  pub stopped_alone : {A : Type 0} (a b : O → Output) (xs : List (Write O)) (fault : E) (result : Result A E)
+  pub stopped_alone : {A : Type 0} (a b : O → OutputState) (xs : List (Write O)) (fault : E) (result : Result A E)
       → Stops kinds a b xs fault → IsErrAnd result (λ f. f ≡ fault) → Writes kinds a b xs result
   stopped_alone a b xs fault (Ok x) h e = absurd e
   stopped_alone a b xs fault (Err f) h e = let P : E → Type 0 = λ g. Stops kinds a b xs g in subst P (sym e) h
 
-  pub stopped_first : {A : Type 0} (a b : O → Output) (xs ys : List (Write O)) (fault : E) (result : Result A E)
+  pub stopped_first : {A : Type 0} (a b : O → OutputState) (xs ys : List (Write O)) (fault : E) (result : Result A E)
       → Stops kinds a b xs fault → IsErrAnd result (λ f. f ≡ fault) → Writes kinds a b (xs ++ ys) result
   stopped_first a b xs ys fault result h e =
       stopped_alone a b (xs ++ ys) fault result (stops_before a b xs ys fault h) e
 
   -- memory was refused before a write
-  pub refused_between : (a : O → Output) (xs : List (Write O)) → StopsBetween kinds a a xs
+  pub refused_between : (a : O → OutputState) (xs : List (Write O)) → StopsBetween kinds a a xs
   refused_between a xs = record { done = []; more = xs; split = refl; gains = gains_nothing a }
 
-  pub refused_before : (a : O → Output) (xs : List (Write O)) (fault : E) → kinds.stop fault ≡ Some Between
+  pub refused_before : (a : O → OutputState) (xs : List (Write O)) (fault : E) → kinds.stop fault ≡ Some Between
       → Stops kinds a a xs fault
   refused_before a xs fault e =
       let P : Option (Stop O) → Type 0 = λ s. StopsAt kinds a a xs s in subst P (sym e) (refused_between a xs)
 
-  pub refused_first : {A : Type 0} (a : O → Output) (xs : List (Write O)) (fault : E) (result : Result A E)
+  pub refused_first : {A : Type 0} (a : O → OutputState) (xs : List (Write O)) (fault : E) (result : Result A E)
       → kinds.stop fault ≡ Some Between → IsErrAnd result (λ f. f ≡ fault) → Writes kinds a a xs result
   refused_first a xs fault result s e = stopped_alone a a xs fault result (refused_before a xs fault s) e
 
   -- ---- one output
 
-  module _ (output : O) (old new : O → Output)
+  module _ (output : O) (old new : O → OutputState)
       (others : (other : O) → kinds.is other output ≡ false → new other ≡ old other) where
     by_whether : (other : O) (bytes : List ℕ) (b : Bool) → kinds.is other output ≡ b
         → Appends (old output).text (new output).text bytes
@@ -133,7 +133,7 @@ module _ {O E : Type 0} (kinds : Kinds O E) where
         let P : O → Type 0 = λ o. Appends (old o).text (new o).text (bytes ++ []) in
         subst P (sym (kinds.same other output e)) (rw (append-nil bytes) h)
     by_whether other bytes false e h =
-        let P : Output → Type 0 = λ o. Appends (old other).text o.text [] in
+        let P : OutputState → Type 0 = λ o. Appends (old other).text o.text [] in
         subst P (sym (others other e)) (keeps (old other).text)
 
     texts_put : (bytes : List ℕ) → Appends (old output).text (new output).text bytes
@@ -215,7 +215,7 @@ module _ {O E : Type 0} (kinds : Kinds O E) where
             (sym (gained-append output done (to_output failed part ∷ []))),
       )
 
-  left : (old new : O → Output) (writes : List (Write O)) (stop : Option (Stop O)) → StopsAt kinds old new writes stop
+  left : (old new : O → OutputState) (writes : List (Write O)) (stop : Option (Stop O)) → StopsAt kinds old new writes stop
       → LeavesBeginnings kinds old new writes
   left old new writes (Some (In failed)) h = λ output.
       let begin = begun_in output failed h.part h.rest h.done h.more in (
@@ -229,7 +229,7 @@ module _ {O E : Type 0} (kinds : Kinds O E) where
       (gained kinds output h.done, begin.0, begin.1, h.gains.texts output)
   left old new writes None h = absurd h
 
-  pub beginnings_left : (old new : O → Output) (writes : List (Write O)) (fault : E) → Stops kinds old new writes fault
+  pub beginnings_left : (old new : O → OutputState) (writes : List (Write O)) (fault : E) → Stops kinds old new writes fault
       → LeavesBeginnings kinds old new writes
   beginnings_left old new writes fault h = left old new writes (kinds.stop fault) h
 
@@ -252,7 +252,7 @@ module _ {O E : Type 0} (kinds : Kinds O E) where
       ∙ ap (λ (t : List ℕ). gained kinds output xs ++ t) (flushes_add_nothing output outputs)
       ∙ append-nil (gained kinds output xs)
 
-  pub gains_still : (a b : O → Output) (xs : List (Write O)) (outputs : List O) → Gains kinds a b (xs ++ flushes outputs)
+  pub gains_still : (a b : O → OutputState) (xs : List (Write O)) (outputs : List O) → Gains kinds a b (xs ++ flushes outputs)
       → Gains kinds a b xs
   gains_still a b xs outputs g = record {
     texts = λ output. subst (λ (t : List ℕ). Appends (a output).text (b output).text t) (gained_still output xs outputs)
@@ -261,7 +261,7 @@ module _ {O E : Type 0} (kinds : Kinds O E) where
   }
 
   -- writes that were made, and then a flush that failed
-  pub flush_stops : {A : Type 0} (a b c : O → Output) (xs : List (Write O)) (outputs : List O) (fault : E) (result : Result A E)
+  pub flush_stops : {A : Type 0} (a b c : O → OutputState) (xs : List (Write O)) (outputs : List O) (fault : E) (result : Result A E)
       → Gains kinds a b xs → Stops kinds b c (flushes outputs) fault → IsErrAnd result (λ f. f ≡ fault)
       → Finishes kinds a c xs outputs result
   flush_stops a b c xs outputs fault (Ok done) g h e = absurd e
@@ -269,27 +269,20 @@ module _ {O E : Type 0} (kinds : Kinds O E) where
       let P : E → Type 0 = λ these. Stops kinds a c (xs ++ flushes outputs) these in
       subst P (sym e) (stops_after a b c xs (flushes outputs) fault g h)
 
-  -- writes that were made, and then others, which finish
-  pub finishes_then : {A : Type 0} (a b c : O → Output) (xs ys : List (Write O)) (outputs : List O) (result : Result A E)
-      → Gains kinds a b xs → Finishes kinds b c ys outputs result → Finishes kinds a c (xs ++ ys) outputs result
-  finishes_then a b c xs ys outputs (Ok done) g h = (gains_then a b c xs ys g h.0, h.1)
-  finishes_then a b c xs ys outputs (Err stopped) g h =
-      rw (append_assoc xs ys (flushes outputs)) (stops_after a b c xs (ys ++ flushes outputs) stopped g h)
-
   -- writes that stopped
-  pub finishes_early : {A : Type 0} (a b : O → Output) (xs : List (Write O)) (outputs : List O) (fault : E) (result : Result A E)
+  pub finishes_early : {A : Type 0} (a b : O → OutputState) (xs : List (Write O)) (outputs : List O) (fault : E) (result : Result A E)
       → Stops kinds a b xs fault → IsErrAnd result (λ f. f ≡ fault) → Finishes kinds a b xs outputs result
   finishes_early a b xs outputs fault (Ok done) h e = absurd e
   finishes_early a b xs outputs fault (Err stopped) h e =
       let P : E → Type 0 = λ these. Stops kinds a b (xs ++ flushes outputs) these in
       subst P (sym e) (stops_before a b xs (flushes outputs) fault h)
 
-  pub beginnings_still : (old new : O → Output) (writes : List (Write O)) (outputs : List O)
+  pub beginnings_still : (old new : O → OutputState) (writes : List (Write O)) (outputs : List O)
       → LeavesBeginnings kinds old new (writes ++ flushes outputs) → LeavesBeginnings kinds old new writes
   beginnings_still old new writes outputs left = λ output.
       let begun = left output in (begun.0, begun.1, sym (gained_still output writes outputs) ∙ begun.2, begun.3)
 
-  pub flushed_beginnings : (old new : O → Output) (writes : List (Write O)) (outputs : List O) (fault : E)
+  pub flushed_beginnings : (old new : O → OutputState) (writes : List (Write O)) (outputs : List O) (fault : E)
       → Stops kinds old new (writes ++ flushes outputs) fault → LeavesBeginnings kinds old new writes
   flushed_beginnings old new writes outputs fault h =
       beginnings_still old new writes outputs (beginnings_left old new (writes ++ flushes outputs) fault h)

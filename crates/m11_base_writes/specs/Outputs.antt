@@ -1,31 +1,80 @@
--- Outputs, as what is known of them. (This project's own.)
-use Rattle.std.specs.Prelude.{◌≡◌, ℕ, Option, Some, None, Result, Ok, Err}
-use Rattle.std.specs.Io.KnownBytes.{Appends}
-use Rattle.m11_base.specs.Devices.{Bytes, Rises}
-use Rattle.m11_base.specs.Sink.{AppendsBeginning}
+-- The outputs of a program that makes something, and writes to them in one order. (This project's own. What becomes of
+-- writes to any outputs stands in Writes.antt.)
+use Rattle.std.specs.Prelude.{◌≡◌, Bool, true, false, List, [], ◌∷◌, Option, refl}
+use Rattle.m11_base.specs.Devices.{Bytes}
 use Rattle.m11_base.specs.declared.sink.Sink.{Ghosts}
+use Rattle.m11_base_writes.specs.States.{OutputState, optional_output, output_of}
+use Rattle.m11_base_writes.specs.Writes as writes
+use Rattle.m11_base_writes.specs.declared.outputs.Output.{Output}
+use Rattle.m11_base_writes.specs.declared.outputs.Output.TheVariants.{Product, Report, Messages}
 
--- an output: what it has taken, where that is known, its count of failures, and how many of the last bytes that it has
--- taken it holds back
-pub record Output : Type 0 where
-  pub text : Option Bytes
-  pub faults : ℕ
-  pub held : ℕ
+-- ---- outputs
 
--- the output that a sink is
-abbrev pub output_of : {S : Type 0} → Ghosts S → S → Output
-output_of known sink = record { text = known.text sink; faults = known.faults sink; held = known.held sink }
+abbrev pub Outputs : Type 0
+Outputs = Output → OutputState
 
--- nothing is known of an output that isn't there; it doesn't fail, and it holds nothing back
-abbrev pub no_output : Output
-no_output = record { text = None; faults = 0; held = 0 }
+abbrev pub outputs : OutputState → OutputState → OutputState → Outputs
+outputs product report messages Product = product
+outputs product report messages Report = report
+outputs product report messages Messages = messages
 
-abbrev pub optional_output : {S : Type 0} → Ghosts S → Option S → Output
-optional_output known None = no_output
-optional_output known (Some sink) = output_of known sink
+-- the outputs that three sinks are, of which that of the report may be left out; before them stands what is known of the
+-- sinks of their types
+abbrev pub outputs_of : {S T U : Type 0} → Ghosts S → Ghosts T → Ghosts U → S → Option T → U → Outputs
+outputs_of known_product known_report known_messages product report messages =
+    outputs (output_of known_product product) (optional_output known_report report) (output_of known_messages messages)
 
--- bytes put to one output: all; or it failed after a beginning of them, and this fault says so
-abbrev pub Puts : {A E : Type 0} → Output → Output → Bytes → E → Result A E → Type 0
-Puts old new bytes fault (Ok done) = Appends old.text new.text bytes × (new.faults ≡ old.faults)
-Puts old new bytes fault (Err stopped) =
-    (stopped ≡ fault) × AppendsBeginning old.text new.text bytes × Rises old.faults new.faults
+-- whether two outputs are one
+abbrev pub is_output : Output → Output → Bool
+is_output Product Product = true
+is_output Report Report = true
+is_output Messages Messages = true
+is_output _ _ = false
+
+pub same_output : (a b : Output) → is_output a b ≡ true → a ≡ b
+same_output Product Product e = refl
+same_output Product Report e = absurd cc
+same_output Product Messages e = absurd cc
+same_output Report Product e = absurd cc
+same_output Report Report e = refl
+same_output Report Messages e = absurd cc
+same_output Messages Product e = absurd cc
+same_output Messages Report e = absurd cc
+same_output Messages Messages e = refl
+
+pub output_itself : (a : Output) → is_output a a ≡ true
+output_itself Product = refl
+output_itself Report = refl
+output_itself Messages = refl
+
+-- these outputs, with the faults of a program, of which some say that writes have ended early
+abbrev pub kinds_of : {E : Type 0} → (E → Option (writes.Stop Output)) → writes.Kinds Output E
+kinds_of stop = record { is = is_output; same = same_output; itself = output_itself; stop = stop }
+
+-- ---- writes
+
+abbrev pub Write : Type 0
+Write = writes.Write Output
+
+abbrev pub to_product : Bytes → Write
+to_product bytes = writes.to_output Product bytes
+
+abbrev pub to_report : Bytes → Write
+to_report bytes = writes.to_output Report bytes
+
+abbrev pub to_messages : Bytes → Write
+to_messages bytes = writes.to_output Messages bytes
+
+-- ---- the flush
+
+-- the outputs that may hold bytes back, in the order in which they are flushed when all is written. The messages are for
+-- someone who reads along
+abbrev pub files : List Output
+files = Product ∷ Report ∷ []
+
+abbrev pub flushes : List Write
+flushes = writes.flushes files
+
+-- the files hold nothing back
+abbrev pub AreFlushed : Outputs → Type 0
+AreFlushed now = writes.AreFlushed now files

@@ -3,7 +3,7 @@ use Rattle.std.specs.Prelude.{◌≡◌, ◌≢◌, Bool, true, List, [], ◌∷
 use Rattle.std.specs.List.{flat_map}
 use Rattle.std.specs.Io.KnownBytes.{Appends}
 use Rattle.m11_base.specs.Devices.{Bytes, Rises}
-use Rattle.m11_base_writes.specs.Outputs.{Output}
+use Rattle.m11_base_writes.specs.States.{OutputState}
 
 -- ---- the outputs of a program
 
@@ -40,18 +40,18 @@ gained kinds output writes = flat_map (gained_by kinds output) writes
 -- ---- what became of them
 
 -- each output gained what the writes say for it
-abbrev pub GainTexts : {O E : Type 0} → Kinds O E → (O → Output) → (O → Output) → List (Write O) → Type 0
+abbrev pub GainTexts : {O E : Type 0} → Kinds O E → (O → OutputState) → (O → OutputState) → List (Write O) → Type 0
 GainTexts {O} kinds old new writes =
     (output : O) → Appends (old output).text (new output).text (gained kinds output writes)
 
 -- each output gained what the writes say for it, and none failed
-pub record Gains {O E : Type 0} (kinds : Kinds O E) (old new : O → Output) (writes : List (Write O)) : Type 0 where
+pub record Gains {O E : Type 0} (kinds : Kinds O E) (old new : O → OutputState) (writes : List (Write O)) : Type 0 where
   pub texts : GainTexts kinds old new writes
   pub faults : (output : O) → (new output).faults ≡ (old output).faults
 
 -- this output failed in one of the writes: those before it are whole, of that one there is a beginning, and nothing
 -- came after it
-pub record StopsIn {O E : Type 0} (kinds : Kinds O E) (failed : O) (old new : O → Output) (writes : List (Write O))
+pub record StopsIn {O E : Type 0} (kinds : Kinds O E) (failed : O) (old new : O → OutputState) (writes : List (Write O))
     : Type 0 where
   pub done : List (Write O)
   pub part : Bytes
@@ -63,22 +63,22 @@ pub record StopsIn {O E : Type 0} (kinds : Kinds O E) (failed : O) (old new : O 
   pub others : (output : O) → output ≢ failed → (new output).faults ≡ (old output).faults
 
 -- some of the writes, from the first on, each of them whole
-pub record StopsBetween {O E : Type 0} (kinds : Kinds O E) (old new : O → Output) (writes : List (Write O)) : Type 0 where
+pub record StopsBetween {O E : Type 0} (kinds : Kinds O E) (old new : O → OutputState) (writes : List (Write O)) : Type 0 where
   pub done : List (Write O)
   pub more : List (Write O)
   pub split : writes ≡ done ++ more
   pub gains : Gains kinds old new done
 
-abbrev pub StopsAt : {O E : Type 0} → Kinds O E → (O → Output) → (O → Output) → List (Write O) → Option (Stop O) → Type 0
+abbrev pub StopsAt : {O E : Type 0} → Kinds O E → (O → OutputState) → (O → OutputState) → List (Write O) → Option (Stop O) → Type 0
 StopsAt kinds old new writes (Some (In output)) = StopsIn kinds output old new writes
 StopsAt kinds old new writes (Some Between) = StopsBetween kinds old new writes
 StopsAt kinds old new writes None = ⊥
 
 -- a call's writes, by its result: all; or an output failed; or memory was refused
-abbrev pub Stops : {O E : Type 0} → Kinds O E → (O → Output) → (O → Output) → List (Write O) → E → Type 0
+abbrev pub Stops : {O E : Type 0} → Kinds O E → (O → OutputState) → (O → OutputState) → List (Write O) → E → Type 0
 Stops kinds old new writes fault = StopsAt kinds old new writes (kinds.stop fault)
 
-abbrev pub Writes : {A O E : Type 0} → Kinds O E → (O → Output) → (O → Output) → List (Write O) → Result A E → Type 0
+abbrev pub Writes : {A O E : Type 0} → Kinds O E → (O → OutputState) → (O → OutputState) → List (Write O) → Result A E → Type 0
 Writes kinds old new writes (Ok done) = Gains kinds old new writes
 Writes kinds old new writes (Err stopped) = Stops kinds old new writes stopped
 
@@ -89,19 +89,19 @@ abbrev pub flushes : {O : Type 0} → List O → List (Write O)
 flushes outputs = map (λ output. to_output output []) outputs
 
 -- these hold nothing back
-abbrev pub AreFlushed : {O : Type 0} → (O → Output) → List O → Type 0
+abbrev pub AreFlushed : {O : Type 0} → (O → OutputState) → List O → Type 0
 AreFlushed now [] = ⊤
 AreFlushed now (output ∷ outputs) = ((now output).held ≡ 0) × AreFlushed now outputs
 
 -- writes, and then a flush of outputs: all was written, and they hold nothing back; or it stopped in one of the writes,
 -- or in the flush
-abbrev pub Finishes : {A O E : Type 0} → Kinds O E → (O → Output) → (O → Output) → List (Write O) → List O → Result A E → Type 0
+abbrev pub Finishes : {A O E : Type 0} → Kinds O E → (O → OutputState) → (O → OutputState) → List (Write O) → List O → Result A E → Type 0
 Finishes kinds old new writes outputs (Ok done) = Gains kinds old new writes × AreFlushed new outputs
 Finishes kinds old new writes outputs (Err stopped) = Stops kinds old new (writes ++ flushes outputs) stopped
 
 -- ---- laws
 
 -- each output has a beginning of what all of the writes make for it
-abbrev pub LeavesBeginnings : {O E : Type 0} → Kinds O E → (O → Output) → (O → Output) → List (Write O) → Type 0
+abbrev pub LeavesBeginnings : {O E : Type 0} → Kinds O E → (O → OutputState) → (O → OutputState) → List (Write O) → Type 0
 LeavesBeginnings {O} kinds old new writes = (output : O) → (part : Bytes) × (rest : Bytes)
     × (gained kinds output writes ≡ part ++ rest) × Appends (old output).text (new output).text part

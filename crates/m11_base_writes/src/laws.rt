@@ -2,15 +2,15 @@
 
 ghost use Rattle.std.specs.Prelude.{◌≡◌, ℕ, ◌++◌, List, Option, Some};
 ghost use Rattle.m11_base.specs.Sink.{handed_on};
-ghost use Rattle.m11_base_writes.specs.Outputs.{Output};
+ghost use Rattle.m11_base_writes.specs.States.{OutputState};
 ghost use Rattle.m11_base_writes.specs.Writes.{Kinds, LeavesBeginnings, Stops, Write, flushes};
 
 /// Wherever writes end early, each output has a beginning of what all of them make for it, and no other bytes; so has it where
 /// the flush after them fails.
 pub fn early_ends_leave_beginnings<O, E>()
-    ensures writes { (kinds : Kinds O E) (old new : O → Output) (writes : List (Write O)) (fault : E)
+    ensures writes { (kinds : Kinds O E) (old new : O → OutputState) (writes : List (Write O)) (fault : E)
         → Stops kinds old new writes fault → LeavesBeginnings kinds old new writes }
-    ensures flush { (kinds : Kinds O E) (old new : O → Output) (writes : List (Write O)) (outputs : List O) (fault : E)
+    ensures flush { (kinds : Kinds O E) (old new : O → OutputState) (writes : List (Write O)) (outputs : List O) (fault : E)
         → Stops kinds old new (writes ++ flushes outputs) fault → LeavesBeginnings kinds old new writes }
 {}
 

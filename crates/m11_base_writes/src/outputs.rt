@@ -1,29 +1,107 @@
-//! Writes to one output, each whole or with its fault.
+//! The outputs of a program that makes something, and puts to them, each whole or with its fault.
 
-ghost use Rattle.std.specs.Prelude.{◌≡◌, [], OnOk};
-ghost use Rattle.m11_base_writes.specs.Outputs.{Puts, output_of};
+ghost use Rattle.std.specs.Prelude.{◌≡◌, [], ◌∷◌, ◌≢◌, is_some, IfErr, OnOk, Option, Some};
+ghost use Rattle.m11_base_writes.specs.Outputs.{AreFlushed, flushes, kinds_of, outputs, to_messages, to_product, to_report};
+ghost use Rattle.m11_base_writes.specs.States.{OutputState, optional_output, output_of};
+ghost use Rattle.m11_base_writes.specs.Writes.{Between, In, Stop, Writes};
 
-use m11_base::{Sink, put_all};
+use crate::writes::{flush_or_fail, put_or_fail};
+use m11_base::Sink;
 
-/// Puts all of `bytes`, in as many calls as it takes. Where the sink fails, a beginning of them was added, and `fault`,
-/// which names the output, is returned. It takes no memory.
-pub fn put_or_fail<S: Sink, E: Copy>(sink: &mut S, bytes: &[u8], fault: E) -> Result<(), E>
-    ensures { Puts (output_of S.Sink sink.old) (output_of S.Sink sink.new) bytes.now fault result }
+/// A program's outputs: what it makes, what it reports of it where that is asked for, and what it says to someone who reads along.
+#[derive(Clone, Copy, Debug, PartialEq, Eq)]
+pub enum Output {
+    /// What the program makes.
+    Product,
+    /// What it reports of the product, where that is asked for.
+    Report,
+    /// What it says to someone who reads along.
+    Messages,
+}
+
+/// The faults of a program with these outputs.
+pub trait OutputFault: Copy {
+    ghost use Rattle.m11_base_writes.specs.declared.outputs.Output.{Output};
+
+    // Where writes have ended early by what a fault says: in an output, or between two writes.
+    ghost stop: { Self → Option (Stop Output) };
+
+    /// That this output could not be written.
+    fn of_output(output: Output) -> Self
+        ensures { stop result ≡ Some (In output) };
+}
+
+/// Puts all of the bytes to the product. The fault of the product where it failed.
+pub fn put_product<S: Sink, E: OutputFault>(product: &mut S, bytes: &[u8]) -> Result<(), E>
+    ensures { (report messages : OutputState) → Writes (kinds_of E.stop)
+        (outputs (output_of S.Sink product.old) report messages)
+        (outputs (output_of S.Sink product.new) report messages) (to_product bytes.now ∷ []) result }
 {
-    match put_all(sink, bytes) {
-        Ok(()) => Ok(()),
-        Err(_) => Err(fault),
+    put_or_fail(product, bytes, E::of_output(Output::Product))
+}
+
+/// Puts all of the bytes to the report, or nothing where none is asked for. The fault of the report where it failed.
+#[tactic(auto, using(crate::proofs::Putting::put_takes_none))]
+pub fn put_report<T: Sink, E: OutputFault>(report: &mut Option<T>, bytes: &[u8]) -> Result<(), E>
+    ensures writes { (product messages : OutputState) → Writes (kinds_of E.stop)
+        (outputs product (optional_output T.Sink report.old) messages)
+        (outputs product (optional_output T.Sink report.new) messages) (to_report bytes.now ∷ []) result }
+    ensures stays { is_some report.new ≡ is_some report.old }
+    ensures no_memory { (refused : E) → E.stop refused ≡ Some Between → IfErr result (λ fault. fault ≢ refused) }
+{
+    match report {
+        Some(sink) => put_or_fail(sink, bytes, E::of_output(Output::Report)),
+        None => Ok(()),
     }
 }
 
-/// Hands on to its device all that a sink holds back, which adds nothing to what it has taken. Where that fails, `fault`, which
-/// names the output, is returned.
-pub fn flush_or_fail<S: Sink, E: Copy>(sink: &mut S, fault: E) -> Result<(), E>
-    ensures puts { Puts (output_of S.Sink sink.old) (output_of S.Sink sink.new) [] fault result }
-    ensures all { OnOk result (S.held sink.new ≡ 0) }
+/// Puts all of the bytes to the messages. The fault of the messages where they failed.
+#[tactic(auto, using(crate::proofs::Putting::put_takes_none))]
+pub fn put_message<U: Sink, E: OutputFault>(messages: &mut U, bytes: &[u8]) -> Result<(), E>
+    ensures writes { (product report : OutputState) → Writes (kinds_of E.stop)
+        (outputs product report (output_of U.Sink messages.old))
+        (outputs product report (output_of U.Sink messages.new)) (to_messages bytes.now ∷ []) result }
+    ensures no_memory { (refused : E) → E.stop refused ≡ Some Between → IfErr result (λ fault. fault ≢ refused) }
 {
-    let Ok(()) = sink.flush() else {
-        return Err(fault);
-    };
-    Ok(())
+    put_or_fail(messages, bytes, E::of_output(Output::Messages))
+}
+
+/// Flushes the product, and then the report, where one is asked for. The fault of the one that failed.
+pub fn flush_files<S: Sink, T: Sink, E: OutputFault>(
+    product: &mut S,
+    report: &mut Option<T>,
+) -> Result<(), E>
+    ensures writes { (messages : OutputState) → Writes (kinds_of E.stop)
+        (outputs (output_of S.Sink product.old) (optional_output T.Sink report.old) messages)
+        (outputs (output_of S.Sink product.new) (optional_output T.Sink report.new) messages) flushes result }
+    ensures flushed { (messages : OutputState) → OnOk result (AreFlushed
+        (outputs (output_of S.Sink product.new) (optional_output T.Sink report.new) messages)) }
+    ensures stays { is_some report.new ≡ is_some report.old }
+{
+    flush_product(product)?;
+    flush_report(report)
+}
+
+// The flush of the product. The fault of the product where it failed.
+fn flush_product<S: Sink, E: OutputFault>(product: &mut S) -> Result<(), E>
+    ensures writes { (report messages : OutputState) → Writes (kinds_of E.stop)
+        (outputs (output_of S.Sink product.old) report messages)
+        (outputs (output_of S.Sink product.new) report messages) (to_product [] ∷ []) result }
+    ensures flushed { OnOk result (S.held product.new ≡ 0) }
+{
+    flush_or_fail(product, E::of_output(Output::Product))
+}
+
+// The flush of the report, if there is one. The fault of the report where it failed.
+fn flush_report<T: Sink, E: OutputFault>(report: &mut Option<T>) -> Result<(), E>
+    ensures writes { (product messages : OutputState) → Writes (kinds_of E.stop)
+        (outputs product (optional_output T.Sink report.old) messages)
+        (outputs product (optional_output T.Sink report.new) messages) (to_report [] ∷ []) result }
+    ensures flushed { OnOk result ((optional_output T.Sink report.new).held ≡ 0) }
+    ensures stays { is_some report.new ≡ is_some report.old }
+{
+    match report {
+        Some(sink) => flush_or_fail(sink, E::of_output(Output::Report)),
+        None => Ok(()),
+    }
 }

@@ -4,7 +4,7 @@ use Rattle.m11_asm.specs.Passes.{ReadsFirst, ReadsSecond, pass_of}
 use Rattle.m11_asm.specs.Run.{AsmRuns}
 use Rattle.m11_asm_faults.specs.declared.fault.AsmFault.{AsmFault}
 use Rattle.m11_asm_faults.specs.declared.fault.AsmFault.TheVariants as fault
-use Rattle.m11_asm_outputs.specs.Outputs.{Outputs}
+use Rattle.m11_base_writes.specs.Outputs.{Outputs}
 use Rattle.m11_base.specs.Feed.{Text}
 use Rattle.m11_asm_passes.specs.Lines.{NumberedLine, givens}
 use Rattle.m11_scan_line_laws.specs.Calls.{FailReading, HaveReading}

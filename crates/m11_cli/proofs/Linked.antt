@@ -12,14 +12,14 @@ use Rattle.m11_link_layout.specs.declared.fault.LinkFault.TheVariants as fault
 use Rattle.m11_link.specs.FirstPass.{ReadsFirst, pass_of}
 use Rattle.m11_link.specs.Objects.{Item, GiveItems, FailAfter}
 use Rattle.m11_link.specs.SecondPass.{ReadsSecond, LinkRuns}
-use Rattle.m11_base_writes.specs.Outputs.{Output, optional_output, output_of}
-use Rattle.m11_link.specs.Outputs.{Outputs}
+use Rattle.m11_base_writes.specs.States.{OutputState, optional_output, output_of}
+use Rattle.m11_base_writes.specs.Outputs.{Outputs}
 use Rattle.m11_link.specs.declared.emit.LinkDone.{LinkDone}
 use Rattle.m11_cli.specs.Driver.{got, known}
 use Rattle.m11_cli.proofs.Sources.{give, none, one, seen}
 
 -- an output that may be left out
-abbrev pub seen_output : {S : Type 0} → Ghosts S → Option S → Option Output
+abbrev pub seen_output : {S : Type 0} → Ghosts S → Option S → Option OutputState
 seen_output sinks map = option_map (output_of sinks) map
 
 -- what a sink has handed on

@@ -8,7 +8,6 @@ use Rattle.m11_base.specs.Sink.{handed_on}
 use Rattle.m11_base.specs.declared.sink.Sink.{Ghosts}
 use Rattle.m11_asm.specs.Passes as assembling
 use Rattle.m11_asm.specs.Run.{AsmRuns}
-use Rattle.m11_asm_outputs.specs.Outputs as assembled
 use Rattle.m11_cpu_machine.specs.Dialogue.{Input}
 use Rattle.m11_cpu.specs.Simulation.{Simulates, request_of}
 use Rattle.m11_cpu.specs.declared.fault.SimFault.{SimFault}
@@ -17,14 +16,14 @@ use Rattle.m11_cpu.specs.declared.simulation.SimDone.{SimDone}
 use Rattle.m11_link_layout.specs.declared.fault.LinkFault.{LinkFault}
 use Rattle.m11_link_layout.specs.declared.fault.LinkFault.TheVariants as link-fault
 use Rattle.m11_link.specs.SecondPass as linking
-use Rattle.m11_link.specs.Outputs.{Outputs, outputs_of}
+use Rattle.m11_base_writes.specs.Outputs.{Outputs, outputs_of}
 use Rattle.m11_link.specs.declared.emit.LinkDone.{LinkDone}
 use Rattle.m11_asm.specs.declared.done.AsmDone.{AsmDone}
 use Rattle.m11_cli.specs.FaultLines.{line_of}
 use Rattle.m11_cli_reports.specs.Lines.{open_line}
 use Rattle.m11_cli_reports.specs.Reports.{Explains, Reports}
 use Rattle.m11_cli_reports.specs.Streams.{Store, Streams, devices_of}
-use Rattle.m11_base_writes.specs.Outputs.{Output}
+use Rattle.m11_base_writes.specs.States.{OutputState}
 use Rattle.m11_base_files.specs.Opens.{AreFiles, Holds, IsEmptied, IsEmptiedSome, creating, keeping, keeping_some}
 use Rattle.m11_cli_tasks.specs.Opened.{CreatesSome, StopsAt, asm_inputs, asm_outputs, link_inputs, link_outputs, sim_inputs}
 use Rattle.m11_cli_tasks.specs.Tasks.{Plans}
@@ -40,76 +39,72 @@ use Rattle.m11_link.specs.FirstPass.{pass_of}
 -- ---- files that are not all open
 
 -- memory was refused while the files were opened: nothing is reported
-abbrev pub RunsOutOpening : List Bytes → List Bytes → Store → Store → Output → Output → Type 0
+abbrev pub RunsOutOpening : List Bytes → List Bytes → Store → Store → OutputState → OutputState → Type 0
 RunsOutOpening inputs outputs old new reported reported' = (reported' ≡ reported) × (new.refusals ≡ old.refusals)
     × ((new.files ≡ old.files) ⊎ CreatesSome old.files new.files inputs outputs)
 
 -- a file was refused, the first of them, and its path is reported
-abbrev pub RefusesFile : List Bytes → List Bytes → Store → Store → Output → Output → Type 0
+abbrev pub RefusesFile : List Bytes → List Bytes → Store → Store → OutputState → OutputState → Type 0
 RefusesFile inputs outputs old new reported reported' = Rises old.refusals new.refusals
     × (path : Bytes) × StopsAt old.files new.files inputs outputs path × Reports (open_line path) reported reported'
 
 -- ---- an assembly
 
 -- an output, as the sink that an assembly or a link takes it for
-abbrev pub known : Ghosts Output
+abbrev pub known : Ghosts OutputState
 known = record { text = λ output. output.text; faults = λ output. output.faults; held = λ output. output.held }
 
 -- what a file has got
-abbrev pub got : Output → Option Bytes
+abbrev pub got : OutputState → Option Bytes
 got output = handed_on output.text output.held
 
--- the object, the listing if there is one, and the messages of an assembly
-abbrev pub asm_outputs_of : Output → Option Output → Output → assembled.Outputs
-asm_outputs_of object listing reported = assembled.outputs_of known known known object listing reported
+-- the object of an assembly or the tape of a link, the listing or the map if there is one, and the messages
+abbrev pub outputs : OutputState → Option OutputState → OutputState → Outputs
+outputs product report messages = outputs_of known known known product report messages
 
 -- the sources are the files of their paths, in both passes. By their texts the object and the listing, which are empty at
 -- first, and what is reported become what an assembly makes of them; object and listing are created in this order, and
 -- what they have got is kept under their paths
-pub record Assembles (asm : AsmTask) (old new : Store) (reported reported' : Output) (result : Result AsmDone AsmFault)
+pub record Assembles (asm : AsmTask) (old new : Store) (reported reported' : OutputState) (result : Result AsmDone AsmFault)
     : Type 0 where
   pub first : List Input
   pub first' : List Input
   pub second : List Input
   pub second' : List Input
-  pub object : Output
-  pub object' : Output
-  pub listing : Option Output
-  pub listing' : Option Output
+  pub object : OutputState
+  pub object' : OutputState
+  pub listing : Option OutputState
+  pub listing' : Option OutputState
   pub read : AreFiles (λ s. s.text) old.files (asm_inputs asm) first
   pub read-again : AreFiles (λ s. s.text) old.files (asm_inputs asm) second
   pub emptied : IsEmptied old.files object.text
   pub emptied-listing : IsEmptiedSome (λ l. l.text) old.files asm.listing listing
   pub runs : AsmRuns (assembling.pass_of (λ s. s.text) (λ s. s.faults) first first')
       (assembling.pass_of (λ s. s.text) (λ s. s.faults) second second')
-      (asm_outputs_of object listing reported) (asm_outputs_of object' listing' reported') result
+      (outputs object listing reported) (outputs object' listing' reported') result
   pub kept : new.files ≡ keeping_some got asm.listing listing'
       (keeping asm.object.now (got object') (creating (asm_outputs asm) old.files))
   pub opened : new.refusals ≡ old.refusals
 
-abbrev pub MayAssemble : AsmTask → Store → Store → Output → Output → Result AsmDone AsmFault → Type 0
+abbrev pub MayAssemble : AsmTask → Store → Store → OutputState → OutputState → Result AsmDone AsmFault → Type 0
 MayAssemble asm old new reported reported' result = Assembles asm old new reported reported' result
     ⊎ ((result ≡ Err asm-fault.NoMemory) × RunsOutOpening (asm_inputs asm) (asm_outputs asm) old new reported reported')
 
 -- ---- a link
 
--- the tape, the map if there is one, and the messages of a link
-abbrev pub outputs : Output → Option Output → Output → Outputs
-outputs tape map reported = outputs_of known known known tape map reported
-
 -- the objects are the files of their paths, in both passes. By their texts the tape and the map, which are empty at
 -- first, and what is reported become what a link from this bottom on makes of them; tape and map are created in this
 -- order, and what they have got is kept under their paths
-pub record Links (task : LinkTask) (old new : Store) (reported reported' : Output) (result : Result LinkDone LinkFault)
+pub record Links (task : LinkTask) (old new : Store) (reported reported' : OutputState) (result : Result LinkDone LinkFault)
     : Type 0 where
   pub first : List Input
   pub first' : List Input
   pub second : List Input
   pub second' : List Input
-  pub tape : Output
-  pub tape' : Output
-  pub map : Option Output
-  pub map' : Option Output
+  pub tape : OutputState
+  pub tape' : OutputState
+  pub map : Option OutputState
+  pub map' : Option OutputState
   pub read : AreFiles (λ s. s.text) old.files (link_inputs task) first
   pub read-again : AreFiles (λ s. s.text) old.files (link_inputs task) second
   pub emptied : IsEmptied old.files tape.text
@@ -121,7 +116,7 @@ pub record Links (task : LinkTask) (old new : Store) (reported reported' : Outpu
       (keeping task.tape.now (got tape') (creating (link_outputs task) old.files))
   pub opened : new.refusals ≡ old.refusals
 
-abbrev pub MayLink : LinkTask → Store → Store → Output → Output → Result LinkDone LinkFault → Type 0
+abbrev pub MayLink : LinkTask → Store → Store → OutputState → OutputState → Result LinkDone LinkFault → Type 0
 MayLink task old new reported reported' result = Links task old new reported reported' result
     ⊎ ((result ≡ Err link-fault.NoMemory) × RunsOutOpening (link_inputs task) (link_outputs task) old new reported reported')
 
@@ -177,5 +172,5 @@ HasOutcome words outcome old new before after =
 -- a command line yields its outcome, and after that the line of the outcome's fault is reported
 abbrev pub Obeys : List Text → Outcome → Store → Store → Streams → Streams → Type 0
 Obeys words outcome old new before after =
-    (reported : Output) × HasOutcome words outcome old new before (record after { reported = reported })
+    (reported : OutputState) × HasOutcome words outcome old new before (record after { reported = reported })
     × Reports (line_of outcome) reported after.reported

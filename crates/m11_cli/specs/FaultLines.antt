@@ -1,15 +1,15 @@
 -- The line that is printed for a fault, by its command. (This project's own.)
 use Rattle.std.specs.Prelude.{List, [], ◌∷◌, Ok, Err, codes}
 use Rattle.std.specs.Fmt.{decimal}
-use Rattle.m11_asm_faults.specs.Faults.{name_of, number_of, output_name}
+use Rattle.m11_asm_faults.specs.Faults.{name_of, number_of}
 use Rattle.m11_asm_faults.specs.declared.fault.AsmFault.{AsmFault}
 use Rattle.m11_asm_faults.specs.declared.fault.AsmFault.TheVariants as asm
 use Rattle.m11_base.specs.Devices.{Bytes}
+use Rattle.m11_base_writes.specs.declared.outputs.Output.{Output}
+use Rattle.m11_base_writes.specs.declared.outputs.Output.TheVariants.{Product, Report, Messages}
 use Rattle.m11_link_layout.specs.Fault.{link_fault_name, link_fault_number}
 use Rattle.m11_link_layout.specs.declared.fault.LinkFault.{LinkFault}
 use Rattle.m11_link_layout.specs.declared.fault.LinkFault.TheVariants as link
-use Rattle.m11_link_layout.specs.declared.fault.LinkOutput.{LinkOutput}
-use Rattle.m11_link_layout.specs.declared.fault.LinkOutput.TheVariants.{Tape, Map, Messages}
 use Rattle.m11_obj_blocks.specs.Blocks.{block_fault_name, block_fault_number}
 use Rattle.m11_obj.specs.Fault.{record_fault_name, record_fault_number}
 use Rattle.m11_cli_reports.specs.Lines.{line_for}
@@ -19,11 +19,17 @@ use Rattle.m11_cli.specs.declared.outcome.Outcome.{Outcome}
 use Rattle.m11_cli.specs.declared.outcome.Outcome.TheVariants.{Usage, Asm, Link, Sim, NotOpened}
 use Rattle.m11_unfold_rules.specs.Fault as unfolded
 
+-- the name of an output of an assembly
+abbrev pub asm_output_name : Output → Bytes
+asm_output_name Product = codes "OBJECT"
+asm_output_name Report = codes "LISTING"
+asm_output_name Messages = codes "MESSAGES"
+
 -- what a fault of an assembly adds: the output that could not be written, or the number and the name
 -- of the limit of unfolding that was passed
 abbrev pub added : AsmFault → List Bytes
 added asm.Read = []
-added (asm.Write output) = output_name output ∷ []
+added (asm.Write output) = asm_output_name output ∷ []
 added asm.TooManySymbols = []
 added asm.TooManySections = []
 added (asm.Unfold inner) = decimal (unfolded.number_of inner) ∷ unfolded.name_of inner ∷ []
@@ -35,9 +41,9 @@ abbrev pub asm_line : AsmFault → Bytes
 asm_line fault = line_for (codes "ASM") (number_of fault) (name_of fault) (added fault)
 
 -- the name of an output of a link
-abbrev pub link_output_name : LinkOutput → Bytes
-link_output_name Tape = codes "TAPE"
-link_output_name Map = codes "MAP"
+abbrev pub link_output_name : Output → Bytes
+link_output_name Product = codes "TAPE"
+link_output_name Report = codes "MAP"
 link_output_name Messages = codes "MESSAGES"
 
 -- what a fault of a link adds: the output that could not be written, or the number and the name of

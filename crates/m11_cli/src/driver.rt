@@ -9,7 +9,7 @@ ghost use Rattle.m11_cli_reports.specs.Streams.{Store, devices_of, store, stream
 ghost use Rattle.m11_cli.specs.Driver.{Assembles, Carries, HasOutcome, Links, Obeys};
 ghost use Rattle.m11_cli.specs.FaultLines.{line_of};
 ghost use Rattle.m11_base.specs.Sink.{handed_on};
-ghost use Rattle.m11_base_writes.specs.Outputs.{Output, output_of};
+ghost use Rattle.m11_base_writes.specs.States.{OutputState, output_of};
 ghost use Rattle.m11_base_files.specs.Opens.{AreFiles, IsEmptied, IsEmptiedSome, creating, keeping_some};
 ghost use Rattle.m11_cli_tasks.specs.Opened.{asm_inputs, asm_outputs, link_inputs, link_outputs};
 ghost use Rattle.m11_cli.specs.Outcome.{LeavesConsole, status_of};
@@ -128,7 +128,7 @@ fn assemble<F: Opens, E: Sink>(
     err: &mut E,
     task: &AsmTask<'_>,
 ) -> Outcome
-    ensures { (input : Input) → (printed : Output) → Carries (Asm task.now) result
+    ensures { (input : Input) → (printed : OutputState) → Carries (Asm task.now) result
         (store (F.files files.old) (F.refusals files.old)) (store (F.files files.new) (F.refusals files.new))
         (record { input = input; printed = printed; reported = output_of E.Sink err.old })
         (record { input = input; printed = printed; reported = output_of E.Sink err.new }) }
@@ -181,7 +181,7 @@ fn link<F: Opens, E: Sink>(
     err: &mut E,
     task: &LinkTask<'_>,
 ) -> Outcome
-    ensures { (input : Input) → (printed : Output) → Carries (Link task.now) result
+    ensures { (input : Input) → (printed : OutputState) → Carries (Link task.now) result
         (store (F.files files.old) (F.refusals files.old)) (store (F.files files.new) (F.refusals files.new))
         (record { input = input; printed = printed; reported = output_of E.Sink err.old })
         (record { input = input; printed = printed; reported = output_of E.Sink err.new }) }

@@ -9,10 +9,11 @@ ghost use Rattle.m11_link_layout.specs.declared.fault.LinkFault.TheVariants.{Blo
 ghost use Rattle.m11_cli.specs.FaultLines.{asm_line, line_of, link_line};
 
 use crate::outcome::Outcome;
-use m11_asm::{AsmFault, AsmOutput};
+use m11_asm::AsmFault;
 use m11_base::{PutFault, Sink, put_all};
+use m11_base_writes::Output;
 use m11_cli_reports::{sim_line, usage_line};
-use m11_link::{LinkFault, LinkOutput};
+use m11_link::LinkFault;
 use m11_obj::{BlockFault, RecordFault};
 use m11_unfold_rules::UnfoldFault;
 
@@ -54,9 +55,9 @@ fn asm_text(fault: AsmFault) -> &'static str
 {
     match fault {
         AsmFault::Read => "?M11 ASM 1 Read\n",
-        AsmFault::Write(AsmOutput::Object) => "?M11 ASM 2 Write OBJECT\n",
-        AsmFault::Write(AsmOutput::Listing) => "?M11 ASM 2 Write LISTING\n",
-        AsmFault::Write(AsmOutput::Messages) => "?M11 ASM 2 Write MESSAGES\n",
+        AsmFault::Write(Output::Product) => "?M11 ASM 2 Write OBJECT\n",
+        AsmFault::Write(Output::Report) => "?M11 ASM 2 Write LISTING\n",
+        AsmFault::Write(Output::Messages) => "?M11 ASM 2 Write MESSAGES\n",
         AsmFault::TooManySymbols => "?M11 ASM 3 TooManySymbols\n",
         AsmFault::TooManySections => "?M11 ASM 4 TooManySections\n",
         AsmFault::Unfold(fault) => unfold_text(fault),
@@ -86,9 +87,9 @@ fn link_text(fault: LinkFault) -> &'static str
 {
     match fault {
         LinkFault::Read => "?M11 LINK 1 Read\n",
-        LinkFault::Write(LinkOutput::Tape) => "?M11 LINK 2 Write TAPE\n",
-        LinkFault::Write(LinkOutput::Map) => "?M11 LINK 2 Write MAP\n",
-        LinkFault::Write(LinkOutput::Messages) => "?M11 LINK 2 Write MESSAGES\n",
+        LinkFault::Write(Output::Product) => "?M11 LINK 2 Write TAPE\n",
+        LinkFault::Write(Output::Report) => "?M11 LINK 2 Write MAP\n",
+        LinkFault::Write(Output::Messages) => "?M11 LINK 2 Write MESSAGES\n",
         LinkFault::Block(fault) => block_text(fault),
         LinkFault::Record(fault) => record_text(fault),
         LinkFault::BadOrder => "?M11 LINK 5 BadOrder\n",

@@ -17,7 +17,7 @@ use Rattle.m11_cli_image.specs.Links.{AreLinked}
 use Rattle.m11_cli_image.specs.Objects.{SourceFits, link_parts, object_of}
 use Rattle.m11_cli_image.specs.Sources.{Source}
 use Rattle.m11_link_layout.specs.Sections.{is_too_large}
-use Rattle.m11_link_layout.specs.declared.fault.LinkOutput.TheVariants as output
+use Rattle.m11_base_writes.specs.declared.outputs.Output.TheVariants as output
 use Rattle.m11_link.specs.Objects.{AreItems, Item, outcome}
 use Rattle.m11_link.specs.Outputs.{link}
 use Rattle.m11_link.specs.Written.{link_writes}
@@ -45,7 +45,7 @@ abbrev pub LoadLaw : Type 0
 LoadLaw = (bottom : ℕ) (sources : List Source) (items : List Item) (parts : List Part) (text : Text) (left : Option Text)
     (faults faults' : ℕ) (before after : Machine) (result : Result ℕ LoadFault) → AllByRecursion SourceFits sources
     → AreItems (map object_of sources) items → outcome bottom items ≡ Ok parts
-    → text.bytes ≡ gained link output.Tape (link_writes (findings_of bottom parts) parts)
+    → text.bytes ≡ gained link output.Product (link_writes (findings_of bottom parts) parts)
     → LoadsInto (Some text) left faults faults' before after result
     → LoadYields (image_of bottom sources) text.bytes faults faults' before after result
 
@@ -101,7 +101,7 @@ module _ (parts_law : PartsLaw) (load_law : LoadLaw) (texts : List (List Bytes))
   }
 
   own_tape : bytes ≡ tape_of bottom sources
-  own_tape = t.tape_is ∙ ap (λ (ps : List Part). gained link output.Tape (link_writes (findings_of bottom ps) ps)) own_parts
+  own_tape = t.tape_is ∙ ap (λ (ps : List Part). gained link output.Product (link_writes (findings_of bottom ps) ps)) own_parts
 
   loaded : (after : Machine) (result : Result ℕ LoadFault) → LoadsNew bytes words after result
       → LoadYields (image_of bottom sources) bytes 0 0 (new_machine words) after result

@@ -6,9 +6,10 @@ use Rattle.m11_asm.specs.Program.{Program}
 use Rattle.m11_asm.specs.Written.{EndOfSource, pieces_in, program_writes}
 use Rattle.m11_asm.specs.declared.done.AsmDone.{AsmDone}
 use Rattle.m11_asm_faults.specs.declared.fault.AsmFault.{AsmFault}
-use Rattle.m11_asm_faults.specs.declared.fault.AsmOutput.TheVariants.{Object}
+use Rattle.m11_base_writes.specs.declared.outputs.Output.TheVariants.{Product}
 use Rattle.m11_asm_outputs.specs.Object.{AllFit, object_contents}
-use Rattle.m11_asm_outputs.specs.Outputs.{Outputs, assembly}
+use Rattle.m11_asm_outputs.specs.Outputs.{assembly}
+use Rattle.m11_base_writes.specs.Outputs.{Outputs}
 use Rattle.m11_base.specs.Devices.{Bytes}
 use Rattle.m11_obj_blocks.specs.Frames.{block}
 use Rattle.m11_cli_image.specs.Objects.{SourceFits, contents_of}
@@ -27,7 +28,7 @@ use Rattle.m11_cli_chain.proofs.LiveLocations.{pieces_at_words}
 -- what is known of the object of an assembly
 abbrev pub ObjectLaw : Type 0
 ObjectLaw = (program : Program) (lines : List NumberedLine) (ended : EndOfSource)
-    → gained assembly Object (program_writes program lines ended)
+    → gained assembly Product (program_writes program lines ended)
     ≡ flat_map content_block (object_contents program.rows (pieces_in program.map lines))
 
 data_blocks : (contents : List Content) → flat_map content_block contents ≡ flat_map block (map record_data contents)
@@ -49,8 +50,8 @@ module _ (law : ObjectLaw) (texts : List Bytes) (old new : Outputs) where
     lines = w.lines;
     live = (w.ended, w.ends);
     fits = source_fits w.lines w.fit;
-    appends = subst (λ (bytes : Bytes). Appends (old Object).text (new Object).text bytes)
-        (law (program_after w.lines) w.lines w.ended ∙ data_blocks (contents_of (source_of w.lines))) (w.gains.texts Object);
+    appends = subst (λ (bytes : Bytes). Appends (old Product).text (new Product).text bytes)
+        (law (program_after w.lines) w.lines w.ended ∙ data_blocks (contents_of (source_of w.lines))) (w.gains.texts Product);
   }
 
   pub assembly_yields : (returned : Result AsmDone AsmFault) → ComesTo texts old new returned → AssemblyYields texts old new returned

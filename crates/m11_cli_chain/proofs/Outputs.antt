@@ -3,14 +3,12 @@ use Rattle.std.proofs.Common.{◌≡◌, ◌≢◌, ◌∙◌, ◌⊎◌, ℕ, L
 use Rattle.std.specs.Io.KnownBytes.{Appends}
 use Rattle.m11_asm_faults.specs.declared.fault.AsmFault.{AsmFault}
 use Rattle.m11_asm_faults.specs.declared.fault.AsmFault.TheVariants as assembly
-use Rattle.m11_asm_faults.specs.declared.fault.AsmOutput.TheVariants.{Object}
-use Rattle.m11_asm_outputs.specs.Outputs as asm
+use Rattle.m11_base_writes.specs.declared.outputs.Output.TheVariants.{Product}
+use Rattle.m11_base_writes.specs.Outputs.{Outputs}
 use Rattle.m11_base.specs.Devices.{Bytes}
 use Rattle.m11_link_layout.specs.declared.fault.LinkFault.{LinkFault}
 use Rattle.m11_link_layout.specs.declared.fault.LinkFault.TheVariants as fault
-use Rattle.m11_link_layout.specs.declared.fault.LinkOutput.TheVariants as output
 use Rattle.m11_link.specs.Objects.{AreItems, Item, outcome}
-use Rattle.m11_link.specs.Outputs as link
 use Rattle.m11_link.specs.declared.emit.LinkDone.{LinkDone}
 use Rattle.m11_link_laws.specs.Runs.{IsDecided, IsRefusal, MayStop}
 use Rattle.m11_link_modules.specs.Parts.{Part}
@@ -33,13 +31,13 @@ appended None new bytes written e f h = absurd cc
 
 -- ---- an assembly
 
-pub is_object : (texts : List Bytes) (old new : asm.Outputs) → WritesObject texts old new → (object : Bytes) → (old Object).text ≡ Some []
-    → (new Object).text ≡ Some object → IsObjectOf texts object
+pub is_object : (texts : List Bytes) (old new : Outputs) → WritesObject texts old new → (object : Bytes) → (old Product).text ≡ Some []
+    → (new Product).text ≡ Some object → IsObjectOf texts object
 is_object texts old new w object empty has = record {
   lines = w.lines;
   live = w.live;
   fits = w.fits;
-  object_is = appended (old Object).text (new Object).text object _ empty has w.appends;
+  object_is = appended (old Product).text (new Product).text object _ empty has w.appends;
 }
 
 fails_by : (texts : List Bytes) (stopped : AsmFault) → stopped ≢ assembly.Read → assemblies.MayStop stopped ⊎ AreRefused texts stopped
@@ -57,15 +55,15 @@ assembly_fails texts stopped given same unread h =
 
 -- ---- a link
 
-module _ (bottom : ℕ) (objects : List Bytes) (items : List Item) (are : AreItems objects items) (old new : link.Outputs) where
+module _ (bottom : ℕ) (objects : List Bytes) (items : List Item) (are : AreItems objects items) (old new : Outputs) where
   is_tape : (came : Result (List Part) LinkFault) → outcome bottom items ≡ came → (done : LinkDone) → IsDecided bottom came old new (Ok done)
-      → (tape : Bytes) → (old output.Tape).text ≡ Some [] → (new output.Tape).text ≡ Some tape → IsTapeOfObjects bottom objects tape
+      → (tape : Bytes) → (old Product).text ≡ Some [] → (new Product).text ≡ Some tape → IsTapeOfObjects bottom objects tape
   is_tape (Ok parts) comes done h tape empty has = record {
     items = items;
     are = are;
     parts = parts;
     parts_are = comes;
-    tape_is = appended (old output.Tape).text (new output.Tape).text tape _ empty has (h.0.texts output.Tape);
+    tape_is = appended (old Product).text (new Product).text tape _ empty has (h.0.texts Product);
   }
   is_tape (Err stopped) comes done h tape empty has = absurd h
 
@@ -89,7 +87,7 @@ module _ (bottom : ℕ) (objects : List Bytes) (items : List Item) (are : AreIte
   fails_so (Err refused) comes stopped unread h = refusal refused stopped unread comes h.0
 
   pub writes_tape : (done : LinkDone) → IsDecided bottom (outcome bottom items) old new (Ok done) → (tape : Bytes)
-      → (old output.Tape).text ≡ Some [] → (new output.Tape).text ≡ Some tape → IsTapeOfObjects bottom objects tape
+      → (old Product).text ≡ Some [] → (new Product).text ≡ Some tape → IsTapeOfObjects bottom objects tape
   writes_tape done h tape empty has = is_tape (outcome bottom items) refl done h tape empty has
 
   pub link_fails : (stopped : LinkFault) (given : ChainFault) → given ≡ of_link stopped → stopped ≢ fault.Read

@@ -6,14 +6,13 @@ use Rattle.m11_asm.specs.Run.{AsmRuns}
 use Rattle.m11_asm.specs.declared.done.AsmDone.{AsmDone}
 use Rattle.m11_asm_faults.specs.declared.fault.AsmFault.{AsmFault}
 use Rattle.m11_asm_faults.specs.declared.fault.AsmFault.TheVariants as assembly
-use Rattle.m11_asm_outputs.specs.Outputs as asm_outputs
+use Rattle.m11_base_writes.specs.Outputs.{Outputs}
 use Rattle.m11_base.specs.Devices.{Bytes, Rises}
 use Rattle.m11_base.specs.Feed.{OneFailed, Text}
 use Rattle.m11_link_layout.specs.Plan.{PlanTables}
 use Rattle.m11_link_layout.specs.declared.fault.LinkFault.{LinkFault}
 use Rattle.m11_link_layout.specs.declared.fault.LinkFault.TheVariants as linking
 use Rattle.m11_link.specs.FirstPass as first_pass
-use Rattle.m11_link.specs.Outputs as link_outputs
 use Rattle.m11_link.specs.SecondPass.{LinkRuns, ReadsSecond}
 use Rattle.m11_link.specs.declared.emit.LinkDone.{LinkDone}
 use Rattle.m11_asm_passes.specs.Lines.{givens}
@@ -37,13 +36,13 @@ module _ {F : Type 0} (text : F → Option Text) (faults : F → ℕ) (never : N
     first_reads : asm.ReadsFirst (asm.pass_of text faults before after) (Err assembly.Read) → ⊥
     first_reads (source, (sources, beginning, failed, same), lines, unended) = none_failed before after sources beginning failed
 
-    second_reads : (program : Program) (old new : asm_outputs.Outputs)
+    second_reads : (program : Program) (old new : Outputs)
         → asm.ReadsSecond (asm.pass_of text faults before after) program old new (Err assembly.Read) → ⊥
     second_reads program old new (source, (sources, beginning, failed, same), lines, unended, writes) =
         none_failed before after sources beginning failed
 
   module _ (first again second later : List F) where
-    pub assembly_reads : (old new : asm_outputs.Outputs) (returned : Result AsmDone AsmFault)
+    pub assembly_reads : (old new : Outputs) (returned : Result AsmDone AsmFault)
         → AsmRuns (asm.pass_of text faults first again) (asm.pass_of text faults second later) old new returned
         → IfErr returned (λ fault. fault ≢ assembly.Read)
     assembly_reads old new (Ok done) runs = tt
@@ -59,12 +58,12 @@ module _ {F : Type 0} (text : F → Option Text) (faults : F → ℕ) (never : N
     first_links : (bottom : ℕ) → first_pass.ReadsFirst (first_pass.pass_of text faults before after) bottom (Err linking.Read) → ⊥
     first_links bottom (items, fails, taken) = none_failed before after fails.sources fails.beginning fails.failed
 
-    second_links : (plan : PlanTables) (old new : link_outputs.Outputs)
+    second_links : (plan : PlanTables) (old new : Outputs)
         → ReadsSecond (first_pass.pass_of text faults before after) plan old new (Err linking.Read) → ⊥
     second_links plan old new (items, fails, taken, writes) = none_failed before after fails.sources fails.beginning fails.failed
 
   module _ (first again second later : List F) where
-    pub link_reads : (bottom : ℕ) (old new : link_outputs.Outputs) (returned : Result LinkDone LinkFault)
+    pub link_reads : (bottom : ℕ) (old new : Outputs) (returned : Result LinkDone LinkFault)
         → LinkRuns (first_pass.pass_of text faults first again) (first_pass.pass_of text faults second later) bottom old new returned
         → IfErr returned (λ fault. fault ≢ linking.Read)
     link_reads bottom old new (Ok done) runs = tt

@@ -4,8 +4,8 @@ use Rattle.std.specs.Prelude.{◌⊎◌, List, Result, Ok, Err}
 use Rattle.std.specs.Io.KnownBytes.{Appends}
 use Rattle.m11_asm.specs.declared.done.AsmDone.{AsmDone}
 use Rattle.m11_asm_faults.specs.declared.fault.AsmFault.{AsmFault}
-use Rattle.m11_asm_faults.specs.declared.fault.AsmOutput.TheVariants.{Object}
-use Rattle.m11_asm_outputs.specs.Outputs.{Outputs}
+use Rattle.m11_base_writes.specs.declared.outputs.Output.TheVariants.{Product}
+use Rattle.m11_base_writes.specs.Outputs.{Outputs}
 use Rattle.m11_base.specs.Devices.{Bytes}
 use Rattle.m11_cli_image.specs.Objects.{SourceFits, object_of}
 use Rattle.m11_asm_outcome_laws.specs.Beginnings.{MayStop}
@@ -18,7 +18,7 @@ pub record WritesObject (texts : List Bytes) (old new : Outputs) : Type 0 where
   pub lines : List NumberedLine
   pub live : AreLive texts lines
   pub fits : SourceFits (source_of lines)
-  pub appends : Appends (old Object).text (new Object).text (object_of (source_of lines))
+  pub appends : Appends (old Product).text (new Product).text (object_of (source_of lines))
 
 abbrev pub AssemblyYields : List Bytes → Outputs → Outputs → Result AsmDone AsmFault → Type 0
 AssemblyYields texts old new (Ok done) = WritesObject texts old new

@@ -14,7 +14,7 @@ use Rattle.m11_cli_image.specs.Objects.{link_parts, object_of}
 use Rattle.m11_cli_image.specs.Sources.{Source}
 use Rattle.m11_link_layout.specs.Sections.{is_too_large}
 use Rattle.m11_link_layout.specs.declared.fault.LinkFault.{LinkFault}
-use Rattle.m11_link_layout.specs.declared.fault.LinkOutput.TheVariants as output
+use Rattle.m11_base_writes.specs.declared.outputs.Output.TheVariants as output
 use Rattle.m11_link.specs.Objects.{AreItems, Item, outcome}
 use Rattle.m11_link.specs.Outputs.{link}
 use Rattle.m11_link.specs.Written.{link_writes}
@@ -52,7 +52,7 @@ pub record LinkTakes (bottom : ℕ) (sources : List Source) : Type 0 where
 -- the tape that a link of them writes
 abbrev pub tape_of : ℕ → List Source → Bytes
 tape_of bottom sources =
-    gained link output.Tape (link_writes (findings_of bottom (link_parts sources)) (link_parts sources))
+    gained link output.Product (link_writes (findings_of bottom (link_parts sources)) (link_parts sources))
 
 -- ---- the chain
 

@@ -12,7 +12,7 @@ use Rattle.m11_cpu_machine.specs.declared.machine.Machine.{Machine}
 use Rattle.m11_cli_image.specs.Objects.{SourceFits, object_of}
 use Rattle.m11_link_layout.specs.declared.fault.LinkFault.{LinkFault}
 use Rattle.m11_link_layout.specs.declared.fault.LinkFault.TheVariants as linking
-use Rattle.m11_link_layout.specs.declared.fault.LinkOutput.TheVariants as output
+use Rattle.m11_base_writes.specs.declared.outputs.Output.TheVariants as output
 use Rattle.m11_link.specs.Objects.{AreItems, Item, outcome}
 use Rattle.m11_link.specs.Outputs.{link}
 use Rattle.m11_link.specs.Written.{link_writes}
@@ -79,7 +79,7 @@ pub record IsTapeOfObjects (bottom : ℕ) (objects : List Bytes) (tape : Bytes) 
   pub are : AreItems objects items
   pub parts : List Part
   pub parts_are : outcome bottom items ≡ Ok parts
-  pub tape_is : tape ≡ gained link output.Tape (link_writes (findings_of bottom parts) parts)
+  pub tape_is : tape ≡ gained link output.Product (link_writes (findings_of bottom parts) parts)
 
 -- the link of the objects is refused
 pub record ObjectsRefused (bottom : ℕ) (objects : List Bytes) (stopped : LinkFault) : Type 0 where

@@ -3,12 +3,11 @@
 
 ghost use Rattle.std.specs.Prelude.{◌≡◌, ◌≢◌, ◌≤◌, List, map, Ok, IfOk, IfErr};
 ghost use Rattle.m11_asm_faults.specs.declared.fault.AsmFault.TheVariants as assembly;
-ghost use Rattle.m11_asm_outputs.specs.Outputs.{outputs_of};
+ghost use Rattle.m11_base_writes.specs.Outputs.{outputs_of};
 ghost use Rattle.m11_base.specs.Devices.{Bytes};
 ghost use Rattle.m11_cpu_machine.specs.Memory.{least_words, most_words};
 ghost use Rattle.m11_link_layout.specs.declared.fault.LinkFault.TheVariants as linking;
 ghost use Rattle.m11_link.specs.Objects.{AreItems, Item, outcome};
-ghost use Rattle.m11_link.specs.Outputs as link;
 ghost use Rattle.m11_link_laws.specs.Runs as links;
 ghost use Rattle.m11_asm_outcome_laws.specs.Beginnings.{AreKnown};
 ghost use Rattle.m11_cli_chain.specs.Assemblies.{AssemblyYields};
@@ -165,8 +164,8 @@ fn run_link<F: Feed, S: Sink, T: Sink, U: Sink>(
     ensures reads { NeverFail F.faults → IfErr result (λ fault. fault ≢ linking.Read) }
     ensures decided { (objects : List Bytes) (items : List Item) → AreItems objects items → links.AreKnown F.text first.old objects
         → links.AreKnown F.text second.old objects
-        → links.IsDecided bottom (outcome bottom items) (link.outputs_of S.Sink T.Sink U.Sink tape.old map.old messages.old)
-        (link.outputs_of S.Sink T.Sink U.Sink tape.new map.new messages.new) result }
+        → links.IsDecided bottom (outcome bottom items) (outputs_of S.Sink T.Sink U.Sink tape.old map.old messages.old)
+        (outputs_of S.Sink T.Sink U.Sink tape.new map.new messages.new) result }
 {
     known_objects_decide_the_run::<F>();
     link_run(alloc, first, second, bottom, tape, map, messages)

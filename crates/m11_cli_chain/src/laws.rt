@@ -7,7 +7,7 @@ ghost use Rattle.m11_asm.specs.Passes.{pass_of};
 ghost use Rattle.m11_asm.specs.Run.{AsmRuns};
 ghost use Rattle.m11_asm.specs.declared.done.AsmDone.{AsmDone};
 ghost use Rattle.m11_asm_faults.specs.declared.fault.AsmFault.{AsmFault};
-ghost use Rattle.m11_asm_outputs.specs.Outputs.{Outputs};
+ghost use Rattle.m11_base_writes.specs.Outputs.{Outputs};
 ghost use Rattle.m11_base.specs.Devices.{Bytes};
 ghost use Rattle.m11_base.specs.Names.{absolute_name};
 ghost use Rattle.m11_cli_image.specs.Objects.{LiesAtWord};

@@ -7,7 +7,7 @@ use Rattle.m11_link_layout.specs.Sections.{is_too_large}
 use Rattle.m11_link_layout.specs.Transfers.{is_even, transfer_address, transfer_value}
 use Rattle.m11_link_layout.specs.declared.definition.Transfer.{Transfer}
 use Rattle.m11_link_layout.specs.declared.fault.LinkFault.TheVariants.{TooLarge}
-use Rattle.m11_link_layout.specs.declared.fault.LinkOutput.TheVariants.{Tape}
+use Rattle.m11_base_writes.specs.declared.outputs.Output.TheVariants.{Product}
 use Rattle.m11_link.specs.Objects.{AreItems, Item, outcome, taken, unless_too_large}
 use Rattle.m11_link.specs.Outputs.{link}
 use Rattle.m11_link.specs.Written.{link_writes}
@@ -58,7 +58,7 @@ pub are_linked : (bottom : ℕ) (sources : List Source) (items : List Item) (par
 are_linked bottom sources items parts fit are e =
     let taken_is = taken_of bottom (taken [] items) parts e in
     let is = yields_parts sources items parts fit are taken_is in
-    let tape = gained link Tape (link_writes (findings_of bottom parts) parts) in
+    let tape = gained link Product (link_writes (findings_of bottom parts) parts) in
     let P : List (ℕ × List ℕ) → Type 0 = λ blocks. IsTape blocks (beginning bottom sources) tape in
     let Q : ℕ → Type 0 = λ start. IsTape (tape_blocks (findings_of bottom parts) parts) start tape in
     record {

@@ -9,7 +9,7 @@ use Rattle.m11_cpu_machine.specs.declared.machine.Machine.{Machine}
 use Rattle.m11_link_modules.specs.Parts.{Part, EndOfFile}
 use Rattle.m11_link_modules.specs.Rules.{first_fault}
 use Rattle.m11_link_layout.specs.Sections.{is_too_large, module_base}
-use Rattle.m11_link_layout.specs.declared.fault.LinkOutput.TheVariants.{Tape}
+use Rattle.m11_base_writes.specs.declared.outputs.Output.TheVariants.{Product}
 use Rattle.m11_link.specs.Objects.{AreItems, Item, outcome}
 use Rattle.m11_link.specs.Outputs.{link}
 use Rattle.m11_link.specs.Written.{link_writes}
@@ -90,7 +90,7 @@ module _ (bottom : ℕ) (sources : List Source) (fit : AllByRecursion SourceFits
 
 pub tape_given : (bottom : ℕ) (sources : List Source) (items : List Item) (parts : List Part) → AllByRecursion SourceFits sources
     → AreItems (map object_of sources) items → outcome bottom items ≡ Ok parts
-    → IsTapeOf (image_of bottom sources) (gained link Tape (link_writes (findings_of bottom parts) parts))
+    → IsTapeOf (image_of bottom sources) (gained link Product (link_writes (findings_of bottom parts) parts))
 tape_given bottom sources items parts fit are e =
     let linked = are_linked bottom sources items parts fit are e in
     let Sound : List Part → Type 0 = λ these. first_fault [] these ≡ None in
@@ -108,7 +108,7 @@ tape_given bottom sources items parts fit are e =
 pub load_given : (bottom : ℕ) (sources : List Source) (items : List Item) (parts : List Part) (text : Text) (left : Option Text)
     (faults faults' : ℕ) (before after : Machine) (result : Result ℕ LoadFault) → AllByRecursion SourceFits sources
     → AreItems (map object_of sources) items → outcome bottom items ≡ Ok parts
-    → text.bytes ≡ gained link Tape (link_writes (findings_of bottom parts) parts)
+    → text.bytes ≡ gained link Product (link_writes (findings_of bottom parts) parts)
     → LoadsInto (Some text) left faults faults' before after result
     → LoadYields (image_of bottom sources) text.bytes faults faults' before after result
 load_given bottom sources items parts text left faults faults' before after result fit are e same load =

@@ -8,7 +8,7 @@ use Rattle.m11_base.specs.Devices.{Bytes}
 use Rattle.m11_base.specs.Rad50.{Name}
 use Rattle.m11_obj_blocks.specs.Tapes.{IsTape}
 use Rattle.m11_link_layout.specs.declared.definition.Transfer.{Transfer}
-use Rattle.m11_link_layout.specs.declared.fault.LinkOutput.TheVariants.{Tape}
+use Rattle.m11_base_writes.specs.declared.outputs.Output.TheVariants.{Product}
 use Rattle.m11_link_layout.specs.Globals.{definitions_of}
 use Rattle.m11_link_layout.specs.Sections.{attributes_in, is_too_large, module_base, top}
 use Rattle.m11_link_layout.specs.Transfers.{is_even, transfers_of}
@@ -84,4 +84,4 @@ pub record AreLinked (bottom : ℕ) (sources : List Source) (parts : List Part) 
   pub sound : first_fault [] parts ≡ None
   pub low : is_too_large bottom parts ≡ false
   pub tape : IsTape (linked_blocks bottom sources) (beginning bottom sources)
-      (gained link Tape (link_writes (findings_of bottom parts) parts))
+      (gained link Product (link_writes (findings_of bottom parts) parts))

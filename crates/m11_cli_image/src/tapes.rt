@@ -6,7 +6,7 @@ ghost use Rattle.m11_base.specs.Feed.{Text};
 ghost use Rattle.m11_cpu.specs.Loading.{LoadsInto};
 ghost use Rattle.m11_cpu.specs.declared.fault.LoadFault.{LoadFault};
 ghost use Rattle.m11_cpu_machine.specs.declared.machine.Machine.{Machine};
-ghost use Rattle.m11_link_layout.specs.declared.fault.LinkOutput.TheVariants.{Tape};
+ghost use Rattle.m11_base_writes.specs.declared.outputs.Output.TheVariants.{Product};
 ghost use Rattle.m11_link.specs.Objects.{AreItems, Item, outcome};
 ghost use Rattle.m11_link.specs.Outputs.{link};
 ghost use Rattle.m11_link.specs.Written.{link_writes};
@@ -25,7 +25,7 @@ ghost use Rattle.m11_cli_image.specs.Sources.{Source};
 pub fn links_give_the_image()
     ensures { (bottom : ℕ) (sources : List Source) (items : List Item) (parts : List Part) → AllByRecursion SourceFits sources
         → AreItems (map object_of sources) items → outcome bottom items ≡ Ok parts
-        → IsTapeOf (image_of bottom sources) (gained link Tape (link_writes (findings_of bottom parts) parts)) }
+        → IsTapeOf (image_of bottom sources) (gained link Product (link_writes (findings_of bottom parts) parts)) }
 {}
 
 /// A machine into which this tape was loaded holds the image of the sources, and starts where it starts; and the load is refused only where
@@ -34,7 +34,7 @@ pub fn loads_of_links_yield_the_image()
     ensures { (bottom : ℕ) (sources : List Source) (items : List Item) (parts : List Part) (text : Text) (left : Option Text)
         (faults faults' : ℕ) (before after : Machine) (result : Result ℕ LoadFault) → AllByRecursion SourceFits sources
         → AreItems (map object_of sources) items → outcome bottom items ≡ Ok parts
-        → text.bytes ≡ gained link Tape (link_writes (findings_of bottom parts) parts)
+        → text.bytes ≡ gained link Product (link_writes (findings_of bottom parts) parts)
         → LoadsInto (Some text) left faults faults' before after result
         → LoadYields (image_of bottom sources) text.bytes faults faults' before after result }
 {}

@@ -6,9 +6,10 @@ use Rattle.std.specs.Option.{unwrap_or}
 use Rattle.m11_base.specs.Devices.{Bytes}
 use Rattle.m11_base.specs.Rad50.{Name, is_same_name}
 use Rattle.m11_link_layout.specs.Sections.{attributes_by, attributes_in, entered_attributes, is_relocatable}
-use Rattle.m11_link_layout.specs.declared.fault.LinkOutput.TheVariants.{Messages}
+use Rattle.m11_base_writes.specs.declared.outputs.Output.TheVariants.{Messages}
 use Rattle.m11_link.specs.Front.{front_writes}
-use Rattle.m11_link.specs.Outputs.{Write, link, to_messages}
+use Rattle.m11_link.specs.Outputs.{link}
+use Rattle.m11_base_writes.specs.Outputs.{Write, to_messages}
 use Rattle.m11_link.specs.Written.{attributes_agree, defined_names, different_writes, link_writes, parts_writes, writes_after, writes_at, writes_by}
 use Rattle.m11_link_text.specs.Findings.{Findings, findings_of}
 use Rattle.m11_link_text.specs.Lines.{different_line}

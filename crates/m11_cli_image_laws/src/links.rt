@@ -3,7 +3,7 @@
 ghost use Rattle.std.specs.Prelude.{◌≡◌, ℕ, List, []};
 ghost use Rattle.m11_cli_image.specs.Objects.{link_parts};
 ghost use Rattle.m11_cli_image.specs.Sources.{Source};
-ghost use Rattle.m11_link_layout.specs.declared.fault.LinkOutput.TheVariants.{Messages};
+ghost use Rattle.m11_base_writes.specs.declared.outputs.Output.TheVariants.{Messages};
 ghost use Rattle.m11_link.specs.Outputs.{link};
 ghost use Rattle.m11_link.specs.Written.{link_writes};
 ghost use Rattle.m11_link_text.specs.Findings.{findings_of};

@@ -6,11 +6,11 @@ use Rattle.m11_base.proofs.Known.{Appends-Appends}
 use Rattle.m11_base.specs.Devices.{Rises}
 use Rattle.m11_base.specs.Sink.{AppendsBeginning}
 use Rattle.m11_base_writes.proofs.Writing.{keeps}
-use Rattle.m11_base_writes.specs.Outputs.{Output}
+use Rattle.m11_base_writes.specs.States.{OutputState}
 use Rattle.m11_cli_reports.specs.Reports.{Reports, ReportsSome}
 
 -- a put that returned success or failure
-pub reports : {X E : Type 0} (r : Result X E) (text : List ℕ) (old new : Output)
+pub reports : {X E : Type 0} (r : Result X E) (text : List ℕ) (old new : OutputState)
     → OnOk r (Appends old.text new.text text) → OnOk r (new.faults ≡ old.faults)
     → OnErr r (AppendsBeginning old.text new.text text) → OnErr r (Rises old.faults new.faults)
     → Reports text old new
@@ -27,10 +27,10 @@ then_at_error (Ok x) P Q f p = tt
 then_at_error (Err e) P Q f p = f p
 
 -- a text of which nothing else is known, and where nothing was put
-pub reports_some : (text : List ℕ) (old new : Output) → Reports text old new → ReportsSome old new
+pub reports_some : (text : List ℕ) (old new : OutputState) → Reports text old new → ReportsSome old new
 reports_some text old new h = (text, h)
 
-pub reports_none : (output : Output) → ReportsSome output output
+pub reports_none : (output : OutputState) → ReportsSome output output
 reports_none output = ([], inl (keeps output.text, refl))
 
 -- a beginning of a text is one of a longer text, also after a text that was written whole

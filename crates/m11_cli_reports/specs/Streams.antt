@@ -3,15 +3,15 @@ use Rattle.std.specs.Prelude.{ℕ, Option}
 use Rattle.m11_base.specs.declared.feed.Feed as feed
 use Rattle.m11_base.specs.declared.sink.Sink as sink
 use Rattle.m11_base_files.specs.Opens.{Files}
-use Rattle.m11_base_writes.specs.Outputs.{Output, output_of}
+use Rattle.m11_base_writes.specs.States.{OutputState, output_of}
 use Rattle.m11_cpu.specs.Simulation.{RunDevices, run_devices}
 use Rattle.m11_cpu_machine.specs.Dialogue as dialogue
 use Rattle.m11_cpu_machine.specs.Dialogue.{Input, both, input_of}
 
 pub record Streams : Type 0 where
   pub input : Input
-  pub printed : Output
-  pub reported : Output
+  pub printed : OutputState
+  pub reported : OutputState
 
 -- the streams that a feed and two sinks are
 abbrev pub streams : {I O E : Type 0} → feed.Ghosts I → sink.Ghosts O → sink.Ghosts E → I → O → E → Streams

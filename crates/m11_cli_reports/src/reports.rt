@@ -5,7 +5,7 @@ ghost use Rattle.std.specs.Prelude.{◌≡◌, OnErr, OnOk};
 ghost use Rattle.std.specs.Io.KnownBytes.{Appends};
 ghost use Rattle.m11_base.specs.Devices.{Rises};
 ghost use Rattle.m11_base.specs.Sink.{AppendsBeginning};
-ghost use Rattle.m11_base_writes.specs.Outputs.{output_of};
+ghost use Rattle.m11_base_writes.specs.States.{output_of};
 ghost use Rattle.m11_cli_reports.specs.Lines.{open_line};
 ghost use Rattle.m11_cli_reports.specs.Reports.{Explains, Reports, ReportsOfWords, ReportsSome, words_status};
 

@@ -7,7 +7,7 @@ use Rattle.m11_obj_blocks.specs.Blocks.{first_block, why_of}
 use Rattle.m11_obj_blocks.specs.Limited.{EndsBetween, Position, Reads, Stops}
 use Rattle.m11_obj_blocks.proofs.Limits.{took_nothing, took_then}
 use Rattle.m11_obj.specs.Reading.{IsRecord, content_of}
-use Rattle.m11_base_writes.specs.Outputs.{Output}
+use Rattle.m11_base_writes.specs.States.{OutputState}
 use Rattle.m11_dump.specs.Records.{shown}
 use Rattle.m11_dump.specs.Objects.{AreInFront, DumpsObject, FailsAt, Gained, JudgesEnd, LacksMemory, RefusesBlock, Shows, StopsAfter, TakesBlock, after, after_all, object_text, parts_all, start, text_from}
 use Rattle.m11_dump.specs.Positions.{RecordShowsAt, content_start, count_read, placed_at, stop_byte}
@@ -60,7 +60,7 @@ appends_then (Some x) (Some y) (Some z) xs ys a b = b ∙ ap (λ (text : List �
 -- ---- how far a dump has come
 
 -- these blocks were shown, and the dump stands after them; the room bounds how many there are, and how large
-pub record Dumping (view : View) (old here : Position) (output output' : Output) (s : Stand) (known : RulesState) (contents : List (List ℕ))
+pub record Dumping (view : View) (old here : Position) (output output' : OutputState) (s : Stand) (known : RulesState) (contents : List (List ℕ))
     : Type 0 where
   pub shows : Shows view old here output output' contents
   pub stands : s ≡ after_all start contents
@@ -68,7 +68,7 @@ pub record Dumping (view : View) (old here : Position) (output output' : Output)
   pub whole : old.room ≡ 4194304
   pub few : s.blocks + here.room ≤ 4194304
 
-pub dump_begins : (view : View) (old : Position) (output : Output) (known : RulesState) → old.room ≡ 4194304 → known ≡ known_of []
+pub dump_begins : (view : View) (old : Position) (output : OutputState) (known : RulesState) → old.room ≡ 4194304 → known ≡ known_of []
     → Dumping view old old output output start known []
 dump_begins view old output known room none = record {
   shows = record {
@@ -104,7 +104,7 @@ pub reads_on : {X : Type 0} (has_failed : Bool) (returned : X) → (IsTrue has_f
 reads_on false returned h = refl
 reads_on {X} true returned h = absurd (let bad = h.0 refl in cc)
 
-module _ (view : View) (old here : Position) (output output' : Output) (s : Stand) (known : RulesState) (contents : List (List ℕ))
+module _ (view : View) (old here : Position) (output output' : OutputState) (s : Stand) (known : RulesState) (contents : List (List ℕ))
     (d : Dumping view old here output output' s known contents) where
   pub blocks_fit : s.blocks < 2 ^ 32
   blocks_fit = omega (arith, d.few)
@@ -130,7 +130,7 @@ module _ (view : View) (old here : Position) (output output' : Output) (s : Stan
       (is ∙ ap (stop_byte (why_of inner)) read) in
       subst P (sym e) (contents, here, output', d.shows, (stops, refl), number_is)
 
-  module _ (new : Position) (content : List ℕ) (r : Reads first_block here new content) (final : Output) where
+  module _ (new : Position) (content : List ℕ) (r : Reads first_block here new content) (final : OutputState) where
     count_is : count_read new ≡ length (d.shows.given ++ r.given)
     count_is = read_is old here new d.shows.given r.given d.whole d.shows.took r.took.room
 

@@ -12,8 +12,8 @@ use Rattle.m11_obj_blocks.specs.Tapes.{AreRead, IsTape, ReadsByte, ReadsNext, Re
 use Rattle.m11_obj_blocks.proofs.Limits.{took_nothing, took_then}
 use Rattle.m11_obj_blocks.proofs.ReadSteps.{bytes_then, rest_is, value_is}
 use Rattle.m11_obj_blocks.proofs.TapeFrames.{opened_all, opened_more, tape_framed}
-use Rattle.m11_base_writes.specs.Outputs.{Output}
-use Rattle.m11_base_writes.specs.Outputs as writes
+use Rattle.m11_base_writes.specs.States.{OutputState}
+use Rattle.m11_base_writes.specs.States as writes
 use Rattle.m11_dump.proofs.Reading.{appends_nothing, appends_then}
 use Rattle.m11_dump.specs.Positions.{count_read, fault_byte, placed_at, stop_byte}
 use Rattle.m11_dump.proofs.Offsets.{stops_at}
@@ -90,14 +90,14 @@ module _ (old here : Position) (address count index : ℕ) (stage : TapeStage) (
       )
 
 -- a put that names its fault
-pub puts_as : (text : List ℕ) (old new : Output) (result : Result (Unit {0}) DumpFault)
+pub puts_as : (text : List ℕ) (old new : OutputState) (result : Result (Unit {0}) DumpFault)
     → writes.Puts old new text fault.Write result → Puts text old new result
 puts_as text old new (Ok done) p = p
 puts_as text old new (Err f) p =
     let P : DumpFault → Type 0 = λ x. Puts text old new (Err x) in subst P (sym p.0) (p.1, p.2)
 
 -- what was read is shown, or not
-pub data_taken : (view : View) (start end : Position) (stage : TapeStage) (address count : ℕ) (bytes : List ℕ) (output output' : Output)
+pub data_taken : (view : View) (start end : Position) (stage : TapeStage) (address count : ℕ) (bytes : List ℕ) (output output' : OutputState)
     (result : Result (Unit {0}) DumpFault) → ReadsData start end stage address count bytes
     → Puts (block_text view address bytes) output output' result → TakesData view start end stage address count output output' result
 data_taken view start end stage address count bytes output output' (Ok done) r p = (bytes, r, p)
@@ -108,7 +108,7 @@ data_taken view start end stage address count bytes output output' (Err (fault.R
 data_taken view start end stage address count bytes output output' (Err (fault.Rule inner)) r p = absurd p
 data_taken view start end stage address count bytes output output' (Err (fault.Tape inner)) r p = absurd p
 
-pub data_not_taken : (view : View) (start end : Position) (stage : TapeStage) (address count : ℕ) (output : Output) (f : DumpFault)
+pub data_not_taken : (view : View) (start end : Position) (stage : TapeStage) (address count : ℕ) (output : OutputState) (f : DumpFault)
     → StopsData f start end count → TakesData view start end stage address count output output (Err f)
 data_not_taken view start end stage address count output fault.Write s = absurd s
 data_not_taken view start end stage address count output fault.NoMemory s = refl
@@ -194,7 +194,7 @@ next_is (AtEnd address) read old new after result stands r = absurd stands
 next_is AfterFault read old new after result stands r = absurd stands
 
 -- these blocks were given and shown, and the reader stands before the part after them
-pub record Taping (view : View) (old here : Position) (output output' : Output) (stage : TapeStage) (passed : ℕ)
+pub record Taping (view : View) (old here : Position) (output output' : OutputState) (stage : TapeStage) (passed : ℕ)
     (blocks : List (ℕ × List ℕ)) : Type 0 where
   pub shows : ShowsTape view old here output output' blocks
   pub before : StandsBefore stage (part_after first_part blocks)
@@ -202,7 +202,7 @@ pub record Taping (view : View) (old here : Position) (output output' : Output) 
   pub whole : old.room ≡ 4194304
   pub few : passed + here.room ≤ 4194304
 
-pub tape_begins : (view : View) (old : Position) (output : Output) → old.room ≡ 4194304
+pub tape_begins : (view : View) (old : Position) (output : OutputState) → old.room ≡ 4194304
     → Taping view old old output output BeforeBlock 0 []
 tape_begins view old output room = record {
   shows = record {
@@ -224,7 +224,7 @@ none_left (InBlock left total) read stands = stands.0
 none_left (AtEnd address) read stands = refl
 none_left AfterFault read stands = refl
 
-module _ (view : View) (old here : Position) (output output' : Output) (stage : TapeStage) (passed : ℕ) (blocks : List (ℕ × List ℕ))
+module _ (view : View) (old here : Position) (output output' : OutputState) (stage : TapeStage) (passed : ℕ) (blocks : List (ℕ × List ℕ))
     (d : Taping view old here output output' stage passed blocks) where
   pub block_ended : left_of stage ≡ 0
   block_ended = none_left stage (part_after first_part blocks) d.before
@@ -236,7 +236,7 @@ module _ (view : View) (old here : Position) (output output' : Output) (stage : 
   abbrev pub SaidAt : DumpFault → Position → LocatedFault → Type 0
   SaidAt f new said = said ≡ placed_at f passed (fault_byte f (count_read new))
 
-  stopped : (f : DumpFault) (new : Position) (final : Output) (said : LocatedFault) → SaidAt f new said
+  stopped : (f : DumpFault) (new : Position) (final : OutputState) (said : LocatedFault) → SaidAt f new said
       → StopsTape view f here new output' final blocks d.shows.given (fault_byte f (count_read new))
       → DumpsTape view old new output final (Err said)
   stopped f new final said e h =
@@ -264,7 +264,7 @@ module _ (view : View) (old here : Position) (output output' : Output) (stage : 
           (stop_byte (why_of inner) (count_read new)) d.whole d.shows.took (part_as (Err inner) is) refl),
     )
 
-    module _ (start : ℕ) (is : result ≡ Ok (Start start)) (final : Output) where
+    module _ (start : ℕ) (is : result ≡ Ok (Start start)) (final : OutputState) where
       last : Reads (part_after first_part blocks) here new (Start start)
       last = part_as (Ok (Start start)) is
 
@@ -295,7 +295,7 @@ module _ (view : View) (old here : Position) (output output' : Output) (stage : 
           → DumpsTape view old new output final (Err said)
       start_stops f said e p = start_refused f said e p
 
-    module _ (address count : ℕ) (is : result ≡ Ok (Data address count)) (end : Position) (stage' : TapeStage) (final : Output) where
+    module _ (address count : ℕ) (is : result ≡ Ok (Data address count)) (end : Position) (stage' : TapeStage) (final : OutputState) where
       header : Reads (part_after first_part blocks) here new (Data address count)
       header = part_as (Ok (Data address count)) is
 

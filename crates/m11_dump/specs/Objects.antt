@@ -13,7 +13,7 @@ use Rattle.m11_link_modules.specs.Positions.{RulesState}
 use Rattle.m11_link_modules.specs.Rules.{StopsAtName, first_fault}
 use Rattle.m11_link_modules.specs.declared.fault.ModuleFault.{ModuleFault}
 use Rattle.m11_obj.specs.Reading.{IsRecord, content_of}
-use Rattle.m11_base_writes.specs.Outputs.{Output}
+use Rattle.m11_base_writes.specs.States.{OutputState}
 use Rattle.m11_dump.specs.Positions.{RecordShowsAt, StopsAt, content_start, of_rule, placed_at, rule_byte}
 use Rattle.m11_dump.specs.Records.{address_then, shown}
 use Rattle.m11_dump.specs.declared.fault.DumpFault.{DumpFault}
@@ -60,7 +60,7 @@ abbrev pub parts_all : List Bytes → List Part
 parts_all contents = flat_map record_parts contents
 
 -- a feed gave blocks of these contents, all of them records, which break no rule of modules, and an output gained their text
-pub record Shows (view : View) (old here : Position) (output output' : Output) (contents : List Bytes) : Type 0 where
+pub record Shows (view : View) (old here : Position) (output output' : OutputState) (contents : List Bytes) : Type 0 where
   pub given : Bytes
   pub took : Took old here given
   pub blocks : (rest : Bytes) → AreInFront contents (given ++ rest) rest
@@ -70,21 +70,21 @@ pub record Shows (view : View) (old here : Position) (output output' : Output) (
   pub faults : output'.faults ≡ output.faults
 
 -- a block's text was refused by the output, after a beginning of it
-abbrev pub FailsAt : Bytes → Output → Output → Type 0
+abbrev pub FailsAt : Bytes → OutputState → OutputState → Type 0
 FailsAt text output output' = AppendsBeginning output.text output'.text text × Rises output.faults output'.faults
 
 -- a block's text was put
-abbrev pub Gained : Bytes → Output → Output → Type 0
+abbrev pub Gained : Bytes → OutputState → OutputState → Type 0
 Gained text output output' = Appends output.text output'.text text × (output'.faults ≡ output.faults)
 
 -- memory was refused for the text of a record at this address; or, when that was there, for a name that it adds
-abbrev pub LacksMemory : View → ℕ → List Part → Bytes → Output → Output → Type 0
+abbrev pub LacksMemory : View → ℕ → List Part → Bytes → OutputState → OutputState → Type 0
 LacksMemory view address parts content output output' = (output' ≡ output)
     ⊎ (Gained (shown view address (content_of content)) output output' × StopsAtName (first_fault parts) (record_parts content))
 
 -- after blocks of these contents a further one is a record that breaks a rule of modules, and its text is there. The first byte of its
 -- content shows that
-abbrev pub RecordBreaks : View → ModuleFault → Position → Position → Output → Output → List Bytes → Bytes → ℕ → Type 0
+abbrev pub RecordBreaks : View → ModuleFault → Position → Position → OutputState → OutputState → List Bytes → Bytes → ℕ → Type 0
 RecordBreaks view inner here new output output' contents before byte =
     (bad : Bytes) × (block : Reads first_block here new bad) × IsRecord bad
     × (first_fault (parts_all contents) (record_parts bad) ≡ Some inner)
@@ -92,14 +92,14 @@ RecordBreaks view inner here new output output' contents before byte =
     × (byte ≡ content_start bad (length (before ++ block.given)))
 
 -- the bytes end after them, inside a module
-abbrev pub EndBreaks : ModuleFault → Position → Position → Output → Output → List Bytes → Bytes → ℕ → Type 0
+abbrev pub EndBreaks : ModuleFault → Position → Position → OutputState → OutputState → List Bytes → Bytes → ℕ → Type 0
 EndBreaks inner here new output output' contents before byte = StopsAt first_block EndsBetween here new before byte
     × (first_fault (parts_all contents) (EndOfFile ∷ []) ≡ Some inner) × (output' ≡ output)
 
 -- why a dump stopped after blocks of these contents, and after all these bytes, and at which byte that shows: no further block could
 -- be read; or one is no record; or it breaks a rule of modules, as the end of the file may; or its text couldn't be written; or memory was
 -- refused
-abbrev pub StopsAfter : View → DumpFault → Position → Position → Output → Output → List Bytes → Bytes → ℕ → Type 0
+abbrev pub StopsAfter : View → DumpFault → Position → Position → OutputState → OutputState → List Bytes → Bytes → ℕ → Type 0
 StopsAfter view (fault.Block inner) here new output output' contents before byte =
     StopsAt first_block (why_of inner) here new before byte × (output' ≡ output)
 StopsAfter view (fault.Record inner) here new output output' contents before byte =
@@ -119,11 +119,11 @@ StopsAfter view fault.NoMemory here new output output' contents before byte =
 
 -- what a dump of an object does: the output gains the text of all blocks, after which the bytes end, between modules; or of all blocks
 -- before the first fault
-abbrev pub DumpsObject : View → Position → Position → Output → Output → Result (Unit {0}) LocatedFault → Type 0
+abbrev pub DumpsObject : View → Position → Position → OutputState → OutputState → Result (Unit {0}) LocatedFault → Type 0
 DumpsObject view old new output output' (Ok done) = (contents : List Bytes) × (here : Position)
     × Shows view old here output output' contents × Stops first_block here new EndsBetween
     × (first_fault (parts_all contents) (EndOfFile ∷ []) ≡ None)
-DumpsObject view old new output output' (Err said) = (contents : List Bytes) × (here : Position) × (middle : Output)
+DumpsObject view old new output output' (Err said) = (contents : List Bytes) × (here : Position) × (middle : OutputState)
     × (shows : Shows view old here output middle contents)
     × StopsAfter view said.fault here new middle output' contents shows.given said.byte
     × (said.block ≡ (after_all start contents).blocks + 1)
@@ -131,7 +131,7 @@ DumpsObject view old new output output' (Err said) = (contents : List Bytes) × 
 -- ---- one block
 
 -- a record was shown, and the dump stands after it; or its text was refused; or memory for it was
-abbrev pub ShowsRecord : View → Stand → Bytes → Output → Output → Result Stand DumpFault → Type 0
+abbrev pub ShowsRecord : View → Stand → Bytes → OutputState → OutputState → Result Stand DumpFault → Type 0
 ShowsRecord view s content output output' (Ok s') = (s' ≡ after s content)
     × Gained (shown view s.address (content_of content)) output output'
 ShowsRecord view s content output output' (Err (fault.Block inner)) = ⊥
@@ -156,7 +156,7 @@ JudgesEnd parts blocks count (Err said) = (inner : ModuleFault) × (first_fault 
 
 -- why a block wasn't taken with which so many bytes of the file end, after these parts, and at which byte that shows: it is no record;
 -- or it breaks a rule of modules, and its text is there; or that was refused; or memory was
-abbrev pub RefusesBlock : View → Stand → List Part → Bytes → ℕ → Output → Output → DumpFault → ℕ → Type 0
+abbrev pub RefusesBlock : View → Stand → List Part → Bytes → ℕ → OutputState → OutputState → DumpFault → ℕ → Type 0
 RefusesBlock view s parts content count output output' (fault.Block inner) byte = ⊥
 RefusesBlock view s parts content count output output' (fault.Record inner) byte =
     (content_of content ≡ Err inner) × (output' ≡ output) × RecordShowsAt inner content count byte
@@ -170,7 +170,7 @@ RefusesBlock view s parts content count output output' fault.NoMemory byte =
     IsRecord content × LacksMemory view s.address parts content output output' × (byte ≡ count)
 
 -- a block was shown and judged, and the dump and the rules stand after it; or why it wasn't taken
-abbrev pub TakesBlock : View → Stand → List Part → RulesState → Bytes → ℕ → Output → Output → Result Stand LocatedFault → Type 0
+abbrev pub TakesBlock : View → Stand → List Part → RulesState → Bytes → ℕ → OutputState → OutputState → Result Stand LocatedFault → Type 0
 TakesBlock view s parts known content count output output' (Ok s') = IsRecord content
     × ShowsRecord view s content output output' (Ok s') × TakesAfter parts known (record_parts content) (Ok tt)
 TakesBlock view s parts known content count output output' (Err said) =

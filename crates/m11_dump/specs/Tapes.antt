@@ -12,7 +12,7 @@ use Rattle.m11_obj_blocks.specs.declared.tape_part.TapePart.{TapePart}
 use Rattle.m11_obj_blocks.specs.declared.tape_part.TapePart.TheVariants.{Data, Start}
 use Rattle.m11_obj_blocks.specs.declared.tape_part.TapeStage.{TapeStage}
 use Rattle.m11_obj_blocks.specs.declared.tape_part.TapeStage.TheVariants.{InBlock}
-use Rattle.m11_base_writes.specs.Outputs.{Output}
+use Rattle.m11_base_writes.specs.States.{OutputState}
 use Rattle.m11_dump.specs.Objects.{FailsAt}
 use Rattle.m11_dump.specs.Positions.{StopsAt, count_read}
 use Rattle.m11_dump.specs.Words.{data_cells}
@@ -52,7 +52,7 @@ Hold read (block ∷ blocks) bytes = (header : Bytes) × (following : Bytes) × 
     × Hold (next_part (total_of block.0 block.1)) blocks following
 
 -- a feed gave these blocks, and an output gained their text
-pub record ShowsTape (view : View) (old here : Position) (output output' : Output) (blocks : List (ℕ × Bytes)) : Type 0 where
+pub record ShowsTape (view : View) (old here : Position) (output output' : OutputState) (blocks : List (ℕ × Bytes)) : Type 0 where
   pub given : Bytes
   pub took : Took old here given
   pub hold : Hold first_part blocks given
@@ -83,7 +83,7 @@ StopsInside read inner here new before byte = (inside : Position) × (opened : I
 
 -- why a dump stopped after blocks, and after all these bytes, and at which byte that shows: no further part could be read, or not all
 -- data of one; or what is shown of it couldn't be written; or memory was refused
-abbrev pub StopsTape : View → DumpFault → Position → Position → Output → Output → List (ℕ × Bytes) → Bytes → ℕ → Type 0
+abbrev pub StopsTape : View → DumpFault → Position → Position → OutputState → OutputState → List (ℕ × Bytes) → Bytes → ℕ → Type 0
 StopsTape view (fault.Tape inner) here new output output' blocks before byte = (output' ≡ output)
     × (StopsAt (part_after first_part blocks) (why_of inner) here new before byte
     ⊎ StopsInside (part_after first_part blocks) inner here new before byte)
@@ -95,11 +95,11 @@ StopsTape view (fault.Record inner) here new output output' blocks before byte =
 StopsTape view (fault.Rule inner) here new output output' blocks before byte = ⊥
 
 -- a whole tape: its blocks and its transfer block, after which nothing is read, and the output gained the text of all
-pub record DumpsWhole (view : View) (old new : Position) (output output' : Output) : Type 0 where
+pub record DumpsWhole (view : View) (old new : Position) (output output' : OutputState) : Type 0 where
   pub blocks : List (ℕ × Bytes)
   pub start : ℕ
   pub here : Position
-  pub middle : Output
+  pub middle : OutputState
   pub shows : ShowsTape view old here output middle blocks
   pub last : Reads (part_after first_part blocks) here new (Start start)
   pub tape : IsTape blocks start (shows.given ++ last.given)
@@ -107,16 +107,16 @@ pub record DumpsWhole (view : View) (old new : Position) (output output' : Outpu
   pub faults : output'.faults ≡ middle.faults
 
 -- what a dump of a tape does: the output gains the text of the whole tape; or of all blocks before the first fault
-abbrev pub DumpsTape : View → Position → Position → Output → Output → Result (Unit {0}) LocatedFault → Type 0
+abbrev pub DumpsTape : View → Position → Position → OutputState → OutputState → Result (Unit {0}) LocatedFault → Type 0
 DumpsTape view old new output output' (Ok done) = DumpsWhole view old new output output'
-DumpsTape view old new output output' (Err said) = (blocks : List (ℕ × Bytes)) × (here : Position) × (middle : Output)
+DumpsTape view old new output output' (Err said) = (blocks : List (ℕ × Bytes)) × (here : Position) × (middle : OutputState)
     × (shows : ShowsTape view old here output middle blocks)
     × StopsTape view said.fault here new middle output' blocks shows.given said.byte × (said.block ≡ length blocks + 1)
 
 -- ---- parts of it
 
 -- a text was put, or refused after a beginning of it; or memory was refused for it
-abbrev pub Puts : Bytes → Output → Output → Result (Unit {0}) DumpFault → Type 0
+abbrev pub Puts : Bytes → OutputState → OutputState → Result (Unit {0}) DumpFault → Type 0
 Puts text output output' (Ok done) = Appends output.text output'.text text × (output'.faults ≡ output.faults)
 Puts text output output' (Err fault.Write) = FailsAt text output output'
 Puts text output output' (Err fault.NoMemory) = output' ≡ output
@@ -141,7 +141,7 @@ StopsData (fault.Record inner) opened new count = ⊥
 StopsData (fault.Rule inner) opened new count = ⊥
 
 -- the data of a block was read and shown, or why it wasn't
-abbrev pub TakesData : View → Position → Position → TapeStage → ℕ → ℕ → Output → Output → Result (Unit {0}) DumpFault → Type 0
+abbrev pub TakesData : View → Position → Position → TapeStage → ℕ → ℕ → OutputState → OutputState → Result (Unit {0}) DumpFault → Type 0
 TakesData view opened new stage address count output output' (Err (fault.Tape inner)) =
     StopsData (fault.Tape inner) opened new count × (output' ≡ output)
 TakesData view opened new stage address count output output' (Err fault.NoMemory) = output' ≡ output

@@ -5,7 +5,7 @@ ghost use Rattle.m11_obj_blocks.specs.Limited.{most_bytes, position};
 ghost use Rattle.m11_link_modules.specs.Parts.{Part};
 ghost use Rattle.m11_link_modules.specs.Positions.{known_of};
 ghost use Rattle.m11_obj.specs.Reading.{IsRecord};
-ghost use Rattle.m11_base_writes.specs.Outputs.{output_of};
+ghost use Rattle.m11_base_writes.specs.States.{output_of};
 ghost use Rattle.m11_dump.specs.Objects as spec;
 
 use crate::fault::{DumpFault, LocatedFault};

@@ -4,7 +4,7 @@ ghost use Rattle.std.specs.Prelude.{◌≡◌, ◌%◌, ◌-◌, ◌≤◌, ◌<
 ghost use Rattle.m11_obj_blocks.specs.Limited.{most_bytes, position};
 ghost use Rattle.m11_obj_blocks.specs.Tapes.{data_limit, tape_header, total_of};
 ghost use Rattle.m11_obj_blocks.specs.declared.tape_part.TapeStage.TheVariants.{InBlock};
-ghost use Rattle.m11_base_writes.specs.Outputs.{output_of};
+ghost use Rattle.m11_base_writes.specs.States.{output_of};
 ghost use Rattle.m11_dump.specs.Positions.{fault_byte, placed_at};
 ghost use Rattle.m11_dump.specs.Tapes as spec;
 

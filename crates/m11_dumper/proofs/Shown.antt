@@ -3,7 +3,7 @@ use Rattle.std.proofs.Common.{◌≡◌, ℕ, List, ◌∷◌, Option, Result, O
 use Rattle.std.specs.Prelude.{IsErrAnd}
 use Rattle.m11_base.specs.Feed.{Text}
 use Rattle.m11_base_files.specs.Opens.{Files, Holds}
-use Rattle.m11_base_writes.specs.Outputs.{Output}
+use Rattle.m11_base_writes.specs.States.{OutputState}
 use Rattle.m11_dumper.specs.Showing.{Fails, IsOfKind, ShowsAll, ShowsFile, ShowsInput}
 use Rattle.m11_dumper.specs.Lines.{head_line}
 use Rattle.m11_dump.specs.declared.kind.Kind.{Kind}
@@ -12,7 +12,7 @@ use Rattle.m11_dumper.specs.declared.stop.Stop.TheVariants.{NotOpened, InFile, I
 use Rattle.m11_dump.specs.declared.view.View.{View}
 
 -- a file that was opened, by its path
-pub file_shown : (view : View) (files : Option Files) (path : List ℕ) (kind : Kind) (text : Option Text) (faults : ℕ) (out out' : Output)
+pub file_shown : (view : View) (files : Option Files) (path : List ℕ) (kind : Kind) (text : Option Text) (faults : ℕ) (out out' : OutputState)
     (result : Result (Unit {0}) Stop) → IsOfKind files path kind → Holds files path text
     → ShowsInput view kind text faults path out out' result → ShowsFile view files path out out' result
 file_shown view files path kind text faults out out' (Ok done) k h s = (kind, (k, (text, faults, h, s)))
@@ -23,21 +23,21 @@ file_shown view files path kind text faults out out' (Err NoMemory) k h s = s
 file_shown view files path kind text faults out out' (Err (InMap fault)) k h s = absurd s
 
 -- a file was shown, and then others, or some of them
-pub more_shown : (view : View) (files : Option Files) (path : List ℕ) (paths : List (List ℕ)) (out middle out' : Output) (done : Unit {0})
+pub more_shown : (view : View) (files : Option Files) (path : List ℕ) (paths : List (List ℕ)) (out middle out' : OutputState) (done : Unit {0})
     (result : Result (Unit {0}) Stop) → ShowsFile view files path out middle (Ok done) → ShowsAll view files paths middle out' result
     → ShowsAll view files (path ∷ paths) out out' result
 more_shown view files path paths out middle out' done (Ok all) h s = (middle, h, s)
 more_shown view files path paths out middle out' done (Err stop) h s = inr (middle, h, s)
 
 -- a file at which showing stopped
-pub not_shown : (view : View) (files : Option Files) (path : List ℕ) (paths : List (List ℕ)) (out out' : Output) (stop : Stop)
+pub not_shown : (view : View) (files : Option Files) (path : List ℕ) (paths : List (List ℕ)) (out out' : OutputState) (stop : Stop)
     → ShowsFile view files path out out' (Err stop) → ShowsAll view files (path ∷ paths) out out' (Err stop)
 not_shown view files path paths out out' stop h = inl h
 
 -- ---- the head of a file
 
 -- the head of a file couldn't be written
-pub head_fails : (view : View) (kind : Kind) (text : Option Text) (faults : ℕ) (path bytes : List ℕ) (out out' : Output)
+pub head_fails : (view : View) (kind : Kind) (text : Option Text) (faults : ℕ) (path bytes : List ℕ) (out out' : OutputState)
     (result : Result (Unit {0}) Stop) (stopped : Stop) → IsErrAnd result (λ stop. stop ≡ stopped) → stopped ≡ Write
     → bytes ≡ head_line kind path → Fails bytes out out' → ShowsInput view kind text faults path out out' result
 head_fails view kind text faults path bytes out out' (Ok done) stopped h e is fails = absurd h

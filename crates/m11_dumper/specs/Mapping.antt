@@ -9,17 +9,17 @@ use Rattle.m11_link.specs.FirstPass.{pass_of}
 use Rattle.m11_link_load_map.specs.Run.{LoadMapRuns}
 use Rattle.m11_link_load_map.specs.declared.fault.LoadMapFault.{LoadMapFault}
 use Rattle.m11_link_load_map.specs.declared.fault.LoadMapFault.TheVariants as map
-use Rattle.m11_base_writes.specs.Outputs.{Output}
+use Rattle.m11_base_writes.specs.States.{OutputState}
 
 -- the objects are the files of these paths, and their load map was run
-abbrev pub Runs : {I : Type 0} → (I → Option Text) → (I → ℕ) → ℕ → Option Files → List Bytes → Output → Output
+abbrev pub Runs : {I : Type 0} → (I → Option Text) → (I → ℕ) → ℕ → Option Files → List Bytes → OutputState → OutputState
     → Result (Unit {0}) LoadMapFault → Type 0
 Runs {I} text faults bottom files paths out out' result = (objects : List I) × (objects' : List I)
     × AreFiles text files paths objects × LoadMapRuns (pass_of text faults objects objects') bottom out out' result
 
 -- the load map was shown; or the objects have none, or it couldn't be written; or the first file that doesn't open is named; or
 -- memory was refused before an object was read
-abbrev pub ShowsMap : {I : Type 0} → (I → Option Text) → (I → ℕ) → ℕ → Option Files → List Bytes → Output → Output
+abbrev pub ShowsMap : {I : Type 0} → (I → Option Text) → (I → ℕ) → ℕ → Option Files → List Bytes → OutputState → OutputState
     → Result (Unit {0}) Stop → Type 0
 ShowsMap text faults bottom files paths out out' (Ok done) = Runs text faults bottom files paths out out' (Ok done)
 ShowsMap text faults bottom files paths out out' (Err (InMap fault)) =

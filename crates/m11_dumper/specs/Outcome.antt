@@ -6,7 +6,7 @@ use Rattle.clap.specs.Words.{Text}
 use Rattle.m11_base.specs.Devices.{Bytes}
 use Rattle.m11_base.specs.Feed as feed
 use Rattle.m11_base_files.specs.Opens.{Files}
-use Rattle.m11_base_writes.specs.Outputs.{Output}
+use Rattle.m11_base_writes.specs.States.{OutputState}
 use Rattle.m11_obj_blocks.specs.declared.block_fault.BlockFault.TheVariants as block
 use Rattle.m11_link_layout.specs.Fault.{of_module}
 use Rattle.m11_dump.specs.declared.fault.DumpFault.{DumpFault}
@@ -56,26 +56,26 @@ status_of (Shown (Ok done)) = 0
 status_of (Shown (Err stop)) = stop_status stop
 
 -- the parser's text: help is printed, a refusal reported; a line says what is wrong with a bottom; of want of memory nothing is said
-abbrev pub Refuses : UsageFault → Output → Output → Output → Output → Type 0
+abbrev pub Refuses : UsageFault → OutputState → OutputState → OutputState → OutputState → Type 0
 Refuses usage.BadOctal out out' err err' = (out' ≡ out) × Reports (usage_line usage.BadOctal) err err'
 Refuses usage.OddAddress out out' err err' = (out' ≡ out) × Reports (usage_line usage.OddAddress) err err'
 Refuses usage.BadAddress out out' err err' = (out' ≡ out) × Reports (usage_line usage.BadAddress) err err'
 Refuses fault out out' err err' = Explains fault out out' err err'
 
 -- what is said of files that were shown: nothing; or why not all of them were
-abbrev pub Says : Result (Unit {0}) Stop → Output → Output → Type 0
+abbrev pub Says : Result (Unit {0}) Stop → OutputState → OutputState → Type 0
 Says (Ok done) err err' = err' ≡ err
 Says (Err stop) err err' = MayReport (stop_line stop) err err'
 
 -- what is asked for was shown, or why it wasn't
-abbrev pub Shows : {I : Type 0} → (I → Option feed.Text) → (I → ℕ) → Show → Option Files → List Bytes → Output → Output
+abbrev pub Shows : {I : Type 0} → (I → Option feed.Text) → (I → ℕ) → Show → Option Files → List Bytes → OutputState → OutputState
     → Result (Unit {0}) Stop → Type 0
 Shows text faults (Contents view) files paths out out' result = ShowsAll view files paths out out' result
 Shows text faults (Map bottom) files paths out out' result = ShowsMap text faults bottom files paths out out' result
 
 -- the words are refused; or the files of their paths are shown, and where that stopped the reason is reported
-abbrev pub Yields : {I : Type 0} → (I → Option feed.Text) → (I → ℕ) → List Text → Option Files → Outcome → Output → Output → Output
-    → Output → Type 0
+abbrev pub Yields : {I : Type 0} → (I → Option feed.Text) → (I → ℕ) → List Text → Option Files → Outcome → OutputState → OutputState → OutputState
+    → OutputState → Type 0
 Yields text faults words files (Usage fault) out out' err err' = Plans words (Err fault) × Refuses fault out out' err err'
 Yields text faults words files (Shown result) out out' err err' = (request : Request) × Plans words (Ok request)
     × Shows text faults request.show files (texts request.paths.items) out out' result × Says result err err'
@@ -83,6 +83,6 @@ Yields text faults words files (Shown result) out out' err err' = (request : Req
 -- ---- words that the system does not give
 
 -- the line of a word that is no text; of want of memory nothing is said
-abbrev pub RefusesWords : WordsFault → Output → Output → Type 0
+abbrev pub RefusesWords : WordsFault → OutputState → OutputState → Type 0
 RefusesWords words.NoMemory err err' = err' ≡ err
 RefusesWords (words.NotText number) err err' = ReportsOfWords (words.NotText number) err err'

@@ -15,24 +15,24 @@ use Rattle.m11_dumper.specs.Lines.{head_line}
 use Rattle.m11_dumper.specs.declared.stop.Stop.{Stop}
 use Rattle.m11_dumper.specs.declared.stop.Stop.TheVariants.{NotOpened, InFile, InMap, Write, NoMemory}
 use Rattle.m11_base_files.specs.Opens.{Files, Holds, Lacks}
-use Rattle.m11_base_writes.specs.Outputs.{Output}
+use Rattle.m11_base_writes.specs.States.{OutputState}
 use Rattle.m11_dump.specs.declared.view.View.{View}
 
 -- a text was put whole; or the output failed after a beginning of it
-abbrev pub Gains : Bytes → Output → Output → Type 0
+abbrev pub Gains : Bytes → OutputState → OutputState → Type 0
 Gains text out out' = Appends out.text out'.text text × (out'.faults ≡ out.faults)
 
-abbrev pub Fails : Bytes → Output → Output → Type 0
+abbrev pub Fails : Bytes → OutputState → OutputState → Type 0
 Fails text out out' = AppendsBeginning out.text out'.text text × Rises out.faults out'.faults
 
 -- what a dump of a file of this kind does
-abbrev pub DumpsKind : View → Kind → Position → Position → Output → Output → Result (Unit {0}) LocatedFault → Type 0
+abbrev pub DumpsKind : View → Kind → Position → Position → OutputState → OutputState → Result (Unit {0}) LocatedFault → Type 0
 DumpsKind view Object old new out out' result = DumpsObject view old new out out' result
 DumpsKind view Tape old new out out' result = DumpsTape view old new out out' result
 
 -- after the head of a file the output gained what a dump makes of its bytes, which it read from their beginning
-abbrev pub DumpsInput : View → Kind → Option Text → ℕ → Bytes → Output → Output → Result (Unit {0}) LocatedFault → Type 0
-DumpsInput view kind text faults path out out' result = (middle : Output) × (new : Position) × Gains (head_line kind path) out middle
+abbrev pub DumpsInput : View → Kind → Option Text → ℕ → Bytes → OutputState → OutputState → Result (Unit {0}) LocatedFault → Type 0
+DumpsInput view kind text faults path out out' result = (middle : OutputState) × (new : Position) × Gains (head_line kind path) out middle
     × DumpsKind view kind (position text faults most_bytes) new middle out' result
 
 -- a file is of this kind
@@ -41,12 +41,12 @@ IsOfKind files path kind =
     (text : Option Text) × (faults : ℕ) × (new : Position) × Holds files path text × IsKind (position text faults most_bytes) new kind
 
 -- the file of a path was dumped, which is of this kind
-abbrev pub Dumps : View → Kind → Option Files → Bytes → Output → Output → Result (Unit {0}) LocatedFault → Type 0
+abbrev pub Dumps : View → Kind → Option Files → Bytes → OutputState → OutputState → Result (Unit {0}) LocatedFault → Type 0
 Dumps view kind files path out out' result = IsOfKind files path kind
     × ((text : Option Text) × (faults : ℕ) × Holds files path text × DumpsInput view kind text faults path out out' result)
 
 -- one file was shown; or it doesn't open; or its dump stopped; or its head couldn't be written, or memory was refused before that
-abbrev pub ShowsFile : View → Option Files → Bytes → Output → Output → Result (Unit {0}) Stop → Type 0
+abbrev pub ShowsFile : View → Option Files → Bytes → OutputState → OutputState → Result (Unit {0}) Stop → Type 0
 ShowsFile view files path out out' (Ok done) = (kind : Kind) × Dumps view kind files path out out' (Ok done)
 ShowsFile view files path out out' (Err (InFile named placed)) =
     (kind : Kind) × (named.now ≡ path) × Dumps view kind files path out out' (Err placed)
@@ -56,13 +56,13 @@ ShowsFile view files path out out' (Err NoMemory) = out' ≡ out
 ShowsFile view files path out out' (Err (InMap fault)) = ⊥
 
 -- all files were shown, in order; or those before one at which showing stopped
-abbrev pub ShowsAll : View → Option Files → List Bytes → Output → Output → Result (Unit {0}) Stop → Type 0
+abbrev pub ShowsAll : View → Option Files → List Bytes → OutputState → OutputState → Result (Unit {0}) Stop → Type 0
 ShowsAll view files [] out out' (Ok done) = out' ≡ out
 ShowsAll view files [] out out' (Err stop) = ⊥
 ShowsAll view files (path ∷ paths) out out' (Ok done) =
-    (middle : Output) × ShowsFile view files path out middle (Ok tt) × ShowsAll view files paths middle out' (Ok done)
+    (middle : OutputState) × ShowsFile view files path out middle (Ok tt) × ShowsAll view files paths middle out' (Ok done)
 ShowsAll view files (path ∷ paths) out out' (Err stop) = ShowsFile view files path out out' (Err stop)
-    ⊎ ((middle : Output) × ShowsFile view files path out middle (Ok tt) × ShowsAll view files paths middle out' (Err stop))
+    ⊎ ((middle : OutputState) × ShowsFile view files path out middle (Ok tt) × ShowsAll view files paths middle out' (Err stop))
 
 -- a count of refusals rises exactly where a file doesn't open
 abbrev pub Counts : ℕ → ℕ → Result (Unit {0}) Stop → Type 0
@@ -72,7 +72,7 @@ Counts old new result = new ≡ old
 -- ---- one input
 
 -- a file of a kind that was opened was shown, or why it wasn't
-abbrev pub ShowsInput : View → Kind → Option Text → ℕ → Bytes → Output → Output → Result (Unit {0}) Stop → Type 0
+abbrev pub ShowsInput : View → Kind → Option Text → ℕ → Bytes → OutputState → OutputState → Result (Unit {0}) Stop → Type 0
 ShowsInput view kind text faults path out out' (Ok done) = DumpsInput view kind text faults path out out' (Ok done)
 ShowsInput view kind text faults path out out' (Err (InFile named placed)) =
     (named.now ≡ path) × DumpsInput view kind text faults path out out' (Err placed)

@@ -5,7 +5,7 @@ ghost use Rattle.m11_dumper.specs.Outcome.{Refuses, RefusesWords, Says, Shows, Y
 ghost use Rattle.m11_dumper.specs.declared.stop.Outcome.{Outcome};
 ghost use Rattle.m11_cli_reports.specs.Reports.{words_status};
 ghost use Rattle.m11_cli_tasks.specs.Opened.{texts};
-ghost use Rattle.m11_base_writes.specs.Outputs.{output_of};
+ghost use Rattle.m11_base_writes.specs.States.{output_of};
 
 use crate::lines::stop_line;
 use crate::mapping::show_map;

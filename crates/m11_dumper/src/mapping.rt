@@ -4,7 +4,7 @@ ghost use Rattle.std.specs.Prelude.{◌≡◌, IfErr, IfOk};
 ghost use Rattle.m11_dumper.specs.Mapping.{ShowsMap};
 ghost use Rattle.m11_base_files.specs.Opens.{AreFiles, Holds};
 ghost use Rattle.m11_cli_tasks.specs.Opened.{LacksFirst, LacksOne, texts};
-ghost use Rattle.m11_base_writes.specs.Outputs.{output_of};
+ghost use Rattle.m11_base_writes.specs.States.{output_of};
 
 use crate::stop::Stop;
 use m11_base::Sink;

@@ -4,7 +4,7 @@ ghost use Rattle.std.specs.Prelude.{◌≡◌, ℕ};
 ghost use Rattle.m11_obj_blocks.specs.Limited.{most_bytes, position};
 ghost use Rattle.m11_dumper.specs.Showing.{Counts, DumpsKind, ShowsAll, ShowsFile, ShowsInput};
 ghost use Rattle.m11_cli_tasks.specs.Opened.{texts};
-ghost use Rattle.m11_base_writes.specs.Outputs.{output_of};
+ghost use Rattle.m11_base_writes.specs.States.{output_of};
 
 use crate::lines::head_line;
 use crate::stop::Stop;

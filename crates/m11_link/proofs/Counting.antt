@@ -5,7 +5,7 @@ use Rattle.m11_link_layout.specs.declared.planned.PlannedSection.{PlannedSection
 use Rattle.m11_link_text.specs.Findings.{Findings}
 use Rattle.m11_link.specs.Front.{front_writes, global_writes, last_writes, map_writes, name_writes, section_writes, undefined_names, undefined_writes, weak_writes}
 use Rattle.m11_link_text.specs.Lines as line
-use Rattle.m11_link.specs.Outputs.{Write, to_map}
+use Rattle.m11_base_writes.specs.Outputs.{Write, to_report}
 use Rattle.m11_link.specs.Written.{counted, is_message, one_more}
 
 pub counted-append : (count : ℕ) (xs ys : List Write) → counted (counted count xs) ys ≡ counted count (xs ++ ys)
@@ -14,7 +14,7 @@ counted-append count (x ∷ xs) ys = counted-append (one_more count (is_message 
 
 -- lines of the map are no messages
 pub lines_not_counted : {X : Type 0} (line : X → List ℕ) (count : ℕ) (xs : List X)
-    → counted count (map (λ x. to_map (line x)) xs) ≡ count
+    → counted count (map (λ x. to_report (line x)) xs) ≡ count
 lines_not_counted line count [] = refl
 lines_not_counted line count (x ∷ xs) = lines_not_counted line count xs
 

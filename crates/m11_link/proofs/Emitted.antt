@@ -30,7 +30,8 @@ use Rattle.m11_link_layout.specs.declared.fault.LinkFault.TheVariants as fault
 use Rattle.m11_link.specs.Emit.{EmitStands, EmitState, Goes, GoesOn, ReporterState, TakesBlock, TakesParts, begin_writes, begun_reporting, call_of, directory_writes, entries_writes, held_at, held_text, held_with, held_with_all, held_writes, relocated_parts, with_count, with_directory, with_held, with_reporting, with_text, written}
 use Rattle.m11_link_text.specs.Findings.{Findings, planned}
 use Rattle.m11_link.specs.Front.{front_writes}
-use Rattle.m11_link.specs.Outputs.{Outputs, Write, Gains, Stops, StopsBetween, StopsIn, Writes, link}
+use Rattle.m11_link.specs.Outputs.{Gains, Stops, StopsBetween, StopsIn, Writes, link}
+use Rattle.m11_base_writes.specs.Outputs.{Outputs, Write}
 use Rattle.m11_link.specs.Written.{PlacedText, block_at, counted, defined_names, parts_writes}
 use Rattle.m11_link.proofs.Counting.{counted-append}
 use Rattle.m11_link.proofs.Entering.{goes_stopped_alone}

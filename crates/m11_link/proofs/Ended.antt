@@ -17,7 +17,8 @@ use Rattle.m11_link.specs.declared.emit.LinkDone.{LinkDone}
 use Rattle.m11_link.specs.Emit.{EmitState, EmitEnds, GoesOn, EmitStands, begin_writes, begun_reporting, written}
 use Rattle.m11_link_text.specs.Findings.{planned}
 use Rattle.m11_link.specs.Front.{front_writes}
-use Rattle.m11_link.specs.Outputs.{Outputs, Write, Finishes, Gains, StopsBetween, StopsIn, flushes, to_tape}
+use Rattle.m11_link.specs.Outputs.{Finishes, Gains, StopsBetween, StopsIn}
+use Rattle.m11_base_writes.specs.Outputs.{Outputs, Write, flushes, to_product}
 use Rattle.m11_link.specs.Written.{counted, link_writes}
 use Rattle.m11_link.proofs.Counting.{counted-append}
 use Rattle.m11_link.proofs.Emitted.{begun_counts, begun_holds, here, none_written}
@@ -35,7 +36,7 @@ no_name_there (first ∷ second ∷ taken) part left e adds = cc
 -- ---- the transfer block
 
 abbrev transfer : PlanTables → List Write
-transfer plan = to_tape (tape_block (planned plan).transfer []) ∷ []
+transfer plan = to_product (tape_block (planned plan).transfer []) ∷ []
 
 all_written : (plan : PlanTables) (before : List Part) (b : Bool) (ws : List Write) → (b ≡ false → before ≡ [])
     → link_writes (planned plan) before

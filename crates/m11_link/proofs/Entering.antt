@@ -18,7 +18,8 @@ use Rattle.m11_link.specs.Emit.{Goes, EmitKeeps, ReporterState, defined_by, defi
 use Rattle.m11_link_text.specs.Findings.{planned}
 use Rattle.m11_link_text.specs.Lines.{different_line, multiple_line}
 use Rattle.m11_link.specs.Front.{front_writes}
-use Rattle.m11_link.specs.Outputs.{Outputs, Write, Gains, Stops, to_messages, to_tape, link}
+use Rattle.m11_link.specs.Outputs.{Gains, Stops, link}
+use Rattle.m11_base_writes.specs.Outputs.{Outputs, Write, to_messages, to_product}
 use Rattle.m11_link.specs.Written.{PlacedText, attributes_agree, block_at, counted, different_writes, entry_writes, placed_text, symbol_writes, writes_by}
 use Rattle.m11_link.proofs.Counting.{counted-append}
 use Rattle.m11_base_writes.proofs.Writing.{gains_nothing, gains_then, stops_before, stops_after, refused_between}
@@ -138,7 +139,7 @@ block_none address [] e = refl
 block_none address (byte ∷ bytes) e = absurd (omega (arith, eqb-true (length (byte ∷ bytes)) 0 e))
 
 pub block_some : (address : ℕ) (bytes : List ℕ) → (length bytes == 0) ≡ false
-    → block_at address bytes ≡ to_tape (tape_block address bytes) ∷ []
+    → block_at address bytes ≡ to_product (tape_block address bytes) ∷ []
 block_some address [] e = absurd (true≢false e)
 block_some address (byte ∷ bytes) e = refl
 

@@ -1,4 +1,3 @@
-pub mod Writing
 pub mod Counting
 pub mod Looping
 pub mod Entering

@@ -1,40 +1,16 @@
--- Writes of a list, one of its items after another. (This project's own words.)
-use Rattle.std.proofs.Common.{◌≡◌, ◌≤◌, ℕ, ◌+◌, not, codes, Bool, true, false, List, [], ◌∷◌, ◌++◌, length, map, drop, slice_get, Option, Some, None, Result, Ok, Err, sym, subst, ap, refl, ◌∙◌}
+-- Lists that a link writes, one of their items after another. (This project's own words.)
+use Rattle.std.proofs.Common.{◌≡◌, ◌≤◌, ℕ, ◌+◌, not, codes, Bool, true, false, List, [], ◌∷◌, ◌++◌, length, map, drop, slice_get, Option, Some, None, sym, ap, refl, ◌∙◌}
 use Rattle.std.proofs.lemmas.Bool.{false≢true, true≢false}
 use Rattle.std.proofs.lemmas.List.{drop_all}
 use Rattle.m11_link_modules.proofs.Indexing.{drop_at}
-use Rattle.m11_link_layout.specs.declared.fault.LinkFault.{LinkFault}
 use Rattle.m11_link_layout.specs.declared.planned.PlannedGlobal.{PlannedGlobal}
 use Rattle.m11_link_layout.specs.declared.planned.PlannedSection.{PlannedSection}
 use Rattle.m11_link_text.specs.Findings.{Findings}
 use Rattle.std.specs.List.{cons_option, filter_map}
 use Rattle.m11_link.specs.Front.{is_empty, written_if, undefined_by, undefined_names, section_write, section_writes, global_write, global_writes, name_write, name_writes, undefined_write, undefined_writes, weak_writes}
-use Rattle.m11_link.specs.Outputs.{Outputs, Write, Gains, Stops, Writes, to_map, link}
+use Rattle.m11_base_writes.specs.Outputs.{Write, to_report}
 use Rattle.m11_link.specs.Written.{counted}
 use Rattle.m11_link.proofs.Counting.{counted-append}
-use Rattle.m11_base_writes.proofs.Writing.{gains_nothing, stops_before, writes_then}
-
--- what is left to write leads to all writes
-abbrev pub Leads : Type 0 → Outputs → Outputs → List Write → List Write → Type 0
-Leads A start now rest all = (new : Outputs) (result : Result A LinkFault) → Writes now new rest result → Writes start new all result
-
-module _ {A : Type 0} (start now : Outputs) (all : List Write) where
-  pub wrote_one : (later : Outputs) (one rest left : List Write) → left ≡ one ++ rest → Leads A start now left all
-      → Gains now later one → Leads A start later rest all
-  wrote_one later one rest left e leads gains = λ new result h.
-      let P : List Write → Type 0 = λ ws. Writes now new ws result in
-      leads new result (subst P (sym e) (writes_then link now later new one rest result gains h))
-
-  pub stopped_there : (new : Outputs) (one rest left : List Write) (stopped : LinkFault) → left ≡ one ++ rest
-      → Leads A start now left all → Stops now new one stopped → Stops start new all stopped
-  stopped_there new one rest left stopped e leads h =
-      let P : List Write → Type 0 = λ ws. Writes {A = A} now new ws (Err stopped) in
-      leads new (Err stopped) (subst P (sym e) (stops_before link now new one rest stopped h))
-
-  pub wrote_all : (left : List Write) (done : A) → left ≡ [] → Leads A start now left all → Gains start now all
-  wrote_all left done e leads =
-      let P : List Write → Type 0 = λ ws. Writes {A = A} now now ws (Ok done) in
-      leads now (Ok done) (subst P (sym e) (gains_nothing link now))
 
 -- ---- lists that are written
 
@@ -152,7 +128,7 @@ module _ (found : Findings) (references : List ((ℕ × ℕ) × Bool)) (index : 
   weak_ended le h = ap not (sym (ap is_empty (name_writes_end found false references index le))) ∙ ap not h
 
 pub weak_some : (writes : List Write) → is_empty writes ≡ false
-    → weak_writes writes ≡ (to_map (codes "WEAK\n") ∷ []) ++ writes
+    → weak_writes writes ≡ (to_report (codes "WEAK\n") ∷ []) ++ writes
 weak_some [] e = absurd (true≢false e)
 weak_some (write ∷ writes) e = refl
 

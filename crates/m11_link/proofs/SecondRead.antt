@@ -13,7 +13,7 @@ use Rattle.m11_link_modules.specs.declared.fault.ModuleFault.TheVariants as rule
 use Rattle.m11_link_layout.specs.Plan.{PlanTables}
 use Rattle.m11_link_layout.specs.declared.fault.LinkFault.{LinkFault}
 use Rattle.m11_link_layout.specs.declared.fault.LinkFault.TheVariants as fault
-use Rattle.m11_link_layout.specs.declared.fault.LinkOutput.{LinkOutput}
+use Rattle.m11_base_writes.specs.declared.outputs.Output.{Output}
 use Rattle.m11_link.specs.Emit.{EmitEnds, EmitStands, EmitState, GoesOn, TakesBlock, TakesParts, call_of, written}
 use Rattle.m11_link.specs.FirstPass.{of_block, pass_of}
 use Rattle.m11_link.specs.Objects.{◌>>=◌, AreItems, Item, BlockOf, ObjectEnds, Refused, GiveItems, GivesItems, taken, taken_item}
@@ -22,7 +22,8 @@ use Rattle.m11_link.specs.declared.emit.LinkDone.{LinkDone}
 use Rattle.m11_link_text.specs.Findings.{planned}
 use Rattle.m11_link.specs.Written.{link_writes}
 use Rattle.m11_link.specs.SecondPass.{Emits, EmitsObject, Emitted, IsOfItems, ReadsSecond, StopsAt, StopsBefore, StopsLink, StopsWithin, WrittenAfter, begun_by, start_at}
-use Rattle.m11_link.specs.Outputs.{Outputs, Write, Gains, StopsBetween, StopsIn, flushes, link}
+use Rattle.m11_link.specs.Outputs.{Gains, StopsBetween, StopsIn, link}
+use Rattle.m11_base_writes.specs.Outputs.{Outputs, Write, flushes}
 use Rattle.m11_base.proofs.FeedsRead.{SoFar, begin, all_read, failed_here, given_more, none_failed, read_more}
 use Rattle.m11_link.proofs.FirstRead.{are_after, one_object}
 use Rattle.m11_link.proofs.Steady.{objects_come}
@@ -39,7 +40,7 @@ gains_on first now new some all g o =
     let P : List Write → Type 0 = λ these. Gains first new these in
     subst P (sym o.split) (gains_then link first now new some o.more g o.went)
 
-stops_in_on : (output : LinkOutput) (first now new : Outputs) (some all : List Write) → Gains first now some
+stops_in_on : (output : Output) (first now new : Outputs) (some all : List Write) → Gains first now some
     → GoesOn (StopsIn output now new) some all → StopsIn output first new all
 stops_in_on output first now new some all g o =
     let P : List Write → Type 0 = λ these. StopsIn output first new these in
@@ -371,7 +372,7 @@ module _ (text text1 : Option FeedText) (faults faults1 room1 : ℕ) (plan : Pla
     refused = refl;
   }
 
-  no_write : (inner : BlockFault) (output : LinkOutput) → fault.Write output ≡ of_block inner → ⊥
+  no_write : (inner : BlockFault) (output : Output) → fault.Write output ≡ of_block inner → ⊥
   no_write block.Device output is = cc
   no_write block.TooMuch output is = cc
   no_write inner output is = cc

@@ -17,7 +17,7 @@ use Rattle.m11_link_layout.specs.Globals.{definition_by, definition_in, definiti
 use Rattle.m11_link_layout.specs.declared.definition.Definition.{Definition}
 use Rattle.m11_link.specs.Emit.{defined_by, defined_if, defined_with, defined_with_all, entries_writes, held_at, held_after, held_text, held_with, held_with_all, held_writes}
 use Rattle.m11_link_text.specs.Findings.{Findings}
-use Rattle.m11_link.specs.Outputs.{Write}
+use Rattle.m11_base_writes.specs.Outputs.{Write}
 use Rattle.m11_link.specs.Written.{PlacedText, defined_names, ended_writes, entry_writes, parts_writes, placed_text, writes_at, writes_after}
 
 -- ---- part by part

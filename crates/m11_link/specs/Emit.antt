@@ -20,7 +20,8 @@ use Rattle.m11_link_layout.specs.declared.fault.LinkFault.TheVariants as fault
 use Rattle.m11_link.specs.declared.emit.LinkDone.{LinkDone}
 use Rattle.m11_link_text.specs.Findings.{Findings, planned}
 use Rattle.m11_link.specs.Front.{front_writes}
-use Rattle.m11_link.specs.Outputs.{Write, Outputs, AreFlushed, Gains, Stops, StopsBetween, StopsIn, flushes}
+use Rattle.m11_link.specs.Outputs.{Gains, Stops, StopsBetween, StopsIn}
+use Rattle.m11_base_writes.specs.Outputs.{AreFlushed, Outputs, Write, flushes}
 use Rattle.m11_link.specs.Written.{PlacedText, placed_text, text_writes, with_relocation, symbol_writes, entry_writes, defined_names, parts_writes, link_writes, counted}
 
 -- ---- what stands between two records

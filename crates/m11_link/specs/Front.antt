@@ -6,7 +6,7 @@ use Rattle.m11_link_layout.specs.declared.planned.PlannedGlobal.{PlannedGlobal}
 use Rattle.m11_link_layout.specs.declared.planned.PlannedSection.{PlannedSection}
 use Rattle.m11_link_text.specs.Findings.{Findings}
 use Rattle.m11_link_text.specs.Lines as line
-use Rattle.m11_link.specs.Outputs.{Write, to_map, to_messages}
+use Rattle.m11_base_writes.specs.Outputs.{Write, to_messages, to_report}
 
 -- ---- undefined globals
 
@@ -31,13 +31,13 @@ undefined_names found is_strong references = filter_map (undefined_by found is_s
 -- ---- the map
 
 abbrev pub section_write : PlannedSection → Write
-section_write section = to_map (line.section_line section.name section.base section.size section.attributes.0)
+section_write section = to_report (line.section_line section.name section.base section.size section.attributes.0)
 
 abbrev pub global_write : PlannedGlobal → Write
-global_write global = to_map (line.global_line global.name global.value global.module_name)
+global_write global = to_report (line.global_line global.name global.value global.module_name)
 
 abbrev pub name_write : Name → Write
-name_write name = to_map (line.name_line name)
+name_write name = to_report (line.name_line name)
 
 unfoldable pub section_writes : List PlannedSection → List Write
 section_writes sections = map section_write sections
@@ -55,16 +55,16 @@ is_empty (write ∷ writes) = false
 -- names that are only referred to weakly stand under a word of their own, where there are any
 abbrev pub weak_writes : List Write → List Write
 weak_writes [] = []
-weak_writes (name ∷ names) = to_map (codes "WEAK\n") ∷ name ∷ names
+weak_writes (name ∷ names) = to_report (codes "WEAK\n") ∷ name ∷ names
 
 abbrev pub last_writes : Findings → List Write
 last_writes found =
-    to_map (line.transfer_line found.transfer) ∷ to_map (line.limit_line found.bottom found.top) ∷ []
+    to_report (line.transfer_line found.transfer) ∷ to_report (line.limit_line found.bottom found.top) ∷ []
 
 unfoldable pub map_writes : Findings → List Write
-map_writes found = (to_map (codes "SECTIONS\n") ∷ section_writes found.sections)
-    ++ ((to_map (codes "GLOBALS\n") ∷ global_writes found.globals)
-    ++ ((to_map (codes "UNDEFINED\n") ∷ name_writes found true found.references)
+map_writes found = (to_report (codes "SECTIONS\n") ∷ section_writes found.sections)
+    ++ ((to_report (codes "GLOBALS\n") ∷ global_writes found.globals)
+    ++ ((to_report (codes "UNDEFINED\n") ∷ name_writes found true found.references)
     ++ (weak_writes (name_writes found false found.references) ++ last_writes found)))
 
 -- ---- in order

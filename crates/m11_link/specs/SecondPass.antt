@@ -12,7 +12,8 @@ use Rattle.m11_link.specs.Emit.{EmitState, EmitStands, written}
 use Rattle.m11_link_text.specs.Findings.{planned}
 use Rattle.m11_link.specs.FirstPass.{AreTaken, Pass, ReadsFirst}
 use Rattle.m11_link.specs.Objects.{Item, taken, taken_item, GivesItems, BeginsItems, GiveItems, FailAfter}
-use Rattle.m11_link.specs.Outputs.{Write, Outputs, AreFlushed, Gains, StopsIn, StopsBetween, flushes}
+use Rattle.m11_link.specs.Outputs.{Gains, StopsIn, StopsBetween}
+use Rattle.m11_base_writes.specs.Outputs.{AreFlushed, Outputs, Write, flushes}
 use Rattle.m11_link.specs.Written.{counted, link_writes}
 
 -- ---- what is written where a pass stops

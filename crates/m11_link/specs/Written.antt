@@ -17,13 +17,13 @@ use Rattle.m11_link_modules.specs.Positions.{current_section, distinct, modules_
 use Rattle.m11_link_modules.specs.Rules.{defines}
 use Rattle.m11_link_layout.specs.Globals.{definitions_of}
 use Rattle.m11_link_layout.specs.Sections.{attributes_by}
-use Rattle.m11_link_layout.specs.declared.fault.LinkOutput.{LinkOutput}
-use Rattle.m11_link_layout.specs.declared.fault.LinkOutput.TheVariants.{Messages}
+use Rattle.m11_base_writes.specs.declared.outputs.Output.{Output}
+use Rattle.m11_base_writes.specs.declared.outputs.Output.TheVariants.{Messages}
 use Rattle.m11_link_text.specs.Findings.{Findings}
 use Rattle.m11_link_text.specs.Lines.{different_line, multiple_line}
 use Rattle.m11_link.specs.Front.{front_writes}
 use Rattle.m11_link_text.specs.Relocation.{modulo, relocated}
-use Rattle.m11_link.specs.Outputs.{Write, to_messages, to_tape}
+use Rattle.m11_base_writes.specs.Outputs.{Write, to_messages, to_product}
 
 -- ---- texts
 
@@ -57,7 +57,7 @@ with_relocations found text (relocation ∷ relocations) =
 -- a text with data is a block of the tape
 abbrev pub block_at : ℕ → Bytes → List Write
 block_at address [] = []
-block_at address (byte ∷ bytes) = to_tape (tape_block address (byte ∷ bytes)) ∷ []
+block_at address (byte ∷ bytes) = to_product (tape_block address (byte ∷ bytes)) ∷ []
 
 abbrev pub text_writes : PlacedText → List Write
 text_writes text = block_at text.address text.bytes
@@ -134,11 +134,11 @@ parts_writes found parts = writes_after found [] parts
 -- the whole link: messages on undefined globals and the map, the parts, the transfer block
 abbrev pub link_writes : Findings → List Part → List Write
 link_writes found parts =
-    (front_writes found ++ parts_writes found parts) ++ to_tape (tape_block found.transfer []) ∷ []
+    (front_writes found ++ parts_writes found parts) ++ to_product (tape_block found.transfer []) ∷ []
 
 -- ---- how many messages
 
-abbrev pub is_to_messages : LinkOutput → Bool
+abbrev pub is_to_messages : Output → Bool
 is_to_messages Messages = true
 is_to_messages output = false
 

@@ -13,13 +13,14 @@ ghost use Rattle.m11_link_layout.specs.Plan.{PlanTables};
 ghost use Rattle.m11_link_layout.specs.declared.fault.LinkFault.{LinkFault};
 ghost use Rattle.m11_link.specs.Emit.{EmitEnds, EmitStands, FailsAgain, Goes, HoldsLastText, TakesBlock, TakesParts, begin_writes, begun_reporting, call_of, directory_writes, held_with, held_with_all, held_writes, relocated_parts, with_directory, with_held, with_reporting, with_text};
 ghost use Rattle.m11_link_text.specs.Findings.{planned};
-ghost use Rattle.m11_base_writes.specs.Outputs.{Output, optional_output, output_of};
-ghost use Rattle.m11_link.specs.Outputs.{Finishes, Writes, outputs, outputs_of, to_tape};
+ghost use Rattle.m11_base_writes.specs.States.{OutputState, optional_output, output_of};
+ghost use Rattle.m11_link.specs.Outputs.{Finishes, Writes};
+ghost use Rattle.m11_base_writes.specs.Outputs.{outputs, outputs_of, to_product};
 
 use crate::held::ModuleSection;
-use crate::outputs::flush_files;
 use crate::reporting::Reporter;
 use m11_base::{Latch, Sink};
+use m11_base_writes::flush_files;
 use m11_link_layout::{LinkFault, Plan};
 use m11_link_modules::{ModuleFault, Rules, refuse};
 use m11_obj::{
@@ -313,7 +314,7 @@ impl Emit {
         map: &mut Option<T>,
         messages: &mut U,
     ) -> Result<(), LinkFault>
-        ensures takes { (tape : Output) (plan : PlanTables) (before : List Part) (bytes : List ℕ)
+        ensures takes { (tape : OutputState) (plan : PlanTables) (before : List Part) (bytes : List ℕ)
             → EmitStands plan before self.old → content_of bytes ≡ unread_content unread.old
             → TakesBlock plan before (call_of
             (outputs tape (optional_output T.Sink map.old) (output_of U.Sink messages.old))
@@ -472,7 +473,7 @@ impl Emit {
         map: &mut Option<T>,
         messages: &mut U,
     ) -> Result<(), LinkFault>
-        ensures takes { (tape : Output) (plan : PlanTables) (before : List Part) → EmitStands plan before self.old
+        ensures takes { (tape : OutputState) (plan : PlanTables) (before : List Part) → EmitStands plan before self.old
             → TakesParts plan before (call_of
             (outputs tape (optional_output T.Sink map.old) (output_of U.Sink messages.old))
             (outputs tape (optional_output T.Sink map.new) (output_of U.Sink messages.new))
@@ -495,13 +496,13 @@ impl Emit {
         ensures finishes { Finishes
             (outputs_of S.Sink T.Sink U.Sink tape.old map.old messages.old)
             (outputs_of S.Sink T.Sink U.Sink tape.new map.new messages.new)
-            (begin_writes self.old ++ to_tape (tape_block (planned (begun_reporting self.old).plan).transfer []) ∷ [])
+            (begin_writes self.old ++ to_product (tape_block (planned (begun_reporting self.old).plan).transfer []) ∷ [])
             result }
         ensures count { IfOk result (λ done. done.messages ≡ (begun_reporting self.old).messages) }
         ensures stays { is_some map.new ≡ is_some map.old }
     {
         let done = self.write_transfer(tape, map, messages)?;
-        flush_files(tape, map)?;
+        flush_files::<S, T, LinkFault>(tape, map)?;
         Ok(done)
     }
 
@@ -515,7 +516,7 @@ impl Emit {
         ensures writes { Writes
             (outputs_of S.Sink T.Sink U.Sink tape.old map.old messages.old)
             (outputs_of S.Sink T.Sink U.Sink tape.new map.new messages.new)
-            (begin_writes self.old ++ to_tape (tape_block (planned (begun_reporting self.old).plan).transfer []) ∷ [])
+            (begin_writes self.old ++ to_product (tape_block (planned (begun_reporting self.old).plan).transfer []) ∷ [])
             result }
         ensures count { IfOk result (λ done. done.messages ≡ (begun_reporting self.old).messages) }
         ensures stays { is_some map.new ≡ is_some map.old }
@@ -534,7 +535,7 @@ impl Emit {
         map: &mut Option<T>,
         messages: &mut U,
     ) -> Result<(), LinkFault>
-        ensures writes { (tape : Output) → Goes
+        ensures writes { (tape : OutputState) → Goes
             (outputs tape (optional_output T.Sink map.old) (output_of U.Sink messages.old))
             (outputs tape (optional_output T.Sink map.new) (output_of U.Sink messages.new))
             (begin_writes self.old) self.new (with_reporting (begun_reporting self.old) self.old) result }

@@ -3,12 +3,13 @@
 ghost use Rattle.std.specs.Prelude.{◌≡◌, ◌∷◌, true, false, not, codes, IfOk, ◌≢◌, is_some, IfErr};
 ghost use Rattle.m11_link_text.specs.Findings.{planned};
 ghost use Rattle.m11_link.specs.Front.{front_writes, global_writes, is_empty, last_writes, map_writes, name_write, name_writes, section_writes, undefined_by, undefined_write, undefined_writes, weak_writes, written_if};
-ghost use Rattle.m11_base_writes.specs.Outputs.{Output, optional_output, output_of};
-ghost use Rattle.m11_link.specs.Outputs.{Writes, outputs, to_map};
+ghost use Rattle.m11_base_writes.specs.States.{OutputState, optional_output, output_of};
+ghost use Rattle.m11_link.specs.Outputs.{Writes};
+ghost use Rattle.m11_base_writes.specs.Outputs.{outputs, to_report};
 ghost use Rattle.m11_link.specs.Written.{counted};
 
-use crate::outputs::{put_map, put_message};
 use m11_base::{Name, Sink};
+use m11_base_writes::{put_message, put_report};
 use m11_link_layout::{LinkFault, Plan};
 use m11_link_text::{
     global_line, limit_line, name_line, section_line, transfer_line, undefined_line,
@@ -22,7 +23,7 @@ pub(crate) fn put_front<T: Sink, U: Sink>(
     messages: &mut U,
     count: u32,
 ) -> Result<u32, LinkFault>
-    ensures writes { (tape : Output) → Writes
+    ensures writes { (tape : OutputState) → Writes
         (outputs tape (optional_output T.Sink map.old) (output_of U.Sink messages.old))
         (outputs tape (optional_output T.Sink map.new) (output_of U.Sink messages.new))
         (front_writes (planned plan.now)) result }
@@ -50,7 +51,7 @@ fn undefined(plan: &Plan, reference: (Name, bool), is_strong: bool) -> Option<Na
 // A message for each global with a strong reference that is defined nowhere; returns how many there are with the `count`
 // of those before.
 fn put_undefined<U: Sink>(plan: &Plan, messages: &mut U, count: u32) -> Result<u32, LinkFault>
-    ensures writes { (tape map : Output) → Writes
+    ensures writes { (tape map : OutputState) → Writes
         (outputs tape map (output_of U.Sink messages.old))
         (outputs tape map (output_of U.Sink messages.new))
         (undefined_writes (planned plan.now) plan.now.gathered.references) result }
@@ -76,7 +77,7 @@ fn put_if_undefined<U: Sink>(
     messages: &mut U,
     count: u32,
 ) -> Result<u32, LinkFault>
-    ensures writes { (tape map : Output) → Writes
+    ensures writes { (tape map : OutputState) → Writes
         (outputs tape map (output_of U.Sink messages.old))
         (outputs tape map (output_of U.Sink messages.new))
         (written_if undefined_write (undefined_by (planned plan.now) true reference)) result }
@@ -95,7 +96,7 @@ fn put_if_undefined<U: Sink>(
 
 // Puts the map in its five parts, or nothing where no map is asked for.
 fn put_map_lines<T: Sink>(plan: &Plan, map: &mut Option<T>) -> Result<(), LinkFault>
-    ensures writes { (tape messages : Output) → Writes
+    ensures writes { (tape messages : OutputState) → Writes
         (outputs tape (optional_output T.Sink map.old) messages)
         (outputs tape (optional_output T.Sink map.new) messages) (map_writes (planned plan.now)) result }
     ensures stays { is_some map.new ≡ is_some map.old }
@@ -110,20 +111,20 @@ fn put_map_lines<T: Sink>(plan: &Plan, map: &mut Option<T>) -> Result<(), LinkFa
 
 // The part of sections. Its word stands even where there are none.
 fn put_sections<T: Sink>(plan: &Plan, map: &mut Option<T>) -> Result<(), LinkFault>
-    ensures writes { (tape messages : Output) → Writes
+    ensures writes { (tape messages : OutputState) → Writes
         (outputs tape (optional_output T.Sink map.old) messages)
         (outputs tape (optional_output T.Sink map.new) messages)
-        (to_map (codes "SECTIONS\n") ∷ section_writes (planned plan.now).sections) result }
+        (to_report (codes "SECTIONS\n") ∷ section_writes (planned plan.now).sections) result }
     ensures stays { is_some map.new ≡ is_some map.old }
     ensures no_memory { IfErr result (λ fault. fault ≢ LinkFault.NoMemory) }
 {
-    put_map(map, b"SECTIONS\n")?;
+    put_report::<T, LinkFault>(map, b"SECTIONS\n")?;
     put_each_section(plan, map)
 }
 
 // A line for each section, in the order in which objects enter them first.
 fn put_each_section<T: Sink>(plan: &Plan, map: &mut Option<T>) -> Result<(), LinkFault>
-    ensures writes { (tape messages : Output) → Writes
+    ensures writes { (tape messages : OutputState) → Writes
         (outputs tape (optional_output T.Sink map.old) messages)
         (outputs tape (optional_output T.Sink map.new) messages)
         (section_writes (planned plan.now).sections) result }
@@ -133,7 +134,7 @@ fn put_each_section<T: Sink>(plan: &Plan, map: &mut Option<T>) -> Result<(), Lin
     'sections: for index in 0..plan.section_count() {
         let section = plan.section_at(index);
         let line = section_line(section.name, section.base, section.size, section.attributes);
-        match put_map(map, line.as_slice()) {
+        match put_report(map, line.as_slice()) {
             Ok(()) => {}
             Err(fault) => return Err(fault),
         }
@@ -143,20 +144,20 @@ fn put_each_section<T: Sink>(plan: &Plan, map: &mut Option<T>) -> Result<(), Lin
 
 // The part of defined globals. Its word stands even where there are none.
 fn put_globals<T: Sink>(plan: &Plan, map: &mut Option<T>) -> Result<(), LinkFault>
-    ensures writes { (tape messages : Output) → Writes
+    ensures writes { (tape messages : OutputState) → Writes
         (outputs tape (optional_output T.Sink map.old) messages)
         (outputs tape (optional_output T.Sink map.new) messages)
-        (to_map (codes "GLOBALS\n") ∷ global_writes (planned plan.now).globals) result }
+        (to_report (codes "GLOBALS\n") ∷ global_writes (planned plan.now).globals) result }
     ensures stays { is_some map.new ≡ is_some map.old }
     ensures no_memory { IfErr result (λ fault. fault ≢ LinkFault.NoMemory) }
 {
-    put_map(map, b"GLOBALS\n")?;
+    put_report::<T, LinkFault>(map, b"GLOBALS\n")?;
     put_each_global(plan, map)
 }
 
 // A line for each global that is defined, in the order of their first definitions.
 fn put_each_global<T: Sink>(plan: &Plan, map: &mut Option<T>) -> Result<(), LinkFault>
-    ensures writes { (tape messages : Output) → Writes
+    ensures writes { (tape messages : OutputState) → Writes
         (outputs tape (optional_output T.Sink map.old) messages)
         (outputs tape (optional_output T.Sink map.new) messages)
         (global_writes (planned plan.now).globals) result }
@@ -166,7 +167,7 @@ fn put_each_global<T: Sink>(plan: &Plan, map: &mut Option<T>) -> Result<(), Link
     'globals: for index in 0..plan.global_count() {
         let global = plan.global_at(index);
         let line = global_line(global.name, global.value, global.module_name);
-        match put_map(map, line.as_slice()) {
+        match put_report(map, line.as_slice()) {
             Ok(()) => {}
             Err(fault) => return Err(fault),
         }
@@ -176,20 +177,20 @@ fn put_each_global<T: Sink>(plan: &Plan, map: &mut Option<T>) -> Result<(), Link
 
 // The part of globals that are defined nowhere and referred to strongly. Its word stands even where there are none.
 fn put_undefined_names<T: Sink>(plan: &Plan, map: &mut Option<T>) -> Result<(), LinkFault>
-    ensures writes { (tape messages : Output) → Writes
+    ensures writes { (tape messages : OutputState) → Writes
         (outputs tape (optional_output T.Sink map.old) messages)
         (outputs tape (optional_output T.Sink map.new) messages)
-        (to_map (codes "UNDEFINED\n") ∷ name_writes (planned plan.now) true plan.now.gathered.references) result }
+        (to_report (codes "UNDEFINED\n") ∷ name_writes (planned plan.now) true plan.now.gathered.references) result }
     ensures stays { is_some map.new ≡ is_some map.old }
     ensures no_memory { IfErr result (λ fault. fault ≢ LinkFault.NoMemory) }
 {
-    put_map(map, b"UNDEFINED\n")?;
+    put_report::<T, LinkFault>(map, b"UNDEFINED\n")?;
     put_each_name(plan, true, map)
 }
 
 // The part of globals that are defined nowhere and referred to weakly alone. It is left out where there are none.
 fn put_weak_names<T: Sink>(plan: &Plan, map: &mut Option<T>) -> Result<(), LinkFault>
-    ensures writes { (tape messages : Output) → Writes
+    ensures writes { (tape messages : OutputState) → Writes
         (outputs tape (optional_output T.Sink map.old) messages)
         (outputs tape (optional_output T.Sink map.new) messages)
         (weak_writes (name_writes (planned plan.now) false plan.now.gathered.references)) result }
@@ -199,7 +200,7 @@ fn put_weak_names<T: Sink>(plan: &Plan, map: &mut Option<T>) -> Result<(), LinkF
     if !has_weak_name(plan) {
         return Ok(());
     }
-    put_map(map, b"WEAK\n")?;
+    put_report::<T, LinkFault>(map, b"WEAK\n")?;
     put_each_name(plan, false, map)
 }
 
@@ -223,7 +224,7 @@ fn put_each_name<T: Sink>(
     is_strong: bool,
     map: &mut Option<T>,
 ) -> Result<(), LinkFault>
-    ensures writes { (tape messages : Output) → Writes
+    ensures writes { (tape messages : OutputState) → Writes
         (outputs tape (optional_output T.Sink map.old) messages)
         (outputs tape (optional_output T.Sink map.new) messages)
         (name_writes (planned plan.now) is_strong plan.now.gathered.references) result }
@@ -246,7 +247,7 @@ fn put_if_of_strength<T: Sink>(
     is_strong: bool,
     map: &mut Option<T>,
 ) -> Result<(), LinkFault>
-    ensures writes { (tape messages : Output) → Writes
+    ensures writes { (tape messages : OutputState) → Writes
         (outputs tape (optional_output T.Sink map.old) messages)
         (outputs tape (optional_output T.Sink map.new) messages)
         (written_if name_write (undefined_by (planned plan.now) is_strong reference)) result }
@@ -254,14 +255,14 @@ fn put_if_of_strength<T: Sink>(
     ensures no_memory { IfErr result (λ fault. fault ≢ LinkFault.NoMemory) }
 {
     match undefined(plan, reference, is_strong) {
-        Some(name) => put_map(map, name_line(name).as_slice()),
+        Some(name) => put_report(map, name_line(name).as_slice()),
         None => Ok(()),
     }
 }
 
 // The last lines: the transfer address, which is 1 where there is none, and the limits.
 fn put_last_lines<T: Sink>(plan: &Plan, map: &mut Option<T>) -> Result<(), LinkFault>
-    ensures writes { (tape messages : Output) → Writes
+    ensures writes { (tape messages : OutputState) → Writes
         (outputs tape (optional_output T.Sink map.old) messages)
         (outputs tape (optional_output T.Sink map.new) messages)
         (last_writes (planned plan.now)) result }
@@ -269,6 +270,6 @@ fn put_last_lines<T: Sink>(plan: &Plan, map: &mut Option<T>) -> Result<(), LinkF
     ensures no_memory { IfErr result (λ fault. fault ≢ LinkFault.NoMemory) }
 {
     let (bottom, top) = plan.limits();
-    put_map(map, transfer_line(plan.transfer()).as_slice())?;
-    put_map(map, limit_line(bottom, top).as_slice())
+    put_report::<T, LinkFault>(map, transfer_line(plan.transfer()).as_slice())?;
+    put_report(map, limit_line(bottom, top).as_slice())
 }

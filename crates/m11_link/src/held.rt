@@ -2,12 +2,13 @@
 
 ghost use Rattle.std.specs.Prelude.{◌≡◌, ◌≤◌, length};
 ghost use Rattle.m11_link_text.specs.Findings.{planned};
-ghost use Rattle.m11_base_writes.specs.Outputs.{Output, output_of};
-ghost use Rattle.m11_link.specs.Outputs.{Writes, outputs};
+ghost use Rattle.m11_base_writes.specs.States.{OutputState, output_of};
+ghost use Rattle.m11_link.specs.Outputs.{Writes};
+ghost use Rattle.m11_base_writes.specs.Outputs.{outputs};
 ghost use Rattle.m11_link.specs.Written.{placed_text, text_writes, with_relocation};
 
-use crate::outputs::put_tape;
 use m11_base::{Name, Sink};
+use m11_base_writes::put_product;
 use m11_link_layout::{LinkFault, Plan};
 use m11_link_modules::TextRelocation;
 use m11_link_text::relocate;
@@ -91,7 +92,7 @@ impl HeldText {
 
     /// The text as a block of the tape; without data it gives none.
     pub(crate) fn put<S: Sink>(&self, alloc: Global, tape: &mut S) -> Result<(), LinkFault>
-        ensures { (map messages : Output) → Writes
+        ensures { (map messages : OutputState) → Writes
             (outputs (output_of S.Sink tape.old) map messages)
             (outputs (output_of S.Sink tape.new) map messages) (text_writes self.now) result }
     {
@@ -100,6 +101,6 @@ impl HeldText {
             return Ok(());
         }
         let block = tape_block(alloc, self.address, bytes)?;
-        put_tape(tape, block.as_slice())
+        put_product(tape, block.as_slice())
     }
 }

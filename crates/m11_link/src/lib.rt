@@ -2,9 +2,6 @@
 //! "Object file format" and "Absolute binary file format".)
 #![tactic(auto)]
 
-// Each write to an output, whole or with its fault.
-mod outputs;
-
 // What is written before the tape: messages on undefined globals, and the map.
 mod front;
 
@@ -20,7 +17,7 @@ pub use emit::{Emit, LinkDone};
 // The whole link: both passes over the objects.
 mod run;
 
-pub use m11_link_layout::{Layout, LinkFault, LinkOutput, Plan};
+pub use m11_link_layout::{Layout, LinkFault, Plan};
 pub use run::{link_run, objects_yield_items};
 
 // The law that a plan of the first pass writes what the definitions say.

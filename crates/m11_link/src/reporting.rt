@@ -9,16 +9,17 @@ ghost use Rattle.m11_link_layout.specs.Sections.{attributes_by};
 ghost use Rattle.m11_link.specs.Emit.{Goes, EmitKeeps, IsAsLong, directory_writes, entries_writes, held_with, held_writes, with_count, with_directory, with_entries, with_entry, with_held, with_name, with_symbol, with_text};
 ghost use Rattle.m11_link_text.specs.Findings.{planned};
 ghost use Rattle.m11_link.specs.Front.{front_writes};
-ghost use Rattle.m11_base_writes.specs.Outputs.{Output, optional_output, output_of};
-ghost use Rattle.m11_link.specs.Outputs.{Writes, outputs, to_messages, to_tape};
+ghost use Rattle.m11_base_writes.specs.States.{OutputState, optional_output, output_of};
+ghost use Rattle.m11_link.specs.Outputs.{Writes};
+ghost use Rattle.m11_base_writes.specs.Outputs.{outputs, to_messages, to_product};
 ghost use Rattle.m11_link.specs.Written.{attributes_agree, different_writes, entry_writes, placed_text, symbol_writes};
 
 use crate::front::put_front;
 use crate::held::{HeldText, ModuleSection};
-use crate::outputs::{put_message, put_tape};
 use bitflags::Flags;
 use indexmap::IndexSet;
 use m11_base::{Name, Sink};
+use m11_base_writes::{put_message, put_product};
 use m11_link_layout::{LinkFault, Plan, section_attributes};
 use m11_link_modules::TextRelocation;
 use m11_link_text::{Line, different_line, multiple_line};
@@ -79,7 +80,7 @@ impl Reporter {
         map: &mut Option<T>,
         messages: &mut U,
     ) -> Result<(), LinkFault>
-        ensures writes { (tape : Output) → Goes
+        ensures writes { (tape : OutputState) → Goes
             (outputs tape (optional_output T.Sink map.old) (output_of U.Sink messages.old))
             (outputs tape (optional_output T.Sink map.new) (output_of U.Sink messages.new))
             (front_writes (planned self.old.plan)) self.new
@@ -102,7 +103,7 @@ impl Reporter {
         tape: &mut S,
         messages: &mut U,
     ) -> Result<(), LinkFault>
-        ensures { (map : Output) → Goes
+        ensures { (map : OutputState) → Goes
             (outputs (output_of S.Sink tape.old) map (output_of U.Sink messages.old))
             (outputs (output_of S.Sink tape.new) map (output_of U.Sink messages.new))
             (directory_writes module_index entries.now self.old) self.new
@@ -123,7 +124,7 @@ impl Reporter {
         tape: &mut S,
     ) -> Result<(), LinkFault>
         requires { length bytes.now ≤ content_limit }
-        ensures { (map messages : Output) → Goes
+        ensures { (map messages : OutputState) → Goes
             (outputs (output_of S.Sink tape.old) map messages)
             (outputs (output_of S.Sink tape.new) map messages)
             (held_writes self.old.held) self.new
@@ -136,7 +137,7 @@ impl Reporter {
 
     /// The end of the text that is held: it is written as a block of the tape.
     pub(crate) fn end_text<S: Sink>(&mut self, tape: &mut S) -> Result<(), LinkFault>
-        ensures { (map messages : Output) → Goes
+        ensures { (map messages : OutputState) → Goes
             (outputs (output_of S.Sink tape.old) map messages)
             (outputs (output_of S.Sink tape.new) map messages)
             (held_writes self.old.held) self.new (with_held None self.old) result }
@@ -152,7 +153,7 @@ impl Reporter {
 
     // The text that is held, as a block of the tape.
     fn put_held<S: Sink>(&self, tape: &mut S) -> Result<(), LinkFault>
-        ensures { (map messages : Output) → Writes
+        ensures { (map messages : OutputState) → Writes
             (outputs (output_of S.Sink tape.old) map messages)
             (outputs (output_of S.Sink tape.new) map messages) (held_writes self.now.held) result }
     {
@@ -165,13 +166,13 @@ impl Reporter {
 
     /// Writes the transfer block, which ends the tape. `Write` where the tape failed, `NoMemory`.
     pub(crate) fn put_transfer<S: Sink>(&self, tape: &mut S) -> Result<(), LinkFault>
-        ensures { (map messages : Output) → Writes
+        ensures { (map messages : OutputState) → Writes
             (outputs (output_of S.Sink tape.old) map messages)
             (outputs (output_of S.Sink tape.new) map messages)
-            (to_tape (tape_block (planned self.now.plan).transfer []) ∷ []) result }
+            (to_product (tape_block (planned self.now.plan).transfer []) ∷ []) result }
     {
         let block = tape_transfer(self.alloc, self.plan.transfer())?;
-        put_tape(tape, block.as_slice())
+        put_product(tape, block.as_slice())
     }
 
     // Holds a text until a record comes that can't relocate it. None is held before.
@@ -200,7 +201,7 @@ impl Reporter {
         entries: &[GsdEntry],
         messages: &mut U,
     ) -> Result<(), LinkFault>
-        ensures { (tape map : Output) → Goes
+        ensures { (tape map : OutputState) → Goes
             (outputs tape map (output_of U.Sink messages.old))
             (outputs tape map (output_of U.Sink messages.new))
             (entries_writes (planned self.old.plan) module_index self.old.defined entries.now)
@@ -222,7 +223,7 @@ impl Reporter {
         entry: &GsdEntry,
         messages: &mut U,
     ) -> Result<(), LinkFault>
-        ensures { (tape map : Output) → Goes
+        ensures { (tape map : OutputState) → Goes
             (outputs tape map (output_of U.Sink messages.old))
             (outputs tape map (output_of U.Sink messages.new))
             (entry_writes (planned self.old.plan) module_index self.old.defined entry.now) self.new
@@ -246,7 +247,7 @@ impl Reporter {
         entry: &GsdEntry,
         messages: &mut U,
     ) -> Result<(), LinkFault>
-        ensures { (tape map : Output) → Goes
+        ensures { (tape map : OutputState) → Goes
             (outputs tape map (output_of U.Sink messages.old))
             (outputs tape map (output_of U.Sink messages.new))
             (different_writes (planned self.old.plan) module_index (attributes_by entry.now.kind entry.now)) self.new
@@ -272,7 +273,7 @@ impl Reporter {
         attributes: SectionFlags,
         messages: &mut U,
     ) -> Result<(), LinkFault>
-        ensures { (tape map : Output) → Goes
+        ensures { (tape map : OutputState) → Goes
             (outputs tape map (output_of U.Sink messages.old))
             (outputs tape map (output_of U.Sink messages.new))
             (different_writes (planned self.old.plan) module_index (Some (name, attributes.0))) self.new
@@ -310,7 +311,7 @@ impl Reporter {
         entry: &GsdEntry,
         messages: &mut U,
     ) -> Result<(), LinkFault>
-        ensures { (tape map : Output) → Goes
+        ensures { (tape map : OutputState) → Goes
             (outputs tape map (output_of U.Sink messages.old))
             (outputs tape map (output_of U.Sink messages.new))
             (symbol_writes (planned self.old.plan) module_index self.old.defined entry.now) self.new
@@ -343,12 +344,12 @@ impl Reporter {
 
     // Writes a message and counts it. The count stays at 4,294,967,295 once it is there.
     fn report<U: Sink>(&mut self, messages: &mut U, line: &Line) -> Result<(), LinkFault>
-        ensures { (tape map : Output) → Goes
+        ensures { (tape map : OutputState) → Goes
             (outputs tape map (output_of U.Sink messages.old))
             (outputs tape map (output_of U.Sink messages.new))
             (to_messages line.now.items ∷ []) self.new (with_count (to_messages line.now.items ∷ []) self.old) result }
     {
-        put_message(messages, line.as_slice())?;
+        put_message::<U, LinkFault>(messages, line.as_slice())?;
         self.messages = self.messages.saturating_add(1);
         Ok(())
     }

@@ -10,7 +10,8 @@ ghost use Rattle.m11_link_modules.specs.Rules.{fault_of};
 ghost use Rattle.m11_link.specs.Emit.{written};
 ghost use Rattle.m11_link.specs.Emit as emitting;
 ghost use Rattle.m11_link.specs.SecondPass.{Emits, EmitsObject, LinkRuns, LinkRunsOr, ReadsSecond, start_at};
-ghost use Rattle.m11_link.specs.Outputs.{Gains, Outputs, outputs_of};
+ghost use Rattle.m11_link.specs.Outputs.{Gains};
+ghost use Rattle.m11_base_writes.specs.Outputs.{Outputs, outputs_of};
 
 use crate::emit::{Emit, LinkDone};
 use m11_base::{Feed, Sink};

@@ -8,7 +8,7 @@ use Rattle.m11_link_layout.proofs.Finding.{neither}
 use Rattle.m11_link_text.specs.Findings.{Findings}
 use Rattle.m11_link_text.specs.Lines.{limit_line, transfer_line}
 use Rattle.m11_link.specs.Front.{front_writes, global_write, global_writes, last_writes, map_writes, name_write, name_writes, section_write, section_writes, undefined_names, undefined_write, undefined_writes, weak_writes}
-use Rattle.m11_link.specs.Outputs.{Write, to_map, to_tape}
+use Rattle.m11_base_writes.specs.Outputs.{Write, to_product, to_report}
 use Rattle.m11_link.specs.Written.{is_message, link_writes, parts_writes}
 use Rattle.m11_link_modules.specs.Parts.{Part}
 use Rattle.m11_link_laws.specs.Order.{BeginsWith, is_block, messages_in, reach_tape, undefined_count}
@@ -92,7 +92,7 @@ headed : (test : Write → Bool) (write : Write) (writes : List Write) → test 
 headed test write writes e f = ap₂ (λ b c. b || c) e f
 
 -- no write of the map passes a test that no write to it passes
-module _ (test : Write → Bool) (fails : (bytes : List ℕ) → test (to_map bytes) ≡ false) where
+module _ (test : Write → Bool) (fails : (bytes : List ℕ) → test (to_report bytes) ≡ false) where
   sections_fail : (found : Findings) → list_any test (section_writes found.sections) ≡ false
   unfolding section_writes
   sections_fail found = none_mapped test section_write (λ section. fails _) found.sections
@@ -109,26 +109,26 @@ module _ (test : Write → Bool) (fails : (bytes : List ℕ) → test (to_map by
 
   weak_fail : (names : List Write) → list_any test names ≡ false → list_any test (weak_writes names) ≡ false
   weak_fail [] e = refl
-  weak_fail (name ∷ names) e = headed test (to_map (codes "WEAK\n")) (name ∷ names) (fails (codes "WEAK\n")) e
+  weak_fail (name ∷ names) e = headed test (to_report (codes "WEAK\n")) (name ∷ names) (fails (codes "WEAK\n")) e
 
   last_fail : (found : Findings) → list_any test (last_writes found) ≡ false
   last_fail found =
-      headed test (to_map (transfer_line found.transfer)) (to_map (limit_line found.bottom found.top) ∷ []) (fails _)
-      (headed test (to_map (limit_line found.bottom found.top)) [] (fails _) refl)
+      headed test (to_report (transfer_line found.transfer)) (to_report (limit_line found.bottom found.top) ∷ []) (fails _)
+      (headed test (to_report (limit_line found.bottom found.top)) [] (fails _) refl)
 
   map_fails : (found : Findings) → list_any test (map_writes found) ≡ false
   unfolding map_writes
   map_fails found =
-      let sections = to_map (codes "SECTIONS\n") ∷ section_writes found.sections in
-      let globals = to_map (codes "GLOBALS\n") ∷ global_writes found.globals in
-      let strong = to_map (codes "UNDEFINED\n") ∷ name_writes found true found.references in
+      let sections = to_report (codes "SECTIONS\n") ∷ section_writes found.sections in
+      let globals = to_report (codes "GLOBALS\n") ∷ global_writes found.globals in
+      let strong = to_report (codes "UNDEFINED\n") ∷ name_writes found true found.references in
       let weak = weak_writes (name_writes found false found.references) in
       none_both test sections (globals ++ (strong ++ (weak ++ last_writes found)))
-      (headed test (to_map (codes "SECTIONS\n")) (section_writes found.sections) (fails _) (sections_fail found))
+      (headed test (to_report (codes "SECTIONS\n")) (section_writes found.sections) (fails _) (sections_fail found))
       (none_both test globals (strong ++ (weak ++ last_writes found))
-      (headed test (to_map (codes "GLOBALS\n")) (global_writes found.globals) (fails _) (globals_fail found))
+      (headed test (to_report (codes "GLOBALS\n")) (global_writes found.globals) (fails _) (globals_fail found))
       (none_both test strong (weak ++ last_writes found)
-      (headed test (to_map (codes "UNDEFINED\n")) (name_writes found true found.references) (fails _)
+      (headed test (to_report (codes "UNDEFINED\n")) (name_writes found true found.references) (fails _)
       (names_fail found true))
       (none_both test weak (last_writes found)
       (weak_fail (name_writes found false found.references) (names_fail found false)) (last_fail found))))
@@ -162,9 +162,9 @@ front_messages found =
 
 -- the rest after the front
 following : (found : Findings) (parts : List Part) (done more : List Write) → done ++ more ≡ link_writes found parts
-    → done ++ more ≡ front_writes found ++ (parts_writes found parts ++ to_tape (tape_block found.transfer []) ∷ [])
+    → done ++ more ≡ front_writes found ++ (parts_writes found parts ++ to_product (tape_block found.transfer []) ∷ [])
 following found parts done more e =
-    e ∙ joined (front_writes found) (parts_writes found parts) (to_tape (tape_block found.transfer []) ∷ [])
+    e ∙ joined (front_writes found) (parts_writes found parts) (to_product (tape_block found.transfer []) ∷ [])
   where
     joined : (xs ys zs : List Write) → (xs ++ ys) ++ zs ≡ xs ++ (ys ++ zs)
     joined [] ys zs = refl
@@ -190,5 +190,5 @@ pub all_before_transfer : (found : Findings) (parts : List Part) (done : List Wr
     → done ++ (next ∷ more) ≡ link_writes found parts
     → BeginsWith (front_writes found ++ parts_writes found parts) done
 all_before_transfer found parts done next more e =
-    lacks_last (front_writes found ++ parts_writes found parts) (to_tape (tape_block found.transfer [])) done next more
+    lacks_last (front_writes found ++ parts_writes found parts) (to_product (tape_block found.transfer [])) done next more
     e

@@ -10,7 +10,7 @@ use Rattle.m11_link_modules.specs.Positions.{stage_from}
 use Rattle.m11_link_modules.specs.Rules.{may_stand}
 use Rattle.m11_link_text.specs.Findings.{Findings, findings_of}
 use Rattle.m11_link.specs.Front.{front_writes}
-use Rattle.m11_link.specs.Outputs.{to_tape}
+use Rattle.m11_base_writes.specs.Outputs.{to_product}
 use Rattle.m11_link.specs.Written.{entry_writes, has_ended, link_writes, parts_writes, placed_text, relocations_after, text_writes, with_relocations, writes_at, writes_after}
 use Rattle.m11_link_laws.proofs.JoiningEnds.{current_same, end_left, kept, modules_same, without_append, without_ends}
 use Rattle.m11_link_laws.proofs.JoiningFindings.{defined_same, findings_same}
@@ -102,7 +102,7 @@ module _ (found : Findings) where
 
 link_written : (found : Findings) (parts : List Part) → InOrder Between parts
     → link_writes found (without_ends parts) ≡ link_writes found parts
-link_written found parts h = ap (λ ws. (front_writes found ++ ws) ++ to_tape (tape_block found.transfer []) ∷ [])
+link_written found parts h = ap (λ ws. (front_writes found ++ ws) ++ to_product (tape_block found.transfer []) ∷ [])
     (parts_written found parts h)
 
 -- ---- a whole link

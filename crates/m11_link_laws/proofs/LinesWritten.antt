@@ -14,29 +14,30 @@ use Rattle.m11_link_modules.specs.Positions.{current_section, modules_in, this_m
 use Rattle.m11_link_modules.specs.Rules.{defines}
 use Rattle.m11_link_layout.specs.Modules.{reported_after}
 use Rattle.m11_link_layout.specs.Sections.{attributes_by}
-use Rattle.m11_link_layout.specs.declared.fault.LinkOutput.{LinkOutput}
-use Rattle.m11_link_layout.specs.declared.fault.LinkOutput.TheVariants.{Tape, Map, Messages}
+use Rattle.m11_base_writes.specs.declared.outputs.Output.{Output}
+use Rattle.m11_base_writes.specs.declared.outputs.Output.TheVariants.{Product, Report, Messages}
 use Rattle.m11_link_text.specs.Findings.{Findings}
 use Rattle.m11_link_text.specs.Lines.{different_line, multiple_line, name_line, undefined_line}
 use Rattle.m11_link.specs.Front.{front_writes, global_write, global_writes, map_writes, name_write, name_writes, section_write, section_writes, undefined_names, undefined_write, undefined_writes, weak_writes}
 use Rattle.m11_base_writes.specs.Writes.{gained}
 use Rattle.m11_base_writes.proofs.Writing.{gained-append}
-use Rattle.m11_link.specs.Outputs.{Write, is_output, link, to_messages, to_tape}
+use Rattle.m11_link.specs.Outputs.{link}
+use Rattle.m11_base_writes.specs.Outputs.{Write, is_output, to_messages, to_product}
 use Rattle.m11_link.specs.Written.{PlacedText, attributes_agree, block_at, counted, is_message, is_to_messages, most_messages, one_more as one_count, defined_names, different_writes, ended_writes, entry_writes, has_ended, link_writes, parts_writes, placed_text, relocations_after, text_writes, with_relocations, writes_at, writes_after, writes_by}
 use Rattle.m11_link_laws.specs.Lines.{different_of, entry_line, line_by, line_of_global, line_of_section, map_lines, message_lines, weak_lines}
 
 -- ---- lines one after another
 
 -- how many writes go to the output
-abbrev writes_to : LinkOutput → List Write → ℕ
+abbrev writes_to : Output → List Write → ℕ
 writes_to output writes = length (filter (λ write. is_output output write.output) writes)
 
 -- what these writes make for the output is these lines, each by one write
-record Makes (output : LinkOutput) (writes : List Write) (lines : List (List ℕ)) : Type 0 where
+record Makes (output : Output) (writes : List Write) (lines : List (List ℕ)) : Type 0 where
   text : gained link output writes ≡ concat lines
   count : writes_to output writes ≡ length lines
 
-module _ (output : LinkOutput) where
+module _ (output : Output) where
   abbrev IsTo : Write → Type 0
   IsTo write = is_output output write.output ≡ true
 
@@ -102,44 +103,44 @@ module _ (output : LinkOutput) where
 
 -- ---- what stands before the parts
 
-sections_made : (found : Findings) → Makes Map (section_writes found.sections) (map line_of_section found.sections)
+sections_made : (found : Findings) → Makes Report (section_writes found.sections) (map line_of_section found.sections)
 unfolding section_writes
-sections_made found = each_made Map section_write (λ x. refl) found.sections
+sections_made found = each_made Report section_write (λ x. refl) found.sections
 
-globals_made : (found : Findings) → Makes Map (global_writes found.globals) (map line_of_global found.globals)
+globals_made : (found : Findings) → Makes Report (global_writes found.globals) (map line_of_global found.globals)
 unfolding global_writes
-globals_made found = each_made Map global_write (λ x. refl) found.globals
+globals_made found = each_made Report global_write (λ x. refl) found.globals
 
-names_made : (found : Findings) (is_strong : Bool) → Makes Map (name_writes found is_strong found.references)
+names_made : (found : Findings) (is_strong : Bool) → Makes Report (name_writes found is_strong found.references)
     (map name_line (undefined_names found is_strong found.references))
 unfolding name_writes
 names_made found is_strong =
-    each_made Map name_write (λ x. refl) (undefined_names found is_strong found.references)
+    each_made Report name_write (λ x. refl) (undefined_names found is_strong found.references)
 
-weak_named : (names : List Name) → Makes Map (weak_writes (map name_write names)) (weak_lines names)
-weak_named [] = none_made Map
+weak_named : (names : List Name) → Makes Report (weak_writes (map name_write names)) (weak_lines names)
+weak_named [] = none_made Report
 weak_named (name ∷ names) =
-    line_made Map _ _ _ refl (each_made Map name_write (λ x. refl) (name ∷ names))
+    line_made Report _ _ _ refl (each_made Report name_write (λ x. refl) (name ∷ names))
 
-weak_made : (found : Findings) → Makes Map (weak_writes (name_writes found false found.references))
+weak_made : (found : Findings) → Makes Report (weak_writes (name_writes found false found.references))
     (weak_lines (undefined_names found false found.references))
 unfolding name_writes
 weak_made found = weak_named (undefined_names found false found.references)
 
-map_made : (found : Findings) → Makes Map (map_writes found) (map_lines found)
+map_made : (found : Findings) → Makes Report (map_writes found) (map_lines found)
 unfolding map_writes
 map_made found =
-    then_made Map _ _ _ _ (line_made Map _ _ _ refl (sections_made found))
-    (then_made Map _ _ _ _ (line_made Map _ _ _ refl (globals_made found))
-    (then_made Map _ _ _ _ (line_made Map _ _ _ refl (names_made found true))
-    (then_made Map _ _ _ _ (weak_made found)
-    (line_made Map _ _ _ refl (line_made Map _ _ _ refl (none_made Map))))))
+    then_made Report _ _ _ _ (line_made Report _ _ _ refl (sections_made found))
+    (then_made Report _ _ _ _ (line_made Report _ _ _ refl (globals_made found))
+    (then_made Report _ _ _ _ (line_made Report _ _ _ refl (names_made found true))
+    (then_made Report _ _ _ _ (weak_made found)
+    (line_made Report _ _ _ refl (line_made Report _ _ _ refl (none_made Report))))))
 
-front_of_map : (found : Findings) → Makes Map (front_writes found) (map_lines found)
+front_of_map : (found : Findings) → Makes Report (front_writes found) (map_lines found)
 unfolding front_writes undefined_writes
 front_of_map found =
-    then_made Map _ _ [] _
-    (each_skipped Map undefined_write (λ x. refl) (undefined_names found true found.references)) (map_made found)
+    then_made Report _ _ [] _
+    (each_skipped Report undefined_write (λ x. refl) (undefined_names found true found.references)) (map_made found)
 
 -- the map makes no message
 sections_silent : (found : Findings) → Makes Messages (section_writes found.sections) []
@@ -180,11 +181,11 @@ front_of_messages found =
 -- ---- what the parts make
 
 -- a write to the tape makes no line
-module _ (output : LinkOutput) (apart : is_output output Tape ≡ false) where
+module _ (output : Output) (apart : is_output output Product ≡ false) where
   block_skipped : (address : ℕ) (bytes : List ℕ) → Makes output (block_at address bytes) []
   block_skipped address [] = none_made output
   block_skipped address (byte ∷ bytes) =
-      skipped output (to_tape (tape_block address (byte ∷ bytes))) [] [] apart
+      skipped output (to_product (tape_block address (byte ∷ bytes))) [] [] apart
       (none_made output)
 
   ended_skipped : (found : Findings) (text : PlacedText) (parts : List Part) (b : Bool) → has_ended parts ≡ b
@@ -199,36 +200,36 @@ module _ (output : LinkOutput) (apart : is_output output Tape ≡ false) where
       either false whole = none_made output
 
 -- for the map, none at all
-unless_silent : (b : Bool) (bytes : List ℕ) → Makes Map (if b then [] else to_messages bytes ∷ []) []
-unless_silent true bytes = none_made Map
-unless_silent false bytes = skipped Map _ _ _ refl (none_made Map)
+unless_silent : (b : Bool) (bytes : List ℕ) → Makes Report (if b then [] else to_messages bytes ∷ []) []
+unless_silent true bytes = none_made Report
+unless_silent false bytes = skipped Report _ _ _ refl (none_made Report)
 
-if_silent : (b : Bool) (bytes : List ℕ) → Makes Map (if b then to_messages bytes ∷ [] else []) []
-if_silent true bytes = skipped Map _ _ _ refl (none_made Map)
-if_silent false bytes = none_made Map
+if_silent : (b : Bool) (bytes : List ℕ) → Makes Report (if b then to_messages bytes ∷ [] else []) []
+if_silent true bytes = skipped Report _ _ _ refl (none_made Report)
+if_silent false bytes = none_made Report
 
 different_silent : (found : Findings) (module_index : ℕ) (section : Option (Name × ℕ))
-    → Makes Map (different_writes found module_index section) []
-different_silent found module_index None = none_made Map
+    → Makes Report (different_writes found module_index section) []
+different_silent found module_index None = none_made Report
 different_silent found module_index (Some section) =
     unless_silent (attributes_agree (found.attributes section.0) section.1)
     (different_line section.0 (found.module_name module_index))
 
 entry_silent : (k : GsdKind) (found : Findings) (module_index : ℕ) (defined : List Name) (entry : GsdEntry)
-    → Makes Map (writes_by k found module_index defined entry) []
+    → Makes Report (writes_by k found module_index defined entry) []
 entry_silent kind.GlobalSymbol found module_index defined entry =
     if_silent (defines entry && is_among defined entry.name) (multiple_line entry.name (found.module_name module_index))
 entry_silent k found module_index defined entry = different_silent found module_index (attributes_by k entry)
 
-parts_of_map : (found : Findings) (before parts : List Part) → Makes Map (writes_after found before parts) []
+parts_of_map : (found : Findings) (before parts : List Part) → Makes Report (writes_after found before parts) []
 unfolding writes_at
-parts_of_map found before [] = none_made Map
+parts_of_map found before [] = none_made Report
 parts_of_map found before (Entry entry ∷ parts) =
-    then_skipped Map _ _ _ (entry_silent entry.kind found (modules_in before) (defined_names before) entry)
+    then_skipped Report _ _ _ (entry_silent entry.kind found (modules_in before) (defined_names before) entry)
     (parts_of_map found (before ++ Entry entry ∷ []) parts)
 parts_of_map found before (Text address bytes ∷ parts) =
-    then_skipped Map _ _ _
-    (ended_skipped Map refl found
+    then_skipped Report _ _ _
+    (ended_skipped Report refl found
     (placed_text found (modules_in before) (current_section (this_module before)) address bytes) parts (has_ended parts) refl)
     (parts_of_map found (before ++ Text address bytes ∷ []) parts)
 parts_of_map found before (part ∷ parts) = parts_of_map found (before ++ part ∷ []) parts
@@ -291,12 +292,12 @@ parts_of_messages found before (part ∷ parts) = parts_of_messages found (befor
 -- ---- the whole link
 
 pub map_of_lines : (found : Findings) (parts : List Part)
-    → gained link Map (link_writes found parts) ≡ concat (map_lines found)
+    → gained link Report (link_writes found parts) ≡ concat (map_lines found)
 unfolding parts_writes
 map_of_lines found parts =
-    let made = then_skipped Map (front_writes found ++ parts_writes found parts) _ (map_lines found)
-    (then_skipped Map (front_writes found) (parts_writes found parts) (map_lines found) (front_of_map found)
-    (parts_of_map found [] parts)) (skipped Map (to_tape (tape_block found.transfer [])) [] [] refl (none_made Map)) in
+    let made = then_skipped Report (front_writes found ++ parts_writes found parts) _ (map_lines found)
+    (then_skipped Report (front_writes found) (parts_writes found parts) (map_lines found) (front_of_map found)
+    (parts_of_map found [] parts)) (skipped Report (to_product (tape_block found.transfer [])) [] [] refl (none_made Report)) in
     made.text
 
 messages_made : (found : Findings) (parts : List Part)
@@ -306,7 +307,7 @@ messages_made found parts =
     then_skipped Messages (front_writes found ++ parts_writes found parts) _ (message_lines found parts)
     (then_made Messages (front_writes found) (parts_writes found parts) _ _ (front_of_messages found)
     (parts_of_messages found [] parts))
-    (skipped Messages (to_tape (tape_block found.transfer [])) [] [] refl (none_made Messages))
+    (skipped Messages (to_product (tape_block found.transfer [])) [] [] refl (none_made Messages))
 
 pub messages_of_lines : (found : Findings) (parts : List Part)
     → gained link Messages (link_writes found parts) ≡ concat (message_lines found parts)
@@ -317,9 +318,9 @@ messages_of_lines found parts = (messages_made found parts).text
 counts_on : (count more most : ℕ) → min (min (count + 1) most + more) most ≡ min (count + suc more) most
 counts_on count more most = omega arith
 
-same_test : (output : LinkOutput) → is_to_messages output ≡ is_output Messages output
-same_test Tape = refl
-same_test Map = refl
+same_test : (output : Output) → is_to_messages output ≡ is_output Messages output
+same_test Product = refl
+same_test Report = refl
 same_test Messages = refl
 
 one_counted : (b : Bool) (count : ℕ) (write : Write) (writes : List Write) → count ≤ most_messages

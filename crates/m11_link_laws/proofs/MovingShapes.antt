@@ -9,8 +9,8 @@ use Rattle.m11_obj.specs.declared.relocations.Target.TheVariants as target
 use Rattle.m11_link_modules.specs.Parts.{Part, Directory, Entry, EndOfDirectory, Text, Relocations, Relocated, EndOfModule, EndOfFile}
 use Rattle.m11_link_modules.specs.Positions.{current_section, modules_in, this_module}
 use Rattle.m11_link_modules.specs.Rules.{lies_within}
-use Rattle.m11_link_layout.specs.declared.fault.LinkOutput.{LinkOutput}
-use Rattle.m11_link_layout.specs.declared.fault.LinkOutput.TheVariants.{Tape}
+use Rattle.m11_base_writes.specs.declared.outputs.Output.{Output}
+use Rattle.m11_base_writes.specs.declared.outputs.Output.TheVariants.{Product}
 use Rattle.m11_link_text.specs.Findings.{Findings, findings_of}
 use Rattle.m11_link_text.specs.Relocation.{modulo, replaced, stored_bytes, value_bytes}
 use Rattle.m11_link_text.proofs.Stored.{replaced_is}
@@ -39,7 +39,7 @@ block_shape address other [] [] e = refl
 block_shape address other [] (byte ∷ bytes) e = absurd (omega arith)
 block_shape address other (byte ∷ bytes) [] e = absurd (omega arith)
 block_shape address other (byte ∷ bytes) (first ∷ others) e =
-    ap (λ n. let shapes : List (LinkOutput × ℕ) = (Tape, n) ∷ [] in shapes)
+    ap (λ n. let shapes : List (Output × ℕ) = (Product, n) ∷ [] in shapes)
     (block_length address other (byte ∷ bytes) (first ∷ others) e)
 
 -- ---- relocations

@@ -19,7 +19,7 @@ use Rattle.m11_link_modules.specs.Positions.{current_section, known_of, modules_
 use Rattle.m11_link_modules.specs.Rules.{defines, fault_known, fault_of, first_fault, may_stand}
 use Rattle.m11_link_layout.specs.Modules.{reported_after}
 use Rattle.m11_link_layout.specs.Sections.{attributes_by}
-use Rattle.m11_link_layout.specs.declared.fault.LinkOutput.TheVariants.{Tape}
+use Rattle.m11_base_writes.specs.declared.outputs.Output.TheVariants.{Product}
 use Rattle.m11_link_layout.proofs.Finding.{neither}
 use Rattle.m11_link_layout.proofs.Walking.{head_none, rest_none}
 use Rattle.m11_link_text.specs.Findings.{Findings}
@@ -28,7 +28,8 @@ use Rattle.m11_link_text.specs.Relocation.{modulo, stored_bytes}
 use Rattle.m11_link_text.proofs.Stored.{none_relocated}
 use Rattle.m11_base_writes.specs.Writes.{gained, gained_by}
 use Rattle.m11_base_writes.proofs.Writing.{gained-append}
-use Rattle.m11_link.specs.Outputs.{Write, link, to_tape}
+use Rattle.m11_link.specs.Outputs.{link}
+use Rattle.m11_base_writes.specs.Outputs.{Write, to_product}
 use Rattle.m11_link.specs.Written.{PlacedText, attributes_agree, block_at, defined_names, different_writes, ended_writes, entry_writes, has_ended, link_writes, parts_writes, placed_text, relocations_after, text_writes, with_relocation, with_relocations, writes_at, writes_after, writes_by}
 use Rattle.m11_link_laws.specs.Texts.{block_of, data_block, only_selects, stores, text_in, texts_of}
 
@@ -36,13 +37,13 @@ use Rattle.m11_link_laws.specs.Texts.{block_of, data_block, only_selects, stores
 
 -- writes of which none is to the tape
 abbrev pub Elsewhere : List Write → Type 0
-Elsewhere writes = gained link Tape writes ≡ []
+Elsewhere writes = gained link Product writes ≡ []
 
 both : (xs ys : List Write) → Elsewhere xs → Elsewhere ys → Elsewhere (xs ++ ys)
-both xs ys e f = gained-append link Tape xs ys ∙ ap₂ (λ bytes more. bytes ++ more) e f
+both xs ys e f = gained-append link Product xs ys ∙ ap₂ (λ bytes more. bytes ++ more) e f
 
 module _ {X : Type 0} (write : X → Write) where
-  each_elsewhere : ((x : X) → gained_by link Tape (write x) ≡ []) → (xs : List X)
+  each_elsewhere : ((x : X) → gained_by link Product (write x) ≡ []) → (xs : List X)
       → Elsewhere (map write xs)
   unfolding gained
   each_elsewhere h [] = refl
@@ -74,7 +75,7 @@ last_elsewhere : (found : Findings) → Elsewhere (last_writes found)
 unfolding gained
 last_elsewhere found = refl
 
-headed : (write : Write) (writes : List Write) → gained_by link Tape write ≡ [] → Elsewhere writes
+headed : (write : Write) (writes : List Write) → gained_by link Product write ≡ [] → Elsewhere writes
     → Elsewhere (write ∷ writes)
 unfolding gained
 headed write writes e f = ap₂ (λ bytes more. bytes ++ more) e f
@@ -94,13 +95,13 @@ front_elsewhere found = both _ _ (undefined_elsewhere found) (map_elsewhere foun
 
 -- ---- entries report messages only
 
-unless : (b : Bool) (write : Write) → gained_by link Tape write ≡ []
+unless : (b : Bool) (write : Write) → gained_by link Product write ≡ []
     → Elsewhere (if b then [] else write ∷ [])
 unfolding gained
 unless true write e = refl
 unless false write e = headed write [] e refl
 
-only_if : (b : Bool) (write : Write) → gained_by link Tape write ≡ []
+only_if : (b : Bool) (write : Write) → gained_by link Product write ≡ []
     → Elsewhere (if b then write ∷ [] else [])
 unfolding gained
 only_if true write e = headed write [] e refl
@@ -192,22 +193,22 @@ one_more before part parts =
 
 -- ---- the tape
 
-pub block_gained : (address : ℕ) (bytes : List ℕ) → gained link Tape (block_at address bytes) ≡ data_block address bytes
+pub block_gained : (address : ℕ) (bytes : List ℕ) → gained link Product (block_at address bytes) ≡ data_block address bytes
 unfolding gained
 block_gained address [] = refl
 block_gained address (byte ∷ bytes) = append-nil (tape_block address (byte ∷ bytes))
 
 text_gained : (found : Findings) (text : PlacedText) (parts : List Part) → list_any stores parts ≡ false
     → has_ended parts ≡ true
-    → gained link Tape (ended_writes found text parts) ≡ data_block text.address text.bytes
+    → gained link Product (ended_writes found text parts) ≡ data_block text.address text.bytes
 text_gained found text parts n e =
-    ap (λ b. gained link Tape (if b then text_writes (with_relocations found text (relocations_after parts)) else [])) e
-    ∙ ap (λ t. gained link Tape (text_writes t)) (unchanged found text parts n)
+    ap (λ b. gained link Product (if b then text_writes (with_relocations found text (relocations_after parts)) else [])) e
+    ∙ ap (λ t. gained link Product (text_writes t)) (unchanged found text parts n)
     ∙ block_gained text.address text.bytes
 
 -- a part that goes elsewhere, before parts of which the tape is known
-pub skipped : (xs ys : List Write) (bytes : List ℕ) → Elsewhere xs → gained link Tape ys ≡ bytes → gained link Tape (xs ++ ys) ≡ bytes
-skipped xs ys bytes e f = gained-append link Tape xs ys ∙ ap₂ (λ some more. some ++ more) e f
+pub skipped : (xs ys : List Write) (bytes : List ℕ) → Elsewhere xs → gained link Product ys ≡ bytes → gained link Product (xs ++ ys) ≡ bytes
+skipped xs ys bytes e f = gained-append link Product xs ys ∙ ap₂ (λ some more. some ++ more) e f
 
 -- a text stands in the body of a module
 pub text_in_body : (before : List Part) (address : ℕ) (bytes : List ℕ) → fault_of before (Text address bytes) ≡ None
@@ -221,7 +222,7 @@ closed parts e = at_end (stage_after parts) _ e
 
 following : (found : Findings) (before parts : List Part) → first_fault before parts ≡ None
     → stage_from (stage_after before) parts ≡ Between → list_any stores parts ≡ false
-    → gained link Tape (writes_after found before parts) ≡ flat_map block_of (reported_after (text_in found) before parts)
+    → gained link Product (writes_after found before parts) ≡ flat_map block_of (reported_after (text_in found) before parts)
 unfolding writes_at first_fault gained
 following found before [] h s n = refl
 following found before (Text address bytes ∷ parts) h s n =
@@ -231,7 +232,7 @@ following found before (Text address bytes ∷ parts) h s n =
     let text = placed_text found (modules_in before) (current_section (this_module before)) address bytes in
     let e = ended parts
     (ap (λ stage. stage_from stage parts) (sym (text_in_body before address bytes head)) ∙ s) in
-    gained-append link Tape (ended_writes found text parts) (writes_after found all parts)
+    gained-append link Product (ended_writes found text parts) (writes_after found all parts)
     ∙ ap₂ (λ some more. some ++ more) (text_gained found text parts n e)
     (following found all parts rest (one_more before (Text address bytes) parts ∙ s) n)
 following found before (Entry entry ∷ parts) h s n =
@@ -250,17 +251,17 @@ following found before (part ∷ parts) h s n =
     let rest = rest_none (fault_of before part) (first_fault all parts) h in
     following found all parts rest (one_more before part parts ∙ s) n
 
-pub last_gained : (bytes : List ℕ) → gained link Tape (to_tape bytes ∷ []) ≡ bytes
+pub last_gained : (bytes : List ℕ) → gained link Product (to_product bytes ∷ []) ≡ bytes
 unfolding gained
 last_gained bytes = append-nil bytes
 
 pub tape_of_texts : (found : Findings) (parts : List Part) → first_fault [] parts ≡ None
     → fault_of parts EndOfFile ≡ None → list_any stores parts ≡ false
-    → gained link Tape (link_writes found parts) ≡ flat_map block_of (texts_of found parts) ++ tape_block found.transfer []
+    → gained link Product (link_writes found parts) ≡ flat_map block_of (texts_of found parts) ++ tape_block found.transfer []
 unfolding texts_of parts_writes stage_after
 tape_of_texts found parts h e n =
-    let last = to_tape (tape_block found.transfer []) ∷ [] in
-    gained-append link Tape (front_writes found ++ parts_writes found parts) last
+    let last = to_product (tape_block found.transfer []) ∷ [] in
+    gained-append link Product (front_writes found ++ parts_writes found parts) last
     ∙ ap₂ (λ some more. some ++ more)
     (skipped (front_writes found) (parts_writes found parts) _ (front_elsewhere found)
     (following found [] parts h (closed parts e) n))

@@ -13,7 +13,8 @@ use Rattle.m11_link.specs.FirstPass.{pass_of}
 use Rattle.m11_link.specs.Front.{front_writes}
 use Rattle.m11_link.specs.Objects.{AreItems, BeginningItems, FailAfter, GiveItems, Item, BlockOf, ObjectItems, taken}
 use Rattle.m11_link.specs.Objects as objects
-use Rattle.m11_link.specs.Outputs.{Gains, Outputs, Stops, Write, files, flushes, link, to_tape}
+use Rattle.m11_link.specs.Outputs.{Gains, Stops, link}
+use Rattle.m11_base_writes.specs.Outputs.{Outputs, Write, files, flushes, to_product}
 use Rattle.m11_link.specs.SecondPass.{ReadsSecond, StopsLast, StopsWithin, begun_by}
 use Rattle.m11_link.specs.Written.{link_writes, parts_writes}
 use Rattle.m11_link.proofs.ItemsTaken.{PartsOrFault, taken_after}
@@ -120,7 +121,7 @@ Begins all some = (more : List Write) × (all ≡ some ++ more)
 parts_begin : (found : Findings) (these rest : List Part)
     → Begins (link_writes found (these ++ rest)) (front_writes found ++ parts_writes found these)
 parts_begin found these rest =
-    let last : List Write = to_tape (tape_block found.transfer []) ∷ [] in
+    let last : List Write = to_product (tape_block found.transfer []) ∷ [] in
     let front = front_writes found in
     let some = parts_writes found these in
     let more = reported_from found these rest in (

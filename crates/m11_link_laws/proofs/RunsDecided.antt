@@ -10,7 +10,8 @@ use Rattle.m11_link_layout.specs.declared.fault.LinkFault.TheVariants as fault
 use Rattle.m11_link_text.specs.Findings.{findings_of, planned}
 use Rattle.m11_link.specs.FirstPass.{ReadsFirst, pass_of}
 use Rattle.m11_link.specs.Objects.{◌>>=◌, AreItems, GiveItems, Item, outcome, taken, unless_too_large}
-use Rattle.m11_link.specs.Outputs.{AreFlushed, Gains, Outputs, StopsBetween, StopsIn, Write, link}
+use Rattle.m11_link.specs.Outputs.{Gains, StopsBetween, StopsIn, link}
+use Rattle.m11_base_writes.specs.Outputs.{AreFlushed, Outputs, Write}
 use Rattle.m11_link.specs.SecondPass.{LinkRuns, ReadsSecond}
 use Rattle.m11_link.specs.Written.{counted, link_writes}
 use Rattle.m11_link.specs.declared.emit.LinkDone.{LinkDone}

@@ -5,11 +5,12 @@ use Rattle.m11_base.specs.Feed.{Text}
 use Rattle.m11_obj_blocks.specs.Tapes.{IsTape}
 use Rattle.m11_link_modules.specs.Parts.{Part}
 use Rattle.m11_link_layout.specs.Transfers.{transfer_address}
-use Rattle.m11_link_layout.specs.declared.fault.LinkOutput.TheVariants.{Tape, Map, Messages}
+use Rattle.m11_base_writes.specs.declared.outputs.Output.TheVariants.{Product, Report, Messages}
 use Rattle.m11_link_text.specs.Findings.{findings_of}
 use Rattle.m11_link.specs.FirstPass.{pass_of}
 use Rattle.m11_link.specs.Objects.{AreItems, Item, outcome}
-use Rattle.m11_link.specs.Outputs.{AreFlushed, Gains, Outputs}
+use Rattle.m11_link.specs.Outputs.{Gains}
+use Rattle.m11_base_writes.specs.Outputs.{AreFlushed, Outputs}
 use Rattle.m11_link.specs.SecondPass.{LinkRuns}
 use Rattle.m11_link.specs.Written.{counted, link_writes}
 use Rattle.m11_link.specs.declared.emit.LinkDone.{LinkDone}
@@ -29,14 +30,14 @@ leaves : (bottom : ℕ) (sources : List (List ℕ)) (items : List Item) (parts :
 leaves bottom sources items parts old new done are e gains count flushed =
     let found = findings_of bottom parts in
     let is = tape_of_objects bottom sources items parts are e in
-    let T : List ℕ → Type 0 = λ bytes. Appends (old Tape).text (new Tape).text bytes in
+    let T : List ℕ → Type 0 = λ bytes. Appends (old Product).text (new Product).text bytes in
     let R : List ℕ → Type 0 = λ bytes. IsTape (tape_blocks found parts) (transfer_address bottom parts) bytes in
-    let M : List ℕ → Type 0 = λ bytes. Appends (old Map).text (new Map).text bytes in
+    let M : List ℕ → Type 0 = λ bytes. Appends (old Report).text (new Report).text bytes in
     let S : List ℕ → Type 0 = λ bytes. Appends (old Messages).text (new Messages).text bytes in
     record {
-      tape = subst T is (gains.texts Tape);
+      tape = subst T is (gains.texts Product);
       again = subst R is (objects_make_a_tape bottom sources items parts are e);
-      map = subst M (map_of_lines found parts) (gains.texts Map);
+      map = subst M (map_of_lines found parts) (gains.texts Report);
       messages = subst S (messages_of_lines found parts) (gains.texts Messages);
       count = count ∙ lines_counted found parts;
       flushed = flushed;

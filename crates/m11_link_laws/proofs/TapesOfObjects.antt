@@ -9,7 +9,7 @@ use Rattle.m11_link_modules.specs.Parts.{Part}
 use Rattle.m11_link_modules.specs.Rules.{lies_within}
 use Rattle.m11_link_layout.specs.Transfers.{is_even, transfer_address, transfer_value, transfers_of}
 use Rattle.m11_link_layout.specs.declared.definition.Transfer.{Transfer}
-use Rattle.m11_link_layout.specs.declared.fault.LinkOutput.TheVariants.{Tape}
+use Rattle.m11_base_writes.specs.declared.outputs.Output.TheVariants.{Product}
 use Rattle.m11_link_text.specs.Findings.{Findings, findings_of}
 use Rattle.m11_link_text.specs.Relocation.{modulo}
 use Rattle.m11_link_text.proofs.Stored.{size_kept}
@@ -112,7 +112,7 @@ transfer_below bottom parts = found_below bottom parts (transfers_of parts)
 
 pub tape_of_objects : (bottom : ℕ) (sources : List (List ℕ)) (items : List Item) (parts : List Part)
     → AreItems sources items → outcome bottom items ≡ Ok parts
-    → gained link Tape (link_writes (findings_of bottom parts) parts)
+    → gained link Product (link_writes (findings_of bottom parts) parts)
     ≡ flat_map block_of (linked_texts (findings_of bottom parts) parts) ++ tape_block (transfer_address bottom parts) []
 unfolding findings_of
 tape_of_objects bottom sources items parts are e =
@@ -122,7 +122,7 @@ tape_of_objects bottom sources items parts are e =
 pub objects_make_a_tape : (bottom : ℕ) (sources : List (List ℕ)) (items : List Item) (parts : List Part)
     → AreItems sources items → outcome bottom items ≡ Ok parts
     → IsTape (tape_blocks (findings_of bottom parts) parts) (transfer_address bottom parts)
-    (gained link Tape (link_writes (findings_of bottom parts) parts))
+    (gained link Product (link_writes (findings_of bottom parts) parts))
 objects_make_a_tape bottom sources items parts are e =
     let found = findings_of bottom parts in
     let t = taken_of bottom (taken [] items) parts e in

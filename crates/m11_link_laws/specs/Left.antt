@@ -7,9 +7,9 @@ use Rattle.m11_base.specs.Devices.{Bytes}
 use Rattle.m11_obj_blocks.specs.Tapes.{IsTape, tape_block}
 use Rattle.m11_link_modules.specs.Parts.{Part}
 use Rattle.m11_link_layout.specs.Transfers.{transfer_address}
-use Rattle.m11_link_layout.specs.declared.fault.LinkOutput.TheVariants.{Tape, Map, Messages}
+use Rattle.m11_base_writes.specs.declared.outputs.Output.TheVariants.{Product, Report, Messages}
 use Rattle.m11_link_text.specs.Findings.{findings_of}
-use Rattle.m11_link.specs.Outputs.{AreFlushed, Outputs}
+use Rattle.m11_base_writes.specs.Outputs.{AreFlushed, Outputs}
 use Rattle.m11_link.specs.Written.{most_messages}
 use Rattle.m11_link.specs.declared.emit.LinkDone.{LinkDone}
 use Rattle.m11_link_laws.specs.LinkedTexts.{linked_texts, tape_blocks}
@@ -30,9 +30,9 @@ messages_of bottom parts = message_lines (findings_of bottom parts) parts
 -- each output has its text after what it had before, of which tape and map hold nothing back, the tape can be read again,
 -- and the messages are counted
 pub record Leaves (bottom : ℕ) (parts : List Part) (old new : Outputs) (done : LinkDone) : Type 0 where
-  pub tape : Appends (old Tape).text (new Tape).text (tape_text bottom parts)
+  pub tape : Appends (old Product).text (new Product).text (tape_text bottom parts)
   pub again : IsTape (tape_blocks (findings_of bottom parts) parts) (transfer_address bottom parts) (tape_text bottom parts)
-  pub map : Appends (old Map).text (new Map).text (map_text bottom parts)
+  pub map : Appends (old Report).text (new Report).text (map_text bottom parts)
   pub messages : Appends (old Messages).text (new Messages).text (concat (messages_of bottom parts))
   pub count : done.messages ≡ min (length (messages_of bottom parts)) most_messages
   pub flushed : AreFlushed new

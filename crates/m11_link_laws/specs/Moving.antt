@@ -21,12 +21,12 @@ use Rattle.m11_link_layout.specs.declared.definition.Definition.{Definition}
 use Rattle.m11_link_layout.specs.declared.definition.GlobalLocation.{GlobalLocation}
 use Rattle.m11_link_layout.specs.declared.definition.GlobalLocation.TheVariants.{Absolute, In}
 use Rattle.m11_link_layout.specs.declared.definition.Transfer.{Transfer}
-use Rattle.m11_link_layout.specs.declared.fault.LinkOutput.{LinkOutput}
+use Rattle.m11_base_writes.specs.declared.outputs.Output.{Output}
 use Rattle.m11_link_layout.specs.declared.planned.PlannedGlobal.{PlannedGlobal}
 use Rattle.m11_link_layout.specs.declared.planned.PlannedSection.{PlannedSection}
 use Rattle.m11_link_text.specs.Findings.{Findings}
 use Rattle.m11_link_text.specs.Relocation.{modulo, replaced, value_bytes, value_of}
-use Rattle.m11_link.specs.Outputs.{Write}
+use Rattle.m11_base_writes.specs.Outputs.{Write}
 use Rattle.m11_link.specs.Written.{PlacedText, has_ended, placed_text, relocations_after, text_writes, writes_at}
 
 -- ---- what moves
@@ -220,7 +220,7 @@ moved_after distance parts near before (part ∷ others) =
     part_moved distance parts near before part others ++ moved_after distance parts near (before ++ part ∷ []) others
 
 -- the output of a write, and how many bytes it has
-abbrev pub shape_of : Write → LinkOutput × ℕ
+abbrev pub shape_of : Write → Output × ℕ
 shape_of write = (write.output, length write.bytes)
 
 -- ---- what stays

@@ -1,15 +1,15 @@
 -- How far the writes of a link have gone, of which each is written whole before the next one. (This project's own.)
 use Rattle.std.specs.Prelude.{◌≡◌, ℕ, Bool, true, false, List, ◌++◌, length}
 use Rattle.std.specs.List.{filter, list_any}
-use Rattle.m11_link_layout.specs.declared.fault.LinkOutput.{LinkOutput}
-use Rattle.m11_link_layout.specs.declared.fault.LinkOutput.TheVariants.{Tape}
+use Rattle.m11_base_writes.specs.declared.outputs.Output.{Output}
+use Rattle.m11_base_writes.specs.declared.outputs.Output.TheVariants.{Product}
 use Rattle.m11_link_text.specs.Findings.{Findings}
 use Rattle.m11_link.specs.Front.{undefined_writes}
-use Rattle.m11_link.specs.Outputs.{Write}
+use Rattle.m11_base_writes.specs.Outputs.{Write}
 use Rattle.m11_link.specs.Written.{is_message}
 
-abbrev pub is_to_tape : LinkOutput → Bool
-is_to_tape Tape = true
+abbrev pub is_to_tape : Output → Bool
+is_to_tape Product = true
 is_to_tape output = false
 
 abbrev pub is_block : Write → Bool

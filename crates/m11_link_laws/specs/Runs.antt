@@ -5,7 +5,8 @@ use Rattle.m11_link_modules.specs.Parts.{Part}
 use Rattle.m11_link_layout.specs.declared.fault.LinkFault.{LinkFault}
 use Rattle.m11_link_layout.specs.declared.fault.LinkFault.TheVariants as fault
 use Rattle.m11_link_text.specs.Findings.{findings_of}
-use Rattle.m11_link.specs.Outputs.{Outputs, AreFlushed, Gains, link}
+use Rattle.m11_link.specs.Outputs.{Gains, link}
+use Rattle.m11_base_writes.specs.Outputs.{AreFlushed, Outputs}
 use Rattle.m11_link.specs.Written.{counted, link_writes}
 use Rattle.m11_link.specs.declared.emit.LinkDone.{LinkDone}
 use Rattle.m11_base_writes.specs.Writes.{LeavesBeginnings}

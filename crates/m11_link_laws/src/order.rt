@@ -4,7 +4,7 @@ ghost use Rattle.std.specs.Prelude.{◌≡◌, ◌<◌, true, List, ◌∷◌, �
 ghost use Rattle.m11_link_modules.specs.Parts.{Part};
 ghost use Rattle.m11_link_text.specs.Findings.{Findings};
 ghost use Rattle.m11_link.specs.Front.{front_writes};
-ghost use Rattle.m11_link.specs.Outputs.{Write};
+ghost use Rattle.m11_base_writes.specs.Outputs.{Write};
 ghost use Rattle.m11_link.specs.Written.{link_writes, parts_writes};
 ghost use Rattle.m11_link_laws.specs.Order.{BeginsWith, messages_in, reach_tape, undefined_count};
 

@@ -6,7 +6,7 @@ ghost use Rattle.m11_obj_blocks.specs.Tapes.{IsTape, tape_block};
 ghost use Rattle.m11_link_modules.specs.Parts.{Part, EndOfFile};
 ghost use Rattle.m11_link_modules.specs.Rules.{fault_of, first_fault};
 ghost use Rattle.m11_link_layout.specs.Transfers.{transfer_address};
-ghost use Rattle.m11_link_layout.specs.declared.fault.LinkOutput.TheVariants.{Tape, Map, Messages};
+ghost use Rattle.m11_base_writes.specs.declared.outputs.Output.TheVariants.{Product, Report, Messages};
 ghost use Rattle.m11_link_text.specs.Findings.{Findings, findings_of};
 ghost use Rattle.m11_base_writes.specs.Writes.{gained};
 ghost use Rattle.m11_link.specs.Objects.{AreItems, Item, outcome};
@@ -22,7 +22,7 @@ ghost use Rattle.m11_link_laws.specs.Lines.{map_lines, message_lines};
 #[tactic(auto, using(crate::proofs::LinkedTextsWritten::tape_of_linked_texts))]
 pub fn linked_texts_are_the_tape()
     ensures { (found : Findings) (parts : List Part) → first_fault [] parts ≡ None → fault_of parts EndOfFile ≡ None
-        → gained link Tape (link_writes found parts)
+        → gained link Product (link_writes found parts)
         ≡ flat_map block_of (linked_texts found parts) ++ tape_block found.transfer [] }
 {}
 
@@ -32,13 +32,13 @@ pub fn linked_texts_are_the_tape()
 pub fn objects_make_the_tape_of_their_texts()
     ensures bytes { (bottom : ℕ) (sources : List (List ℕ)) (items : List Item) (parts : List Part)
         → AreItems sources items → outcome bottom items ≡ Ok parts
-        → gained link Tape (link_writes (findings_of bottom parts) parts)
+        → gained link Product (link_writes (findings_of bottom parts) parts)
         ≡ flat_map block_of (linked_texts (findings_of bottom parts) parts)
         ++ tape_block (transfer_address bottom parts) [] }
     ensures tape { (bottom : ℕ) (sources : List (List ℕ)) (items : List Item) (parts : List Part)
         → AreItems sources items → outcome bottom items ≡ Ok parts
         → IsTape (tape_blocks (findings_of bottom parts) parts) (transfer_address bottom parts)
-        (gained link Tape (link_writes (findings_of bottom parts) parts)) }
+        (gained link Product (link_writes (findings_of bottom parts) parts)) }
 {}
 
 /// The map has a line for each section, for each global and for each name that is defined nowhere, under their words, and
@@ -46,7 +46,7 @@ pub fn objects_make_the_tape_of_their_texts()
 #[tactic(auto, using(crate::proofs::LinesWritten::map_of_lines))]
 pub fn map_is_its_lines()
     ensures { (found : Findings) (parts : List Part)
-        → gained link Map (link_writes found parts) ≡ concat (map_lines found) }
+        → gained link Report (link_writes found parts) ≡ concat (map_lines found) }
 {}
 
 /// The messages have a line for each global that has a strong reference and is defined nowhere, and then one for each

@@ -4,7 +4,7 @@ ghost use Rattle.std.specs.Prelude.{◌≡◌, List, ℕ, Result, Ok};
 ghost use Rattle.m11_link_modules.specs.Parts.{Part};
 ghost use Rattle.m11_link_layout.specs.declared.fault.LinkFault.{LinkFault};
 ghost use Rattle.m11_link.specs.Objects.{AreItems, Item, outcome};
-ghost use Rattle.m11_link.specs.Outputs.{Outputs};
+ghost use Rattle.m11_base_writes.specs.Outputs.{Outputs};
 ghost use Rattle.m11_link.specs.SecondPass.{LinkRuns};
 ghost use Rattle.m11_link.specs.declared.emit.LinkDone.{LinkDone};
 ghost use Rattle.m11_link_laws.specs.Left.{Leaves};

@@ -5,7 +5,7 @@ ghost use Rattle.std.specs.List.{flat_map, list_any};
 ghost use Rattle.m11_obj_blocks.specs.Tapes.{tape_block};
 ghost use Rattle.m11_link_modules.specs.Parts.{Part, EndOfFile};
 ghost use Rattle.m11_link_modules.specs.Rules.{fault_of, first_fault};
-ghost use Rattle.m11_link_layout.specs.declared.fault.LinkOutput.TheVariants.{Tape};
+ghost use Rattle.m11_base_writes.specs.declared.outputs.Output.TheVariants.{Product};
 ghost use Rattle.m11_link_text.specs.Findings.{Findings};
 ghost use Rattle.m11_base_writes.specs.Writes.{gained};
 ghost use Rattle.m11_link.specs.Outputs.{link};
@@ -19,6 +19,6 @@ ghost use Rattle.m11_link_laws.specs.Texts.{block_of, stores, texts_of};
 pub fn unrelocated_texts_are_the_tape()
     ensures { (found : Findings) (parts : List Part) → first_fault [] parts ≡ None → fault_of parts EndOfFile ≡ None
         → list_any stores parts ≡ false
-        → gained link Tape (link_writes found parts)
+        → gained link Product (link_writes found parts)
         ≡ flat_map block_of (texts_of found parts) ++ tape_block found.transfer [] }
 {}

@@ -1,10 +1,12 @@
 -- The faults of a link, and how they are reported. (This project's own.)
-use Rattle.std.specs.Prelude.{ℕ, codes}
+use Rattle.std.specs.Prelude.{ℕ, Option, Some, None, codes}
 use Rattle.m11_base.specs.Devices.{Bytes}
 use Rattle.m11_link_modules.specs.declared.fault.ModuleFault.{ModuleFault}
 use Rattle.m11_link_modules.specs.declared.fault.ModuleFault.TheVariants as rule
 use Rattle.m11_link_layout.specs.declared.fault.LinkFault.{LinkFault}
 use Rattle.m11_link_layout.specs.declared.fault.LinkFault.TheVariants as fault
+use Rattle.m11_base_writes.specs.Writes.{Between, In, Stop}
+use Rattle.m11_base_writes.specs.declared.outputs.Output.{Output}
 
 abbrev pub link_fault_number : LinkFault → ℕ
 link_fault_number fault.Read = 1
@@ -39,6 +41,12 @@ link_fault_name fault.TooManyModules = codes "TooManyModules"
 link_fault_name fault.TooMuch = codes "TooMuch"
 link_fault_name fault.TextOutside = codes "TextOutside"
 link_fault_name fault.NoMemory = codes "NoMemory"
+
+-- the faults at which writes end early: an output failed, or memory was refused
+abbrev pub stop_of : LinkFault → Option (Stop Output)
+stop_of (fault.Write output) = Some (In output)
+stop_of fault.NoMemory = Some Between
+stop_of _ = None
 
 -- a fault of the order of records is reported as the same fault of the link
 abbrev pub of_module : ModuleFault → LinkFault

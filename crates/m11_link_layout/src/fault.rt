@@ -1,24 +1,14 @@
 //! What can go wrong in a link, each with its number and name.
 
 ghost use Rattle.std.specs.Prelude.{◌≡◌};
-ghost use Rattle.m11_link_layout.specs.Fault.{link_fault_name, link_fault_number, of_module};
+ghost use Rattle.m11_link_layout.specs.Fault.{link_fault_name, link_fault_number, of_module, stop_of};
 ghost use Rattle.m11_link_layout.specs.declared.fault.LinkFault.TheVariants.{NoMemory, Record};
 
+use m11_base_writes::{Output, OutputFault};
 use m11_link_modules::ModuleFault;
 use m11_obj::{BlockFault, RecordFault};
 use std::alloc::{AllocError, AllocFailed};
 use thiserror::Error;
-
-/// An output of the linker.
-#[derive(Clone, Copy, Debug, PartialEq, Eq)]
-pub enum LinkOutput {
-    /// The absolute loader tape.
-    Tape,
-    /// The map.
-    Map,
-    /// The messages.
-    Messages,
-}
 
 /// Why a link ended early.
 #[derive(Clone, Copy, Debug, PartialEq, Eq, Error)]
@@ -26,9 +16,9 @@ pub enum LinkFault {
     /// 1: an object could not be read.
     #[error("an object could not be read")]
     Read,
-    /// 2: an output could not be written.
+    /// 2: an output could not be written. The product is the tape, and the report the map.
     #[error("an output could not be written")]
-    Write(LinkOutput),
+    Write(Output),
     /// 3: bytes that are no block.
     #[error("a block is malformed")]
     Block(BlockFault),
@@ -116,6 +106,14 @@ impl LinkFault {
             LinkFault::TextOutside => "TextOutside",
             LinkFault::NoMemory => "NoMemory",
         }
+    }
+}
+
+impl OutputFault for LinkFault {
+    ghost stop = { stop_of };
+
+    fn of_output(output: Output) -> LinkFault {
+        LinkFault::Write(output)
     }
 }
 

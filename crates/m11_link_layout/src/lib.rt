@@ -5,7 +5,7 @@
 // What can go wrong in a link.
 mod fault;
 
-pub use fault::{LinkFault, LinkOutput};
+pub use fault::LinkFault;
 
 // What the records of the objects tell: sections with their attributes, globals, modules.
 mod attributes;

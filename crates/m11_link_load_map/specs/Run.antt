@@ -16,7 +16,7 @@ use Rattle.m11_link_load_map.specs.Noted.{contributions_from}
 use Rattle.m11_link_load_map.specs.declared.fault.LoadMapFault.{LoadMapFault}
 use Rattle.m11_link_load_map.specs.declared.fault.LoadMapFault.TheVariants.{Objects, Write}
 use Rattle.m11_link_load_map.specs.declared.noted.MapFact.{MapFact}
-use Rattle.m11_base_writes.specs.Outputs.{Output}
+use Rattle.m11_base_writes.specs.States.{OutputState}
 
 -- the objects that the feeds gave have parts that a link takes, and this is their map
 abbrev pub Maps : {F : Type 0} → Pass F → ℕ → Bytes → Type 0
@@ -31,7 +31,7 @@ MakesMap pass bottom (Err stopped) = ReadsFirst pass bottom (Err stopped)
 
 -- the output gained the map of the objects; or they are refused as a link refuses them, and it is as it was; or it failed after a
 -- beginning of the map
-abbrev pub LoadMapRuns : {F : Type 0} → Pass F → ℕ → Output → Output → Result (Unit {0}) LoadMapFault → Type 0
+abbrev pub LoadMapRuns : {F : Type 0} → Pass F → ℕ → OutputState → OutputState → Result (Unit {0}) LoadMapFault → Type 0
 LoadMapRuns pass bottom out out' (Ok done) =
     (text : Bytes) × Maps pass bottom text × Appends out.text out'.text text × (out'.faults ≡ out.faults)
 LoadMapRuns pass bottom out out' (Err (Objects stopped)) = ReadsFirst pass bottom (Err stopped) × (out' ≡ out)

@@ -2,7 +2,7 @@
 
 ghost use Rattle.m11_link.specs.FirstPass.{pass_of};
 ghost use Rattle.m11_link_load_map.specs.Run.{LoadMapRuns, MakesMap};
-ghost use Rattle.m11_base_writes.specs.Outputs.{output_of};
+ghost use Rattle.m11_base_writes.specs.States.{output_of};
 ghost use Rattle.std.specs.Prelude.{Ok, Err, MatchResult};
 
 use crate::fault::LoadMapFault;

@@ -6,7 +6,7 @@ use Rattle.m11_cpu.specs.Simulation.{request_of}
 use Rattle.m11_cpu.specs.declared.fault.SimFault.{SimFault}
 use Rattle.m11_cpu.specs.declared.fault.SimFault.TheVariants.{NoMemory}
 use Rattle.m11_base_files.specs.Opens.{Holds, Lacks}
-use Rattle.m11_base_writes.specs.Outputs.{Output}
+use Rattle.m11_base_writes.specs.States.{OutputState}
 use Rattle.m11_cpu_machine.specs.Dialogue.{Input}
 use Rattle.m11_trace.specs.Tracing.{Traces}
 use Rattle.m11_trace.specs.declared.ending.Ending.{Ending}
@@ -31,7 +31,7 @@ RunsTape task old new before after result = (tape : Input) × Holds old.files ta
     × RunsOpen task tape before after result × (new ≡ old)
 
 -- the tape does not open, and is reported
-abbrev pub RefusesTape : TraceTask → Store → Store → Output → Output → Type 0
+abbrev pub RefusesTape : TraceTask → Store → Store → OutputState → OutputState → Type 0
 RefusesTape task old new reported reported' = Lacks old.files task.sim.tape.now × Rises old.refusals new.refusals
     × (new.files ≡ old.files) × Reports (open_line task.sim.tape.now) reported reported'
 
@@ -54,5 +54,5 @@ HasOutcome words outcome old new before after =
 -- a command line yields its outcome, and after that the line of the outcome's fault is reported
 abbrev pub Obeys : List Text → Outcome → Store → Store → Streams → Streams → Type 0
 Obeys words outcome old new before after =
-    (reported : Output) × HasOutcome words outcome old new before (record after { reported = reported })
+    (reported : OutputState) × HasOutcome words outcome old new before (record after { reported = reported })
     × Reports (line_of outcome) reported after.reported

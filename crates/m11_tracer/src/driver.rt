@@ -1,7 +1,7 @@
 //! All of the program's work, over whatever opens files, feeds and takes bytes.
 
 ghost use Rattle.std.specs.Prelude.{◌≡◌, map};
-ghost use Rattle.m11_base_writes.specs.Outputs.{output_of};
+ghost use Rattle.m11_base_writes.specs.States.{output_of};
 ghost use Rattle.m11_cpu_machine.specs.Dialogue.{input_of};
 ghost use Rattle.m11_cli_reports.specs.Reports.{Reports};
 ghost use Rattle.m11_cli_reports.specs.Streams.{store, streams};

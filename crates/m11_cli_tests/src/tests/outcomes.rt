@@ -1,10 +1,11 @@
 //! The status and the line of each outcome that no case of the suite can come to.
 
-use m11_asm::{AsmFault, AsmOutput};
+use m11_asm::AsmFault;
 use m11_base::MemorySink;
+use m11_base_writes::Output;
 use m11_cli::{Outcome, WordsFault, command_without_words, fault_line, status};
 use m11_cpu::{LoadFault, SimFault};
-use m11_link::{LinkFault, LinkOutput};
+use m11_link::LinkFault;
 use m11_obj::{BlockFault, TapeFault};
 use m11_unfold_rules::UnfoldFault;
 use std::process::Abort;
@@ -14,9 +15,9 @@ use std::test::Fail;
 #[rattlefmt::skip]
 static ASSEMBLIES: [(AsmFault, u8, &str); 12] = [
     (AsmFault::Read, 3, "?M11 ASM 1 Read\n"),
-    (AsmFault::Write(AsmOutput::Object), 3, "?M11 ASM 2 Write OBJECT\n"),
-    (AsmFault::Write(AsmOutput::Listing), 3, "?M11 ASM 2 Write LISTING\n"),
-    (AsmFault::Write(AsmOutput::Messages), 3, "?M11 ASM 2 Write MESSAGES\n"),
+    (AsmFault::Write(Output::Product), 3, "?M11 ASM 2 Write OBJECT\n"),
+    (AsmFault::Write(Output::Report), 3, "?M11 ASM 2 Write LISTING\n"),
+    (AsmFault::Write(Output::Messages), 3, "?M11 ASM 2 Write MESSAGES\n"),
     (AsmFault::TooManySymbols, 6, "?M11 ASM 3 TooManySymbols\n"),
     (AsmFault::TooManySections, 6, "?M11 ASM 4 TooManySections\n"),
     (AsmFault::Unfold(UnfoldFault::TooDeep), 6, "?M11 ASM 5 Unfold 1 TooDeep\n"),
@@ -31,9 +32,9 @@ static ASSEMBLIES: [(AsmFault, u8, &str); 12] = [
 #[rattlefmt::skip]
 static LINKS: [(LinkFault, u8, &str); 11] = [
     (LinkFault::Read, 3, "?M11 LINK 1 Read\n"),
-    (LinkFault::Write(LinkOutput::Tape), 3, "?M11 LINK 2 Write TAPE\n"),
-    (LinkFault::Write(LinkOutput::Map), 3, "?M11 LINK 2 Write MAP\n"),
-    (LinkFault::Write(LinkOutput::Messages), 3, "?M11 LINK 2 Write MESSAGES\n"),
+    (LinkFault::Write(Output::Product), 3, "?M11 LINK 2 Write TAPE\n"),
+    (LinkFault::Write(Output::Report), 3, "?M11 LINK 2 Write MAP\n"),
+    (LinkFault::Write(Output::Messages), 3, "?M11 LINK 2 Write MESSAGES\n"),
     (LinkFault::Block(BlockFault::Device), 4, "?M11 LINK 3 Block 1 Device\n"),
     (LinkFault::Block(BlockFault::Failed), 4, "?M11 LINK 3 Block 7 Failed\n"),
     (LinkFault::Block(BlockFault::TooMuch), 4, "?M11 LINK 3 Block 8 TooMuch\n"),

@@ -5,7 +5,8 @@ use super::{
     Object, READS_F, READS_F_LINKED, RELOCATIONS, TEXT, Wanted, file_of, left,
 };
 use m11_base::{FuseFeed, FuseSink, MemoryFeed, WriterSink};
-use m11_link::{LinkDone, LinkFault, LinkOutput, link_run};
+use m11_base_writes::Output;
+use m11_link::{LinkDone, LinkFault, link_run};
 use std::alloc::Global;
 use std::process::Abort;
 use std::test::Fail;
@@ -15,7 +16,7 @@ use std::test::Fail;
 enum Device {
     // A feed by its index: two of the first pass, and then two of the second one.
     Feed(usize),
-    Output(LinkOutput),
+    Output(Output),
 }
 
 impl Device {
@@ -50,7 +51,7 @@ impl Broken {
 
     fn sink<'a>(
         self,
-        output: LinkOutput,
+        output: Output,
         text: &'a mut Vec<u8>,
         most: usize,
     ) -> FuseSink<WriterSink<&'a mut Vec<u8>>> {
@@ -77,9 +78,9 @@ fn link_broken(
         &mut [broken.feed(0, files[0]), broken.feed(1, files[1])],
         &mut [broken.feed(2, files[0]), broken.feed(3, files[1])],
         0o1000,
-        &mut broken.sink(LinkOutput::Tape, tape, most),
-        &mut Some(broken.sink(LinkOutput::Map, map, most)),
-        &mut broken.sink(LinkOutput::Messages, messages, most),
+        &mut broken.sink(Output::Product, tape, most),
+        &mut Some(broken.sink(Output::Report, map, most)),
+        &mut broken.sink(Output::Messages, messages, most),
     )
 }
 
@@ -193,15 +194,15 @@ static FAILING: [Failing; 8] = [
     (Device::Feed(1), 512),
     (Device::Feed(2), 512),
     (Device::Feed(3), 512),
-    (Device::Output(LinkOutput::Tape), 512),
-    (Device::Output(LinkOutput::Tape), 1),
-    (Device::Output(LinkOutput::Map), 512),
-    (Device::Output(LinkOutput::Map), 1),
+    (Device::Output(Output::Product), 512),
+    (Device::Output(Output::Product), 1),
+    (Device::Output(Output::Report), 512),
+    (Device::Output(Output::Report), 1),
 ];
 
 static FAILING_MESSAGES: [Failing; 2] = [
-    (Device::Output(LinkOutput::Messages), 512),
-    (Device::Output(LinkOutput::Messages), 1),
+    (Device::Output(Output::Messages), 512),
+    (Device::Output(Output::Messages), 1),
 ];
 
 // A link with a broken device left beginnings and ended with the device's fault, or left all: whether it did.
@@ -311,7 +312,7 @@ fn fails_at_once(alloc: Global) -> bool {
     };
     let linked = linked_broken(alloc, [ONE_WORD.as_slice(), b""], whole, 0);
     match linked.outcome {
-        Err(fault) => fault == LinkFault::Write(LinkOutput::Map) && linked.is_empty(),
+        Err(fault) => fault == LinkFault::Write(Output::Report) && linked.is_empty(),
         Ok(_) => false,
     }
 }

@@ -1,4 +1,4 @@
-use Rattle.m11_asm_outputs.specs.Outputs.{outputs_of}
+use Rattle.m11_base_writes.specs.Outputs.{outputs_of}
 use Rattle.m11_asm.specs.Passes.{pass_of}
 use Rattle.m11_asm.proofs.Joined.{asm_gives, asm_runs}
 use Rattle.m11_asm.proofs.ProgramsAgree.{LawsOfFirstPasses}

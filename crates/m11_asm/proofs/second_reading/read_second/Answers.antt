@@ -1,4 +1,5 @@
-use Rattle.m11_asm_outputs.specs.Outputs.{Outputs, assembly, outputs_of}
+use Rattle.m11_asm_outputs.specs.Outputs.{assembly}
+use Rattle.m11_base_writes.specs.Outputs.{Outputs, outputs_of}
 use Rattle.m11_asm.specs.Program.{program_in}
 use Rattle.m11_base_writes.proofs.Writing.{gains_nothing}
 use Rattle.m11_asm.specs.Passes.{pass_of}

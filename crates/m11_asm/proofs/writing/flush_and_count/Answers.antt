@@ -1,7 +1,7 @@
 use Rattle.std.proofs.Common.{Ok, Err, Result}
 use Rattle.std.specs.Prelude.{OnOk}
 use Rattle.m11_asm_outputs.specs.Outputs.{assembly}
-use Rattle.m11_base_writes.specs.Outputs.{output_of}
+use Rattle.m11_base_writes.specs.States.{output_of}
 use Rattle.m11_base_writes.proofs.Writing.{stopped_first, writes_then}
 use Rattle.m11_asm.proofs.writing.flush_and_count.Goals as goal
 

@@ -16,4 +16,4 @@ pub returns : goal.returns
 returns g c = λ object messages.
     writes_then assembly _ _ _ (all_to_listing (empty_line ∷ [])) (all_to_listing (count_line c.args.count ∷ [])) _
     (c.in_ok-put_empty.ensures object messages)
-    (writes_line _ _ _ _ _ (c.as_slice.ensures.value ∙ c.count_line.ensures) (c.put_listing.ensures.writes object messages))
+    (writes_line _ _ _ _ _ (c.as_slice.ensures.value ∙ c.count_line.ensures) (c.put_report.ensures.writes object messages))

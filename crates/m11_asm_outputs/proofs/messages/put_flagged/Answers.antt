@@ -1,6 +1,6 @@
 use Rattle.std.proofs.Common.{ℕ, List, ◌∙◌, ap}
 use Rattle.m11_asm_listing.specs.Messages.{message_line}
-use Rattle.m11_asm_outputs.proofs.Writing.{line_as}
+use Rattle.m11_asm_outputs.proofs.Looping.{line_as}
 use Rattle.m11_asm_outputs.proofs.messages.put_flagged.Goals as goal
 
 pub returns-clause-writes : goal.returns-clause-writes

@@ -5,7 +5,8 @@ use Rattle.m11_obj_texts.specs.declared.pieces.Piece.{Piece}
 use Rattle.m11_base_writes.proofs.Writing.{gains_nothing}
 use Rattle.m11_asm_outputs.specs.Object.{IsOpenAfter, closed_records}
 use Rattle.m11_asm_outputs.specs.Object.{content_writes}
-use Rattle.m11_asm_outputs.specs.Outputs.{Outputs, Writes, assembly}
+use Rattle.m11_asm_outputs.specs.Outputs.{Writes, assembly}
+use Rattle.m11_base_writes.specs.Outputs.{Outputs}
 use Rattle.m11_obj.specs.Records.{Content}
 use Rattle.m11_asm_outputs.proofs.Blocks.{contents_as}
 use Rattle.m11_asm_outputs.proofs.Closing.{closed_by_piece, open_after_piece}

@@ -1,8 +1,8 @@
 use Rattle.std.proofs.Common.{drop}
 use Rattle.m11_asm_rules.specs.Contents.{pieces_from}
-use Rattle.m11_base_writes.specs.Outputs.{output_of}
+use Rattle.m11_base_writes.specs.States.{output_of}
 use Rattle.m11_asm_outputs.specs.Object.{IsOpenAfter, closed_records}
-use Rattle.m11_asm_outputs.specs.Outputs.{outputs}
+use Rattle.m11_base_writes.specs.Outputs.{outputs}
 use Rattle.m11_asm_outputs.proofs.Taking.{Taken}
 use Rattle.m11_asm_outputs.proofs.object.put_pieces.Given as goal
 

@@ -2,11 +2,11 @@ use Rattle.std.proofs.Common.{◌∙◌, ap}
 use Rattle.m11_asm.specs.Passes.{pass_of}
 use Rattle.m11_asm.specs.Run.{AsmRuns}
 use Rattle.m11_base_files.specs.Opens.{keeping, keeping_some}
-use Rattle.m11_cli.specs.Driver.{got, asm_outputs_of}
+use Rattle.m11_cli.specs.Driver.{got, outputs}
 use Rattle.m11_cli_tasks.specs.Opened.{asm_inputs}
 use Rattle.m11_cli.proofs.Assembled.{asm_runs}
 use Rattle.m11_cli.proofs.Linked.{emptied, kept, same_output, seen_output}
-use Rattle.m11_base_writes.specs.Outputs.{output_of}
+use Rattle.m11_base_writes.specs.States.{output_of}
 use Rattle.m11_cli.proofs.Sources.{are, seen}
 use Rattle.m11_cli.proofs.driver.run_asm.Goals as goal
 
@@ -26,7 +26,7 @@ returns g c =
     let reported' = output_of g.E.Sink c.asm_run-returned.new.messages in
     let ran : AsmRuns (pass_of text faults first c.asm_run-returned.new.first)
     (pass_of text faults second c.asm_run-returned.new.second)
-    (asm_outputs_of object listing reported) (asm_outputs_of object' listing' reported') c.asm_run-returned.result =
+    (outputs object listing reported) (outputs object' listing' reported') c.asm_run-returned.result =
     rw (
       c.as_mut_slice.ensures.value,
       c.as_mut_slice-2.ensures.value,

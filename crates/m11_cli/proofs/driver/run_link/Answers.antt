@@ -4,7 +4,7 @@ use Rattle.m11_link.specs.SecondPass.{LinkRuns}
 use Rattle.m11_cli.specs.Driver.{got, outputs}
 use Rattle.m11_cli_tasks.specs.Opened.{link_inputs}
 use Rattle.m11_cli.proofs.Linked.{emptied, kept, link_runs, same_output, seen_output}
-use Rattle.m11_base_writes.specs.Outputs.{output_of}
+use Rattle.m11_base_writes.specs.States.{output_of}
 use Rattle.m11_cli.proofs.Sources.{are, seen}
 use Rattle.m11_cli.proofs.driver.run_link.Goals as goal
 use Rattle.m11_link.specs.FirstPass.{pass_of}

@@ -1,6 +1,6 @@
 use Rattle.std.proofs.Common.{inl, ap₂, refl, subst, sym, rules, []}
 use Rattle.m11_base.specs.Devices.{Rises}
-use Rattle.m11_base_writes.specs.Outputs.{output_of}
+use Rattle.m11_base_writes.specs.States.{output_of}
 use Rattle.m11_cpu_machine.specs.Dialogue.{input_of}
 use Rattle.m11_cli_reports.specs.Lines.{open_line}
 use Rattle.m11_cli_reports.specs.Reports.{Reports}

@@ -1,4 +1,4 @@
-use Rattle.m11_link.specs.Outputs.{outputs_of}
+use Rattle.m11_base_writes.specs.Outputs.{outputs_of}
 use Rattle.m11_cli_chain.proofs.Unfailing.{link_reads}
 use Rattle.m11_cli_chain.proofs.chain.run_link.Goals as goal
 

@@ -3,8 +3,9 @@
 use super::{
     Assembled, DIRECTORY, END_OF_GSD, END_OF_MODULE, IN_BLANK_SECTION, TRANSFER, Wanted, left,
 };
-use m11_asm::{AsmFault, AsmOutput, asm_run};
+use m11_asm::{AsmFault, asm_run};
 use m11_base::{FuseFeed, FuseSink, MemoryFeed, WriterSink};
+use m11_base_writes::Output;
 use std::alloc::Global;
 use std::process::Abort;
 use std::test::Fail;
@@ -14,7 +15,7 @@ use std::test::Fail;
 enum Device {
     First,
     Second,
-    Output(AsmOutput),
+    Output(Output),
 }
 
 impl Device {
@@ -31,7 +32,7 @@ impl Device {
     fn leaves(self, found: &Assembled, whole: &Assembled) -> bool {
         match self {
             Device::First => found.is_empty(),
-            Device::Output(AsmOutput::Messages) => {
+            Device::Output(Output::Messages) => {
                 begins(found, whole)
                     && found.object.len() == whole.object.len()
                     && found.listing.len() == whole.listing.len()
@@ -77,7 +78,7 @@ impl Broken {
 
     fn sink<'a>(
         self,
-        output: AsmOutput,
+        output: Output,
         text: &'a mut Vec<u8>,
         most: usize,
     ) -> FuseSink<WriterSink<&'a mut Vec<u8>>> {
@@ -98,9 +99,9 @@ fn assembled_broken(alloc: Global, source: &str, broken: Broken, most: usize) ->
         alloc,
         &mut [broken.feed(Device::First, source)],
         &mut [broken.feed(Device::Second, source)],
-        &mut broken.sink(AsmOutput::Object, &mut object, most),
-        &mut Some(broken.sink(AsmOutput::Listing, &mut listing, most)),
-        &mut broken.sink(AsmOutput::Messages, &mut messages, most),
+        &mut broken.sink(Output::Product, &mut object, most),
+        &mut Some(broken.sink(Output::Report, &mut listing, most)),
+        &mut broken.sink(Output::Messages, &mut messages, most),
     );
     Assembled {
         outcome,
@@ -197,23 +198,23 @@ type Failing = (Device, usize, u64);
 static ONE_WORD_FAILING: [Failing; 8] = [
     (Device::First, 512, 13),
     (Device::Second, 512, 13),
-    (Device::Output(AsmOutput::Object), 512, 6),
-    (Device::Output(AsmOutput::Object), 7, 14),
-    (Device::Output(AsmOutput::Listing), 512, 10),
-    (Device::Output(AsmOutput::Listing), 7, 34),
-    (Device::Output(AsmOutput::Messages), 512, 1),
-    (Device::Output(AsmOutput::Messages), 7, 3),
+    (Device::Output(Output::Product), 512, 6),
+    (Device::Output(Output::Product), 7, 14),
+    (Device::Output(Output::Report), 512, 10),
+    (Device::Output(Output::Report), 7, 34),
+    (Device::Output(Output::Messages), 512, 1),
+    (Device::Output(Output::Messages), 7, 3),
 ];
 
 static TWICE_FAILING: [Failing; 8] = [
     (Device::First, 512, 103),
     (Device::Second, 512, 103),
-    (Device::Output(AsmOutput::Object), 512, 6),
-    (Device::Output(AsmOutput::Object), 7, 16),
-    (Device::Output(AsmOutput::Listing), 512, 16),
-    (Device::Output(AsmOutput::Listing), 7, 76),
-    (Device::Output(AsmOutput::Messages), 512, 1),
-    (Device::Output(AsmOutput::Messages), 7, 3),
+    (Device::Output(Output::Product), 512, 6),
+    (Device::Output(Output::Product), 7, 16),
+    (Device::Output(Output::Report), 512, 16),
+    (Device::Output(Output::Report), 7, 76),
+    (Device::Output(Output::Messages), 512, 1),
+    (Device::Output(Output::Messages), 7, 3),
 ];
 
 // An assembly whose device failed ended with its fault, and wrote no more than a beginning.
@@ -298,5 +299,5 @@ fn devices_that_give_or_take_nothing_leave_nothing(rt: HostRuntime) {
         calls: u64::MAX,
     };
     assert!(rt; leaves_nothing(rt.alloc(), second, 512, AsmFault::Read));
-    assert!(rt; leaves_nothing(rt.alloc(), none, 0, AsmFault::Write(AsmOutput::Object)));
+    assert!(rt; leaves_nothing(rt.alloc(), none, 0, AsmFault::Write(Output::Product)));
 }

@@ -1,6 +1,7 @@
 //! Numbers and names of faults.
 
-use m11_asm::{AsmFault, AsmOutput};
+use m11_asm::AsmFault;
+use m11_base_writes::Output;
 use m11_scan_lines::LineFault;
 use m11_unfold_rules::UnfoldFault;
 use std::alloc::AllocError;
@@ -9,9 +10,9 @@ use std::process::Abort;
 // The faults, each with its number and its name.
 static FAULTS: [(AsmFault, u8, &str); 12] = [
     (AsmFault::Read, 1, "Read"),
-    (AsmFault::Write(AsmOutput::Object), 2, "Write"),
-    (AsmFault::Write(AsmOutput::Listing), 2, "Write"),
-    (AsmFault::Write(AsmOutput::Messages), 2, "Write"),
+    (AsmFault::Write(Output::Product), 2, "Write"),
+    (AsmFault::Write(Output::Report), 2, "Write"),
+    (AsmFault::Write(Output::Messages), 2, "Write"),
     (AsmFault::TooManySymbols, 3, "TooManySymbols"),
     (AsmFault::TooManySections, 4, "TooManySections"),
     (AsmFault::Unfold(UnfoldFault::TooDeep), 5, "Unfold"),
@@ -20,13 +21,6 @@ static FAULTS: [(AsmFault, u8, &str); 12] = [
     (AsmFault::Unfold(UnfoldFault::TooManyMacros), 5, "Unfold"),
     (AsmFault::TooMuchSource, 6, "TooMuchSource"),
     (AsmFault::NoMemory, 90, "NoMemory"),
-];
-
-// The outputs, each with its name.
-static OUTPUTS: [(AsmOutput, &str); 3] = [
-    (AsmOutput::Object, "OBJECT"),
-    (AsmOutput::Listing, "LISTING"),
-    (AsmOutput::Messages, "MESSAGES"),
 ];
 
 // Faults of reading lines, and what they are to an assembly.
@@ -53,12 +47,6 @@ fn check_faults(rt: &impl Abort, rows: &[(AsmFault, u8, &str)]) {
     }
 }
 
-fn check_outputs(rt: &impl Abort, rows: &[(AsmOutput, &str)]) {
-    for (output, name) in rows {
-        assert_eq!(rt; output.name(), *name);
-    }
-}
-
 fn check_line_faults(rt: &impl Abort, rows: &[(LineFault, AsmFault)]) {
     for (fault, wanted) in rows {
         assert!(rt; AsmFault::from(*fault) == *wanted, "{fault:?}");
@@ -76,7 +64,6 @@ fn check_unfold_faults(rt: &impl Abort, rows: &[(UnfoldFault, u8, &str, AsmFault
 #[test]
 fn each_fault_has_its_number_and_name(rt: HostRuntime) {
     check_faults(&rt, &FAULTS);
-    check_outputs(&rt, &OUTPUTS);
     check_line_faults(&rt, &LINE_FAULTS);
     check_unfold_faults(&rt, &UNFOLD_FAULTS);
     assert!(&rt; AsmFault::from(AllocError) == AsmFault::NoMemory);

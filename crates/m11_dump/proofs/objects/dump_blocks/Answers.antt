@@ -1,6 +1,6 @@
 use Rattle.std.proofs.Common.{[], ◌∷◌, ◌++◌, refl}
 use Rattle.m11_obj_blocks.specs.Limited.{most_bytes, position}
-use Rattle.m11_base_writes.specs.Outputs.{output_of}
+use Rattle.m11_base_writes.specs.States.{output_of}
 use Rattle.m11_dump.proofs.Reading.{block_refused, block_taken, block_stops, dump_begins, dump_ends, reads_on, room_falls}
 use Rattle.m11_dump.specs.Objects.{parts_all}
 use Rattle.m11_dump.proofs.objects.dump_blocks.Goals as goal

@@ -1,6 +1,6 @@
 use Rattle.std.proofs.Common.{◌≡◌, ℕ, List, false}
 use Rattle.m11_obj_blocks.specs.Limited.{most_bytes, position}
-use Rattle.m11_base_writes.specs.Outputs.{output_of}
+use Rattle.m11_base_writes.specs.States.{output_of}
 use Rattle.m11_dump.proofs.Reading.{Dumping}
 use Rattle.m11_dump.proofs.objects.dump_blocks.Given as goal
 

@@ -1,7 +1,7 @@
 use Rattle.std.proofs.Common.{◌≡◌, [], ◌∷◌, ◌++◌, Ok, Err, refl}
 use Rattle.m11_obj_blocks.specs.Limited.{most_bytes, position}
 use Rattle.m11_obj_blocks.specs.declared.tape_part.TapePart.TheVariants.{Data, Start}
-use Rattle.m11_base_writes.specs.Outputs.{output_of}
+use Rattle.m11_base_writes.specs.States.{output_of}
 use Rattle.m11_dump.proofs.Taping.{data_fails, data_shown, part_stops, start_stops, tape_begins, tape_ends}
 use Rattle.m11_dump.proofs.tapes.dump_tape.Goals as goal
 

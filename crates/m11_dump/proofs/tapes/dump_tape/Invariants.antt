@@ -1,6 +1,6 @@
 use Rattle.std.proofs.Common.{ℕ, List}
 use Rattle.m11_obj_blocks.specs.Limited.{most_bytes, position}
-use Rattle.m11_base_writes.specs.Outputs.{output_of}
+use Rattle.m11_base_writes.specs.States.{output_of}
 use Rattle.m11_dump.proofs.Taping.{Taping}
 use Rattle.m11_dump.proofs.tapes.dump_tape.Given as goal
 

@@ -1,6 +1,6 @@
 use Rattle.std.proofs.Common.{◌∙◌, ℕ, List, subst}
-use Rattle.m11_base_writes.specs.Outputs.{output_of}
-use Rattle.m11_base_writes.specs.Outputs as writes
+use Rattle.m11_base_writes.specs.States.{output_of}
+use Rattle.m11_base_writes.specs.States as writes
 use Rattle.m11_dump.specs.Tapes.{block_text}
 use Rattle.m11_dump.specs.declared.fault.DumpFault.TheVariants as fault
 use Rattle.m11_dump.proofs.Taping.{puts_as}

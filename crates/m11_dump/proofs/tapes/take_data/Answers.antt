@@ -1,6 +1,6 @@
 use Rattle.std.proofs.Common.{ℕ, List, subst}
 use Rattle.m11_obj_blocks.specs.Limited.{position}
-use Rattle.m11_base_writes.specs.Outputs.{output_of}
+use Rattle.m11_base_writes.specs.States.{output_of}
 use Rattle.m11_dump.specs.Tapes.{Puts, block_text}
 use Rattle.m11_dump.proofs.Taping.{data_taken}
 use Rattle.m11_dump.proofs.tapes.take_data.Goals as goal

@@ -1,17 +1,20 @@
-use Rattle.std.proofs.Common.{◌∙◌, arith}
+use Rattle.std.proofs.Common.{◌∙◌, arith, refl}
 use Rattle.m11_link_text.specs.Findings.{planned}
-use Rattle.m11_link.proofs.Looping.{global_left, globals_end, stopped_there, wrote_all, wrote_one}
+use Rattle.m11_base_writes.proofs.Looping.{stopped_there, wrote_all, wrote_one}
+use Rattle.m11_link.specs.Outputs.{link}
+use Rattle.m11_link.proofs.Looping.{global_left, globals_end}
+use Rattle.m11_link_layout.specs.declared.fault.LinkFault.TheVariants.{NoMemory}
 use Rattle.m11_link.proofs.front.put_each_global.Goals as goal
 
 pub returns-in-Err-clause-writes : goal.returns-in-Err-clause-writes
-returns-in-Err-clause-writes g c = λ tape messages. stopped_there _ _ _ _ _ _ _ c.in-Err.fault
+returns-in-Err-clause-writes g c = λ tape messages. stopped_there link _ _ _ _ _ _ _ c.in-Err.fault
     (global_left (planned c.args.plan.now).globals c.globals.index c.global_at-global.result c.global_at-global.ensures)
     (c.globals.invariant.leads tape messages)
     (rw (c.as_slice.ensures.value, c.global_line-line.ensures) at (c.in-Err.ensures.writes tape messages))
 
 pub globals-preserved : goal.globals-preserved
 globals-preserved g c = record {
-  leads = λ tape messages. wrote_one _ _ _ _ _ _ _
+  leads = λ tape messages. wrote_one link _ _ _ _ _ _ _
       (global_left (planned c.args.plan.now).globals c.globals.index c.global_at-global.result c.global_at-global.ensures)
       (c.globals.invariant.leads tape messages)
       (rw (c.as_slice.ensures.value, c.global_line-line.ensures) at (c.in-Ok.ensures.writes tape messages));
@@ -19,6 +22,9 @@ globals-preserved g c = record {
 }
 
 pub returns-clause-writes : goal.returns-clause-writes
-returns-clause-writes g c = λ tape messages. wrote_all _ _ _ _ tt
+returns-clause-writes g c = λ tape messages. wrote_all link _ _ _ _ tt
     (globals_end (planned c.args.plan.now).globals c.globals.index (omega (arith, c.globals-test.false, c.global_count-index-end.ensures)))
     (c.globals.invariant.leads tape messages)
+
+pub returns-in-Err-clause-no_memory : goal.returns-in-Err-clause-no_memory
+returns-in-Err-clause-no_memory g c = c.in-Err.ensures.no_memory NoMemory refl

@@ -1,14 +1,15 @@
 use Rattle.std.proofs.Common.{◌≡◌, drop, is_some}
 use Rattle.m11_link_text.specs.Findings.{planned}
 use Rattle.m11_link.specs.Front.{name_writes}
-use Rattle.m11_base_writes.specs.Outputs.{Output, optional_output}
-use Rattle.m11_link.specs.Outputs.{outputs}
-use Rattle.m11_link.proofs.Looping.{Leads}
+use Rattle.m11_base_writes.specs.States.{OutputState, optional_output}
+use Rattle.m11_base_writes.specs.Outputs.{outputs}
+use Rattle.m11_base_writes.proofs.Looping.{Leads}
+use Rattle.m11_link.specs.Outputs.{link}
 use Rattle.m11_link.proofs.front.put_each_name.Given as goal
 
 abbrev pub invariant-references : goal.invariant-references
 invariant-references g l = record {
-  leads : (tape messages : Output) → Leads (Unit {0})
+  leads : (tape messages : OutputState) → Leads link (Unit {0})
       (outputs tape (optional_output g.T.Sink l.initial.map) messages)
       (outputs tape (optional_output g.T.Sink l.map) messages)
       (name_writes (planned l.plan) l.is_strong (drop l.index l.plan.gathered.references))

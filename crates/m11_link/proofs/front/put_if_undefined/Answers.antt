@@ -1,8 +1,10 @@
-use Rattle.std.proofs.Common.{ℕ, Option, subst, sym}
-use Rattle.m11_base_writes.specs.Outputs.{output_of}
+use Rattle.std.proofs.Common.{ℕ, Option, subst, sym, refl}
+use Rattle.m11_base_writes.specs.States.{output_of}
 use Rattle.m11_link.specs.Front.{undefined_write, written_if}
-use Rattle.m11_link.specs.Outputs.{Stops, link, outputs}
+use Rattle.m11_link.specs.Outputs.{Stops, link}
+use Rattle.m11_base_writes.specs.Outputs.{outputs}
 use Rattle.m11_base_writes.proofs.Writing.{gains_nothing}
+use Rattle.m11_link_layout.specs.declared.fault.LinkFault.TheVariants.{NoMemory}
 use Rattle.m11_link.proofs.front.put_if_undefined.Goals as goal
 
 pub returns-in-Ok-clause-writes : goal.returns-in-Ok-clause-writes
@@ -17,3 +19,6 @@ returns-in-Err-clause-writes g c = λ tape map.
 
 pub returns-in-None-clause-writes : goal.returns-in-None-clause-writes
 returns-in-None-clause-writes g c = λ tape map. rw (sym c.in-None.ensures) (gains_nothing link _)
+
+pub returns-in-Err-clause-no_memory : goal.returns-in-Err-clause-no_memory
+returns-in-Err-clause-no_memory g c = c.in-Err.ensures.no_memory NoMemory refl

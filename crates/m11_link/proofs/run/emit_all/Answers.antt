@@ -1,5 +1,5 @@
 use Rattle.std.proofs.Common.{get_or, refl, arith, ◌∙◌}
-use Rattle.m11_link.specs.Outputs.{outputs_of}
+use Rattle.m11_base_writes.specs.Outputs.{outputs_of}
 use Rattle.m11_link.proofs.SecondRead.{all_begin, all_sent, object_sent, object_stops}
 use Rattle.m11_link.proofs.run.emit_all.Goals as goal
 

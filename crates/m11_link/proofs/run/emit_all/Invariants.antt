@@ -3,7 +3,8 @@ use Rattle.m11_link_modules.specs.Parts.{Part, EndOfFile}
 use Rattle.m11_link_modules.specs.Rules.{fault_of}
 use Rattle.m11_link_layout.specs.Plan.{PlanTables}
 use Rattle.m11_link.specs.Emit.{EmitStands, written}
-use Rattle.m11_link.specs.Outputs.{Gains, Outputs, outputs_of}
+use Rattle.m11_link.specs.Outputs.{Gains}
+use Rattle.m11_base_writes.specs.Outputs.{Outputs, outputs_of}
 use Rattle.m11_link.proofs.SecondRead.{SentAll}
 use Rattle.m11_link.proofs.run.emit_all.Given as goal
 

@@ -1,6 +1,6 @@
 use Rattle.std.proofs.Common.{◌∙◌, refl, rules}
 use Rattle.m11_obj_blocks.specs.Limited.{position}
-use Rattle.m11_link.specs.Outputs.{outputs_of}
+use Rattle.m11_base_writes.specs.Outputs.{outputs_of}
 use Rattle.m11_link.proofs.ObjectsRead.{block_falls, reads_on}
 use Rattle.m11_link.proofs.SecondRead.{sent_ends, sent_first, sent_more, sent_refused, sent_stops}
 use Rattle.m11_link.proofs.run.emit_object.Goals as goal

@@ -2,7 +2,8 @@ use Rattle.std.proofs.Common.{◌≡◌, List, false, is_some}
 use Rattle.m11_link_modules.specs.Parts.{Part}
 use Rattle.m11_link_layout.specs.Plan.{PlanTables}
 use Rattle.m11_link.specs.Emit.{EmitStands, written}
-use Rattle.m11_link.specs.Outputs.{Gains, Outputs, outputs_of}
+use Rattle.m11_link.specs.Outputs.{Gains}
+use Rattle.m11_base_writes.specs.Outputs.{Outputs, outputs_of}
 use Rattle.m11_link.proofs.SecondRead.{Sent}
 use Rattle.m11_link.proofs.run.emit_object.Given as goal
 

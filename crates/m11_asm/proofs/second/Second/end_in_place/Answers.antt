@@ -1,5 +1,5 @@
 use Rattle.std.proofs.Common.{◌∙◌, ap, subst}
-use Rattle.m11_asm_outputs.specs.Outputs.{Outputs, outputs_of}
+use Rattle.m11_base_writes.specs.Outputs.{Outputs, outputs_of}
 use Rattle.m11_asm_rules.specs.Tables.{Table, location}
 use Rattle.m11_asm.specs.Second.{SecondEnds, SecondStands, SecondState}
 use Rattle.m11_asm.proofs.Finishing.{few_flagged, location_is, second_finishes}

@@ -1,5 +1,5 @@
 use Rattle.std.proofs.Common.{◌∙◌, Ok, ap, subst, refl}
-use Rattle.m11_asm_outputs.specs.Outputs.{Outputs, outputs_of}
+use Rattle.m11_base_writes.specs.Outputs.{Outputs, outputs_of}
 use Rattle.m11_asm.proofs.Counting.{keeps_none}
 use Rattle.m11_asm_rules.specs.Meanings.{map_of}
 use Rattle.m11_asm.specs.Second.{SecondStands, SecondState, SecondTakes}

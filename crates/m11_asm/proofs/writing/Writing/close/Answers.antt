@@ -1,6 +1,7 @@
 use Rattle.std.proofs.Common.{[], ◌∷◌, ◌++◌, List, Option, sym, ap, subst, ℕ, ◌∙◌}
 use Rattle.m11_asm_outputs.specs.Object.{IsOpenAfter, content_writes, last_records}
-use Rattle.m11_asm_outputs.specs.Outputs.{Write, assembly, flushes, to_messages}
+use Rattle.m11_asm_outputs.specs.Outputs.{assembly}
+use Rattle.m11_base_writes.specs.Outputs.{Write, flushes, to_messages}
 use Rattle.m11_asm_listing_writes.specs.Listed.{all_to_listing}
 use Rattle.m11_asm_listing.specs.Messages.{count_line}
 use Rattle.m11_asm_listing.specs.SymbolTable.{last_lines}

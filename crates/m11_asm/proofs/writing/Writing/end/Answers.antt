@@ -2,7 +2,8 @@ use Rattle.std.proofs.Common.{[], ◌∷◌, ◌++◌, List, ap}
 use Rattle.m11_asm_outputs.proofs.Fitting.{on_ok}
 use Rattle.m11_asm_outputs.specs.Object.{AllFit, last_records, object_contents}
 use Rattle.m11_obj.specs.Records.{EndOfModule}
-use Rattle.m11_asm_outputs.specs.Outputs.{Write, assembly}
+use Rattle.m11_asm_outputs.specs.Outputs.{assembly}
+use Rattle.m11_base_writes.specs.Outputs.{Write}
 use Rattle.m11_base_writes.proofs.Writing.{stopped_first, writes_then}
 use Rattle.m11_asm.specs.Written.{EndOfSource, added_writes, closing_writes, flagged_count, head_before, last_location, pieces_in}
 use Rattle.m11_asm.proofs.Putting.{closes_so, gains_as, last_open, object_fits, stops_as, writes_as}

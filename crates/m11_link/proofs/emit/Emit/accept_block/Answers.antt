@@ -1,5 +1,5 @@
 use Rattle.m11_obj.specs.Records as records
-use Rattle.m11_base_writes.specs.Outputs.{output_of}
+use Rattle.m11_base_writes.specs.States.{output_of}
 use Rattle.m11_link.proofs.Emitted.{content_block, nothing_taken}
 use Rattle.m11_link.proofs.emit.Emit.accept_block.Goals as goal
 

@@ -1,5 +1,5 @@
 use Rattle.std.proofs.Common.{rules}
-use Rattle.m11_base_writes.specs.Outputs.{output_of}
+use Rattle.m11_base_writes.specs.States.{output_of}
 use Rattle.m11_link.proofs.emit.Emit.end_file.Goals as goal
 
 pub returns-clause-takes : goal.returns-clause-takes

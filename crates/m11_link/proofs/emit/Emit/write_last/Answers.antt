@@ -1,5 +1,6 @@
-use Rattle.m11_base_writes.specs.Outputs.{output_of}
-use Rattle.m11_link.specs.Outputs.{files, flushes, link}
+use Rattle.m11_base_writes.specs.States.{output_of}
+use Rattle.m11_link.specs.Outputs.{link}
+use Rattle.m11_base_writes.specs.Outputs.{files, flushes}
 use Rattle.m11_base_writes.proofs.Writing.{finishes_early, flush_stops, gains_still, gains_then}
 use Rattle.m11_link.proofs.emit.Emit.write_last.Goals as goal
 

@@ -16,4 +16,4 @@ returns-in_err-block g c = λ map messages. refused_first link _ _ NoMemory _ re
 pub returns : goal.returns
 returns g c = λ map messages. rw (sym c.self.view_is)
     (rw (block_some c.self.inside.address (take c.self.inside.length c.self.inside.room) (sym c.is_empty.ensures ∙ c.if-is_empty.false))
-    (rw (c.as_slice.ensures.value, c.in_ok-block.ensures.bytes) at (c.put_tape.ensures map messages)))
+    (rw (c.as_slice.ensures.value, c.in_ok-block.ensures.bytes) at (c.put_product.ensures map messages)))

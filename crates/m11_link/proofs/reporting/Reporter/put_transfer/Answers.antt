@@ -9,4 +9,4 @@ returns-in_err-block g c = λ map messages. refused_first link _ _ NoMemory _ re
 
 pub returns : goal.returns
 returns g c = λ map messages. rw (sym c.self.view_is)
-    (rw (c.as_slice.ensures.value, c.in_ok-block.ensures.bytes, c.transfer.ensures) at (c.put_tape.ensures map messages))
+    (rw (c.as_slice.ensures.value, c.in_ok-block.ensures.bytes, c.transfer.ensures) at (c.put_product.ensures map messages))

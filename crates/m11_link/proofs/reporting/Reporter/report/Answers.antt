@@ -1,5 +1,5 @@
 use Rattle.std.proofs.Common.{[], ◌∷◌}
-use Rattle.m11_link.specs.Outputs.{to_messages}
+use Rattle.m11_base_writes.specs.Outputs.{to_messages}
 use Rattle.m11_link.proofs.Entering.{count_set, goes_stopped_alone}
 use Rattle.m11_link.proofs.reporting.Reporter.report.Goals as goal
 

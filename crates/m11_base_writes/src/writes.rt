@@ -1,0 +1,29 @@
+//! Writes to one output, each whole or with its fault.
+
+ghost use Rattle.std.specs.Prelude.{◌≡◌, [], OnOk};
+ghost use Rattle.m11_base_writes.specs.States.{Puts, output_of};
+
+use m11_base::{Sink, put_all};
+
+/// Puts all of `bytes`, in as many calls as it takes. Where the sink fails, a beginning of them was added, and `fault`,
+/// which names the output, is returned. It takes no memory.
+pub fn put_or_fail<S: Sink, E: Copy>(sink: &mut S, bytes: &[u8], fault: E) -> Result<(), E>
+    ensures { Puts (output_of S.Sink sink.old) (output_of S.Sink sink.new) bytes.now fault result }
+{
+    match put_all(sink, bytes) {
+        Ok(()) => Ok(()),
+        Err(_) => Err(fault),
+    }
+}
+
+/// Hands on to its device all that a sink holds back, which adds nothing to what it has taken. Where that fails, `fault`, which
+/// names the output, is returned.
+pub fn flush_or_fail<S: Sink, E: Copy>(sink: &mut S, fault: E) -> Result<(), E>
+    ensures puts { Puts (output_of S.Sink sink.old) (output_of S.Sink sink.new) [] fault result }
+    ensures all { OnOk result (S.held sink.new ≡ 0) }
+{
+    let Ok(()) = sink.flush() else {
+        return Err(fault);
+    };
+    Ok(())
+}
