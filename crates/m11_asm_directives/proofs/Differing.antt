@@ -4,7 +4,8 @@ use Rattle.std.specs.Int.Bits.{or_zero_l, or_zero_r}
 use Rattle.std.specs.Int.RustNames.{bit_or}
 use Rattle.m11_scan_expressions.proofs.Joining.{or_joins}
 use Rattle.m11_base.specs.Devices.{Bytes}
-use Rattle.m11_asm_rules.specs.Psects.{attribute_named, differing, differing_flags}
+use Rattle.m11_obj.specs.Attributes.{attribute_named}
+use Rattle.m11_asm_rules.specs.Psects.{differing, differing_flags}
 use Rattle.m11_asm_rules.specs.declared.sections.Section.{Section}
 use Rattle.m11_asm_directives.specs.Attributes.{flags_from}
 

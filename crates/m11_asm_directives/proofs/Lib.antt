@@ -3,4 +3,3 @@ mod Asking
 mod Coding
 mod Differing
 mod Named
-mod Rows

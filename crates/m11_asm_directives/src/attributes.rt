@@ -1,149 +1,71 @@
 //! The attributes of `.PSECT`. (MACRO-11 Language Reference Manual, "Program section directives".)
 
-ghost use Rattle.std.specs.Prelude.{◌≡◌, [], ◌∷◌, find};
-ghost use Rattle.std.specs.Str.{bytes_eq};
+ghost use Rattle.std.specs.Prelude.{◌≡◌, [], ◌∷◌};
+ghost use Rattle.m11_obj.specs.Attributes as sections;
 ghost use Rattle.m11_scan.specs.Views.{bits_of};
 ghost use Rattle.m11_asm_rules.specs.Elements.{texts_of};
 ghost use Rattle.m11_asm_rules.specs.Psects as spec;
-ghost use Rattle.m11_asm_directives.specs.Attributes.{attribute_seen, flags_from, row_seen, rows};
+ghost use Rattle.m11_asm_directives.specs.Attributes.{flags_from};
 
+use bitflags::Flags;
 use m11_asm_rules::Section;
+use m11_obj::{Attribute, SectionFlags, attribute_named};
 use m11_scan::{ErrorFlags, Line, six_characters};
 use m11_scan_statements::Span;
 
-/// An attribute: its name of six characters, the bits that it decides, and what it makes of them.
-#[derive(Clone, Copy)]
-pub struct Attribute {
-    name: [u8; 6],
-    mask: u8,
-    value: u8,
-}
-
-const ATTRIBUTES: [Attribute; 11] = [
-    Attribute {
-        name: *b"RO    ",
-        mask: 0o020,
-        value: 0o020,
-    },
-    Attribute {
-        name: *b"RW    ",
-        mask: 0o020,
-        value: 0o000,
-    },
-    Attribute {
-        name: *b"I     ",
-        mask: 0o200,
-        value: 0o000,
-    },
-    Attribute {
-        name: *b"D     ",
-        mask: 0o200,
-        value: 0o200,
-    },
-    Attribute {
-        name: *b"GBL   ",
-        mask: 0o100,
-        value: 0o100,
-    },
-    Attribute {
-        name: *b"LCL   ",
-        mask: 0o100,
-        value: 0o000,
-    },
-    Attribute {
-        name: *b"ABS   ",
-        mask: 0o040,
-        value: 0o000,
-    },
-    Attribute {
-        name: *b"REL   ",
-        mask: 0o040,
-        value: 0o040,
-    },
-    Attribute {
-        name: *b"CON   ",
-        mask: 0o004,
-        value: 0o000,
-    },
-    Attribute {
-        name: *b"OVR   ",
-        mask: 0o004,
-        value: 0o004,
-    },
-    Attribute {
-        name: *b"SAV   ",
-        mask: 0o001,
-        value: 0o001,
-    },
-];
-
-// The attribute of a name, if it is one.
-fn attribute_named(name: &[u8; 6]) -> Option<Attribute>
-    ensures { attribute_seen result ≡ spec.attribute_named name.now }
-{
-    row_named(name)
-}
-
-fn row_named(name: &[u8; 6]) -> Option<Attribute>
-    ensures { result ≡ find (λ row. bytes_eq row.name name.now) rows }
-{
-    let mut rest: &[Attribute] = &ATTRIBUTES;
-    'rows: while let [row, others @ ..] = rest {
-        if row.name == *name {
-            return Some(*row);
-        }
-        rest = others;
-    }
-    None
-}
-
-// Bits with an attribute's in their place.
-fn with_attribute(bits: u8, attribute: Option<Attribute>) -> u8
-    ensures { result ≡ spec.with_attribute bits (attribute_seen attribute) }
+// Flags with an attribute, where a name is that of one.
+fn with_found(flags: SectionFlags, attribute: Option<Attribute>) -> SectionFlags
+    ensures { sections.bits_of result ≡ spec.with_found (sections.bits_of flags) attribute }
 {
     match attribute {
-        Some(row) => bits & (0o377 - row.mask) | row.value,
-        None => bits,
+        Some(attribute) => attribute.put_in(flags),
+        None => flags,
     }
 }
 
-fn with_named(bits: u8, line: &Line, name: Option<Span>) -> u8
-    ensures { result ≡ spec.with_attributes bits (texts_of line.now.text (name ∷ [])) }
+fn with_named(flags: SectionFlags, line: &Line, name: Option<Span>) -> SectionFlags
+    ensures { sections.bits_of result
+        ≡ spec.with_attributes (sections.bits_of flags) (texts_of line.now.text (name ∷ [])) }
 {
     match name {
-        Some(name) => with_attribute(bits, attribute_named(&six_characters(name.text(line)))),
-        None => bits,
+        Some(name) => with_found(flags, attribute_named(&six_characters(name.text(line)))),
+        None => flags,
     }
 }
 
-// The bits after the named attributes are set or cleared. The last of two of one field holds.
-pub(crate) fn with_attributes(bits: u8, line: &Line, names: &[Option<Span>]) -> u8
-    ensures { result ≡ spec.with_attributes bits (texts_of line.now.text names.now) }
+// Flags with the attributes that are named. The last of two that decide the same bit holds.
+pub(crate) fn with_attributes(
+    flags: SectionFlags,
+    line: &Line,
+    names: &[Option<Span>],
+) -> SectionFlags
+    ensures { sections.bits_of result
+        ≡ spec.with_attributes (sections.bits_of flags) (texts_of line.now.text names.now) }
 {
-    let mut attributes = bits;
+    let mut after = flags;
     let mut rest = names;
     'names: while let [name, others @ ..] = rest {
-        attributes = with_named(attributes, line, *name);
+        after = with_named(after, line, *name);
         rest = others;
     }
-    attributes
+    after
 }
 
-// Whether a section of these bits has an attribute.
-fn has_attribute(bits: u8, row: Attribute) -> bool
-    ensures { result ≡ spec.has_attribute bits (row_seen row) }
+// Whether a section has an attribute.
+fn has_attribute(section: Section, attribute: Attribute) -> bool
+    ensures { result ≡ sections.has_attribute section.attributes attribute }
 {
-    bits & row.mask == row.value
+    attribute.is_in(SectionFlags::from_bits_retain(section.attributes))
 }
 
 // A for an attribute that a known section doesn't have, and for a name that is none.
 fn differing(known: Option<Section>, attribute: Option<Attribute>) -> ErrorFlags
-    ensures { bits_of result ≡ spec.differing known (attribute_seen attribute) }
+    ensures { bits_of result ≡ spec.differing known attribute }
 {
     match (known, attribute) {
         (_, None) => ErrorFlags::A,
         (None, Some(_)) => ErrorFlags::none(),
-        (Some(known), Some(row)) => ErrorFlags::A.when(!has_attribute(known.attributes, row)),
+        (Some(known), Some(attribute)) => ErrorFlags::A.when(!has_attribute(known, attribute)),
     }
 }
 

@@ -5,6 +5,8 @@ ghost use Rattle.std.specs.Int.RustNames.{bit_or};
 ghost use Rattle.m11_scan.specs.Views.{bits_of};
 ghost use Rattle.m11_scan_statements.specs.Listed.{is_comma};
 ghost use Rattle.m11_asm_rules.specs.Elements.{bad_flags, texts_of};
+ghost use Rattle.m11_obj.specs.Attributes as sections;
+ghost use Rattle.m11_asm_rules.specs.Changes.{Selects};
 ghost use Rattle.m11_asm_rules.specs.Psects as spec;
 ghost use Rattle.m11_asm_directives.specs.Changes.{change_seen};
 ghost use Rattle.m11_asm_directives.specs.SectionNames.{IsWithin, section_seen};
@@ -13,21 +15,16 @@ use crate::attributes::{differing_flags, with_attributes};
 use crate::changes::Change;
 use crate::exports::bad_flags;
 use arrayvec::ArrayVec;
+use bitflags::Flags;
 use m11_asm_operands::{ListedNames, names_at};
 use m11_asm_rules::Section;
 use m11_asm_table::Table;
-use m11_base::blank_name;
+use m11_base::{Name, absolute_section, blank_name};
+use m11_obj::SectionFlags;
 use m11_scan::{ErrorFlags, Line, Sort, next_token};
 use m11_scan_expressions::{column_in, flags_before, left_over, rest_flags, skip_flags};
 use m11_scan_statements::Span;
 use m11_unfold_arguments::{NameAt, after_comma, name_at};
-
-// The attributes of sections.
-const OF_ABSOLUTE: u8 = 0o104;
-
-const OF_PROGRAM: u8 = 0o040;
-
-const OF_CONTROL: u8 = 0o144;
 
 /// The name of a section that stands in a line.
 #[derive(Clone, Copy)]
@@ -76,21 +73,26 @@ pub fn psect(line: &Line, start: usize) -> Change
     ensures { change_seen result ≡ spec.psect line.now.text start }
 {
     match section_at(line, start) {
-        SectionAt::Unnamed => Change::Selects(blank_name(), attributes_of(line, start)),
-        SectionAt::Named(name) => {
-            Change::Selects(name.name, attributes_of(line, usize::from(name.end)))
-        }
+        SectionAt::Unnamed => selects(blank_name(), attributes_of(line, start)),
+        SectionAt::Named(name) => { selects(name.name, attributes_of(line, usize::from(name.end))) }
         SectionAt::Bad => Change::Keeps,
     }
 }
 
+// Selects the section of a name, which has these attributes where it is new.
+fn selects(name: Name, attributes: SectionFlags) -> Change
+    ensures { change_seen result ≡ Selects name (sections.bits_of attributes) }
+{
+    Change::Selects(name, attributes.bits())
+}
+
 // The attributes that stand after the name.
-fn attributes_of(line: &Line, end: usize) -> u8
+fn attributes_of(line: &Line, end: usize) -> SectionFlags
     requires { end ≤ length line.now.text }
-    ensures { result ≡ spec.attributes_of line.now.text end }
+    ensures { sections.bits_of result ≡ spec.attributes_of line.now.text end }
 {
     let names = attributes_at(line, end);
-    with_attributes(OF_PROGRAM, line, names.list.as_slice())
+    with_attributes(SectionFlags::OF_PROGRAM, line, names.list.as_slice())
 }
 
 // After a comma attributes stand; without one, nothing more.
@@ -168,8 +170,8 @@ pub fn csect(line: &Line, start: usize) -> Change
     ensures { change_seen result ≡ spec.csect line.now.text start }
 {
     match section_at(line, start) {
-        SectionAt::Unnamed => Change::Selects(blank_name(), OF_PROGRAM),
-        SectionAt::Named(name) => Change::Selects(name.name, OF_CONTROL),
+        SectionAt::Unnamed => selects(blank_name(), SectionFlags::OF_PROGRAM),
+        SectionAt::Named(name) => selects(name.name, SectionFlags::OF_CONTROL),
         SectionAt::Bad => Change::Keeps,
     }
 }
@@ -192,7 +194,7 @@ pub fn csect_flags(line: &Line, start: usize) -> ErrorFlags
 pub fn asect() -> Change
     ensures { change_seen result ≡ spec.asect }
 {
-    Change::Selects(m11_base::absolute_section(), OF_ABSOLUTE)
+    selects(absolute_section(), SectionFlags::OF_ABSOLUTE)
 }
 
 /// The flags of a `.ASECT`, which takes nothing.

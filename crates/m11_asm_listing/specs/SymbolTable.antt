@@ -16,7 +16,8 @@ use Rattle.m11_asm_listing.specs.declared.symbol_table.SymbolValue.{SymbolValue}
 use Rattle.m11_asm_listing.specs.declared.symbol_table.SymbolValue.TheVariants.{Unknown, Absolute, Relocatable, Register}
 use Rattle.m11_asm_listing.specs.Columns.{at_right, blanks}
 use Rattle.m11_asm_listing.specs.Messages.{count_line}
-use Rattle.m11_obj_print.specs.Attributes.{attributes_text, bits_of}
+use Rattle.m11_obj.specs.Attributes.{bits_of}
+use Rattle.m11_obj_print.specs.Attributes.{attributes_text}
 use Rattle.m11_obj_print.specs.Lines.{line_of}
 
 -- ---- columns of a name, which itself has six

@@ -1,8 +1,7 @@
 -- `.ASECT`, `.CSECT` and `.PSECT`. (MACRO-11 Language Reference Manual, "Program section directives". That a bad name leaves the section
 -- as it is, and that an attribute which differs on a known section is flagged and not taken, is this project's own.)
-use Rattle.std.specs.Prelude.{ℕ, ◌-◌, ◌==◌, not, Bool, if◌then◌else◌, List, [], ◌∷◌, codes, find, bit_and, Option, Some, None}
+use Rattle.std.specs.Prelude.{ℕ, not, if◌then◌else◌, List, [], ◌∷◌, Option, Some, None}
 use Rattle.std.specs.Int.RustNames.{bit_or}
-use Rattle.std.specs.Str.{bytes_eq}
 use Rattle.m11_scan_expressions.specs.LeftOvers.{left_over, flags_before, rest_flags, skip_flags}
 use Rattle.m11_unfold_arguments.specs.Macros.{name_at}
 use Rattle.m11_unfold_arguments.specs.declared.macros.NameAt.{NameAt}
@@ -12,52 +11,22 @@ use Rattle.m11_base.specs.Rad50.{Name}
 use Rattle.m11_scan.specs.Cutting.{Lexeme, tokens_from}
 use Rattle.m11_scan.specs.ErrorFlags.{flag_A, flag_if}
 use Rattle.m11_scan_statements.specs.Listed.{is_comma}
+use Rattle.m11_obj.specs.Attributes.{Attribute, attribute_named, has_attribute, with_attribute}
 use Rattle.m11_asm_rules.specs.Elements.{Names, bad_flags, names_at, next_element, texts_of}
 use Rattle.m11_asm_rules.specs.Changes.{Change, Keeps, Selects}
 use Rattle.m11_asm_rules.specs.Sections.{Section, number_of, numbered, of_absolute, of_control, of_program}
 
 -- ---- attributes
 
--- an attribute: its name of six characters, the bits that it decides, and what it makes of them
-pub record Attribute : Type 0 where
-  pub name : Bytes
-  pub mask : ℕ
-  pub value : ℕ
+-- bits with an attribute, where a name is that of one
+abbrev pub with_found : ℕ → Option Attribute → ℕ
+with_found bits (Some row) = with_attribute bits row
+with_found bits None = bits
 
-abbrev pub attribute : Bytes → ℕ → ℕ → Attribute
-attribute name mask value = record { name = name; mask = mask; value = value }
-
-abbrev pub attributes : List Attribute
-attributes =
-    attribute (codes "RO    ") 0o020 0o020
-    ∷ attribute (codes "RW    ") 0o020 0o000
-    ∷ attribute (codes "I     ") 0o200 0o000
-    ∷ attribute (codes "D     ") 0o200 0o200
-    ∷ attribute (codes "GBL   ") 0o100 0o100
-    ∷ attribute (codes "LCL   ") 0o100 0o000
-    ∷ attribute (codes "ABS   ") 0o040 0o000
-    ∷ attribute (codes "REL   ") 0o040 0o040
-    ∷ attribute (codes "CON   ") 0o004 0o000
-    ∷ attribute (codes "OVR   ") 0o004 0o004
-    ∷ attribute (codes "SAV   ") 0o001 0o001
-    ∷ []
-
-abbrev pub attribute_named : Bytes → Option Attribute
-attribute_named name = find (λ row. bytes_eq row.name name) attributes
-
--- bits with an attribute's in their place
-abbrev pub with_attribute : ℕ → Option Attribute → ℕ
-with_attribute bits (Some row) = bit_or (bit_and bits (0o377 - row.mask)) row.value
-with_attribute bits None = bits
-
--- the last of two attributes of one field holds
+-- the last of two attributes that decide the same bit holds
 abbrev pub with_attributes : ℕ → List Bytes → ℕ
 with_attributes bits [] = bits
-with_attributes bits (name ∷ names) = with_attributes (with_attribute bits (attribute_named name)) names
-
--- a section has an attribute
-abbrev pub has_attribute : ℕ → Attribute → Bool
-has_attribute bits row = bit_and bits row.mask == row.value
+with_attributes bits (name ∷ names) = with_attributes (with_found bits (attribute_named name)) names
 
 -- A for an attribute that a known section doesn't have, and for a name that is none
 abbrev pub differing : Option Section → Option Attribute → ℕ

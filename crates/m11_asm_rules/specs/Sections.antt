@@ -5,20 +5,12 @@ use Rattle.m11_base.specs.Names.{absolute_name, blank_name}
 use Rattle.m11_base.specs.Rad50.{Name, is_same_name}
 use Rattle.m11_scan_expressions.specs.declared.kinds.Kind.{Kind}
 use Rattle.m11_scan_expressions.specs.declared.kinds.Kind.TheVariants as kind
+use Rattle.m11_obj.specs.Attributes.{relocatable_bit}
+pub use Rattle.m11_obj.specs.Attributes.{of_absolute, of_program, of_control}
 pub use Rattle.m11_asm_rules.specs.declared.sections.Section.{Section}
 
 abbrev pub section : Name → ℕ → Section
 section name attributes = record { name = name; attributes = attributes }
-
--- SAV 001, OVR 004, RO 020, REL 040, GBL 100, D 200; clear bits are CON, RW, ABS, LCL and I
-abbrev pub of_absolute : ℕ
-of_absolute = 0o104
-
-abbrev pub of_program : ℕ
-of_program = 0o040
-
-abbrev pub of_control : ℕ
-of_control = 0o144
 
 -- the sections that each assembly has; it begins in the blank one
 abbrev pub first_sections : List Section
@@ -36,7 +28,7 @@ abbrev pub numbered : ℕ → List Section → Section
 numbered number sections = slice_index_or sections number (section blank_name of_program)
 
 abbrev pub is_relocatable : Section → Bool
-is_relocatable known = not (bit_and known.attributes 0o040 == 0)
+is_relocatable known = not (bit_and known.attributes relocatable_bit == 0)
 
 -- what a location of a section counts from: a location of one with ABS is absolute
 abbrev pub location_kind : ℕ → List Section → Kind

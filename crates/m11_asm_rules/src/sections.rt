@@ -7,6 +7,6 @@ use m11_base::Name;
 pub struct Section {
     /// Its name.
     pub name: Name,
-    /// The bits of its attributes: SAV 001, OVR 004, RO 020, REL 040, GBL 100, D 200.
+    /// The bits of its attributes, as in the flags byte of an object.
     pub attributes: u8,
 }

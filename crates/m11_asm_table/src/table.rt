@@ -21,22 +21,15 @@ ghost use Rattle.m11_asm_table.specs.Entries as entries;
 ghost use Rattle.m11_asm_table.specs.Entries.{counter_or, defined_as, empty_table, with_new_section, with_registers};
 
 use crate::entries::Entry;
+use bitflags::Flags;
 use indexmap::{IndexMap, IndexSet};
 use m11_asm_rules::{Definition, Key, Modes, Section, Standing};
 use m11_base::{Name, absolute_section, blank_name};
+use m11_obj::SectionFlags;
 use m11_scan::Radix;
 use m11_scan_expressions::{Kind, Symbol};
 use std::alloc::{AllocError, Global};
 use std::marker::Model;
-
-// The attributes of the absolute section.
-const ABSOLUTE_ATTRIBUTES: u8 = 0o104;
-
-// The attributes of the blank section, and of a section that there isn't.
-const BLANK_ATTRIBUTES: u8 = 0o040;
-
-// The bit of REL in the attributes of a section.
-const RELOCATABLE: u8 = 0o040;
 
 /// What the lines done leave for the next one: of each name and local symbol the last definition, and where the counter of each section
 /// stands. It has 64 sections at most.
@@ -98,8 +91,8 @@ impl Table {
         requires { self.old ≡ empty_table }
         ensures { IfOk result (λ _. Alike self.new first_table) }
     {
-        self.add_section(absolute_section(), ABSOLUTE_ATTRIBUTES)?;
-        self.add_section(blank_name(), BLANK_ATTRIBUTES)?;
+        self.add_section(absolute_section(), SectionFlags::OF_ABSOLUTE.bits())?;
+        self.add_section(blank_name(), SectionFlags::OF_PROGRAM.bits())?;
         self.add_registers()?;
         Ok(())
     }
@@ -223,7 +216,7 @@ impl Table {
         ensures { result ≡ is_moved self.now }
     {
         let section = self.section(self.modes.section);
-        section.attributes & RELOCATABLE != 0
+        section.attributes & SectionFlags::RELOCATABLE.bits() != 0
     }
 
     /// Whether a value is one of the section of the line: in one with ABS every absolute number is.
@@ -249,7 +242,7 @@ impl Table {
         ensures { result ≡ kind_here self.now }
     {
         let section = self.section(self.modes.section);
-        if section.attributes & RELOCATABLE == 0 {
+        if section.attributes & SectionFlags::RELOCATABLE.bits() == 0 {
             Kind::Absolute
         } else {
             Kind::Section(section.name)
@@ -561,7 +554,7 @@ fn blank_section() -> Section
 {
     Section {
         name: blank_name(),
-        attributes: BLANK_ATTRIBUTES,
+        attributes: SectionFlags::OF_PROGRAM.bits(),
     }
 }
 

@@ -8,30 +8,24 @@ use Rattle.std.specs.Map.{lookup}
 use Rattle.std.specs.Option.{unwrap_or}
 use Rattle.m11_base.specs.Rad50.{Name, is_same_name}
 use Rattle.m11_base.specs.Names.{absolute_name, blank_name}
-use Rattle.m11_obj.specs.declared.flags.SectionFlags.{SectionFlags}
 use Rattle.m11_obj.specs.declared.gsd.GsdEntry.{GsdEntry}
 use Rattle.m11_obj.specs.declared.gsd.GsdKind.{GsdKind}
 use Rattle.m11_obj.specs.declared.gsd.GsdKind.TheVariants.{ControlSection, ProgramSection}
 use Rattle.m11_link_modules.specs.Parts.{Part, Entry}
 use Rattle.m11_link_modules.specs.Positions.{sections_in, section_names}
 use Rattle.m11_obj.specs.Gsd.{has_bits}
+use Rattle.m11_obj.specs.Attributes.{of_absolute, of_program, of_control, overlaid_bit, relocatable_bit}
+pub use Rattle.m11_obj.specs.Attributes.{attribute_bits, flags_of}
 use Rattle.m11_link_layout.specs.Modules.{module_at, modules_before}
 use Rattle.m11_link_layout.specs.declared.planned.PlannedSection.{PlannedSection}
 
 -- ---- attributes
 
--- the bits that are attributes: octal 365, for SAV, OVR, RO, REL, GBL and D
-abbrev pub attribute_bits : ℕ
-attribute_bits = 0o365
-
-abbrev pub flags_of : ℕ → SectionFlags
-flags_of attributes = record { 0 = attributes }
-
--- a control section has the attributes of its directive: octal 104 for `.ASECT`, octal 40 for `.CSECT` without a
--- name, octal 144 for one with a name
+-- a control section has the attributes of its directive: `.ASECT`, or `.CSECT` without a name or with one
 abbrev pub control_attributes : Name → ℕ
 control_attributes name =
-    if is_same_name name absolute_name then 0o104 else if is_same_name name blank_name then 0o40 else 0o144
+    if is_same_name name absolute_name then of_absolute
+    else if is_same_name name blank_name then of_program else of_control
 
 abbrev pub attributes_by : GsdKind → GsdEntry → Option (Name × ℕ)
 attributes_by ControlSection entry = Some (entry.name, control_attributes entry.name)
@@ -50,12 +44,11 @@ entered_attributes parts name = lookup (is_same_name name) (filter_map attribute
 unfoldable pub first_attributes : List Part → Name → ℕ
 first_attributes parts name = unwrap_or (lookup (is_same_name name) (filter_map attributes_in parts)) 0
 
--- octal 40 and octal 4
 abbrev pub is_relocatable : ℕ → Bool
-is_relocatable attributes = has_bits 0o40 attributes
+is_relocatable attributes = has_bits relocatable_bit attributes
 
 abbrev pub is_overlaid : ℕ → Bool
-is_overlaid attributes = has_bits 4 attributes
+is_overlaid attributes = has_bits overlaid_bit attributes
 
 -- ---- sizes
 

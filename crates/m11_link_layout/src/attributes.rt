@@ -3,35 +3,31 @@
 
 ghost use Rattle.std.specs.Prelude.{◌≡◌, Some, option_map};
 ghost use Rattle.std.specs.Int.RustNames.{bit_and};
-ghost use Rattle.m11_link_layout.specs.Sections.{attributes_by, control_attributes};
+ghost use Rattle.m11_link_layout.specs.Sections.{attribute_bits, attributes_by, control_attributes};
 
 use bitflags::Flags;
 use m11_base::{Name, absolute_section, blank_name};
 use m11_obj::{GsdEntry, GsdKind, SectionFlags};
-
-// The bits of a flags byte that are attributes.
-const ATTRIBUTES: u8 = 0o365;
 
 /// The attributes of a control section: those of its directive, whatever its flags byte.
 pub(crate) fn control_attributes(name: Name) -> SectionFlags
     ensures { result.0 ≡ control_attributes name }
 {
     if name == absolute_section() {
-        SectionFlags::GLOBAL.union(SectionFlags::OVERLAID)
+        SectionFlags::OF_ABSOLUTE
     } else if name == blank_name() {
-        SectionFlags::RELOCATABLE
+        SectionFlags::OF_PROGRAM
     } else {
-        SectionFlags::GLOBAL
-            .union(SectionFlags::RELOCATABLE)
-            .union(SectionFlags::OVERLAID)
+        SectionFlags::OF_CONTROL
     }
 }
 
 /// The attributes in a flags byte.
+#[tactic(auto, unfolding(bitflags::specs::Sets::known_from))]
 pub(crate) fn attributes_in(flags: u8) -> SectionFlags
-    ensures { result.0 ≡ bit_and flags 0o365 }
+    ensures { result.0 ≡ bit_and flags attribute_bits }
 {
-    SectionFlags::from_bits_retain(flags & ATTRIBUTES)
+    SectionFlags::from_bits_truncate(flags)
 }
 
 /// The attributes that an entry gives its section; `None` where it enters no section.

@@ -1,3 +1,4 @@
+pub mod Attributes
 pub mod Commands
 pub mod Contents
 pub mod Fault

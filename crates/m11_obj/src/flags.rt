@@ -43,6 +43,22 @@ impl Flags for SectionFlags {
     }
 }
 
+/// What sections have by default. (MACRO-11 Language Reference Manual, ".PSECT directive", ".ASECT and .CSECT directives".)
+impl SectionFlags {
+    /// The attributes of `. ABS.`, which `.ASECT` selects: RW, I, GBL, ABS, OVR.
+    pub const OF_ABSOLUTE: SectionFlags = SectionFlags(
+        SectionFlags::GLOBAL.0 | SectionFlags::OVERLAID.0,
+    );
+
+    /// The attributes of the blank section, and of one that a `.PSECT` names alone: RW, I, LCL, REL, CON.
+    pub const OF_PROGRAM: SectionFlags = SectionFlags::RELOCATABLE;
+
+    /// The attributes of a section that a `.CSECT` names: RW, I, GBL, REL, OVR.
+    pub const OF_CONTROL: SectionFlags = SectionFlags(
+        SectionFlags::GLOBAL.0 | SectionFlags::RELOCATABLE.0 | SectionFlags::OVERLAID.0,
+    );
+}
+
 /// The attributes of a global symbol.
 #[derive(Clone, Copy, PartialEq, Eq, Debug)]
 pub struct SymbolFlags(u8);

@@ -16,9 +16,11 @@ mod reading;
 pub use fault::RecordFault;
 
 // The entries of a directory.
+mod attributes;
 mod flags;
 mod gsd;
 
+pub use attributes::{Attribute, all_attributes, attribute_named};
 pub use flags::{SectionFlags, SymbolFlags};
 pub use gsd::{Entries, GsdEntry, GsdKind};
 

@@ -1,2 +1,3 @@
+mod NamesShown
 pub mod LineEnds
 pub mod Trimming

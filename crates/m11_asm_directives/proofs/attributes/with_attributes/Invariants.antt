@@ -1,10 +1,12 @@
 use Rattle.std.proofs.Common.{◌≡◌, length}
+use Rattle.m11_obj.specs.Attributes.{bits_of}
 use Rattle.m11_asm_rules.specs.Elements.{texts_of}
 use Rattle.m11_asm_rules.specs.Psects.{with_attributes}
 use Rattle.m11_asm_directives.proofs.attributes.with_attributes.Given as goal
 
 abbrev pub invariant-names : goal.invariant-names
-invariant-names l = with_attributes l.attributes (texts_of l.line.text l.rest) ≡ with_attributes l.bits (texts_of l.line.text l.names)
+invariant-names l =
+    with_attributes (bits_of l.after) (texts_of l.line.text l.rest) ≡ with_attributes (bits_of l.flags) (texts_of l.line.text l.names)
 
 abbrev pub decreases-names : goal.decreases-names
 decreases-names l = length l.rest
