@@ -10,7 +10,7 @@ use Rattle.m11_asm.specs.Facts.{Facts}
 use Rattle.m11_asm.specs.First.{Symbols}
 use Rattle.m11_scan_lines.specs.Line.{SourceLine}
 use Rattle.m11_asm_passes.specs.Lines.{NumberedLine}
-use Rattle.m11_asm_passes.specs.States.{PassState, PassStands}
+use Rattle.m11_asm_passes.specs.States.{PassState, PassAfter}
 use Rattle.m11_asm_pass_laws.proofs.Counting.{at_most}
 use Rattle.m11_asm_rules.specs.Meanings.{Map, map_of}
 use Rattle.m11_asm_rules.specs.Locations.{location_in}
@@ -23,8 +23,8 @@ use Rattle.m11_unfold_rules.specs.Limits.{most_lines}
 use Rattle.m11_unfold_rules.specs.Stages.{start}
 use Rattle.m11_base_writes.proofs.Writing.{writes_then}
 use Rattle.m11_asm.specs.Program.{Program, program_in, program_kept}
-use Rattle.m11_asm.specs.Second.{SecondEnds, SecondStands, SecondState, Wrote, ended_with}
-use Rattle.m11_asm.specs.Writing.{Writing, WritingStands, most_counted}
+use Rattle.m11_asm.specs.Second.{SecondEnds, SecondAfter, SecondState, Wrote, ended_with}
+use Rattle.m11_asm.specs.Writing.{Writing, WritingAfter, most_counted}
 use Rattle.m11_asm.specs.Written.{flagged_count, flagged_in, is_flagged, last_location, last_writes, flags_after, pieces_in, written}
 use Rattle.m11_asm.specs.declared.done.AsmDone.{AsmDone}
 use Rattle.m11_asm.proofs.LinesWritten.{nothing_written}
@@ -34,10 +34,10 @@ use Rattle.m11_asm_lines.specs.declared.counting.Counting.TheVariants.{Definitio
 -- ---- before the first line
 
 module _ (kept : TableState) (used_names : UsedNames) (facts : Facts) (pass_state : PassState) (writing : Writing) (fault : Option AsmFault)
-    (stands : (map : Map) → PassStands map Definitions [] [] pass_state) (first_stage : pass_state.unfolder.stage ≡ start [])
-    (keeps : WritingStands (program_kept kept used_names facts) [] writing) (goes : fault ≡ None) where
+    (stands : (map : Map) → PassAfter map Definitions [] [] pass_state) (first_stage : pass_state.unfolder.stage ≡ start [])
+    (keeps : WritingAfter (program_kept kept used_names facts) [] writing) (goes : fault ≡ None) where
   begun : (first now : Outputs) → Gains first now []
-      → SecondStands (program_in (record { kept = kept; used_names = used_names; facts = facts })) [] first now
+      → SecondAfter (program_in (record { kept = kept; used_names = used_names; facts = facts })) [] first now
       (record { map = map_of kept.table; pass_state = pass_state; writing = writing; read = 0; has_ended = false; fault = fault })
   unfolding program_kept
   begun first now gains =
@@ -52,14 +52,14 @@ module _ (kept : TableState) (used_names : UsedNames) (facts : Facts) (pass_stat
 
   pub second_begins : (symbols : Symbols) → kept ≡ symbols.kept → used_names ≡ symbols.used_names → facts ≡ symbols.facts
       → (first now : Outputs) → Gains first now []
-      → SecondStands (program_in symbols) [] first now
+      → SecondAfter (program_in symbols) [] first now
       (record { map = map_of kept.table; pass_state = pass_state; writing = writing; read = 0; has_ended = false; fault = fault })
   second_begins symbols kept_is gathered_is facts_are first now gains =
       let symbols_are : record { kept = kept; used_names = used_names; facts = facts } ≡ symbols =
       ap (λ (k : TableState). record { kept = k; used_names = used_names; facts = facts }) kept_is
       ∙ ap (λ (g : UsedNames). record { kept = symbols.kept; used_names = g; facts = facts }) gathered_is
       ∙ ap (λ (f : Facts). record { kept = symbols.kept; used_names = symbols.used_names; facts = f }) facts_are in
-      let P : Symbols → Type 0 = λ s. SecondStands (program_in s) [] first now
+      let P : Symbols → Type 0 = λ s. SecondAfter (program_in s) [] first now
       (record { map = map_of kept.table; pass_state = pass_state; writing = writing; read = 0; has_ended = false; fault = fault }) in
       subst P symbols_are (begun first now gains)
 
@@ -88,7 +88,7 @@ location_same one other alike =
     alike.counters one.modes.section ∙ ap (λ (s : Modes). location_in s.section other.moves) alike.modes
 
 module _ (program : Program) (source : List SourceLine) (first now : Outputs) (state : SecondState)
-    (stands : SecondStands program source first now state) where
+    (stands : SecondAfter program source first now state) where
   pub location_is : location state.pass_state.kept.table ≡ last_location program stands.stands.lines
   location_is = location_same _ _ stands.stands.taken.stands.matches.alike
 

@@ -5,7 +5,7 @@ use Rattle.m11_asm_faults.specs.Faults.{of_lines}
 use Rattle.m11_asm_faults.specs.declared.fault.AsmFault.{AsmFault}
 use Rattle.m11_asm_faults.specs.declared.fault.AsmFault.TheVariants as fault
 use Rattle.m11_base.specs.Feed.{NoneFailed, Text}
-use Rattle.m11_asm.specs.First.{AreFactsOf, FirstFails, FirstStands, FirstState, FirstTakes, Symbols, line_state, symbols_of}
+use Rattle.m11_asm.specs.First.{AreFactsOf, FirstFails, FirstAfter, FirstState, FirstReadsLine, Symbols, line_state, symbols_of}
 use Rattle.m11_asm.proofs.Counting.{one_longer}
 use Rattle.m11_scan_lines.specs.Line.{SourceLine}
 use Rattle.m11_scan_lines.specs.Lines.{most_lines}
@@ -19,24 +19,24 @@ use Rattle.m11_scan_line_laws.specs.Extents.{GaveLines}
 use Rattle.m11_unfold_rules.specs.Stages.{start}
 use Rattle.m11_asm.specs.Extents as extents
 use Rattle.m11_asm.specs.Extents.{GivesToEnd}
-use Rattle.m11_asm.specs.FirstReading.{FirstStops, FirstTaken, GivesSymbols, TakesLines}
+use Rattle.m11_asm.specs.FirstReading.{FirstStops, FirstTaken, GivesSymbols, ReadsLines}
 use Rattle.m11_asm.specs.Outcome as outcome
 use Rattle.m11_asm.specs.Outcome.{Unended}
 use Rattle.m11_asm.specs.Passes.{Pass, ReadsFirst, pass_of}
 use Rattle.m11_asm.proofs.LinesRead.{Begun, SoFar, begun, failed, few_read, lines_given, one_more, reader_begins, too_many, too_much}
-use Rattle.m11_asm.proofs.LinesTaken.{StandsSoFar, ends_by, given_to_end, given_to_fault, taken_to_end, taken_wholly, unended_so}
+use Rattle.m11_asm.proofs.LinesTaken.{IsAfterSoFar, ends_by, given_to_end, given_to_fault, taken_to_end, taken_wholly, unended_so}
 use Rattle.m11_asm_lines.specs.Counting.{none_used}
 
 -- the pass stands after the lines that the reader returned
 abbrev pub FirstSoFar : {F : Type 0} → (F → Option Text) → (F → ℕ) → List F → List F → LineReading → FirstState → Type 0
 FirstSoFar text faults initial here reader first =
-    StandsSoFar text faults initial here reader (λ source. FirstStands source first)
+    IsAfterSoFar text faults initial here reader (λ source. FirstAfter source first)
 
 module _ {F : Type 0} (text : F → Option Text) (faults : F → ℕ) (initial here : List F) (reader : LineReading) (first : FirstState)
     (so : FirstSoFar text faults initial here reader first) where
   -- `.END` is live
   pub first_ended : first.has_ended ≡ true → FirstTaken (pass_of text faults initial here) first
-  first_ended ends = taken_to_end text faults initial here reader (λ source. FirstStands source first) first.has_ended so ends
+  first_ended ends = taken_to_end text faults initial here reader (λ source. FirstAfter source first) first.has_ended so ends
 
   module _ (goes : first.has_ended ≡ false) (later : List F) (reader' : LineReading) where
     unended : Unended empty_map none_used so.source so.stands.lines
@@ -45,7 +45,7 @@ module _ {F : Type 0} (text : F → Option Text) (faults : F → ℕ) (initial h
     pub first_read : ReadsNext (position text faults here reader) (position text faults later reader') (Ok None)
         → FirstTaken (pass_of text faults initial later) first
     first_read next =
-        taken_wholly text faults initial here reader (λ source. FirstStands source first) first.has_ended so goes later reader' next
+        taken_wholly text faults initial here reader (λ source. FirstAfter source first) first.has_ended so goes later reader' next
 
     reads_so : (fault : LineFault) → ReadsNext (position text faults here reader) (position text faults later reader') (Err fault)
         → ReadsFirst (pass_of text faults initial later) (Err (of_lines fault))
@@ -86,7 +86,7 @@ module _ {F : Type 0} (text : F → Option Text) (faults : F → ℕ) (initial h
       given_more : GaveLines text initial later (so.source ++ line ∷ [])
       given_more = lines_given text faults initial later reader' (so.source ++ line ∷ []) more
 
-      pub first_goes_on : (first' : FirstState) → FirstTakes so.source line first first' (Ok tt)
+      pub first_goes_on : (first' : FirstState) → FirstReadsLine so.source line first first' (Ok tt)
           → FirstSoFar text faults initial later reader' first'
       first_goes_on first' (inl idle) = absurd (true_false (sym idle.0 ∙ goes))
         where
@@ -123,8 +123,8 @@ module _ {F : Type 0} (text : F → Option Text) (faults : F → ℕ) (initial h
       )
 
       pub first_refuses : (first' : FirstState) (stopped : AsmFault) (result : Result (Unit {0}) AsmFault)
-          → FirstTakes so.source line first first' (Err stopped) → IsErrAnd result (λ f. f ≡ stopped)
-          → TakesLines (pass_of text faults initial later) first' result
+          → FirstReadsLine so.source line first first' (Err stopped) → IsErrAnd result (λ f. f ≡ stopped)
+          → ReadsLines (pass_of text faults initial later) first' result
       first_refuses first' stopped (Ok done) fails is = absurd is
       first_refuses first' stopped (Err other) fails is =
           let P : AsmFault → Type 0 = λ f. FirstStops (pass_of text faults initial later) f in

@@ -21,21 +21,21 @@ use Rattle.m11_asm_passes.specs.Lines.{NumberedLine, givens, numbered, table_at}
 use Rattle.m11_asm_passes.specs.Placed.{IsLive, live_in}
 use Rattle.m11_asm_passes.specs.Reaching.{PlacesLine, Reaches, Refused}
 use Rattle.m11_asm_passes.specs.Refusals.{given_by}
-use Rattle.m11_asm_passes.specs.States.{PassState, SourcePassState, PassStands, fed}
+use Rattle.m11_asm_passes.specs.States.{PassState, SourcePassState, PassAfter, fed}
 use Rattle.m11_asm_passes.specs.Turns.{SaysLive, Turns}
 use Rattle.m11_asm_passes.specs.declared.placed.LiveLine.{LiveLine}
 use Rattle.m11_asm_passes.specs.declared.turns.Turn.{Turn}
 use Rattle.m11_asm_passes.specs.declared.turns.Turn.TheVariants.{NeedLine, End, Line}
 use Rattle.m11_asm.specs.Facts.{Facts, facts_of, no_facts, with_line}
-use Rattle.m11_asm.specs.First.{AreFactsOf, FirstFails, FirstStands, FirstState, FirstTakes, HasRoom, TakesLeft, line_state}
-use Rattle.m11_asm.specs.Standing.{Taken, TakesAll}
+use Rattle.m11_asm.specs.First.{AreFactsOf, FirstFails, FirstAfter, FirstState, FirstReadsLine, HasRoom, PlacesLeft, line_state}
+use Rattle.m11_asm.specs.LinesDone.{LiveLinesDone, AllDone}
 use Rattle.m11_asm.proofs.FactsFound.{finds_more}
 use Rattle.m11_asm.proofs.Taking.{Feeds, SomeTaken, ends_all, number_so, places_line, read_more, refused_after, rests_all, stands_first, stands_more}
 
 -- the law of the calls of a first pass
 abbrev pub TurnsSo : Type 0
 TurnsSo = (before : Counting) (source : List SourceLine) (lines : List NumberedLine) (old new : PassState)
-    (live : LiveLine) (result : Result Turn AsmFault) → PassStands empty_map before source lines old
+    (live : LiveLine) (result : Result Turn AsmFault) → PassAfter empty_map before source lines old
     → Turns empty_map old new (live_in live) (SaysLive live) result
     → Reaches empty_map before source lines new (live_in live) (SaysLive live) result
 
@@ -61,7 +61,7 @@ facts_more all one = ap facts_of (givens_more all one) ∙ finds_more (givens al
 
 module _ (turn : TurnsSo) (source : List SourceLine) (old new : PassState) (live : LiveLine) (facts : Facts)
     (some : SomeTaken empty_map none_used (AreFactsOf facts) source old) where
-  law : (lines : List NumberedLine) (result : Result Turn AsmFault) → PassStands empty_map none_used source lines old
+  law : (lines : List NumberedLine) (result : Result Turn AsmFault) → PassAfter empty_map none_used source lines old
       → Turns empty_map old new (live_in live) (SaysLive live) result
       → Reaches empty_map none_used source lines new (live_in live) (SaysLive live) result
   law lines result stands turned = turn none_used source lines old new live result stands turned
@@ -88,16 +88,16 @@ module _ (turn : TurnsSo) (source : List SourceLine) (old new : PassState) (live
           },
         )
 
-    pub left_rests : came ≡ NeedLine → TakesAll empty_map none_used (AreFactsOf facts) source new false
+    pub left_rests : came ≡ NeedLine → AllDone empty_map none_used (AreFactsOf facts) source new false
     left_rests is =
         rests_all empty_map none_used source old new (live_in live) (SaysLive live) law (AreFactsOf facts) some came turned is
 
-    pub left_ends : came ≡ End → TakesAll empty_map none_used (AreFactsOf facts) source new true
+    pub left_ends : came ≡ End → AllDone empty_map none_used (AreFactsOf facts) source new true
     left_ends is = ends_all empty_map none_used source old new (live_in live) (SaysLive live) law (AreFactsOf facts) some came turned is
 
   -- a fault of the pass, which is handed on
   pub fails_all : (fault : AsmFault) (later : Facts) (result : Result Bool AsmFault) → Turns empty_map old new (live_in live) (SaysLive live) (Err fault)
-      → IsErrAnd result (λ f. f ≡ fault) → TakesLeft source new later result
+      → IsErrAnd result (λ f. f ≡ fault) → PlacesLeft source new later result
   fails_all fault later (Ok ended) turned is = absurd is
   fails_all fault later (Err other) turned is =
       let P : AsmFault → Type 0 = λ f. Refused empty_map none_used source some.0 f in (
@@ -110,11 +110,11 @@ module _ (turn : TurnsSo) (source : List SourceLine) (old new : PassState) (live
 
 -- before the first one
 pub begins : (pass_state : PassState) (counting : Counting) (facts : Facts) (fault : Option AsmFault)
-    → ((map : Map) → PassStands map counting [] [] pass_state) → counting ≡ none_used → pass_state.unfolder.stage ≡ start []
+    → ((map : Map) → PassAfter map counting [] [] pass_state) → counting ≡ none_used → pass_state.unfolder.stage ≡ start []
     → facts ≡ no_facts → fault ≡ None
-    → FirstStands [] (record { pass_state = pass_state; facts = facts; read = 0; has_ended = false; fault = fault })
+    → FirstAfter [] (record { pass_state = pass_state; facts = facts; read = 0; has_ended = false; fault = fault })
 begins pass_state counting facts fault stands none first untold goes =
-    let P : Counting → Type 0 = λ g. PassStands empty_map g [] [] pass_state in
+    let P : Counting → Type 0 = λ g. PassAfter empty_map g [] [] pass_state in
     stands_first empty_map none_used (AreFactsOf facts) pass_state fault (subst P none (stands empty_map)) untold first goes
 
 module _ (source : List SourceLine) (line : SourceLine) (pass : SourcePassState) (facts : Facts) (read : ℕ) (has_ended : Bool)
@@ -127,7 +127,7 @@ module _ (source : List SourceLine) (line : SourceLine) (pass : SourcePassState)
   -- there are too many lines
   pub line_refused : (came : AsmFault) (new : FirstState) (result : Result (Unit {0}) AsmFault)
       → IfErr numbers (λ f. (f ≡ TooMuchSource) × (read ≡ most_lines)) → Err came ≡ numbers → IsErrAnd result (λ f. f ≡ came)
-      → FirstTakes source line old new result
+      → FirstReadsLine source line old new result
   line_refused came new (Ok done) refuses same is = absurd is
   line_refused came new (Err other) refuses same is =
       let R : Result ℕ AsmFault → Type 0 = λ r. IfErr r (λ f. (f ≡ TooMuchSource) × (read ≡ most_lines)) in
@@ -138,9 +138,9 @@ module _ (source : List SourceLine) (line : SourceLine) (pass : SourcePassState)
   module _ (feeds : Feeds) (fed_pass : SourcePassState) (fed_is : fed_pass ≡ record { pass_state = fed line pass.pass_state; fault = pass.fault })
       (number : ℕ) (counts : IfOk numbers (λ n. n ≡ read + 1)) (fits : IfOk numbers (λ n. read < most_lines))
       (number_is : Ok number ≡ numbers) (outcome : Result Bool AsmFault) (new_going : PassState) (new_facts : Facts)
-      (takes : (source : List SourceLine) (lines : List NumberedLine) → Taken empty_map none_used (AreFactsOf facts) source lines fed_pass.pass_state
-      → TakesLeft source new_going new_facts outcome)
-      (stands : FirstStands source old) where
+      (takes : (source : List SourceLine) (lines : List NumberedLine) → LiveLinesDone empty_map none_used (AreFactsOf facts) source lines fed_pass.pass_state
+      → PlacesLeft source new_going new_facts outcome)
+      (stands : FirstAfter source old) where
     has_room : HasRoom old
     has_room =
         let R : Result ℕ AsmFault → Type 0 = λ r. IfOk r (λ n. read < most_lines) in
@@ -150,35 +150,35 @@ module _ (source : List SourceLine) (line : SourceLine) (pass : SourcePassState)
     abbrev state : FirstState
     state = record { pass_state = pass.pass_state; facts = facts; read = read; has_ended = has_ended; fault = fault }
 
-    here : FirstStands source state
-    here = let S : FirstState → Type 0 = λ s. FirstStands source s in subst S (sym view_is) stands
+    here : FirstAfter source state
+    here = let S : FirstState → Type 0 = λ s. FirstAfter source s in subst S (sym view_is) stands
 
-    left : TakesLeft (source ++ line ∷ []) new_going new_facts outcome
+    left : PlacesLeft (source ++ line ∷ []) new_going new_facts outcome
     left =
-        let G : PassState → Type 0 = λ g. Taken empty_map none_used (AreFactsOf facts) (source ++ line ∷ []) here.lines g in
+        let G : PassState → Type 0 = λ g. LiveLinesDone empty_map none_used (AreFactsOf facts) (source ++ line ∷ []) here.lines g in
         takes (source ++ line ∷ []) here.lines (subst G (sym (ap (λ (p : SourcePassState). p.pass_state) fed_is))
         (read_more empty_map none_used (AreFactsOf facts) source line (line_state state) here feeds goes))
 
-    fails_so : (stopped : AsmFault) → TakesLeft (source ++ line ∷ []) new_going new_facts (Err stopped)
+    fails_so : (stopped : AsmFault) → PlacesLeft (source ++ line ∷ []) new_going new_facts (Err stopped)
         → FirstFails (source ++ line ∷ []) old stopped
     fails_so TooMuchSource fails = absurd fails.1
     fails_so other fails = (has_room, fails.0, fails.1)
 
     pub line_fails : (came : AsmFault) (new : FirstState) (result : Result (Unit {0}) AsmFault) → Err came ≡ outcome
-        → IsErrAnd result (λ f. f ≡ came) → FirstTakes source line old new result
+        → IsErrAnd result (λ f. f ≡ came) → FirstReadsLine source line old new result
     line_fails came new (Ok done) same is = absurd is
     line_fails came new (Err other) same is =
-        let P : Result Bool AsmFault → Type 0 = λ r. TakesLeft (source ++ line ∷ []) new_going new_facts r in
+        let P : Result Bool AsmFault → Type 0 = λ r. PlacesLeft (source ++ line ∷ []) new_going new_facts r in
         let Q : AsmFault → Type 0 = λ f. FirstFails (source ++ line ∷ []) old f in
         subst Q (sym is) (fails_so came (subst P (sym same) left))
 
     pub line_takes : (ended : Bool) (kept before_fault : Option AsmFault) → Ok ended ≡ outcome
         → IfOk outcome (λ e. e ≡ false → new_going.unfolder.stage.left ≡ [])
         → kept ≡ option_or before_fault (result_err outcome) → before_fault ≡ None
-        → FirstTakes source line old
+        → FirstReadsLine source line old
         (record { pass_state = new_going; facts = new_facts; read = number; has_ended = ended; fault = kept }) (Ok tt)
     line_takes ended kept before_fault same needs kept_is none =
-        let P : Result Bool AsmFault → Type 0 = λ r. TakesLeft (source ++ line ∷ []) new_going new_facts r in
+        let P : Result Bool AsmFault → Type 0 = λ r. PlacesLeft (source ++ line ∷ []) new_going new_facts r in
         inr (
           has_room,
           stands_more empty_map none_used (AreFactsOf facts) source line (line_state state) here (AreFactsOf new_facts) new_going number ended

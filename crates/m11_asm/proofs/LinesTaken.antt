@@ -16,8 +16,8 @@ use Rattle.m11_asm.specs.Extents.{GivesToEnd, GivesToFault, HaveGiven}
 use Rattle.m11_asm.specs.Outcome as outcome
 use Rattle.m11_asm.specs.Outcome.{Ends, Unended}
 use Rattle.m11_asm.specs.Passes.{Pass, pass_of}
-use Rattle.m11_asm.specs.SourceTaken.{IsTakenUp, SourceTaken}
-use Rattle.m11_asm.specs.Standing.{LineState, Stands}
+use Rattle.m11_asm.specs.SourceRead.{AreLinesRead, SourceRead}
+use Rattle.m11_asm.specs.LinesDone.{LineState, LinesDone}
 use Rattle.m11_asm.specs.Written.{EndOfSource}
 use Rattle.m11_asm.proofs.LinesRead.{SoFar, all_read, begun, given_all, given_till, lines_given, past_bytes, past_lines}
 
@@ -32,7 +32,7 @@ module _ (map_ : Map) (counting : Counting) (source : List SourceLine) (lines : 
   pub unended_at : has_ended ≡ false → Unended map_ counting source lines
   unended_at is = record { stage = stage; live = live; left = needs is; goes_on = sym ended ∙ is }
 
-  pub ends_by : (reading : Reading) (is_end : Bool) → has_ended ≡ is_end → IsTakenUp reading source is_end
+  pub ends_by : (reading : Reading) (is_end : Bool) → has_ended ≡ is_end → AreLinesRead reading source is_end
       → Ends map_ counting reading lines (record { read = length source; has_end = is_end })
   ends_by reading true is up = outcome.Ends.AtEnd source up.0 stage up.1 live (sym ended ∙ is) refl
   ends_by reading false is up =
@@ -47,7 +47,7 @@ module _ (map_ : Map) (counting : Counting) (source : List SourceLine) (lines : 
 
 -- where `.END` isn't live, nothing is left of the lines
 pub unended_so : (map_ : Map) (counting : Counting) (Done : List NumberedLine → Type 0) (source : List SourceLine) (state : LineState)
-    → (stands : Stands map_ counting Done source state) → state.has_ended ≡ false → Unended map_ counting source stands.lines
+    → (stands : LinesDone map_ counting Done source state) → state.has_ended ≡ false → Unended map_ counting source stands.lines
 unended_so map_ counting Done source state stands goes =
     unended_at map_ counting source stands.lines state.pass_state.unfolder.stage stands.taken.stands.lines_are state.has_ended stands.ended
     stands.needs goes
@@ -55,20 +55,20 @@ unended_so map_ counting Done source state stands goes =
 -- ---- over feeds
 
 -- the pass stands after the lines that the reader returned
-pub record StandsSoFar {F : Type 0} (text : F → Option Text) (faults : F → ℕ) (initial here : List F) (reader : LineReading)
-    (StandsAfter : List SourceLine → Type 0) : Type 0 where
+pub record IsAfterSoFar {F : Type 0} (text : F → Option Text) (faults : F → ℕ) (initial here : List F) (reader : LineReading)
+    (After : List SourceLine → Type 0) : Type 0 where
   pub source : List SourceLine
   pub read : SoFar text faults initial here reader source
-  pub stands : StandsAfter source
+  pub stands : After source
 
 module _ {F : Type 0} (text : F → Option Text) (faults : F → ℕ) (initial here : List F) (reader : LineReading) where
-  module _ (StandsAfter : List SourceLine → Type 0) (has_ended : Bool)
-      (so : StandsSoFar text faults initial here reader StandsAfter) where
+  module _ (After : List SourceLine → Type 0) (has_ended : Bool)
+      (so : IsAfterSoFar text faults initial here reader After) where
     -- `.END` is live
-    pub taken_to_end : has_ended ≡ true → SourceTaken (pass_of text faults initial here) StandsAfter has_ended
+    pub taken_to_end : has_ended ≡ true → SourceRead (pass_of text faults initial here) After has_ended
     taken_to_end ends =
         let b = begun text faults initial here reader so.source so.read in
-        let P : Bool → Type 0 = λ e. IsTakenUp b.reading so.source e in
+        let P : Bool → Type 0 = λ e. AreLinesRead b.reading so.source e in
         let Q : Bool → Type 0 = λ e. HaveGiven (pass_of text faults initial here) so.source e in
         record {
           reading = b.reading;
@@ -82,10 +82,10 @@ module _ {F : Type 0} (text : F → Option Text) (faults : F → ℕ) (initial h
     -- or no line is left
     pub taken_wholly : has_ended ≡ false → (later : List F) (reader' : LineReading)
         → ReadsNext (position text faults here reader) (position text faults later reader') (Ok None)
-        → SourceTaken (pass_of text faults initial later) StandsAfter has_ended
+        → SourceRead (pass_of text faults initial later) After has_ended
     taken_wholly goes later reader' next =
         let reading : Reading = record { lines = so.source; fault = None } in
-        let P : Bool → Type 0 = λ e. IsTakenUp reading so.source e in
+        let P : Bool → Type 0 = λ e. AreLinesRead reading so.source e in
         let Q : Bool → Type 0 = λ e. HaveGiven (pass_of text faults initial later) so.source e in
         record {
           reading = reading;

@@ -5,7 +5,7 @@ use Rattle.m11_scan_expressions.specs.Expressions as expressions
 use Rattle.m11_scan_expressions.specs.Expressions.{has_expression, value_at}
 use Rattle.m11_base.specs.Devices.{Bytes}
 use Rattle.m11_scan_statements.specs.Labels.{labels_end}
-use Rattle.m11_scan_statements.specs.Order.{BodyStands}
+use Rattle.m11_scan_statements.specs.Order.{BodyLies}
 use Rattle.m11_scan_statements.specs.Statements.{body_of}
 use Rattle.m11_scan_statements.specs.declared.bodies.Body.{Body}
 use Rattle.m11_scan_statements.specs.declared.bodies.Body.TheVariants as body
@@ -76,14 +76,14 @@ operates_within : (found : Option Operator) (name : Span) (size : ℕ) → name.
 operates_within (Some operator) name size some ends = ends
 operates_within None name size some ends = omega (arith, some, ends)
 
-action_within : (line : Bytes) (from : ℕ) (of : Body) → BodyStands from (length line) of → column_of (action_of line of) ≤ length line
+action_within : (line : Bytes) (from : ℕ) (of : Body) → BodyLies from (length line) of → column_of (action_of line of) ≤ length line
 action_within line from body.Nothing stood = omega arith
 action_within line from (body.Assign assignment) stood = omega arith
 action_within line from (body.SetCounter value) stood = omega arith
 action_within line from (body.Operate name) stood = operates_within _ name (length line) stood.1 stood.2
 action_within line from (body.Words start) stood = let before = stood.1 in omega (arith, before)
 
-own_within : (line : Bytes) (is_own : Bool) → BodyStands (labels_end line) (length line) (body_of line)
+own_within : (line : Bytes) (is_own : Bool) → BodyLies (labels_end line) (length line) (body_of line)
     → column_of (action is_own line) ≤ length line
 own_within line true stood = omega arith
 own_within line false stood = action_within line (labels_end line) (body_of line) stood
@@ -111,7 +111,7 @@ ends_so before given start is =
 -- ---- a live line
 
 module _ (before table : Table) (given : UnfoldedLine) (facts : Facts) (alike : Alike table (after_line empty_map before given))
-    (stood : BodyStands (labels_end given.live.line.text) (length given.live.line.text) (body_of given.live.line.text)) where
+    (stood : BodyLies (labels_end given.live.line.text) (length given.live.line.text) (body_of given.live.line.text)) where
   abbrev Is : Action → Type 0
   Is of = of ≡ action given.is_own given.live.line.text
 
@@ -148,7 +148,7 @@ module _ (before table : Table) (given : UnfoldedLine) (facts : Facts) (alike : 
       at_action of is ∙ ap (λ (d : Action). with_directed (stands before given) given.live.line.text facts (directed_in d)) is
       ∙ by_directed (stands before given) given.live.line.text facts (directed given)
 
-pub noted : ((line : Bytes) → BodyStands (labels_end line) (length line) (body_of line))
+pub noted : ((line : Bytes) → BodyLies (labels_end line) (length line) (body_of line))
     → (before table : Table) (given : UnfoldedLine) (live : LiveLine) (old new : Facts)
     → IsLive given live → Alike table (after_line empty_map before given)
     → new ≡ with_action table live.line.text live.action old → new ≡ with_line before given old
@@ -156,7 +156,7 @@ noted stand before table given live old new is alike so =
     so ∙ ap (λ (l : Live). with_action table l.line.text live.action old) is.live_is
     ∙ told_so before table given old alike (stand given.live.line.text) live.action is.action_is
 
-pub notes : ((line : Bytes) → BodyStands (labels_end line) (length line) (body_of line))
+pub notes : ((line : Bytes) → BodyLies (labels_end line) (length line) (body_of line))
     → (table : Table) (live : LiveLine) (old new : Facts) {E : Type 0} (result : Result (Unit {0}) E)
     → IfOk result (λ _. new ≡ with_action table live.line.text live.action old)
     → IfOk result (λ _. (before : Table) (given : UnfoldedLine) → IsLive given live

@@ -7,7 +7,7 @@ use Rattle.m11_asm_directory.specs.Names.{has_name}
 use Rattle.m11_asm_directory.specs.Rows.{directory_rows}
 use Rattle.m11_asm.specs.Facts.{Facts}
 use Rattle.m11_asm.specs.First.{AreFactsOf, FirstState, symbols_of}
-use Rattle.m11_asm.specs.Standing.{Taken}
+use Rattle.m11_asm.specs.LinesDone.{LiveLinesDone}
 use Rattle.m11_scan_lines.specs.Line.{SourceLine}
 use Rattle.m11_asm_pass_laws.proofs.MapsAlike.{maps_same}
 use Rattle.m11_asm_passes.specs.Lines.{NumberedLine, givens}
@@ -27,7 +27,7 @@ pub record LawsOfFirstPasses : Type 0 where
       → symbol_entries one names ≡ symbol_entries other others
   pub sections : (one other : DirectoryFacts) → directory.FirstPassesAgree one other → section_entries one ≡ section_entries other
 
-module _ (source : List SourceLine) (lines : List NumberedLine) (first : FirstState) (taken : Taken empty_map none_used (AreFactsOf first.facts) source lines first.pass_state)
+module _ (source : List SourceLine) (lines : List NumberedLine) (first : FirstState) (taken : LiveLinesDone empty_map none_used (AreFactsOf first.facts) source lines first.pass_state)
     (few : length first.pass_state.kept.table.sections ≤ most_sections) (laws : LawsOfFirstPasses) where
   referred_same : used_names_in first.pass_state.counting ≡ used_in (givens lines)
   referred_same = ap used_names_in taken.stands.counting

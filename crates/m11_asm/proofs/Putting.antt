@@ -42,7 +42,7 @@ use Rattle.m11_unfold_rules.specs.Taking.{Live}
 use Rattle.m11_scan_expressions.specs.Quantities.{Quantity}
 use Rattle.m11_base_writes.proofs.Writing.{gains_nothing, stops_after, stops_before, writes_then}
 use Rattle.m11_asm.specs.Program.{Program, all_names, program_kept, directory_facts_in}
-use Rattle.m11_asm.specs.Writing.{Writing, WritingStands, begun, counted, counted_last, is_some_line, most_counted, opened}
+use Rattle.m11_asm.specs.Writing.{Writing, WritingAfter, begun, counted, counted_last, is_some_line, most_counted, opened}
 use Rattle.m11_asm.specs.Written.{added_to_both, added_writes, closing_writes, flagged_count, flagged_in, head_before, is_flagged, flag_E, flags_at, line_writes, message_writes, pieces_in}
 use Rattle.m11_asm.proofs.LinesWritten.{flagged_more, none_flagged, pieces_more}
 
@@ -79,7 +79,7 @@ head_is_by : (program : Program) (lines : List NumberedLine) → is_some_line li
 head_is_by program [] is = refl
 head_is_by program (line ∷ lines) is = absurd (true_false refl is)
 
-module _ (program : Program) (lines : List NumberedLine) (writing : Writing) (stands : WritingStands program lines writing) where
+module _ (program : Program) (lines : List NumberedLine) (writing : Writing) (stands : WritingAfter program lines writing) where
   pub head_stays : writing.has_begun ≡ true → head_before program lines ≡ []
   head_stays is = head_stays_by program lines (sym stands.begun ∙ is)
 
@@ -196,7 +196,7 @@ module _ (program : Program) (lines : List NumberedLine) (one : NumberedLine) (a
       (writes_then assembly b c d (texts here) rest result (subst Q are emission) (writes_as c d _ _ result same goes)))
 
 -- what is kept after it
-module _ (program : Program) (lines : List NumberedLine) (one : NumberedLine) (old : Writing) (stands : WritingStands program lines old) where
+module _ (program : Program) (lines : List NumberedLine) (one : NumberedLine) (old : Writing) (stands : WritingAfter program lines old) where
   some_more : (all : List NumberedLine) → true ≡ is_some_line (all ++ one ∷ [])
   some_more [] = refl
   some_more (line ∷ all) = refl
@@ -205,7 +205,7 @@ module _ (program : Program) (lines : List NumberedLine) (one : NumberedLine) (o
       → more ≡ pieces program.map (table_at program.map lines) one.given → flags ≡ flags_at program lines one
       → IsOpenAfter (pieces_in program.map lines ++ more) text
       → AllFit (head_contents program.rows) → AllFit (records_closed_by (pieces_in program.map lines) more)
-      → WritingStands program (lines ++ one ∷ [])
+      → WritingAfter program (lines ++ one ∷ [])
       (record {
         rows = old.rows;
         transfer = old.transfer;
@@ -239,17 +239,17 @@ unfolding pieces_in
 none_put program = refl
 
 pub keeps_more : {E : Type 0} (program : Program) (lines : List NumberedLine) (one : NumberedLine) (old : Writing)
-    → WritingStands program lines old → (began emission listed new : Writing) (more : List Piece) (flags : ℕ) (result : Result (Unit {0}) E)
+    → WritingAfter program lines old → (began emission listed new : Writing) (more : List Piece) (flags : ℕ) (result : Result (Unit {0}) E)
     → began ≡ begun old → emission ≡ opened emission.text began → listed ≡ emission
     → more ≡ pieces program.map (table_at program.map lines) one.given
     → flags ≡ flags_at program lines one → IsOpenAfter (pieces_in program.map lines ++ more) emission.text
     → AllFit (head_contents program.rows) → AllFit (records_closed_by (pieces_in program.map lines) more)
     → IfOk result (λ _. new ≡ record listed { flagged = counted flags listed.flagged })
-    → IfOk result (λ _. WritingStands program (lines ++ one ∷ []) new)
+    → IfOk result (λ _. WritingAfter program (lines ++ one ∷ []) new)
 keeps_more program lines one old stands began emission listed new more flags (Err stopped) begins opens stays more_is flags_is open_after head_fits more_fit so = tt
 keeps_more program lines one old stands began emission listed new more flags (Ok done) begins opens stays more_is flags_is open_after head_fits more_fit so =
     let whole = so ∙ ap (λ (w : Writing). record w { flagged = counted flags w.flagged }) (stays ∙ opens ∙ ap (opened emission.text) begins) in
-    subst (λ (w : Writing). WritingStands program (lines ++ one ∷ []) w) (sym whole)
+    subst (λ (w : Writing). WritingAfter program (lines ++ one ∷ []) w) (sym whole)
     (stands_more program lines one old stands emission.text more flags more_is flags_is open_after head_fits more_fit)
 
 -- ---- the end
@@ -277,7 +277,7 @@ table_so writing symbols sections count symbols_are sections_are counts =
     ∙ ap (λ (n : ℕ). all_to_listing (last_lines writing.symbols writing.sections n)) counts
 
 -- the text that is open after all lines, and what closes all
-module _ (program : Program) (lines : List NumberedLine) (old begun_ new : Writing) (stands : WritingStands program lines old)
+module _ (program : Program) (lines : List NumberedLine) (old begun_ new : Writing) (stands : WritingAfter program lines old)
     (has_end : Bool) (begins : begun_ ≡ begun old) (counts : new ≡ record begun_ { flagged = counted_last has_end begun_.flagged }) where
   pub last_open : IsOpenAfter (pieces_in program.map lines) new.text
   last_open =
@@ -301,7 +301,7 @@ module _ (program : Program) (lines : List NumberedLine) (old begun_ new : Writi
       ∙ ap (λ (n : ℕ). closing_writes ps program.symbols program.sections n) (last_count few)
 
 -- the records of the object, where its head and the last of them fit
-pub object_fits : (program : Program) (lines : List NumberedLine) (writing : Writing) → WritingStands program lines writing
+pub object_fits : (program : Program) (lines : List NumberedLine) (writing : Writing) → WritingAfter program lines writing
     → AllFit (head_contents program.rows) → AllFit (last_records (pieces_in program.map lines) ++ EndOfModule ∷ [])
     → AllFit (object_contents program.rows (pieces_in program.map lines))
 object_fits program lines writing stands head last =
@@ -316,7 +316,7 @@ pub stands_first : (kept : TableState) (used_names : UsedNames) (facts : Facts) 
     → rows ≡ directory_rows (directory_facts_in kept used_names facts) → transfer ≡ facts.transfer
     → symbols ≡ symbol_entries (directory_facts_in kept used_names facts) (all_names used_names)
     → sections ≡ section_entries (directory_facts_in kept used_names facts) → IsOpenAfter [] text
-    → WritingStands (program_kept kept used_names facts) [] (record {
+    → WritingAfter (program_kept kept used_names facts) [] (record {
       rows = rows;
       transfer = transfer;
       symbols = symbols;

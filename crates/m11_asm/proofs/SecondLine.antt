@@ -13,8 +13,8 @@ use Rattle.m11_asm_passes.specs.Lines.{NumberedLine, with_line}
 use Rattle.m11_asm_passes.specs.States.{PassState, SourcePassState, fed}
 use Rattle.m11_asm_rules.specs.Meanings.{Map}
 use Rattle.m11_asm.specs.Program.{Program}
-use Rattle.m11_asm.specs.Second.{LineCall, SecondFails, SecondStands, SecondState, SecondTakes, TakesLeft, Wrote, line_state}
-use Rattle.m11_asm.specs.Standing.{Taken}
+use Rattle.m11_asm.specs.Second.{LineCall, SecondFails, SecondAfter, SecondState, SecondReadsLine, PlacesLeft, Wrote, line_state}
+use Rattle.m11_asm.specs.LinesDone.{LiveLinesDone}
 use Rattle.m11_asm.proofs.Taking.{Feeds, number_so, read_more, stands_more}
 use Rattle.m11_asm.specs.Writing.{Writing}
 use Rattle.m11_asm_lines.specs.declared.counting.Counting.TheVariants.{Definitions}
@@ -28,7 +28,7 @@ between before now old new = record { before = before; now = now; old = old; new
 
 module _ (program : Program) (source : List SourceLine) (line : SourceLine) (first before : Outputs) (map_ : Map) (pass_state : PassState)
     (writing : Writing) (read : ℕ) (has_ended : Bool) (stopped : Option AsmFault) (goes : has_ended ≡ false)
-    (stands : SecondStands program source first before (state_of map_ pass_state writing read has_ended stopped)) where
+    (stands : SecondAfter program source first before (state_of map_ pass_state writing read has_ended stopped)) where
   abbrev state : SecondState
   state = state_of map_ pass_state writing read has_ended stopped
 
@@ -51,7 +51,7 @@ module _ (program : Program) (source : List SourceLine) (line : SourceLine) (fir
   -- there are too many lines
   pub line_refused : (numbers : Result ℕ AsmFault) (came : AsmFault) (new : SecondState) (result : Result (Unit {0}) AsmFault)
       → IfErr numbers (λ f. (f ≡ fault.TooMuchSource) × (read ≡ most_lines)) → Err came ≡ numbers → IsErrAnd result (λ f. f ≡ came)
-      → SecondTakes program source line first (between before before (state_of map_ pass_state writing read has_ended stopped) new) result
+      → SecondReadsLine program source line first (between before before (state_of map_ pass_state writing read has_ended stopped) new) result
   line_refused numbers came new (Ok done) refuses same is = absurd is
   line_refused numbers came new (Err other) refuses same is =
       let R : Result ℕ AsmFault → Type 0 = λ r. IfErr r (λ f. (f ≡ fault.TooMuchSource) × (read ≡ most_lines)) in
@@ -64,13 +64,13 @@ module _ (program : Program) (source : List SourceLine) (line : SourceLine) (fir
       (counts : IfOk numbers (λ n. n ≡ read + 1)) (number_is : Ok number ≡ numbers) (map' : Map) (map_is : map' ≡ map_)
       (now : Outputs) (outcome : Result Bool AsmFault) (new_going : PassState) (new_writing : Writing)
       (takes : (program : Program) (source : List SourceLine) (lines : List NumberedLine) (first : Outputs) → map' ≡ program.map
-      → number ≡ length source → Taken program.map Definitions (Wrote program first before writing) source lines fed_pass.pass_state
-      → TakesLeft program source first now new_going new_writing outcome) where
-    left : TakesLeft program (source ++ line ∷ []) first now new_going new_writing outcome
+      → number ≡ length source → LiveLinesDone program.map Definitions (Wrote program first before writing) source lines fed_pass.pass_state
+      → PlacesLeft program source first now new_going new_writing outcome) where
+    left : PlacesLeft program (source ++ line ∷ []) first now new_going new_writing outcome
     left =
         let all : List SourceLine = source ++ line ∷ [] in
         let G : PassState → Type 0 =
-        λ g. Taken program.map Definitions (Wrote program first before writing) all stands.stands.lines g in
+        λ g. LiveLinesDone program.map Definitions (Wrote program first before writing) all stands.stands.lines g in
         let fed_so : fed line pass_state ≡ fed_pass.pass_state =
         ap (fed line) (sym going_is) ∙ sym (ap (λ (p : SourcePassState). p.pass_state) fed_is) in
         takes program all stands.stands.lines first (map_is ∙ stands.map_is)
@@ -82,22 +82,22 @@ module _ (program : Program) (source : List SourceLine) (line : SourceLine) (fir
 
     pub line_fails : (came : AsmFault) (new : SecondState) (result : Result (Unit {0}) AsmFault) → Err came ≡ outcome
         → IsErrAnd result (λ f. f ≡ came)
-        → SecondTakes program source line first (between before now (state_of map_ pass_state writing read has_ended stopped) new) result
+        → SecondReadsLine program source line first (between before now (state_of map_ pass_state writing read has_ended stopped) new) result
     line_fails came new (Ok done) same is = absurd is
     line_fails came new (Err other) same is =
         let P : Result Bool AsmFault → Type 0 =
-        λ r. TakesLeft program (source ++ line ∷ []) first now new_going new_writing r in
-        let here : TakesLeft program (source ++ line ∷ []) first now new_going new_writing (Err came) = subst P (sym same) left in
+        λ r. PlacesLeft program (source ++ line ∷ []) first now new_going new_writing r in
+        let here : PlacesLeft program (source ++ line ∷ []) first now new_going new_writing (Err came) = subst P (sym same) left in
         let Q : AsmFault → Type 0 = λ f. SecondFails program (source ++ line ∷ []) first now f in
         (goes, subst Q (sym is) here)
 
     pub line_takes : (ended : Bool) (kept : Option AsmFault) (before_fault : Option AsmFault) → Ok ended ≡ outcome
         → IfOk outcome (λ e. e ≡ false → new_going.unfolder.stage.left ≡ [])
         → kept ≡ option_or before_fault (result_err outcome) → before_fault ≡ None
-        → SecondTakes program source line first (between before now (state_of map_ pass_state writing read has_ended stopped)
+        → SecondReadsLine program source line first (between before now (state_of map_ pass_state writing read has_ended stopped)
         (state_of map_ new_going new_writing number ended kept)) (Ok tt)
     line_takes ended kept before_fault same needs kept_is none =
-        let P : Result Bool AsmFault → Type 0 = λ r. TakesLeft program (source ++ line ∷ []) first now new_going new_writing r in
+        let P : Result Bool AsmFault → Type 0 = λ r. PlacesLeft program (source ++ line ∷ []) first now new_going new_writing r in
         inr (
           goes,
           record {

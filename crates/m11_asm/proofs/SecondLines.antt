@@ -16,7 +16,7 @@ use Rattle.m11_scan_lines.specs.declared.fault.LineFault.TheVariants.{Read, TooM
 use Rattle.m11_asm_passes.specs.Lines as lines
 use Rattle.m11_scan_line_laws.specs.Extents.{GaveLines}
 use Rattle.m11_asm.specs.Program.{Program}
-use Rattle.m11_asm.specs.Second.{SecondEnds, SecondFails, SecondStands, SecondState, SecondTakes, StopsAmong, Wrote, ended_with, line_state}
+use Rattle.m11_asm.specs.Second.{SecondEnds, SecondFails, SecondAfter, SecondState, SecondReadsLine, StopsAmong, Wrote, ended_with, line_state}
 use Rattle.m11_asm.specs.Written.{EndOfSource, flagged_count, pieces_in, program_writes, written}
 use Rattle.m11_asm.specs.declared.done.AsmDone.{AsmDone}
 use Rattle.m11_unfold_rules.specs.Stages.{start}
@@ -29,15 +29,15 @@ use Rattle.m11_asm.specs.Passes as passes
 use Rattle.m11_asm.specs.Passes.{Pass, ReadsSecond, StopsAmongWrites, pass_of}
 use Rattle.m11_asm.specs.SecondReading.{PutsAll, SecondTaken}
 use Rattle.m11_asm.proofs.LinesRead.{Begun, SoFar, begun, failed, few_read, lines_given, one_more, reader_begins, too_many, too_much}
-use Rattle.m11_asm.proofs.LinesTaken.{StandsSoFar, ends_by, given_to_end, given_to_fault, taken_to_end, taken_wholly, unended_at, unended_so}
-use Rattle.m11_asm.specs.Standing.{Stands}
+use Rattle.m11_asm.proofs.LinesTaken.{IsAfterSoFar, ends_by, given_to_end, given_to_fault, taken_to_end, taken_wholly, unended_at, unended_so}
+use Rattle.m11_asm.specs.LinesDone.{LinesDone}
 use Rattle.m11_asm_lines.specs.declared.counting.Counting.TheVariants.{Definitions}
 
 -- the pass stands after the lines that the reader returned
 abbrev pub SecondSoFar : {F : Type 0} → (F → Option Text) → (F → ℕ) → List F → List F → LineReading
     → Program → Outputs → Outputs → SecondState → Type 0
 SecondSoFar text faults initial here reader program old now second =
-    StandsSoFar text faults initial here reader (λ source. SecondStands program source old now second)
+    IsAfterSoFar text faults initial here reader (λ source. SecondAfter program source old now second)
 
 module _ {F : Type 0} (text : F → Option Text) (faults : F → ℕ) (program : Program) (old : Outputs) where
   -- memory was refused before the first line
@@ -69,10 +69,10 @@ module _ {F : Type 0} (text : F → Option Text) (faults : F → ℕ) (program :
     -- `.END` is live
     pub second_ended : second.has_ended ≡ true → SecondTaken (pass_of text faults initial here) program old now second
     second_ended ends =
-        taken_to_end text faults initial here reader (λ source. SecondStands program source old now second) second.has_ended so ends
+        taken_to_end text faults initial here reader (λ source. SecondAfter program source old now second) second.has_ended so ends
 
     module _ (goes : second.has_ended ≡ false) (later : List F) (reader' : LineReading) where
-      abbrev stands : Stands program.map Definitions (Wrote program old now second.writing) so.source (line_state second)
+      abbrev stands : LinesDone program.map Definitions (Wrote program old now second.writing) so.source (line_state second)
       stands = so.stands.stands
 
       unended : Unended program.map Definitions so.source stands.lines
@@ -82,7 +82,7 @@ module _ {F : Type 0} (text : F → Option Text) (faults : F → ℕ) (program :
       pub second_read : ReadsNext (position text faults here reader) (position text faults later reader') (Ok None)
           → SecondTaken (pass_of text faults initial later) program old now second
       second_read next =
-          taken_wholly text faults initial here reader (λ source. SecondStands program source old now second) second.has_ended so goes
+          taken_wholly text faults initial here reader (λ source. SecondAfter program source old now second) second.has_ended so goes
           later reader' next
 
       reads_so : (came : LineFault)
@@ -135,7 +135,7 @@ module _ {F : Type 0} (text : F → Option Text) (faults : F → ℕ) (program :
         given_more : GaveLines text initial later all
         given_more = lines_given text faults initial later reader' all more
 
-        pub second_goes_on : SecondTakes program so.source line old (record { before = now; now = new; old = second; new = second' }) (Ok tt)
+        pub second_goes_on : SecondReadsLine program so.source line old (record { before = now; now = new; old = second; new = second' }) (Ok tt)
             → SecondSoFar text faults initial later reader' program old new second'
         second_goes_on (inl idle) = absurd (true_false (sym idle.ended ∙ goes))
           where
@@ -178,7 +178,7 @@ module _ {F : Type 0} (text : F → Option Text) (faults : F → ℕ) (program :
           (all, s.lines, s.exceeds, given_more),
         )
 
-        pub second_refuses : (stopped : AsmFault) → SecondTakes program so.source line old (record { before = now; now = new; old = second; new = second' }) (Err stopped)
+        pub second_refuses : (stopped : AsmFault) → SecondReadsLine program so.source line old (record { before = now; now = new; old = second; new = second' }) (Err stopped)
             → PutsAll (pass_of text faults initial later) program old new (Err stopped)
         second_refuses stopped s = fails_so stopped s.1
 

@@ -10,7 +10,7 @@ use Rattle.m11_asm_passes.specs.Lines.{NumberedLine, numbered, table_at}
 use Rattle.m11_asm_passes.specs.Placed.{IsPlaced, live_in}
 use Rattle.m11_asm_passes.specs.Reaching.{PlacesLine, Reaches, Refused}
 use Rattle.m11_asm_passes.specs.Refusals.{given_by}
-use Rattle.m11_asm_passes.specs.States.{PassState, PassStands}
+use Rattle.m11_asm_passes.specs.States.{PassState, PassAfter}
 use Rattle.m11_asm_passes.specs.Turns.{SaysPlaced, Turns}
 use Rattle.m11_asm_passes.specs.declared.placed.PlacedLine.{PlacedLine}
 use Rattle.m11_asm_passes.specs.declared.turns.Turn.{Turn}
@@ -20,9 +20,9 @@ use Rattle.m11_asm_rules.specs.Meanings.{Map}
 use Rattle.m11_asm_lines.specs.declared.counting.Counting.{Counting}
 use Rattle.m11_base_writes.proofs.Writing.{gains_then, stops_after}
 use Rattle.m11_asm.specs.Program.{Program}
-use Rattle.m11_asm.specs.Second.{SecondFails, TakesLeft, Wrote}
-use Rattle.m11_asm.specs.Standing.{TakesAll}
-use Rattle.m11_asm.specs.Writing.{Writing, WritingStands}
+use Rattle.m11_asm.specs.Second.{SecondFails, PlacesLeft, Wrote}
+use Rattle.m11_asm.specs.LinesDone.{AllDone}
+use Rattle.m11_asm.specs.Writing.{Writing, WritingAfter}
 use Rattle.m11_asm.specs.Written.{head_before, line_writes, written}
 use Rattle.m11_asm.proofs.LinesWritten.{next_writes, written_more}
 use Rattle.m11_asm.proofs.Taking.{SomeTaken, ends_all, places_line, refused_after, rests_all}
@@ -31,14 +31,14 @@ use Rattle.m11_asm_lines.specs.declared.counting.Counting.TheVariants.{Definitio
 -- the law of the calls of a second pass
 abbrev pub TurnsSo : Type 0
 TurnsSo = (map : Map) (before : Counting) (source : List SourceLine) (lines : List NumberedLine) (old new : PassState)
-    (placed : PlacedLine) (result : Result Turn AsmFault) → PassStands map before source lines old
+    (placed : PlacedLine) (result : Result Turn AsmFault) → PassAfter map before source lines old
     → Turns map old new (live_in placed.live) (SaysPlaced map placed new.emission) result
     → Reaches map before source lines new (live_in placed.live) (SaysPlaced map placed new.emission) result
 
 module _ (turn : TurnsSo) (program : Program) (source : List SourceLine) (first now : Outputs) (old new : PassState) (placed : PlacedLine)
     (writing : Writing) (some : SomeTaken program.map Definitions (Wrote program first now writing) source old) (map_ : Map)
     (same : map_ ≡ program.map) where
-  law : (lines : List NumberedLine) (result : Result Turn AsmFault) → PassStands program.map Definitions source lines old
+  law : (lines : List NumberedLine) (result : Result Turn AsmFault) → PassAfter program.map Definitions source lines old
       → Turns program.map old new (live_in placed.live) (SaysPlaced program.map placed new.emission) result
       → Reaches program.map Definitions source lines new (live_in placed.live) (SaysPlaced program.map placed new.emission) result
   law lines result stands turned = turn program.map Definitions source lines old new placed result stands turned
@@ -58,12 +58,12 @@ module _ (turn : TurnsSo) (program : Program) (source : List SourceLine) (first 
   }
 
   module _ (came : Turn) (turned : Turns map_ old new (live_in placed.live) (SaysPlaced map_ placed new.emission) (Ok came)) where
-    pub left_rests : came ≡ NeedLine → TakesAll program.map Definitions (Wrote program first now writing) source new false
+    pub left_rests : came ≡ NeedLine → AllDone program.map Definitions (Wrote program first now writing) source new false
     left_rests is =
         rests_all program.map Definitions source old new (live_in placed.live) (SaysPlaced program.map placed new.emission) law
         (Wrote program first now writing) some came (turned_so (Ok came) turned) is
 
-    pub left_ends : came ≡ End → TakesAll program.map Definitions (Wrote program first now writing) source new true
+    pub left_ends : came ≡ End → AllDone program.map Definitions (Wrote program first now writing) source new true
     left_ends is =
         ends_all program.map Definitions source old new (live_in placed.live) (SaysPlaced program.map placed new.emission) law
         (Wrote program first now writing) some came (turned_so (Ok came) turned) is
@@ -80,12 +80,12 @@ module _ (turn : TurnsSo) (program : Program) (source : List SourceLine) (first 
       module _ (number : ℕ) (number_is : number ≡ length source) (contents : List PieceContent) (contents_are : contents ≡ new.emission.contents)
           (later : Outputs) (writing' : Writing) where
         pub placed_more : ((one : NumberedLine) (emission : Emission)
-            → WritingStands program some.0 writing → IsPlaced program.map (table_at program.map some.0) one.given placed emission
+            → WritingAfter program some.0 writing → IsPlaced program.map (table_at program.map some.0) one.given placed emission
             → emission.contents ≡ contents → number ≡ one.number
             → Gains now later (head_before program some.0 ++ line_writes program some.0 one))
             → ((one : NumberedLine) (emission : Emission)
-            → WritingStands program some.0 writing → IsPlaced program.map (table_at program.map some.0) one.given placed emission
-            → emission.contents ≡ contents → number ≡ one.number → WritingStands program (some.0 ++ one ∷ []) writing')
+            → WritingAfter program some.0 writing → IsPlaced program.map (table_at program.map some.0) one.given placed emission
+            → emission.contents ≡ contents → number ≡ one.number → WritingAfter program (some.0 ++ one ∷ []) writing')
             → SomeTaken program.map Definitions (Wrote program first later writing') source new
         unfolding here one
         placed_more writes keeps = (
@@ -119,10 +119,10 @@ module _ (turn : TurnsSo) (program : Program) (source : List SourceLine) (first 
 
         pub stops_there : (stopped : AsmFault) (result : Result Bool AsmFault)
             → ((one : NumberedLine) (emission : Emission)
-            → WritingStands program some.0 writing → IsPlaced program.map (table_at program.map some.0) one.given placed emission
+            → WritingAfter program some.0 writing → IsPlaced program.map (table_at program.map some.0) one.given placed emission
             → emission.contents ≡ contents → number ≡ one.number
             → Stops now later (head_before program some.0 ++ line_writes program some.0 one) stopped)
-            → IsErrAnd result (λ f. f ≡ stopped) → TakesLeft program source first later new writing' result
+            → IsErrAnd result (λ f. f ≡ stopped) → PlacesLeft program source first later new writing' result
         unfolding here one
         stops_there stopped (Ok ended) writes is = absurd is
         stops_there stopped (Err other) writes is =
@@ -148,7 +148,7 @@ module _ (turn : TurnsSo) (program : Program) (source : List SourceLine) (first 
 
     -- which is handed on
     pub fails_all : (later : Writing) (result : Result Bool AsmFault) → IsErrAnd result (λ f. f ≡ limit)
-        → TakesLeft program source first now new later result
+        → PlacesLeft program source first now new later result
     fails_all later (Ok ended) is = absurd is
     fails_all later (Err stopped) is =
         let P : AsmFault → Type 0 = λ f. SecondFails program source first now f in subst P (sym is) (fails_so limit refused)

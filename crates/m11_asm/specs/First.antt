@@ -13,7 +13,7 @@ use Rattle.m11_asm_passes.specs.Lines.{NumberedLine, givens}
 use Rattle.m11_asm_passes.specs.Reaching.{Refused}
 use Rattle.m11_asm_passes.specs.States.{PassState}
 use Rattle.m11_asm.specs.Facts.{Facts, facts_of}
-use Rattle.m11_asm.specs.Standing.{LineState, Stands, TakesAll}
+use Rattle.m11_asm.specs.LinesDone.{LineState, LinesDone, AllDone}
 
 -- the pass, what the lines said beside names and locations, how many were read, whether `.END` became live, and the fault that ended the
 -- pass, if one did
@@ -32,8 +32,8 @@ abbrev pub line_state : FirstState → LineState
 line_state state = record { pass_state = state.pass_state; read = state.read; has_ended = state.has_ended; fault = state.fault }
 
 -- all that follows from lines of the source is done
-abbrev pub FirstStands : List SourceLine → FirstState → Type 0
-FirstStands source state = Stands empty_map none_used (AreFactsOf state.facts) source (line_state state)
+abbrev pub FirstAfter : List SourceLine → FirstState → Type 0
+FirstAfter source state = LinesDone empty_map none_used (AreFactsOf state.facts) source (line_state state)
 
 -- one more line is read: `.END` isn't live, and the limit on lines leaves room
 abbrev pub HasRoom : FirstState → Type 0
@@ -49,17 +49,17 @@ FirstFails source old TooMuchSource = IsFull old
 FirstFails source old fault = HasRoom old × (lines : List NumberedLine) × Refused empty_map none_used source lines fault
 
 -- one more line of the source: after `.END` became live none is read
-abbrev pub FirstTakes : List SourceLine → SourceLine → FirstState → FirstState → Result (Unit {0}) AsmFault → Type 0
-FirstTakes source line old new (Ok done) =
-    ((old.has_ended ≡ true) × (new ≡ old)) ⊎ (HasRoom old × FirstStands (source ++ line ∷ []) new)
-FirstTakes source line old new (Err fault) = FirstFails (source ++ line ∷ []) old fault
+abbrev pub FirstReadsLine : List SourceLine → SourceLine → FirstState → FirstState → Result (Unit {0}) AsmFault → Type 0
+FirstReadsLine source line old new (Ok done) =
+    ((old.has_ended ≡ true) × (new ≡ old)) ⊎ (HasRoom old × FirstAfter (source ++ line ∷ []) new)
+FirstReadsLine source line old new (Err fault) = FirstFails (source ++ line ∷ []) old fault
 
 -- ---- between the live lines of one line of the source
 
 -- up to the end of what is left; or the source passes a limit
-abbrev pub TakesLeft : List SourceLine → PassState → Facts → Result Bool AsmFault → Type 0
-TakesLeft source new facts (Ok has_ended) = TakesAll empty_map none_used (AreFactsOf facts) source new has_ended
-TakesLeft source new facts (Err fault) = (lines : List NumberedLine) × Refused empty_map none_used source lines fault
+abbrev pub PlacesLeft : List SourceLine → PassState → Facts → Result Bool AsmFault → Type 0
+PlacesLeft source new facts (Ok has_ended) = AllDone empty_map none_used (AreFactsOf facts) source new has_ended
+PlacesLeft source new facts (Err fault) = (lines : List NumberedLine) × Refused empty_map none_used source lines fault
 
 -- ---- what the pass gives
 

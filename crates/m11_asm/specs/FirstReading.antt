@@ -1,24 +1,24 @@
 -- The first pass over feeds, call by call. (This project's own.)
 use Rattle.std.specs.Prelude.{◌≡◌, Result, Ok, Err}
 use Rattle.m11_asm_faults.specs.declared.fault.AsmFault.{AsmFault}
-use Rattle.m11_asm.specs.First.{FirstStands, FirstState, Symbols, symbols_of}
+use Rattle.m11_asm.specs.First.{FirstAfter, FirstState, Symbols, symbols_of}
 use Rattle.m11_asm_rules.specs.Meanings.{empty_map}
 use Rattle.m11_asm.specs.Extents.{GivesToFault}
 use Rattle.m11_asm.specs.Passes.{Pass, ReadsFirst}
-use Rattle.m11_asm.specs.SourceTaken.{SourceTaken}
+use Rattle.m11_asm.specs.SourceRead.{SourceRead}
 use Rattle.m11_asm_lines.specs.Counting.{none_used}
 
 -- the pass stands after all lines that it takes of what the feeds give
 abbrev pub FirstTaken : {F : Type 0} → Pass F → FirstState → Type 0
-FirstTaken pass first = SourceTaken pass (λ source. FirstStands source first) first.has_ended
+FirstTaken pass first = SourceRead pass (λ source. FirstAfter source first) first.has_ended
 
 -- it ends with a fault, and the feeds have given as far as that
 abbrev pub FirstStops : {F : Type 0} → Pass F → AsmFault → Type 0
 FirstStops pass stopped = ReadsFirst pass (Err stopped) × GivesToFault pass empty_map none_used stopped
 
-abbrev pub TakesLines : {F : Type 0} → Pass F → FirstState → Result (Unit {0}) AsmFault → Type 0
-TakesLines pass first (Ok done) = FirstTaken pass first
-TakesLines pass first (Err stopped) = FirstStops pass stopped
+abbrev pub ReadsLines : {F : Type 0} → Pass F → FirstState → Result (Unit {0}) AsmFault → Type 0
+ReadsLines pass first (Ok done) = FirstTaken pass first
+ReadsLines pass first (Err stopped) = FirstStops pass stopped
 
 abbrev pub GivesSymbols : {F : Type 0} → Pass F → Result Symbols AsmFault → Type 0
 GivesSymbols pass (Ok symbols) = (first : FirstState) × FirstTaken pass first × (symbols ≡ symbols_of first)

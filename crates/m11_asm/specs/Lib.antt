@@ -9,7 +9,7 @@ pub mod Program
 pub mod Run
 pub mod Second
 pub mod SecondReading
-pub mod SourceTaken
-pub mod Standing
+pub mod SourceRead
+pub mod LinesDone
 pub mod Writing
 pub mod Written

@@ -15,9 +15,9 @@ use Rattle.m11_asm_outputs.specs.Object.{AllFit, object_contents}
 use Rattle.m11_asm_outputs.specs.Outputs.{Gains, StopsBetween, StopsIn, Writes}
 use Rattle.m11_base_writes.specs.Outputs.{AreFlushed, Outputs, Write}
 use Rattle.m11_asm.specs.Program.{Program}
-use Rattle.m11_asm.specs.Standing.{LineState, Stands, TakesAll}
+use Rattle.m11_asm.specs.LinesDone.{LineState, LinesDone, AllDone}
 use Rattle.m11_asm.specs.Written.{EndOfSource, flagged_count, pieces_in, program_writes, written}
-use Rattle.m11_asm.specs.Writing.{Writing, WritingStands}
+use Rattle.m11_asm.specs.Writing.{Writing, WritingAfter}
 use Rattle.m11_asm.specs.declared.done.AsmDone.{AsmDone}
 
 -- the map, the pass, what is kept of what was written, how many lines were read, whether `.END` became live, and the fault that ended it
@@ -31,16 +31,16 @@ pub record SecondState : Type 0 where
 
 -- exactly what live lines write was written, on outputs that were the first ones, and what is kept is what was written of them
 pub record Wrote (program : Program) (first now : Outputs) (writing : Writing) (lines : List NumberedLine) : Type 0 where
-  pub keeps : WritingStands program lines writing
+  pub keeps : WritingAfter program lines writing
   pub gains : Gains first now (written program lines)
 
 abbrev pub line_state : SecondState → LineState
 line_state state = record { pass_state = state.pass_state; read = state.read; has_ended = state.has_ended; fault = state.fault }
 
 -- all that follows from lines of the source is done
-pub record SecondStands (program : Program) (source : List SourceLine) (first now : Outputs) (state : SecondState) : Type 0 where
+pub record SecondAfter (program : Program) (source : List SourceLine) (first now : Outputs) (state : SecondState) : Type 0 where
   pub map_is : state.map ≡ program.map
-  pub stands : Stands program.map Definitions (Wrote program first now state.writing) source (line_state state)
+  pub stands : LinesDone program.map Definitions (Wrote program first now state.writing) source (line_state state)
 
 -- ---- where it stops
 
@@ -84,19 +84,19 @@ pub record LineCall : Type 0 where
   pub old : SecondState
   pub new : SecondState
 
-abbrev pub SecondTakes : Program → List SourceLine → SourceLine → Outputs → LineCall → Result (Unit {0}) AsmFault → Type 0
-SecondTakes program source line first call (Ok done) = IsIdle call.old call.new call.before call.now
-    ⊎ ((call.old.has_ended ≡ false) × SecondStands program (source ++ line ∷ []) first call.now call.new)
-SecondTakes program source line first call (Err stopped) =
+abbrev pub SecondReadsLine : Program → List SourceLine → SourceLine → Outputs → LineCall → Result (Unit {0}) AsmFault → Type 0
+SecondReadsLine program source line first call (Ok done) = IsIdle call.old call.new call.before call.now
+    ⊎ ((call.old.has_ended ≡ false) × SecondAfter program (source ++ line ∷ []) first call.now call.new)
+SecondReadsLine program source line first call (Err stopped) =
     (call.old.has_ended ≡ false) × SecondFails program (source ++ line ∷ []) first call.now stopped
 
 -- ---- between the live lines of one line of the source
 
 -- up to the end of what is left; or it stops
-abbrev pub TakesLeft : Program → List SourceLine → Outputs → Outputs → PassState → Writing → Result Bool AsmFault → Type 0
-TakesLeft program source first now pass_state writing (Ok has_ended) =
-    TakesAll program.map Definitions (Wrote program first now writing) source pass_state has_ended
-TakesLeft program source first now pass_state writing (Err stopped) = SecondFails program source first now stopped
+abbrev pub PlacesLeft : Program → List SourceLine → Outputs → Outputs → PassState → Writing → Result Bool AsmFault → Type 0
+PlacesLeft program source first now pass_state writing (Ok has_ended) =
+    AllDone program.map Definitions (Wrote program first now writing) source pass_state has_ended
+PlacesLeft program source first now pass_state writing (Err stopped) = SecondFails program source first now stopped
 
 -- ---- the end
 

@@ -3,15 +3,15 @@ use Rattle.std.specs.Prelude.{Result, Ok, Err}
 use Rattle.m11_asm_faults.specs.declared.fault.AsmFault.{AsmFault}
 use Rattle.m11_base_writes.specs.Outputs.{Outputs}
 use Rattle.m11_asm.specs.Program.{Program}
-use Rattle.m11_asm.specs.Second.{SecondStands, SecondState}
+use Rattle.m11_asm.specs.Second.{SecondAfter, SecondState}
 use Rattle.m11_asm.specs.Extents.{SecondGives}
 use Rattle.m11_asm.specs.Passes.{Pass, ReadsSecond}
-use Rattle.m11_asm.specs.SourceTaken.{SourceTaken}
+use Rattle.m11_asm.specs.SourceRead.{SourceRead}
 use Rattle.m11_asm.specs.declared.done.AsmDone.{AsmDone}
 
 -- the pass stands after all lines that it takes of what the feeds give, and exactly what they write is written
 abbrev pub SecondTaken : {F : Type 0} → Pass F → Program → Outputs → Outputs → SecondState → Type 0
-SecondTaken pass program old new second = SourceTaken pass (λ source. SecondStands program source old new second) second.has_ended
+SecondTaken pass program old new second = SourceRead pass (λ source. SecondAfter program source old new second) second.has_ended
 
 -- what is written, and how far the feeds have given then
 abbrev pub PutsAll : {F : Type 0} → Pass F → Program → Outputs → Outputs → Result AsmDone AsmFault → Type 0

@@ -43,7 +43,7 @@ is_some_line [] = false
 is_some_line (line ∷ lines) = true
 
 -- it is what is kept after these lines
-pub record WritingStands (program : Program) (lines : List NumberedLine) (writing : Writing) : Type 0 where
+pub record WritingAfter (program : Program) (lines : List NumberedLine) (writing : Writing) : Type 0 where
   pub rows : writing.rows ≡ program.rows
   pub transfer : writing.transfer ≡ program.transfer
   pub symbols : writing.symbols ≡ program.symbols

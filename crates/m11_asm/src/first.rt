@@ -5,8 +5,8 @@ ghost use Rattle.std.specs.Prelude.{◌≡◌, [], List, None, Some, Err, IfOk, 
 ghost use Rattle.std.specs.Result.{result_err};
 ghost use Rattle.m11_scan_lines.specs.Line.{SourceLine};
 ghost use Rattle.m11_asm_passes.specs.Lines.{NumberedLine};
-ghost use Rattle.m11_asm.specs.First.{AreFactsOf, FirstStands, FirstTakes, TakesLeft, symbols_of};
-ghost use Rattle.m11_asm.specs.Standing.{Taken};
+ghost use Rattle.m11_asm.specs.First.{AreFactsOf, FirstAfter, FirstReadsLine, PlacesLeft, symbols_of};
+ghost use Rattle.m11_asm.specs.LinesDone.{LiveLinesDone};
 ghost use Rattle.m11_asm_lines.specs.Counting.{none_used};
 ghost use Rattle.m11_asm_rules.specs.Meanings.{empty_map};
 
@@ -37,7 +37,7 @@ pub struct First {
 
 impl Model for First {
     ghost use Rattle.m11_asm.specs.First.{FirstState};
-    ghost use Rattle.m11_asm.specs.Standing.{GoesOn};
+    ghost use Rattle.m11_asm.specs.LinesDone.{GoesOn};
 
     ghost Value = { FirstState };
 
@@ -55,7 +55,7 @@ impl Model for First {
 impl First {
     /// Before the first line. Error: memory may be refused.
     pub fn new(alloc: Global) -> Result<First, AllocError>
-        ensures { IfOk result (λ first. FirstStands [] first) }
+        ensures { IfOk result (λ first. FirstAfter [] first) }
     {
         Ok(First {
             pass: SourcePass::new(alloc, Counting::SymbolUses(UsedSymbols::new(alloc)))?,
@@ -73,7 +73,7 @@ impl First {
     /// `TooManySections`, the first one in the order of the lines, and within a line in that of labels, operator and arguments; and
     /// `NoMemory`.
     pub fn line(&mut self, line: &Line) -> Result<(), AsmFault>
-        ensures takes { (source : List SourceLine) → FirstStands source self.old → FirstTakes source line.now self.old self.new result }
+        ensures takes { (source : List SourceLine) → FirstAfter source self.old → FirstReadsLine source line.now self.old self.new result }
         ensures again { (fault : AsmFault) → self.old.fault ≡ Some fault → (result ≡ Err fault) × (self.new ≡ self.old) }
         ensures fault { self.new.fault ≡ result_err result }
     {
@@ -85,7 +85,7 @@ impl First {
         let read = self.fault.keep(number_after(self.read))?;
         self.read = read;
         self.pass.feed(line);
-        let taken = take_left(&mut self.pass, &mut self.facts, &mut self.live);
+        let taken = place_left(&mut self.pass, &mut self.facts, &mut self.live);
         self.has_ended = self.fault.keep(taken)?;
         Ok(())
     }
@@ -119,15 +119,15 @@ impl First {
 }
 
 // Defines what is left to take, and adds what it says: whether `.END` became live. Its lines are put into `live`.
-fn take_left(
+fn place_left(
     pass: &mut SourcePass,
     facts: &mut Facts,
     live: &mut LiveLine,
 ) -> Result<bool, AsmFault>
     requires { pass.old.fault ≡ None }
     ensures takes { (source : List SourceLine) (lines : List NumberedLine)
-        → Taken empty_map none_used (AreFactsOf facts.old) source lines pass.old.pass_state
-        → TakesLeft source pass.new.pass_state facts.new result }
+        → LiveLinesDone empty_map none_used (AreFactsOf facts.old) source lines pass.old.pass_state
+        → PlacesLeft source pass.new.pass_state facts.new result }
     ensures goes_on { IfOk result (λ _. pass.new.fault ≡ None) }
     ensures needs { IfOk result (λ has_ended. has_ended ≡ false → pass.new.pass_state.unfolder.stage.left ≡ []) }
 {

@@ -1,9 +1,9 @@
 //! The first pass: what the sources give their names.
 
 ghost use Rattle.std.specs.Prelude.{[]};
-ghost use Rattle.m11_asm.specs.FirstReading.{GivesSymbols, TakesLines};
+ghost use Rattle.m11_asm.specs.FirstReading.{GivesSymbols, ReadsLines};
 ghost use Rattle.m11_asm.specs.Passes.{pass_of};
-ghost use Rattle.m11_asm.specs.First.{FirstStands};
+ghost use Rattle.m11_asm.specs.First.{FirstAfter};
 
 use crate::first::First;
 use crate::symbols::Symbols;
@@ -17,7 +17,7 @@ pub fn read_first<F: Feed>(alloc: Global, feeds: &mut [F]) -> Result<Symbols, As
     ensures { GivesSymbols (pass_of F.text F.faults feeds.old feeds.new) result }
 {
     let mut first = First::new(alloc)?;
-    match take_lines(feeds, &mut first) {
+    match read_lines(feeds, &mut first) {
         Ok(()) => first.end(),
         Err(fault) => {
             // proof: a value of several maps that goes in place takes minutes to prove
@@ -28,8 +28,8 @@ pub fn read_first<F: Feed>(alloc: Global, feeds: &mut [F]) -> Result<Symbols, As
 }
 
 // The lines of the sources, one after the other.
-fn take_lines<F: Feed>(feeds: &mut [F], first: &mut First) -> Result<(), AsmFault>
-    ensures { FirstStands [] first.old → TakesLines (pass_of F.text F.faults feeds.old feeds.new) first.new result }
+fn read_lines<F: Feed>(feeds: &mut [F], first: &mut First) -> Result<(), AsmFault>
+    ensures { FirstAfter [] first.old → ReadsLines (pass_of F.text F.faults feeds.old feeds.new) first.new result }
 {
     let mut reader = LineReader::new();
     'lines: loop {

@@ -7,8 +7,8 @@ ghost use Rattle.m11_base_writes.specs.Outputs.{Outputs, outputs_of};
 ghost use Rattle.m11_scan_lines.specs.Line.{SourceLine};
 ghost use Rattle.m11_asm_passes.specs.Lines.{NumberedLine};
 ghost use Rattle.m11_asm.specs.Program.{Program, program_in};
-ghost use Rattle.m11_asm.specs.Second.{SecondEnds, SecondStands, SecondTakes, TakesLeft, Wrote};
-ghost use Rattle.m11_asm.specs.Standing.{Taken};
+ghost use Rattle.m11_asm.specs.Second.{SecondEnds, SecondAfter, SecondReadsLine, PlacesLeft, Wrote};
+ghost use Rattle.m11_asm.specs.LinesDone.{LiveLinesDone};
 ghost use Rattle.m11_asm_lines.specs.declared.counting.Counting.TheVariants.{Definitions};
 
 use crate::done::AsmDone;
@@ -44,7 +44,7 @@ pub struct Second {
 impl Model for Second {
     ghost use Rattle.m11_asm_rules.specs.Meanings.{map_of};
     ghost use Rattle.m11_asm.specs.Second.{SecondState};
-    ghost use Rattle.m11_asm.specs.Standing.{GoesOn};
+    ghost use Rattle.m11_asm.specs.LinesDone.{GoesOn};
 
     ghost Value = { SecondState };
 
@@ -64,7 +64,7 @@ impl Second {
     /// Before the first line. Error: memory may be refused.
     pub fn new(alloc: Global, symbols: Symbols) -> Result<Second, AllocError>
         ensures { IfOk result (λ second. (first now : Outputs) → Gains first now []
-            → SecondStands (program_in symbols) [] first now second) }
+            → SecondAfter (program_in symbols) [] first now second) }
     {
         let (first, used_symbols, facts) = symbols.into_parts();
         let begun = Writing::new(alloc, &first, &used_symbols, &facts);
@@ -107,9 +107,9 @@ impl Second {
         listing: &mut Option<T>,
         messages: &mut U,
     ) -> Result<(), AsmFault>
-        ensures takes { (program : Program) (source : List SourceLine) (first : Outputs) → SecondStands program source first
+        ensures takes { (program : Program) (source : List SourceLine) (first : Outputs) → SecondAfter program source first
             (outputs_of S.Sink T.Sink U.Sink object.old listing.old messages.old) self.old
-            → SecondTakes program source line.now first (record {
+            → SecondReadsLine program source line.now first (record {
               before = outputs_of S.Sink T.Sink U.Sink object.old listing.old messages.old;
               now = outputs_of S.Sink T.Sink U.Sink object.new listing.new messages.new;
               old = self.old;
@@ -128,7 +128,7 @@ impl Second {
         self.read = read;
         self.pass.feed(line);
         let map = Map::of(self.first.table());
-        let taken = take_left(
+        let taken = place_left(
             &mut self.pass,
             &map,
             &mut self.writing,
@@ -159,7 +159,7 @@ impl Second {
         listing: &mut Option<T>,
         messages: &mut U,
     ) -> Result<AsmDone, AsmFault>
-        ensures ends { (program : Program) (source : List SourceLine) (first : Outputs) → SecondStands program source first
+        ensures ends { (program : Program) (source : List SourceLine) (first : Outputs) → SecondAfter program source first
             (outputs_of S.Sink T.Sink U.Sink object.old listing.old messages.old) self
             → SecondEnds program source first (outputs_of S.Sink T.Sink U.Sink object.new listing.new messages.new) self result }
         ensures again { (fault : AsmFault) → self.fault ≡ Some fault → (result ≡ Err fault)
@@ -178,7 +178,7 @@ impl Second {
         listing: &mut Option<T>,
         messages: &mut U,
     ) -> Result<AsmDone, AsmFault>
-        ensures ends { (program : Program) (source : List SourceLine) (first : Outputs) → SecondStands program source first
+        ensures ends { (program : Program) (source : List SourceLine) (first : Outputs) → SecondAfter program source first
             (outputs_of S.Sink T.Sink U.Sink object.old listing.old messages.old) self.old
             → SecondEnds program source first (outputs_of S.Sink T.Sink U.Sink object.new listing.new messages.new) self.old result }
         ensures again { (fault : AsmFault) → self.old.fault ≡ Some fault → (result ≡ Err fault)
@@ -201,7 +201,7 @@ impl Second {
 // placed in `placed`, one after the other.
 //
 // Errors: those of the pass, `Write` of an output, and `NoMemory` between two writes.
-fn take_left<S: Sink, T: Sink, U: Sink>(
+fn place_left<S: Sink, T: Sink, U: Sink>(
     pass: &mut SourcePass,
     map: &Map<'_>,
     writing: &mut Writing,
@@ -214,10 +214,10 @@ fn take_left<S: Sink, T: Sink, U: Sink>(
     requires { pass.old.fault ≡ None }
     ensures takes { (program : Program) (source : List SourceLine) (lines : List NumberedLine) (first : Outputs)
         → map.now ≡ program.map → number ≡ length source
-        → Taken program.map Definitions
+        → LiveLinesDone program.map Definitions
         (Wrote program first (outputs_of S.Sink T.Sink U.Sink object.old listing.old messages.old) writing.old) source lines
         pass.old.pass_state
-        → TakesLeft program source first (outputs_of S.Sink T.Sink U.Sink object.new listing.new messages.new)
+        → PlacesLeft program source first (outputs_of S.Sink T.Sink U.Sink object.new listing.new messages.new)
         pass.new.pass_state writing.new result }
     ensures goes_on { IfOk result (λ _. pass.new.fault ≡ None) }
     ensures needs { IfOk result (λ has_ended. has_ended ≡ false → pass.new.pass_state.unfolder.stage.left ≡ []) }

@@ -5,7 +5,7 @@ ghost use Rattle.m11_asm.specs.Passes.{pass_of};
 ghost use Rattle.m11_asm.specs.SecondReading.{PutsAll, PutsLines};
 ghost use Rattle.m11_base_writes.specs.Outputs.{Outputs, outputs_of};
 ghost use Rattle.m11_asm.specs.Program.{Program, program_in};
-ghost use Rattle.m11_asm.specs.Second.{SecondStands};
+ghost use Rattle.m11_asm.specs.Second.{SecondAfter};
 
 use crate::done::AsmDone;
 use crate::second::Second;
@@ -48,7 +48,7 @@ fn put_lines<F: Feed, S: Sink, T: Sink, U: Sink>(
     messages: &mut U,
 ) -> Result<(), AsmFault>
     ensures { (program : Program) (old : Outputs)
-        → SecondStands program [] old (outputs_of S.Sink T.Sink U.Sink object.old listing.old messages.old) second.old
+        → SecondAfter program [] old (outputs_of S.Sink T.Sink U.Sink object.old listing.old messages.old) second.old
         → PutsLines (pass_of F.text F.faults feeds.old feeds.new) program old
         (outputs_of S.Sink T.Sink U.Sink object.new listing.new messages.new) second.new result }
 {

@@ -21,7 +21,7 @@ ghost use Rattle.m11_asm_rules.specs.Tables.{Table};
 ghost use Rattle.m11_asm_lines.specs.Actions.{action_seen};
 ghost use Rattle.m11_scan.specs.Views.{bits_of};
 ghost use Rattle.m11_asm.specs.Program.{Program, program_kept, directory_facts_in};
-ghost use Rattle.m11_asm.specs.Writing.{WritingStands, begun, counted, counted_last, most_counted, opened};
+ghost use Rattle.m11_asm.specs.Writing.{WritingAfter, begun, counted, counted_last, most_counted, opened};
 ghost use Rattle.m11_asm.specs.Written.{added_writes, closing_writes, flagged_count, head_before, last_location, last_writes, line_writes, message_writes, pieces_in};
 ghost use Rattle.m11_unfold_rules.specs.Unfolding.{UnfoldedLine};
 ghost use Rattle.m11_scan_expressions.specs.Quantities.{quantity};
@@ -94,7 +94,7 @@ impl Writing {
         used_symbols: &UsedSymbols,
         facts: &Facts,
     ) -> Result<Writing, AllocError>
-        ensures { IfOk result (λ writing. WritingStands (program_kept first.now used_symbols.now facts.now) [] writing) }
+        ensures { IfOk result (λ writing. WritingAfter (program_kept first.now used_symbols.now facts.now) [] writing) }
     {
         let first_pass = first_pass_of(first, used_symbols, facts);
         Ok(Writing {
@@ -129,14 +129,14 @@ impl Writing {
         messages: &mut U,
     ) -> Result<(), AsmFault>
         ensures writes { (program : Program) (lines : List NumberedLine) (one : NumberedLine) (emission : Emission)
-            → WritingStands program lines self.old → IsPlaced program.map (table_at program.map lines) one.given line.now emission
+            → WritingAfter program lines self.old → IsPlaced program.map (table_at program.map lines) one.given line.now emission
             → emission.contents ≡ contents.now → number ≡ one.number → Writes
             (outputs_of S.Sink T.Sink U.Sink object.old listing.old messages.old)
             (outputs_of S.Sink T.Sink U.Sink object.new listing.new messages.new)
             (head_before program lines ++ line_writes program lines one) result }
         ensures stands { (program : Program) (lines : List NumberedLine) (one : NumberedLine) (emission : Emission)
-            → WritingStands program lines self.old → IsPlaced program.map (table_at program.map lines) one.given line.now emission
-            → emission.contents ≡ contents.now → number ≡ one.number → IfOk result (λ _. WritingStands program (lines ++ one ∷ []) self.new) }
+            → WritingAfter program lines self.old → IsPlaced program.map (table_at program.map lines) one.given line.now emission
+            → emission.contents ≡ contents.now → number ≡ one.number → IfOk result (λ _. WritingAfter program (lines ++ one ∷ []) self.new) }
     {
         self.begin(object)?;
         self.put_pieces(line, contents, object)?;
@@ -150,11 +150,11 @@ impl Writing {
     #[inline(always)]
     fn begin<S: Sink>(&mut self, object: &mut S) -> Result<(), AsmFault>
         ensures writes { (program : Program) (lines : List NumberedLine) (listing messages : OutputState)
-            → WritingStands program lines self.old → Writes
+            → WritingAfter program lines self.old → Writes
             (outputs (output_of S.Sink object.old) listing messages)
             (outputs (output_of S.Sink object.new) listing messages) (head_before program lines) result }
         ensures begins { IfOk result (λ _. self.new ≡ begun self.old) }
-        ensures fit { (program : Program) (lines : List NumberedLine) → WritingStands program lines self.old
+        ensures fit { (program : Program) (lines : List NumberedLine) → WritingAfter program lines self.old
             → IfOk result (λ _. AllFit (head_contents program.rows)) }
     {
         if self.has_begun {
@@ -251,15 +251,15 @@ impl Writing {
         listing: &mut Option<T>,
         messages: &mut U,
     ) -> Result<AsmDone, AsmFault>
-        ensures writes { (program : Program) (lines : List NumberedLine) → WritingStands program lines self.old
+        ensures writes { (program : Program) (lines : List NumberedLine) → WritingAfter program lines self.old
             → location ≡ last_location program lines → flagged_count program lines has_ended ≤ most_counted → Writes
             (outputs_of S.Sink T.Sink U.Sink object.old listing.old messages.old)
             (outputs_of S.Sink T.Sink U.Sink object.new listing.new messages.new)
             (last_writes program lines (record { read = read; has_end = has_ended })) result }
-        ensures counts { (program : Program) (lines : List NumberedLine) → WritingStands program lines self.old
+        ensures counts { (program : Program) (lines : List NumberedLine) → WritingAfter program lines self.old
             → flagged_count program lines has_ended ≤ most_counted
             → IfOk result (λ done. done.flagged ≡ flagged_count program lines has_ended) }
-        ensures fit { (program : Program) (lines : List NumberedLine) → WritingStands program lines self.old
+        ensures fit { (program : Program) (lines : List NumberedLine) → WritingAfter program lines self.old
             → OnOk result (AllFit (object_contents program.rows (pieces_in program.map lines))) }
         ensures flushed { OnOk result (AreFlushed (outputs_of S.Sink T.Sink U.Sink object.new listing.new messages.new)) }
     {

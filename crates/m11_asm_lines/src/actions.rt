@@ -6,7 +6,7 @@ ghost use Rattle.m11_asm_operands.specs.Reads.{fields_seen};
 ghost use Rattle.m11_asm_lines.specs.Actions as actions;
 ghost use Rattle.m11_asm_lines.specs.Actions.{AreActionTerms, IsWithin, action_seen, is_listed};
 ghost use Rattle.m11_scan_statements.specs.Labels.{labels_end};
-ghost use Rattle.m11_scan_statements.specs.Order.{BodyStands};
+ghost use Rattle.m11_scan_statements.specs.Order.{BodyLies};
 ghost use Rattle.m11_scan_statements.specs.Statements.{body_of};
 
 use m11_asm_instructions::{no_fields, operator_fields, single_fields};
@@ -63,7 +63,7 @@ pub fn action_fields(table: &Table, line: &Line, action: &Action) -> Fields
 }
 
 fn action_of(line: &Line, body: Body) -> Action
-    requires { BodyStands (labels_end line.now.text) (length line.now.text) body }
+    requires { BodyLies (labels_end line.now.text) (length line.now.text) body }
     ensures action { action_seen result ≡ spec.action_of line.now.text body }
     ensures within { IsWithin (length line.now.text) result }
     ensures listed { IsTrue (is_listed result) }

@@ -1,4 +1,4 @@
--- A field after which no other one stands adds no flags.
+-- A field after which no other one has_expression_at adds no flags.
 use Rattle.std.proofs.Common.{◌≡◌, ◌∙◌, ℕ, List, [], ◌∷◌, sym, ap}
 use Rattle.std.specs.Int.Bits.{or_zero_r}
 use Rattle.std.specs.Int.RustNames.{bit_or}

@@ -1,4 +1,4 @@
--- The elements of a list from a column on, by the one that stands first.
+-- The elements of a list from a column on, by the one that has_expression_at first.
 use Rattle.std.proofs.Common.{◌≡◌, ℕ, suc, Bool, true, false, not, if◌then◌else◌, List, Option, Some, None, refl, ap, sym, ◌∙◌}
 use Rattle.m11_scan.specs.Cutting.{tokens_from}
 use Rattle.m11_scan.specs.Ends.{expression_end}
@@ -7,20 +7,20 @@ use Rattle.m11_scan_statements.specs.Listed.{listed_name}
 use Rattle.m11_scan_statements.specs.declared.listed.ListedName.{ListedName}
 
 module _ (line : List ℕ) (left next begin : ℕ) (is : left ≡ suc next) where
-  stands : (found : Option ℕ) → next_element line (expression_end line begin) ≡ found
+  has_expression_at : (found : Option ℕ) → next_element line (expression_end line begin) ≡ found
       → elements_within left line begin
       ≡ elements_by (λ n. elements_within next line n) begin (expression_end line begin) found
-  stands found same =
+  has_expression_at found same =
       ap (λ (n : ℕ). elements_within n line begin) is
       ∙ ap (λ (f : Option ℕ). elements_by (λ n. elements_within next line n) begin (expression_end line begin) f) same
 
   pub last_on : next_element line (expression_end line begin) ≡ None
       → elements_within left line begin ≡ last_element begin (expression_end line begin)
-  last_on none = stands None none
+  last_on none = has_expression_at None none
 
   pub element_on : (column : ℕ) → next_element line (expression_end line begin) ≡ Some column
       → elements_within left line begin ≡ element_before begin (elements_within next line column)
-  element_on column some = stands (Some column) some
+  element_on column some = has_expression_at (Some column) some
 
   listed : (element : ListedName) → element ≡ listed_name begin (tokens_from line begin)
       → names_within left line begin ≡ names_by (λ n. names_within next line n) element

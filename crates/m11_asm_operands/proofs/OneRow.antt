@@ -1,4 +1,4 @@
--- The table of indices misses no row: at the index by a name's hash stands the row that a search of the lists finds.
+-- The table of indices misses no row: at the index by a name's hash has_expression_at the row that a search of the lists finds.
 use Rattle.std.proofs.Common.{◌≡◌, ℕ, zero, suc, Bool, true, false, cond, eqb, List, [], ◌∷◌, ◌++◌, Option, Some, None, find, get_or, refl, sym, ap, subst, ◌∙◌, arith}
 use Rattle.std.proofs.lemmas.Bool.{and_parts, eqb-true}
 use Rattle.std.proofs.lemmas.List.Folds.{find-append, find_at}

@@ -28,7 +28,7 @@ field_seen read = record { field = read.field; end = read.end; flags = bits_of r
 abbrev pub fields_seen : Fields → rules.Fields
 fields_seen fields = record { list = fields.list.items; end = fields.end; flags = bits_of fields.flags }
 
--- a field after which no other one stands
+-- a field after which no other one has_expression_at
 abbrev pub alone : rules.FieldAt → rules.Fields
 alone read = rules.before read (rules.no_fields read.end)
 

@@ -30,7 +30,7 @@ pub struct ListedNames {
     pub end: u8,
 }
 
-/// The elements of a list that begins at a column of a line: one at least. It ends where no comma stands next.
+/// The elements of a list that begins at a column of a line: one at least. It ends where no comma has_expression_at next.
 pub fn elements_at(line: &Line, column: usize) -> Elements
     requires { column ≤ length line.now.text }
     ensures columns { result.columns.items ≡ (spec.elements_at line.now.text column).columns }

@@ -22,7 +22,7 @@ use m11_unfold_arguments::after_comma;
 /// The fields of an instruction.
 #[derive(Drop)]
 pub struct Fields {
-    /// What stands in them, in the order in which they are written.
+    /// What has_expression_at in them, in the order in which they are written.
     pub list: ArrayVec<Field, 2>,
     /// The column after them.
     pub end: u8,
@@ -63,7 +63,7 @@ impl FieldTerms {
     }
 }
 
-// A field, as it stands in a line.
+// A field, as it has_expression_at in a line.
 #[derive(Clone, Copy)]
 pub struct FieldAt {
     pub(crate) field: Field,
@@ -173,7 +173,7 @@ fn two_fields(first: FieldAt, second: FieldAt) -> Fields
     }
 }
 
-// The field that stands after another one: after its comma, or else it is missing.
+// The field that has_expression_at after another one: after its comma, or else it is missing.
 fn field_after<N: Names>(line: &Line, end: u8, kind: FieldKind, names: &N) -> FieldAt
     requires { end ≤ length line.now.text }
     ensures field { alone (field_seen result) ≡ spec.fields_after
@@ -187,7 +187,7 @@ fn field_after<N: Names>(line: &Line, end: u8, kind: FieldKind, names: &N) -> Fi
     }
 }
 
-// A field before which its comma is missing. Nothing stands in it.
+// A field before which its comma is missing. Nothing has_expression_at in it.
 fn missing(kind: FieldKind, end: u8) -> FieldAt
     ensures field { alone (field_seen result) ≡ spec.missing_fields end (kind ∷ []) }
     ensures end { result.end ≡ end }
@@ -248,7 +248,7 @@ fn operand<N: Names>(line: &Line, start: usize, names: &N) -> FieldAt
     }
 }
 
-// A field that is an expression at a column, or with flags where none stands there.
+// A field that is an expression at a column, or with flags where none has_expression_at there.
 fn expression(line: &Line, start: u8, field: Field, flags: ErrorFlags) -> FieldAt
     requires { start ≤ length line.now.text }
     ensures field { field_seen result
@@ -258,7 +258,7 @@ fn expression(line: &Line, start: u8, field: Field, flags: ErrorFlags) -> FieldA
     ensures term { IfSome result.term (λ term. IsAlone line.now.text start term) }
 {
     let expression_end = expression_end_at(line, usize::from(start));
-    if stands(line, start, expression_end.term) {
+    if has_expression_at(line, start, expression_end.term) {
         FieldAt {
             field,
             end: expression_end.end,
@@ -275,8 +275,8 @@ fn expression(line: &Line, start: u8, field: Field, flags: ErrorFlags) -> FieldA
     }
 }
 
-// Whether an expression stands at a column. Where it is found to be one term, this is its token, and no token need be cut.
-fn stands(line: &Line, start: u8, term: Option<Token>) -> bool
+// Whether an expression has_expression_at at a column. Where it is found to be one term, this is its token, and no token need be cut.
+fn has_expression_at(line: &Line, start: u8, term: Option<Token>) -> bool
     requires within { start ≤ length line.now.text }
     requires term { IfSome term (λ term. IsAlone line.now.text start term) }
     ensures { result ≡ has_expression line.now.text start }

@@ -1,4 +1,4 @@
-//! The operand that stands at a column of a line. (MACRO-11 Language Reference Manual, "Addressing modes"; PDP-11/40 Processor Handbook,
+//! The operand that has_expression_at at a column of a line. (MACRO-11 Language Reference Manual, "Addressing modes"; PDP-11/40 Processor Handbook,
 //! "Addressing modes".)
 
 ghost use Rattle.std.specs.Prelude.{◌≡◌, ◌<◌, ◌≤◌, ◌∷◌, [], IfSome, MatchOption, length, Option};
@@ -21,14 +21,14 @@ use m11_scan_expressions::{
     ExpressionEnd, Names, column_in, expression_end_at, expression_end_from, value_by,
 };
 
-/// An operand, as it stands in a line.
+/// An operand, as it has_expression_at in a line.
 #[derive(Clone, Copy)]
 pub struct OperandAt {
     /// Its form.
     pub form: Form,
     /// The column after it.
     pub end: u8,
-    /// A where nothing stands there, or where a `)` is missing.
+    /// A where nothing has_expression_at there, or where a `)` is missing.
     pub flags: ErrorFlags,
     /// The token of its expression, where it has one and this is found to be one term; of `X(R)` that of the register.
     pub term: Option<Token>,
@@ -68,7 +68,7 @@ fn operand_by<N: Names>(line: &Line, start: usize, token: Token, names: &N) -> O
     }
 }
 
-// Nothing stands there.
+// Nothing has_expression_at there.
 fn absent(line: &Line, start: usize) -> OperandAt
     requires { start ≤ length line.now.text }
     ensures read { read_seen result ≡ spec.read Absent start flag_A }
@@ -83,7 +83,7 @@ fn absent(line: &Line, start: usize) -> OperandAt
     }
 }
 
-// What stands after `@`.
+// What has_expression_at after `@`.
 fn deferred<N: Names>(line: &Line, start: usize, names: &N) -> OperandAt
     requires { start ≤ length line.now.text }
     ensures read { read_seen result ≡ spec.deferred_by (known_by (N.base names.now) (N.stands_for names.now))
@@ -141,7 +141,7 @@ fn immediate(line: &Line, is_deferred: bool, start: u8) -> OperandAt
     }
 }
 
-// What stands after `-`, at a column of its own: `(` directly after it, or else the `-` is a sign.
+// What has_expression_at after `-`, at a column of its own: `(` directly after it, or else the `-` is a sign.
 fn after_minus<N: Names>(
     line: &Line,
     is_deferred: bool,
@@ -267,7 +267,7 @@ fn is_register_at<N: Names>(line: &Line, start: usize, term: Option<Token>, name
     value_by(line, start, term, names).kind.is_register()
 }
 
-// The register after `(`, and what stands after it.
+// The register after `(`, and what has_expression_at after it.
 fn bracketed(line: &Line, is_deferred: bool, register: u8) -> OperandAt
     requires { register ≤ length line.now.text }
     ensures read { read_seen result ≡ spec.bracketed is_deferred line.now.text register }
@@ -292,7 +292,7 @@ fn bracketed(line: &Line, is_deferred: bool, register: u8) -> OperandAt
     }
 }
 
-// What stands after `(R)`: `+`, or nothing. Where the register is one term, this is its token.
+// What has_expression_at after `(R)`: `+`, or nothing. Where the register is one term, this is its token.
 fn stepped(line: &Line, is_deferred: bool, register: u8, term: Option<Token>, end: u8) -> OperandAt
     requires within { end ≤ length line.now.text }
     requires term { IfSome term (λ term. IsAlone line.now.text register term) }
@@ -317,7 +317,7 @@ fn stepped(line: &Line, is_deferred: bool, register: u8, term: Option<Token>, en
     }
 }
 
-// A form with the register that stands after its `(`: `)` stands next. The term of such a form is that of its register.
+// A form with the register that has_expression_at after its `(`: `)` has_expression_at next. The term of such a form is that of its register.
 fn closed(line: &Line, form: Form, register: u8) -> OperandAt
     requires within { register ≤ length line.now.text }
     requires form { (term : Option Token) → IfSome term (λ term. IsAlone line.now.text register term)

@@ -3,6 +3,7 @@
 ghost use Rattle.std.specs.Prelude.{◌≡◌, ◌<◌, List, [], ◌∷◌, ◌++◌, All, OnOk};
 ghost use Rattle.std.specs.List.{AllByRecursion};
 ghost use Rattle.std.specs.Option.{option_to_list};
+ghost use Rattle.m11_obj_blocks.specs.Frames.{block};
 ghost use Rattle.m11_obj.specs.Records.{Content, EndOfGsd, EndOfModule};
 ghost use Rattle.m11_obj_texts.specs.Blocks.{AreRecords};
 ghost use Rattle.m11_obj_texts.specs.OpenText.{records_in};
@@ -13,7 +14,7 @@ ghost use Rattle.m11_asm_rules.specs.Contents.{content_size, further, pieces_fro
 ghost use Rattle.m11_base_writes.specs.States.{OutputState, output_of};
 ghost use Rattle.m11_asm_outputs.specs.Object.{AllFit, BlockFits, IsOpenAfter, WaitsAfter, block_writes, content_writes, head_contents, last_records, records_closed_by, records_filled_by, rest_records};
 ghost use Rattle.m11_asm_outputs.specs.Outputs.{Writes};
-ghost use Rattle.m11_base_writes.specs.Outputs.{outputs};
+ghost use Rattle.m11_base_writes.specs.Outputs.{outputs, to_product};
 
 use m11_asm_faults::AsmFault;
 use m11_base::{Name, Sink};

@@ -54,10 +54,10 @@ last_more key (first ∷ definitions) one =
     ∙ last_by (is_same one.key key) (last_definition key definitions) first one (is_same first.key key)
 
 -- the last definition of a key, in a table
-abbrev pub StandsIn : Key → Definition → Table → Type 0
-StandsIn key label table = last_definition key table.definitions ≡ Some label
+abbrev pub IsAtLevel : Key → Definition → Table → Type 0
+IsAtLevel key label table = last_definition key table.definitions ≡ Some label
 
-pub stands_now : (key : Key) (label : Definition) (table : Table) → label.key ≡ key → StandsIn key label (with_definition label table)
+pub stands_now : (key : Key) (label : Definition) (table : Table) → label.key ≡ key → IsAtLevel key label (with_definition label table)
 stands_now key label table same =
     last_more key table.definitions label
     ∙ ap (λ (b : Bool). if b then Some label else last_definition key table.definitions)
@@ -67,7 +67,7 @@ stands_now key label table same =
 
 module _ (key : Key) (label : Definition) (is_label : is_some label.label ≡ true) where
   abbrev Stands : Table → Type 0
-  Stands table = StandsIn key label table
+  Stands table = IsAtLevel key label table
 
   not_defined : (definitions : List Definition) → last_definition key definitions ≡ Some label
       → is_defined key definitions ≡ false → ⊥

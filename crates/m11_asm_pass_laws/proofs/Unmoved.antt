@@ -34,7 +34,7 @@ use Rattle.m11_scan_statements.specs.declared.labels.LabelKind.TheVariants as ki
 use Rattle.m11_unfold_rules.specs.Stages.{Stage}
 use Rattle.m11_unfold_rules.specs.Unfolding.{UnfoldedLine}
 use Rattle.m11_asm_pass_laws.proofs.Freely.{begins_with}
-use Rattle.m11_asm_pass_laws.proofs.Labelled.{StandsIn, change_stays, labels_stay, lines_stay, stands_now}
+use Rattle.m11_asm_pass_laws.proofs.Labelled.{IsAtLevel, change_stays, labels_stay, lines_stay, stands_now}
 use Rattle.m11_asm_pass_laws.proofs.KnownAlike.{PlaceAlike, after_both}
 use Rattle.m11_asm_pass_laws.specs.Beginnings.{BeginWith}
 use Rattle.m11_asm_pass_laws.specs.Ends.{EndsAfter}
@@ -42,7 +42,7 @@ use Rattle.m11_asm_pass_laws.specs.Second.{map_from, moved_after}
 
 -- labels of the first table stand in the second
 abbrev Keeps : Table → Table → Type 0
-Keeps table final = (key : Key) (label : Definition) → is_some label.label ≡ true → StandsIn key label table → StandsIn key label final
+Keeps table final = (key : Key) (label : Definition) → is_some label.label ≡ true → IsAtLevel key label table → IsAtLevel key label final
 
 -- ---- a location is the location of itself
 
@@ -82,7 +82,7 @@ module _ (map : Map) (final : Table)
   unmoved_by false true found = refl
   unmoved_by false false found = absurd (let same = found refl in cc same)
 
-  key_unmoved : (table : Table) (key : Key) → (is_defined key table.definitions ≡ false → StandsIn key (labelled table key) final)
+  key_unmoved : (table : Table) (key : Key) → (is_defined key table.definitions ≡ false → IsAtLevel key (labelled table key) final)
       → moved_key map table key ≡ 0
   key_unmoved table key stands =
       unmoved_by (is_defined key table.definitions) (is_location_of table (last_definition key map.definitions))
@@ -90,14 +90,14 @@ module _ (map : Map) (final : Table)
 
   -- a label of a key that has no definition defines it
   name_by : (is_there is_global : Bool) (table : Table) (name : Name) → is_there ≡ false
-      → StandsIn (Named name) (labelled table (Named name)) (if is_there then with_doubly_defined (Named name) table
+      → IsAtLevel (Named name) (labelled table (Named name)) (if is_there then with_doubly_defined (Named name) table
       else global_if is_global name (with_block (with_definition (labelled table (Named name)) table)))
   name_by true is_global table name none = absurd (cc)
   name_by false true table name none = stands_now (Named name) (labelled table (Named name)) table refl
   name_by false false table name none = stands_now (Named name) (labelled table (Named name)) table refl
 
   key_by : (is_there : Bool) (table : Table) (key : Key) → is_there ≡ false
-      → StandsIn key (labelled table key) (if is_there then with_doubly_defined key table else with_definition (labelled table key) table)
+      → IsAtLevel key (labelled table key) (if is_there then with_doubly_defined key table else with_definition (labelled table key) table)
   key_by true table key none = absurd (cc)
   key_by false table key none = stands_now key (labelled table key) table refl
 

@@ -56,7 +56,7 @@ use Rattle.m11_asm_passes.specs.Lines as lines
 use Rattle.m11_asm_passes.specs.Operated.{change_after, uses_after}
 use Rattle.m11_asm_passes.specs.Placed.{live_in}
 use Rattle.m11_asm_passes.specs.Refusals.{given_by, line_fault}
-use Rattle.m11_asm_passes.specs.States.{PassState, GoesOnUntil, PassStands}
+use Rattle.m11_asm_passes.specs.States.{PassState, GoesOnUntil, PassAfter}
 use Rattle.m11_asm_passes.specs.Turns.{LeavesAfter, Places, LineFact, SaysLive, SaysPlaced}
 use Rattle.m11_asm_passes.specs.declared.begun.LabelledLine.{LabelledLine}
 use Rattle.m11_asm_listing.specs.declared.items.Item.{Item}
@@ -77,7 +77,7 @@ module _ (unfolder : UnfolderState) (kept : TableState) (counting before : Count
       subst P (sym none) (subst S (sym is_fresh) (first_sound kept matches), subst G (sym is_fresh) refl)
 
   pub new_stands : (emission : Emission) (map_ : Map)
-      → PassStands map_ before [] [] (record { unfolder = unfolder; kept = kept; counting = counting; emission = emission })
+      → PassAfter map_ before [] [] (record { unfolder = unfolder; kept = kept; counting = counting; emission = emission })
   new_stands emission map_ =
       let L : UnfolderState → Type 0 = λ u. PassLines map_ before [] [] u.stage in
       record { lines_are = subst L (sym is_fresh) lines.PassLines.Begins; matches = matches; counting = same }

@@ -28,7 +28,7 @@ use Rattle.m11_asm_passes.specs.Placed.{live_in}
 use Rattle.m11_asm_passes.specs.Reaching.{Exceeds, PlacesLine, Reaches, Refused}
 use Rattle.m11_asm_passes.specs.Reaching as reaching
 use Rattle.m11_asm_passes.specs.Refusals.{given_by, line_fault}
-use Rattle.m11_asm_passes.specs.States.{PassState, PassStands, fed}
+use Rattle.m11_asm_passes.specs.States.{PassState, PassAfter, fed}
 use Rattle.m11_asm_passes.specs.Turns.{FailsAt, IsUnplaced, PlacesAfter, PlacesNext, LineFact, SaysLive, SaysPlaced, Turns}
 use Rattle.m11_asm_passes.specs.Turns as turning
 use Rattle.m11_asm_passes.specs.declared.placed.LiveLine.{LiveLine}
@@ -66,17 +66,17 @@ module _ (map_ : Map) (before : Counting) where
       ∙ counting_more map_ first_table (givens all) one.given before
 
   pub feeds : (source : List SourceLine) (all : List NumberedLine) (line : SourceLine) (pass_state : PassState)
-      → PassStands map_ before source all pass_state → pass_state.unfolder.stage.left ≡ [] → pass_state.unfolder.stage.has_ended ≡ false
-      → PassStands map_ before (source ++ line ∷ []) all (fed line pass_state)
+      → PassAfter map_ before source all pass_state → pass_state.unfolder.stage.left ≡ [] → pass_state.unfolder.stage.has_ended ≡ false
+      → PassAfter map_ before (source ++ line ∷ []) all (fed line pass_state)
   feeds source all line pass_state stands none goes = record {
     lines_are = lines.PassLines.Reading source all pass_state.unfolder.stage line stands.lines_are none goes;
     matches = stands.matches;
     counting = stands.counting;
   }
 
-  module _ (source : List SourceLine) (all : List NumberedLine) (old : PassState) (stands : PassStands map_ before source all old) where
+  module _ (source : List SourceLine) (all : List NumberedLine) (old : PassState) (stands : PassAfter map_ before source all old) where
     rests : (new : PassState) → IsUnplaced old new → PassLines map_ before source all new.unfolder.stage
-        → PassStands map_ before source all new
+        → PassAfter map_ before source all new
     rests new unplaced lines_are =
         let P : TableState → Type 0 = λ k. Matches k (table_at map_ all) in
         record {
@@ -160,20 +160,20 @@ module _ (map_ : Map) (before : Counting) where
     turned new live said (Err fault) fails = refused fault fails
 
 turns : (map_ : Map) (before : Counting) (source : List SourceLine) (all : List NumberedLine) (old new : PassState)
-    (live : Live) (said : LineFact) (result : Result Turn AsmFault) → PassStands map_ before source all old
+    (live : Live) (said : LineFact) (result : Result Turn AsmFault) → PassAfter map_ before source all old
     → Turns map_ old new live said result → Reaches map_ before source all new live said result
 turns map_ before source all old new live said result stands turned_so =
     turned map_ before source all old stands new live said result turned_so
 
 pub next_turns : (map_ : Map) (before : Counting) (source : List SourceLine) (all : List NumberedLine) (old new : PassState)
-    (placed : PlacedLine) (result : Result Turn AsmFault) → PassStands map_ before source all old
+    (placed : PlacedLine) (result : Result Turn AsmFault) → PassAfter map_ before source all old
     → Turns map_ old new (live_in placed.live) (SaysPlaced map_ placed new.emission) result
     → Reaches map_ before source all new (live_in placed.live) (SaysPlaced map_ placed new.emission) result
 next_turns map_ before source all old new placed result stands turned_so =
     turns map_ before source all old new (live_in placed.live) (SaysPlaced map_ placed new.emission) result stands turned_so
 
 pub define_turns : (before : Counting) (source : List SourceLine) (all : List NumberedLine) (old new : PassState)
-    (live : LiveLine) (result : Result Turn AsmFault) → PassStands empty_map before source all old
+    (live : LiveLine) (result : Result Turn AsmFault) → PassAfter empty_map before source all old
     → Turns empty_map old new (live_in live) (SaysLive live) result
     → Reaches empty_map before source all new (live_in live) (SaysLive live) result
 define_turns before source all old new live result stands turned_so =

@@ -18,7 +18,7 @@ use Rattle.m11_asm_lines.specs.declared.counting.Counting.{Counting}
 use Rattle.m11_asm_lines.specs.declared.labels.LabelFlags.{LabelFlags}
 use Rattle.m11_asm_passes.specs.Refusals.{labels_fault, uses_of_labels}
 
-pub record LabelsStand (map : Map) (counting : Counting) (line : Bytes) (table : Table) (new : TableState) (flags : LabelFlags) : Type 0 where
+pub record LabelsLie (map : Map) (counting : Counting) (line : Bytes) (table : Table) (new : TableState) (flags : LabelFlags) : Type 0 where
   pub fits : labels_fault counting table line ≡ None
   pub matches : Matches new (labels_stand table line)
   pub doubly_defined : bits_of flags.doubly_defined ≡ labels_flags line table (labels_at line)
@@ -27,7 +27,7 @@ pub record LabelsStand (map : Map) (counting : Counting) (line : Bytes) (table :
 -- whatever the lines before it are
 abbrev pub Labels : Map → Counting → Bytes → TableState → TableState → LabelFlags → Type 0
 Labels map counting line old new flags =
-    (table : Table) → Matches old table → LabelsStand map counting line table new flags
+    (table : Table) → Matches old table → LabelsLie map counting line table new flags
 
 -- memory was refused at one of the labels: the names that are counted up to it are none too many, or all that are counted are none too
 -- many, and neither are the names and local symbols that the table defines up to it

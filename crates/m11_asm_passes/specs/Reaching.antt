@@ -12,7 +12,7 @@ use Rattle.m11_asm_rules.specs.Meanings.{Map}
 use Rattle.m11_asm_lines.specs.declared.counting.Counting.{Counting}
 use Rattle.m11_asm_passes.specs.Lines.{NumberedLine, PassLines, counting_at, numbered, table_at}
 use Rattle.m11_asm_passes.specs.Refusals.{given_by, line_fault}
-use Rattle.m11_asm_passes.specs.States.{PassState, PassStands}
+use Rattle.m11_asm_passes.specs.States.{PassState, PassAfter}
 use Rattle.m11_asm_passes.specs.Turns.{LineFact}
 use Rattle.m11_asm_passes.specs.declared.turns.Turn.{Turn}
 use Rattle.m11_asm_passes.specs.declared.turns.Turn.TheVariants.{NeedLine, End, Line}
@@ -37,13 +37,13 @@ Refused map counting source lines fault = Exceeds map counting source lines faul
 pub record PlacesLine (map : Map) (before : Counting) (source : List SourceLine) (lines : List NumberedLine) (new : PassState)
     (live : Live) (said : LineFact) : Type 0 where
   pub stage : Stage
-  pub stands : PassStands map before source
+  pub stands : PassAfter map before source
       (lines ++ numbered (length source) (given_by (table_at map lines) live stage) ∷ []) new
   pub is_said : said (table_at map lines) (given_by (table_at map lines) live stage)
 
 abbrev pub Reaches : Map → Counting → List SourceLine → List NumberedLine → PassState → Live → LineFact → Result Turn AsmFault → Type 0
 Reaches map before source lines new live said (Ok NeedLine) =
-    PassStands map before source lines new × (new.unfolder.stage.left ≡ []) × (new.unfolder.stage.has_ended ≡ false)
-Reaches map before source lines new live said (Ok End) = PassStands map before source lines new × (new.unfolder.stage.has_ended ≡ true)
+    PassAfter map before source lines new × (new.unfolder.stage.left ≡ []) × (new.unfolder.stage.has_ended ≡ false)
+Reaches map before source lines new live said (Ok End) = PassAfter map before source lines new × (new.unfolder.stage.has_ended ≡ true)
 Reaches map before source lines new live said (Ok Line) = PlacesLine map before source lines new live said
 Reaches map before source lines new live said (Err fault) = Refused map before source lines fault

@@ -42,7 +42,7 @@ GoesOnUntil None fault = fault ≡ None
 GoesOnUntil (Some stopped) fault = Unit {0}
 
 -- a pass under a map, of which it is given which names count before its first line, stands after the live lines of a source
-pub record PassStands (map : Map) (before : Counting) (source : List SourceLine) (lines : List NumberedLine) (pass_state : PassState) : Type 0 where
+pub record PassAfter (map : Map) (before : Counting) (source : List SourceLine) (lines : List NumberedLine) (pass_state : PassState) : Type 0 where
   pub lines_are : PassLines map before source lines pass_state.unfolder.stage
   pub matches : Matches pass_state.kept (table_at map lines)
   pub counting : pass_state.counting ≡ counting_at map before lines

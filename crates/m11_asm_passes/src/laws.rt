@@ -7,7 +7,7 @@ ghost use Rattle.m11_asm_rules.specs.Meanings.{Map, empty_map};
 ghost use Rattle.m11_asm_lines.specs.declared.counting.Counting.{Counting};
 ghost use Rattle.m11_asm_passes.specs.Lines.{NumberedLine};
 ghost use Rattle.m11_asm_passes.specs.Reaching.{Reaches};
-ghost use Rattle.m11_asm_passes.specs.States.{PassState, PassStands, fed};
+ghost use Rattle.m11_asm_passes.specs.States.{PassState, PassAfter, fed};
 ghost use Rattle.m11_asm_passes.specs.Placed.{live_in};
 ghost use Rattle.m11_asm_passes.specs.Turns.{SaysLive, SaysPlaced, Turns};
 ghost use Rattle.m11_asm_passes.specs.declared.placed.LiveLine.{LiveLine};
@@ -20,14 +20,14 @@ ghost use Rattle.m11_asm_passes.specs.declared.turns.Turn.{Turn};
 #[tactic(auto, using(crate::proofs::Standing::feeds, crate::proofs::Standing::next_turns, crate::proofs::Standing::define_turns))]
 pub fn the_calls_place_the_lines_of_a_source()
     ensures feeds { (map : Map) (before : Counting) (source : List SourceLine) (lines : List NumberedLine) (line : SourceLine) (pass_state : PassState)
-        → PassStands map before source lines pass_state → pass_state.unfolder.stage.left ≡ [] → pass_state.unfolder.stage.has_ended ≡ false
-        → PassStands map before (source ++ line ∷ []) lines (fed line pass_state) }
+        → PassAfter map before source lines pass_state → pass_state.unfolder.stage.left ≡ [] → pass_state.unfolder.stage.has_ended ≡ false
+        → PassAfter map before (source ++ line ∷ []) lines (fed line pass_state) }
     ensures turns { (map : Map) (before : Counting) (source : List SourceLine) (lines : List NumberedLine) (old new : PassState)
-        (placed : PlacedLine) (result : Result Turn AsmFault) → PassStands map before source lines old
+        (placed : PlacedLine) (result : Result Turn AsmFault) → PassAfter map before source lines old
         → Turns map old new (live_in placed.live) (SaysPlaced map placed new.emission) result
         → Reaches map before source lines new (live_in placed.live) (SaysPlaced map placed new.emission) result }
     ensures defines { (before : Counting) (source : List SourceLine) (lines : List NumberedLine) (old new : PassState)
-        (live : LiveLine) (result : Result Turn AsmFault) → PassStands empty_map before source lines old
+        (live : LiveLine) (result : Result Turn AsmFault) → PassAfter empty_map before source lines old
         → Turns empty_map old new (live_in live) (SaysLive live) result
         → Reaches empty_map before source lines new (live_in live) (SaysLive live) result }
 {}

@@ -8,7 +8,7 @@ ghost use Rattle.m11_asm_lines.specs.Passes.{size_at};
 ghost use Rattle.m11_unfold.specs.Unfolder.{needs_line};
 ghost use Rattle.m11_unfold_rules.specs.Stages.{start};
 ghost use Rattle.m11_asm_passes.specs.Placed.{live_in};
-ghost use Rattle.m11_asm_passes.specs.States.{PassStands, fed};
+ghost use Rattle.m11_asm_passes.specs.States.{PassAfter, fed};
 ghost use Rattle.m11_asm_passes.specs.Turns.{IsEmpty, IsNext, SaysLive, SaysPlaced, Turns};
 ghost use Rattle.m11_asm_rules.specs.Meanings.{Map as Meanings, empty_map};
 
@@ -50,7 +50,7 @@ impl Model for SourcePass {
 impl SourcePass {
     /// Before the first line, with the names that count so far beside those that the table defines. Error: memory may be refused.
     pub fn new(alloc: Global, counting: Counting) -> Result<SourcePass, AllocError>
-        ensures stands { IfOk result (λ pass. (map : Meanings) → PassStands map counting [] [] pass.pass_state) }
+        ensures stands { IfOk result (λ pass. (map : Meanings) → PassAfter map counting [] [] pass.pass_state) }
         ensures begins { IfOk result (λ pass. pass.pass_state.unfolder.stage ≡ start []) }
         ensures goes_on { IfOk result (λ pass. pass.fault ≡ None) }
     {

@@ -11,7 +11,8 @@ use Rattle.m11_base.specs.Rad50.{Name}
 use Rattle.m11_scan.specs.Cutting.{Lexeme, tokens_from}
 use Rattle.m11_scan.specs.ErrorFlags.{flag_A, flag_if}
 use Rattle.m11_scan_statements.specs.Listed.{is_comma}
-use Rattle.m11_obj.specs.Attributes.{Attribute, attribute_named, has_attribute, with_attribute}
+use Rattle.m11_obj.specs.Attributes.{attribute_named, has_attribute, with_attribute}
+use Rattle.m11_obj.specs.declared.attributes.Attribute.{Attribute}
 use Rattle.m11_asm_rules.specs.Elements.{Names, bad_flags, names_at, next_element, texts_of}
 use Rattle.m11_asm_rules.specs.Changes.{Change, Keeps, Selects}
 use Rattle.m11_asm_rules.specs.Sections.{Section, number_of, numbered, of_absolute, of_control, of_program}

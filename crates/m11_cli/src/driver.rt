@@ -63,13 +63,13 @@ where
         × (result ≡ status_of outcome) × LeavesConsole outcome input.old input.new }
 {
     let outcome = outcome_of(alloc, files, input, out, err, words);
-    finish(&outcome, err)
+    report_outcome(&outcome, err)
 }
 
 // Reports the line of the outcome's fault, and gives the status. Where the line cannot be reported,
 // the status still reports the fault.
 #[tactic(auto, using(m11_cli_reports::proofs::Reporting::reports))]
-fn finish<E: Sink>(outcome: &Outcome, err: &mut E) -> u8
+fn report_outcome<E: Sink>(outcome: &Outcome, err: &mut E) -> u8
     ensures status { result ≡ status_of outcome.now }
     ensures line { Reports (line_of outcome.now)
         (output_of E.Sink err.old) (output_of E.Sink err.new) }

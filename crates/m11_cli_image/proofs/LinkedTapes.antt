@@ -11,7 +11,7 @@ use Rattle.m11_base_writes.specs.declared.outputs.Output.TheVariants.{Product}
 use Rattle.m11_link.specs.Objects.{AreItems, Item, outcome, taken, unless_too_large}
 use Rattle.m11_link.specs.Outputs.{link}
 use Rattle.m11_link.specs.Written.{link_writes}
-use Rattle.m11_link.proofs.ItemsTaken.{PartsOrFault, bind_on}
+use Rattle.m11_link.proofs.ItemsAccepted.{PartsOrFault, bind_on}
 use Rattle.m11_link_laws.specs.LinkedTexts.{has_data, tape_blocks}
 use Rattle.m11_link_laws.proofs.RunsDecided.{taken_of}
 use Rattle.m11_link_laws.proofs.TapesOfObjects.{objects_make_a_tape}

@@ -83,15 +83,15 @@ is_tape blocks start a b c given took held last =
 -- ---- where a reader stands
 
 -- it reads the next part so
-abbrev pub StandsBefore : TapeStage → (List ℕ → Read TapeFault TapePart) → Type 0
-StandsBefore BeforeBlock read = read ≡ first_part
-StandsBefore (InBlock left total) read = (left ≡ 0) × (read ≡ next_part total)
-StandsBefore (AtEnd address) read = ⊥
-StandsBefore AfterFault read = ⊥
+abbrev pub IsBeforePart : TapeStage → (List ℕ → Read TapeFault TapePart) → Type 0
+IsBeforePart BeforeBlock read = read ≡ first_part
+IsBeforePart (InBlock left total) read = (left ≡ 0) × (read ≡ next_part total)
+IsBeforePart (AtEnd address) read = ⊥
+IsBeforePart AfterFault read = ⊥
 
 pub next_is : (stage : TapeStage) (read : Reader) (old new : Position) (after : TapeStage)
     (result : Result TapePart TapeFault)
-    → StandsBefore stage read → ReadsNext stage old new after result
+    → IsBeforePart stage read → ReadsNext stage old new after result
     → ReadsPart (λ part. part) read old new result × (after ≡ stage_after result)
 next_is BeforeBlock read old new after result stands r = rw stands r
 next_is (InBlock left total) read old new after result stands r = rw stands.1 r

@@ -14,13 +14,13 @@ use Rattle.m11_cpu.specs.declared.fault.LoadFault.{LoadFault}
 use Rattle.m11_cpu.specs.declared.fault.LoadFault.TheVariants.{Tape, OutsideMemory}
 use Rattle.m11_cpu.specs.Loading.{with_bytes, AreInside, part_after, PutBlocks, PutSome, LoadsTape, InsideData, Loads, LoadsFrom, PutsData, CountsFailure}
 use Rattle.m11_cpu.proofs.BytesPut.{block_put, block_inside}
-use Rattle.m11_cpu.proofs.BlocksRead.{after_more, hold_more, is_tape, StandsBefore, next_is}
+use Rattle.m11_cpu.proofs.BlocksRead.{after_more, hold_more, is_tape, IsBeforePart, next_is}
 
 -- these blocks were given and put, and the reader stands before the part after them
 pub record Loading (old here : Position) (before now : List ℕ) (stage : TapeStage) (blocks : List (ℕ × List ℕ)) : Type
     0 where
   pub put : PutBlocks old here before now blocks
-  pub stands : StandsBefore stage (part_after first_part blocks)
+  pub stands : IsBeforePart stage (part_after first_part blocks)
   pub size : length now ≡ length before
 
 pub none_loaded : (old : Position) (before : List ℕ) → Loading old old before before BeforeBlock []
@@ -30,7 +30,7 @@ none_loaded old before = record {
   size = refl;
 }
 
-none_left : (stage : TapeStage) (blocks : List (ℕ × List ℕ)) → StandsBefore stage (part_after first_part blocks)
+none_left : (stage : TapeStage) (blocks : List (ℕ × List ℕ)) → IsBeforePart stage (part_after first_part blocks)
     → left_of stage ≡ 0
 none_left BeforeBlock blocks stands = refl
 none_left (InBlock left total) blocks stands = stands.0

@@ -15,7 +15,7 @@ use Rattle.m11_cpu_laws.proofs.AddressesTrap.{load_byte_bad, load_byte_traps, lo
 use Rattle.m11_cpu_laws.proofs.Parts.{parts}
 use Rattle.m11_cpu_laws.proofs.StatusStored.{bind_then}
 use Rattle.m11_cpu_laws.proofs.StepsInMemory.{leads_then}
-use Rattle.m11_cpu_laws.proofs.StopsStand.{at_once}
+use Rattle.m11_cpu_laws.proofs.StopsLast.{at_once}
 
 -- ---- what comes at once
 

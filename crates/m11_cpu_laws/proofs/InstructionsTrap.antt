@@ -44,7 +44,7 @@ use Rattle.m11_cpu_laws.specs.Writes.{push_address, stack_deepened}
 use Rattle.m11_cpu_laws.proofs.AccessesTrap.{Accesses, bind_never, comes_never, is_reached, load_byte_at, load_word_at, never_traps, NeverAt4, one_access, store_byte_at, store_word_at, then_accesses, then_quiet, through_access}
 use Rattle.m11_cpu_laws.proofs.AddressesTrap.{load_byte_traps, load_word_traps}
 use Rattle.m11_cpu_laws.proofs.MemoryKept.{fetch_quiet}
-use Rattle.m11_cpu_laws.proofs.StopsStand.{at_once}
+use Rattle.m11_cpu_laws.proofs.StopsLast.{at_once}
 use Rattle.m11_cpu_laws.proofs.WordsPut.{put_other}
 
 done_never : {A : Type 0} (x : A) (n : Machine) → NeverAt4 {A = A} (Comes (Ok x, n))

@@ -28,7 +28,7 @@ pub mod StepsInMemory
 pub mod StepsWrite
 pub mod StepsKeepRegisters
 pub mod StepsReport
-pub mod StopsStand
+pub mod StopsLast
 pub mod TargetsFormed
 pub mod TracesFollow
 pub mod TrapsBack

@@ -5,7 +5,7 @@ use Rattle.m11_cpu_machine.specs.Dialogue.{after, Asked, Asks, Comes, Dialogue, 
 use Rattle.m11_cpu_laws.specs.Exchanges.{ComesWithin}
 use Rattle.m11_cpu_machine.specs.declared.abort.Abort.{Abort}
 use Rattle.m11_cpu_machine.specs.declared.machine.Machine.{Machine}
-use Rattle.m11_cpu_laws.proofs.StopsStand.{at_once}
+use Rattle.m11_cpu_laws.proofs.StopsLast.{at_once}
 
 -- ---- a dialogue and the one after it
 

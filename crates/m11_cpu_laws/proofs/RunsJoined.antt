@@ -7,11 +7,11 @@ use Rattle.m11_cpu_machine.specs.declared.stop.Stop.TheVariants.{Limit}
 use Rattle.m11_cpu_machine.specs.declared.stop.Turn.{Turn}
 use Rattle.m11_cpu_machine.specs.declared.stop.Turn.TheVariants.{Next, Stopped}
 use Rattle.m11_cpu_machine.specs.Dialogue.{after, Asked, Asks, Comes, Dialogue, Exchange, Leads, Sends, Sent}
-use Rattle.m11_cpu_laws.specs.Laws.{AreJoined, StopStands}
+use Rattle.m11_cpu_laws.specs.Laws.{AreJoined, StopLasts}
 use Rattle.m11_cpu.specs.Runs.{following, one_more, run_counted}
 use Rattle.m11_cpu_machine.specs.Steps.{step}
 use Rattle.m11_cpu_machine.proofs.Dialogues.{leads_after}
-use Rattle.m11_cpu_laws.proofs.StopsStand.{at_once, step_stands}
+use Rattle.m11_cpu_laws.proofs.StopsLast.{at_once, step_stands}
 
 -- a dialogue and the one after it, by the exchanges of each
 record Parts {A B : Type 0} (d : Dialogue A) (next : A → Dialogue B) (es : List Exchange) (y : B) : Type 0 where
@@ -111,7 +111,7 @@ joined_cases left second Next m m1 m' m'' es1 es2 fs steps r rest h k l =
 joined_cases left second (Stopped stop) m m1 m' m'' es1 es2 fs steps r rest h k l =
     let e = at_once _ _ es2 k in
     let limit : stop ≡ Limit = sym (ap (λ (x : Ran × Machine). x.0.stop) e) in
-    let P : Stop → Type 0 = λ s. StopStands (Stopped s) m1 in
+    let P : Stop → Type 0 = λ s. StopLasts (Stopped s) m1 in
     absurd (subst P limit (step_stands m es1 (Stopped stop, m1) h))
 
 pub runs_joined : (first second : ℕ) (m m' m'' : Machine) → AreJoined first second m m' m''

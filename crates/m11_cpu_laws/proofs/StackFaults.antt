@@ -24,7 +24,7 @@ use Rattle.m11_cpu_laws.proofs.Exchanging.{abort_stop}
 use Rattle.m11_cpu_laws.proofs.Parts.{parts}
 use Rattle.m11_cpu_laws.proofs.PartsReport.{instruction_reports}
 use Rattle.m11_cpu_laws.proofs.StepsReport.{no_stack_fault}
-use Rattle.m11_cpu_laws.proofs.StopsStand.{at_once}
+use Rattle.m11_cpu_laws.proofs.StopsLast.{at_once}
 
 abbrev fault_in : Turn × Machine → Bool
 fault_in y = is_stack_fault y.0

@@ -45,15 +45,15 @@ GainedJust (Some old) (Some new) bytes = Appends old.text new.text bytes
 -- ---- stops
 
 -- a stop that stands is kept by the machine
-abbrev pub StopStands : Turn → Machine → Type 0
-StopStands Next m = ⊤
-StopStands (Stopped Halt) m = ⊤
-StopStands (Stopped Limit) m = ⊥
-StopStands (Stopped Wait) m = ⊤
-StopStands (Stopped StackFault) m = m.stopped ≡ Some lasting.StackFault
-StopStands (Stopped NoStart) m = ⊥
-StopStands (Stopped InputFault) m = m.stopped ≡ Some lasting.InputFault
-StopStands (Stopped OutputFault) m = m.stopped ≡ Some lasting.OutputFault
+abbrev pub StopLasts : Turn → Machine → Type 0
+StopLasts Next m = ⊤
+StopLasts (Stopped Halt) m = ⊤
+StopLasts (Stopped Limit) m = ⊥
+StopLasts (Stopped Wait) m = ⊤
+StopLasts (Stopped StackFault) m = m.stopped ≡ Some lasting.StackFault
+StopLasts (Stopped NoStart) m = ⊥
+StopLasts (Stopped InputFault) m = m.stopped ≡ Some lasting.InputFault
+StopLasts (Stopped OutputFault) m = m.stopped ≡ Some lasting.OutputFault
 
 -- ---- runs
 

@@ -8,7 +8,7 @@ ghost use Rattle.m11_cpu_machine.specs.declared.machine.Machine.{Machine};
 ghost use Rattle.m11_cpu_machine.specs.declared.stop.LastingStop.{LastingStop};
 ghost use Rattle.m11_cpu_machine.specs.declared.stop.Turn.{Turn};
 ghost use Rattle.m11_cpu_machine.specs.declared.stop.Turn.TheVariants.{Stopped};
-ghost use Rattle.m11_cpu_laws.specs.Laws.{AreJoined, GainedJust, GaveJust, StopStands, given, taken};
+ghost use Rattle.m11_cpu_laws.specs.Laws.{AreJoined, GainedJust, GaveJust, StopLasts, given, taken};
 
 /// Whatever is asked and sent: the input gave just the bytes that it replied with, in order, and the output
 /// gained just the bytes that it took. So after a step, or a run, nothing was asked for ahead, and nothing is
@@ -24,10 +24,10 @@ pub fn console_is_exact()
 /// A step that stops for a stack fault, or for a device that failed, leaves a machine that keeps this stop; a
 /// step is never stopped by a limit, or for want of a start. A machine that keeps a stop returns it at each
 /// step, and nothing changes.
-#[tactic(auto, using(crate::proofs::StopsStand::step_stands, crate::proofs::StopsStand::step_again))]
-pub fn stops_stand()
+#[tactic(auto, using(crate::proofs::StopsLast::step_stands, crate::proofs::StopsLast::step_again))]
+pub fn stops_last()
     ensures kept { (m : Machine) (exchanges : List Exchange) (came : Turn × Machine)
-        → Leads (step m) exchanges came → StopStands came.0 came.1 }
+        → Leads (step m) exchanges came → StopLasts came.0 came.1 }
     ensures again { (m : Machine) (stop : LastingStop) → m.stopped ≡ Some stop
         → step m ≡ Comes (Stopped (stop_of stop), m) }
 {}

@@ -32,7 +32,7 @@ mod devices;
 mod laws;
 
 pub use devices::{failures_stop, receiver_asks_nothing_ahead};
-pub use laws::{console_is_exact, runs_are_joined, stops_stand};
+pub use laws::{console_is_exact, runs_are_joined, stops_last};
 
 // Machines for which the premises of these laws hold.
 mod witnesses;

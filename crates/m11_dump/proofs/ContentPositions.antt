@@ -7,7 +7,7 @@ use Rattle.m11_obj_blocks.specs.Limited.{Between}
 use Rattle.m11_obj_blocks.proofs.BlockFrames.{block_again, block_parts, blocks_framed}
 use Rattle.m11_obj_blocks.proofs.ReadSteps.{rest_is}
 use Rattle.m11_obj_blocks.specs.declared.block_fault.BlockFault.{BlockFault}
-use Rattle.m11_dump.specs.Positions.{StandsAt, content_start}
+use Rattle.m11_dump.specs.Positions.{LiesAt, content_start}
 
 none_left : first_block [] ≡ Err Between
 unfolding first_block
@@ -43,7 +43,7 @@ split_one contents content bytes (Block {bytes = following} own fits h) is e =
     whole content bytes (rw (none, same) (append-nil (block content)))
 
 pub stands : (before given content : List ℕ) → AllByRecursion (λ byte. byte < 256) given → first_block given ≡ Ok (content, [])
-    → StandsAt content (before ++ given) (content_start content (length (before ++ given)))
+    → LiesAt content (before ++ given) (content_start content (length (before ++ given)))
 stands before given content small e =
     let s = split_one (content ∷ []) content given (blocks_framed (content ∷ []) given small ([], e, none_left)) refl e in
     let all : before ++ given ≡ (before ++ s.front) ++ (content ++ s.last ∷ []) =

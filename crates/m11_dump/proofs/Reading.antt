@@ -9,7 +9,7 @@ use Rattle.m11_obj_blocks.proofs.Limits.{took_nothing, took_then}
 use Rattle.m11_obj.specs.Reading.{IsRecord, content_of}
 use Rattle.m11_base_writes.specs.States.{OutputState}
 use Rattle.m11_dump.specs.Records.{shown}
-use Rattle.m11_dump.specs.Objects.{AreInFront, DumpsObject, FailsAt, Gained, JudgesEnd, LacksMemory, RefusesBlock, Shows, StopsAfter, TakesBlock, after, after_all, object_text, parts_all, start, text_from}
+use Rattle.m11_dump.specs.Objects.{AreInFront, DumpsObject, FailsAt, Gained, JudgesEnd, LacksMemory, RefusesBlock, Shows, StopsAfter, ShowsBlock, after, after_all, object_text, parts_all, start, text_from}
 use Rattle.m11_dump.specs.Positions.{RecordShowsAt, content_start, count_read, placed_at, stop_byte}
 use Rattle.m11_link_modules.specs.Parts.{Part, record_parts}
 use Rattle.m11_link_modules.specs.Positions.{RulesState, known_of}
@@ -151,14 +151,14 @@ module _ (view : View) (old here : Position) (output output' : OutputState) (s :
         (content, r, h.0, subst P d.stands h.1, h.2 ∙ count_is)
 
     pub block_stops : (count : ℕ) (known' : RulesState) (said : LocatedFault) → count ≡ count_read new
-        → TakesBlock view s (parts_all contents) known' content count output' final (Err said)
+        → ShowsBlock view s (parts_all contents) known' content count output' final (Err said)
         → DumpsObject view old new output final (Err said)
     block_stops count known' said e h =
         let P : ℕ → Type 0 = λ n. RefusesBlock view s (parts_all contents) content n output' final said.fault said.byte in
         (contents, here, output', d.shows, refused said.fault said.byte (subst P e h.0), h.1 ∙ number_is)
 
     pub block_taken : (count : ℕ) (known' : RulesState) (s' : Stand)
-        → TakesBlock view s (parts_all contents) known' content count output' final (Ok s')
+        → ShowsBlock view s (parts_all contents) known' content count output' final (Ok s')
         → Dumping view old new output final s' known' (contents ++ content ∷ [])
     block_taken count known' s' h =
         let P : Stand → Type 0 = λ x. Appends output'.text final.text (shown view x.address (content_of content)) in

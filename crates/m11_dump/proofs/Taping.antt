@@ -17,7 +17,7 @@ use Rattle.m11_base_writes.specs.States as writes
 use Rattle.m11_dump.proofs.Reading.{appends_nothing, appends_then}
 use Rattle.m11_dump.specs.Positions.{count_read, fault_byte, placed_at, stop_byte}
 use Rattle.m11_dump.proofs.Offsets.{stops_at}
-use Rattle.m11_dump.specs.Tapes.{DumpsTape, Hold, Puts, ReadsData, ShowsTape, StopsData, StopsTape, TakesData, block_text, part_after, start_text, tape_text}
+use Rattle.m11_dump.specs.Tapes.{DumpsTape, Hold, Puts, ReadsData, ShowsTape, StopsData, StopsTape, ShowsData, block_text, part_after, start_text, tape_text}
 use Rattle.m11_dump.specs.declared.fault.DumpFault.{DumpFault}
 use Rattle.m11_dump.specs.declared.fault.DumpFault.TheVariants as fault
 use Rattle.m11_dump.specs.declared.fault.LocatedFault.{LocatedFault}
@@ -99,7 +99,7 @@ puts_as text old new (Err f) p =
 -- what was read is shown, or not
 pub data_taken : (view : View) (start end : Position) (stage : TapeStage) (address count : ℕ) (bytes : List ℕ) (output output' : OutputState)
     (result : Result (Unit {0}) DumpFault) → ReadsData start end stage address count bytes
-    → Puts (block_text view address bytes) output output' result → TakesData view start end stage address count output output' result
+    → Puts (block_text view address bytes) output output' result → ShowsData view start end stage address count output output' result
 data_taken view start end stage address count bytes output output' (Ok done) r p = (bytes, r, p)
 data_taken view start end stage address count bytes output output' (Err fault.Write) r p = (bytes, r, p)
 data_taken view start end stage address count bytes output output' (Err fault.NoMemory) r p = p
@@ -109,7 +109,7 @@ data_taken view start end stage address count bytes output output' (Err (fault.R
 data_taken view start end stage address count bytes output output' (Err (fault.Tape inner)) r p = absurd p
 
 pub data_not_taken : (view : View) (start end : Position) (stage : TapeStage) (address count : ℕ) (output : OutputState) (f : DumpFault)
-    → StopsData f start end count → TakesData view start end stage address count output output (Err f)
+    → StopsData f start end count → ShowsData view start end stage address count output output (Err f)
 data_not_taken view start end stage address count output fault.Write s = absurd s
 data_not_taken view start end stage address count output fault.NoMemory s = refl
 data_not_taken view start end stage address count output (fault.Block inner) s = absurd s
@@ -179,14 +179,14 @@ is_tape blocks start a b c given took held last =
 -- ---- where a dump stands
 
 -- the reader reads the next part so
-abbrev StandsBefore : TapeStage → Reader → Type 0
-StandsBefore BeforeBlock read = read ≡ first_part
-StandsBefore (InBlock left total) read = (left ≡ 0) × (read ≡ next_part total)
-StandsBefore (AtEnd address) read = ⊥
-StandsBefore AfterFault read = ⊥
+abbrev IsBeforePart : TapeStage → Reader → Type 0
+IsBeforePart BeforeBlock read = read ≡ first_part
+IsBeforePart (InBlock left total) read = (left ≡ 0) × (read ≡ next_part total)
+IsBeforePart (AtEnd address) read = ⊥
+IsBeforePart AfterFault read = ⊥
 
 next_is : (stage : TapeStage) (read : Reader) (old new : Position) (after : TapeStage) (result : Result TapePart TapeFault)
-    → StandsBefore stage read → ReadsNext stage old new after result
+    → IsBeforePart stage read → ReadsNext stage old new after result
     → ReadsPart (λ part. part) read old new result × (after ≡ stage_after result)
 next_is BeforeBlock read old new after result stands r = rw stands r
 next_is (InBlock left total) read old new after result stands r = rw stands.1 r
@@ -197,7 +197,7 @@ next_is AfterFault read old new after result stands r = absurd stands
 pub record Taping (view : View) (old here : Position) (output output' : OutputState) (stage : TapeStage) (passed : ℕ)
     (blocks : List (ℕ × List ℕ)) : Type 0 where
   pub shows : ShowsTape view old here output output' blocks
-  pub before : StandsBefore stage (part_after first_part blocks)
+  pub before : IsBeforePart stage (part_after first_part blocks)
   pub counts : passed ≡ length blocks
   pub whole : old.room ≡ 4194304
   pub few : passed + here.room ≤ 4194304
@@ -218,7 +218,7 @@ tape_begins view old output room = record {
   few = omega (arith, room);
 }
 
-none_left : (stage : TapeStage) (read : Reader) → StandsBefore stage read → left_of stage ≡ 0
+none_left : (stage : TapeStage) (read : Reader) → IsBeforePart stage read → left_of stage ≡ 0
 none_left BeforeBlock read stands = refl
 none_left (InBlock left total) read stands = stands.0
 none_left (AtEnd address) read stands = refl
@@ -305,7 +305,7 @@ module _ (view : View) (old here : Position) (output output' : OutputState) (sta
           subst P (sym long) header
 
       data_refused : (f : DumpFault) (said : LocatedFault) → SaidAt f end said
-          → TakesData view new end stage' address count output' final (Err f) → DumpsTape view old end output final (Err said)
+          → ShowsData view new end stage' address count output' final (Err f) → DumpsTape view old end output final (Err said)
       data_refused fault.Write said e t = stopped fault.Write end final said e (
         block_text view address t.0,
         inl (address, t.0, new, end, header_of t.0 t.1.0, t.1.1, refl),
@@ -338,11 +338,11 @@ module _ (view : View) (old here : Position) (output output' : OutputState) (sta
           )
 
       pub data_fails : (f : DumpFault) (said : LocatedFault) → SaidAt f end said
-          → TakesData view new end stage' address count output' final (Err f) → DumpsTape view old end output final (Err said)
+          → ShowsData view new end stage' address count output' final (Err f) → DumpsTape view old end output final (Err said)
       data_fails f said e t = data_refused f said e t
 
       module _ (done : Unit {0}) (some : 0 < count)
-          (t : TakesData view new end stage' address count output' final (Ok done)) where
+          (t : ShowsData view new end stage' address count output' final (Ok done)) where
         pub tape_room_falls : end.room < here.room
         tape_room_falls = omega (arith, header.took.room, t.1.1.room, t.1.0, some)
 
@@ -353,7 +353,7 @@ module _ (view : View) (old here : Position) (output output' : OutputState) (sta
             let less = tape_room_falls in
             let Q : List ℕ → Type 0 = λ text. Appends output.text final.text text in
             let R : Reader → Type 0 = λ read. read ≡ next_part (total_of address bytes) in
-            let S : TapeStage → Type 0 = λ x. StandsBefore x (part_after first_part (blocks ++ (address, bytes) ∷ [])) in
+            let S : TapeStage → Type 0 = λ x. IsBeforePart x (part_after first_part (blocks ++ (address, bytes) ∷ [])) in
             record {
               shows = record {
                 given = d.shows.given ++ (own.given ++ bytes);

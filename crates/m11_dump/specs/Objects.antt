@@ -7,7 +7,7 @@ use Rattle.m11_base.specs.Devices.{Bytes, Rises}
 use Rattle.m11_base.specs.Sink.{AppendsBeginning}
 use Rattle.m11_obj_blocks.specs.Blocks.{first_block, why_of}
 use Rattle.m11_obj_blocks.specs.Limited.{EndsBetween, Position, Reads, Stops, Took}
-use Rattle.m11_link_modules.specs.Laws.{TakesAfter}
+use Rattle.m11_link_modules.specs.Laws.{AcceptsAfter}
 use Rattle.m11_link_modules.specs.Parts.{EndOfFile, Part, record_parts}
 use Rattle.m11_link_modules.specs.Positions.{RulesState}
 use Rattle.m11_link_modules.specs.Rules.{StopsAtName, first_fault}
@@ -144,8 +144,8 @@ ShowsRecord view s content output output' (Err fault.NoMemory) = output' ≡ out
 -- a record was judged with which so many bytes of the file end, after these parts: the rules then stand after it; or it breaks one, or
 -- memory was refused, as this is said after so many blocks
 abbrev pub Judges : List Part → RulesState → Bytes → ℕ → ℕ → Result (Unit {0}) LocatedFault → Type 0
-Judges parts known content blocks count (Ok done) = TakesAfter parts known (record_parts content) (Ok done)
-Judges parts known content blocks count (Err said) = (inner : ModuleFault) × TakesAfter parts known (record_parts content) (Err inner)
+Judges parts known content blocks count (Ok done) = AcceptsAfter parts known (record_parts content) (Ok done)
+Judges parts known content blocks count (Err said) = (inner : ModuleFault) × AcceptsAfter parts known (record_parts content) (Err inner)
     × (said ≡ placed_at (of_rule inner) blocks (rule_byte inner content count))
 
 -- the end of the bytes was judged after these parts: it ends a file; or it breaks a rule, as this is said after so many blocks
@@ -170,8 +170,8 @@ RefusesBlock view s parts content count output output' fault.NoMemory byte =
     IsRecord content × LacksMemory view s.address parts content output output' × (byte ≡ count)
 
 -- a block was shown and judged, and the dump and the rules stand after it; or why it wasn't taken
-abbrev pub TakesBlock : View → Stand → List Part → RulesState → Bytes → ℕ → OutputState → OutputState → Result Stand LocatedFault → Type 0
-TakesBlock view s parts known content count output output' (Ok s') = IsRecord content
-    × ShowsRecord view s content output output' (Ok s') × TakesAfter parts known (record_parts content) (Ok tt)
-TakesBlock view s parts known content count output output' (Err said) =
+abbrev pub ShowsBlock : View → Stand → List Part → RulesState → Bytes → ℕ → OutputState → OutputState → Result Stand LocatedFault → Type 0
+ShowsBlock view s parts known content count output output' (Ok s') = IsRecord content
+    × ShowsRecord view s content output output' (Ok s') × AcceptsAfter parts known (record_parts content) (Ok tt)
+ShowsBlock view s parts known content count output output' (Err said) =
     RefusesBlock view s parts content count output output' said.fault said.byte × (said.block ≡ s.blocks + 1)

@@ -55,8 +55,8 @@ abbrev pub content_start : Bytes → ℕ → ℕ
 content_start content count = count - (length content + 1)
 
 -- a content stands among bytes at this index, and only its sum byte follows it
-abbrev pub StandsAt : Bytes → Bytes → ℕ → Type 0
-StandsAt content bytes index = (front : Bytes) × (last : ℕ) × (bytes ≡ front ++ (content ++ last ∷ [])) × (length front ≡ index)
+abbrev pub LiesAt : Bytes → Bytes → ℕ → Type 0
+LiesAt content bytes index = (front : Bytes) × (last : ℕ) × (bytes ≡ front ++ (content ++ last ∷ [])) × (length front ≡ index)
 
 -- the byte of the file that shows the fault of a content, where so many bytes end with its block
 abbrev pub RecordShowsAt : RecordFault → Bytes → ℕ → ℕ → Type 0

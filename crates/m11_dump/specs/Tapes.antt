@@ -141,9 +141,9 @@ StopsData (fault.Record inner) opened new count = ⊥
 StopsData (fault.Rule inner) opened new count = ⊥
 
 -- the data of a block was read and shown, or why it wasn't
-abbrev pub TakesData : View → Position → Position → TapeStage → ℕ → ℕ → OutputState → OutputState → Result (Unit {0}) DumpFault → Type 0
-TakesData view opened new stage address count output output' (Err (fault.Tape inner)) =
+abbrev pub ShowsData : View → Position → Position → TapeStage → ℕ → ℕ → OutputState → OutputState → Result (Unit {0}) DumpFault → Type 0
+ShowsData view opened new stage address count output output' (Err (fault.Tape inner)) =
     StopsData (fault.Tape inner) opened new count × (output' ≡ output)
-TakesData view opened new stage address count output output' (Err fault.NoMemory) = output' ≡ output
-TakesData view opened new stage address count output output' result =
+ShowsData view opened new stage address count output output' (Err fault.NoMemory) = output' ≡ output
+ShowsData view opened new stage address count output output' result =
     (bytes : Bytes) × ReadsData opened new stage address count bytes × Puts (block_text view address bytes) output output' result

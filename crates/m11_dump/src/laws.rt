@@ -6,7 +6,7 @@ ghost use Rattle.m11_base.specs.Devices.{Bytes};
 ghost use Rattle.m11_base.specs.Octal.{octal_value};
 ghost use Rattle.m11_dump.specs.Instructions.{AreLines, lines};
 ghost use Rattle.m11_obj_blocks.specs.Blocks.{first_block};
-ghost use Rattle.m11_dump.specs.Positions.{StandsAt, content_start};
+ghost use Rattle.m11_dump.specs.Positions.{LiesAt, content_start};
 ghost use Rattle.m11_dump.specs.Octets.{octal3, octet, octets, octets_from};
 
 /// The content of a block stands where a dump tells its first byte: at the end of all bytes that were read, before the sum byte.
@@ -14,7 +14,7 @@ ghost use Rattle.m11_dump.specs.Octets.{octal3, octet, octets, octets_from};
 pub fn contents_stand_where_they_are_told()
     ensures { (before given content : Bytes) → AllByRecursion (λ byte. byte < 256) given
         → first_block given ≡ Ok (content, [])
-        → StandsAt content (before ++ given) (content_start content (length (before ++ given))) }
+        → LiesAt content (before ++ given) (content_start content (length (before ++ given))) }
 {}
 
 /// What is shown of bytes is what is shown of each of them, once and in their order, at the location where it lies; and the digits

@@ -101,7 +101,7 @@ fn accept_record<S: Sink>(
 ) -> Result<Stand, LocatedFault>
     requires { stand.blocks < 2 ^ 32 }
     ensures { (parts : List Part) → IsRecord «record».now → rules.old ≡ known_of parts
-        → spec.TakesBlock view stand parts rules.new «record».now read (output_of S.Sink sink.old) (output_of S.Sink sink.new) result }
+        → spec.ShowsBlock view stand parts rules.new «record».now read (output_of S.Sink sink.old) (output_of S.Sink sink.new) result }
 {
     match show_record(alloc, view, record, stand, sink) {
         Ok(after) => match judge_record(rules, record, stand.blocks, read) {
@@ -124,7 +124,7 @@ fn accept_block<S: Sink>(
 ) -> Result<Stand, LocatedFault>
     requires { stand.blocks < 2 ^ 32 }
     ensures { (parts : List Part) → rules.old ≡ known_of parts
-        → spec.TakesBlock view stand parts rules.new block.now.items read (output_of S.Sink sink.old) (output_of S.Sink sink.new) result }
+        → spec.ShowsBlock view stand parts rules.new block.now.items read (output_of S.Sink sink.old) (output_of S.Sink sink.new) result }
 {
     match read_record(block) {
         Ok(record) => accept_record(alloc, view, rules, &record, stand, read, sink),

@@ -113,7 +113,7 @@ fn read_data<F: Feed>(
 }
 
 // Reads and shows the data of the open block.
-fn take_data<F: Feed, S: Sink>(
+fn show_block_data<F: Feed, S: Sink>(
     alloc: Global,
     view: View,
     reader: &mut TapeReader,
@@ -124,7 +124,7 @@ fn take_data<F: Feed, S: Sink>(
 ) -> Result<(), DumpFault>
     requires stage { reader.old.stage ≡ InBlock count (sum (tape_header address count) % 256) }
     requires fits { count ≤ data_limit }
-    ensures { spec.TakesData view (position (F.text feed.old) (F.faults feed.old) reader.old.room)
+    ensures { spec.ShowsData view (position (F.text feed.old) (F.faults feed.old) reader.old.room)
         (position (F.text feed.new) (F.faults feed.new) reader.new.room) reader.new.stage address count
         (output_of S.Sink sink.old) (output_of S.Sink sink.new) result }
 {
@@ -164,7 +164,7 @@ pub fn dump_tape<F: Feed, S: Sink>(
     'parts: loop {
         match reader.next(feed) {
             Ok(TapePart::Data { address, count }) => {
-                match take_data(alloc, view, &mut reader, feed, address, count, sink) {
+                match show_block_data(alloc, view, &mut reader, feed, address, count, sink) {
                     Ok(()) => passed += 1,
                     Err(fault) => return Err(placed_after(fault, passed, &reader)),
                 }

@@ -8,7 +8,7 @@ use Rattle.m11_obj.specs.declared.relocations.Relocation.{Relocation}
 use Rattle.m11_obj.specs.Records as records
 use Rattle.m11_obj.specs.declared.fault.RecordFault.{RecordFault}
 use Rattle.m11_link_modules.specs.Grammar.{directory_parts}
-use Rattle.m11_link_modules.specs.Laws.{TakesAfter}
+use Rattle.m11_link_modules.specs.Laws.{AcceptsAfter}
 use Rattle.m11_link_modules.specs.declared.stage.Stage.{Stage}
 use Rattle.m11_link_modules.specs.declared.stage.Stage.TheVariants.{Between, InDirectory, InBody}
 use Rattle.m11_link_modules.specs.Parts.{Part, Directory, Entry, EndOfDirectory, Text, Relocations, Relocated, EndOfModule, EndOfFile, parts_in, parts_of, record_parts}
@@ -27,7 +27,7 @@ use Rattle.m11_link_layout.specs.Plan.{PlanTables}
 use Rattle.m11_link_layout.specs.Tables.{LayoutTables, nothing_gathered}
 use Rattle.m11_link_layout.specs.declared.fault.LinkFault.{LinkFault}
 use Rattle.m11_link_layout.specs.declared.fault.LinkFault.TheVariants as fault
-use Rattle.m11_link.specs.Emit.{EmitStands, EmitState, Goes, GoesOn, ReporterState, TakesBlock, TakesParts, begin_writes, begun_reporting, call_of, directory_writes, entries_writes, held_at, held_text, held_with, held_with_all, held_writes, relocated_parts, with_count, with_directory, with_held, with_reporting, with_text, written}
+use Rattle.m11_link.specs.Emit.{EmitAfter, EmitState, Goes, GoesOn, ReporterState, AcceptsBlock, AcceptsParts, begin_writes, begun_reporting, call_of, directory_writes, entries_writes, held_at, held_text, held_with, held_with_all, held_writes, relocated_parts, with_count, with_directory, with_held, with_reporting, with_text, written}
 use Rattle.m11_link_text.specs.Findings.{Findings, planned}
 use Rattle.m11_link.specs.Front.{front_writes}
 use Rattle.m11_link.specs.Outputs.{Gains, Stops, StopsBetween, StopsIn, Writes, link}
@@ -203,7 +203,7 @@ all_split plan before parts false ws e first =
 -- nothing stands before any part
 pub stands_first : (plan : PlanTables) (s : EmitState) → s.known ≡ known_of []
     → s.reporting ≡ record { plan = plan; defined = []; held = None; messages = 0 } → s.has_begun ≡ false → s.fault ≡ None
-    → EmitStands plan [] s
+    → EmitAfter plan [] s
 unfolding first_fault defined_names definitions_of distinct held_text
 stands_first plan s k t b f = record {
   sound = refl;
@@ -217,7 +217,7 @@ stands_first plan s k t b f = record {
 }
 
 module _ (plan : PlanTables) (before parts : List Part) (ws : ReporterState → List Write) (u : ReporterState → ReporterState)
-    (makes : Makes plan before parts ws u) (s : EmitState) (stands : EmitStands plan before s) where
+    (makes : Makes plan before parts ws u) (s : EmitState) (stands : EmitAfter plan before s) where
   holds_now : Holds plan before s.reporting
   holds_now = record { planned_so = stands.planned_so; defined = stands.defined; held = stands.held }
 
@@ -236,7 +236,7 @@ module _ (plan : PlanTables) (before parts : List Part) (ws : ReporterState → 
       ++ ((if s.has_begun then [] else front_writes (planned p)) ++ ws (begun_reporting s))) (sym stands.planned_so)
 
   stands_after : (s' : EmitState) → first_fault before parts ≡ None → s'.known ≡ known_of (before ++ parts)
-      → s'.reporting ≡ u (begun_reporting s) → s'.has_begun ≡ true → s'.fault ≡ s.fault → EmitStands plan (before ++ parts) s'
+      → s'.reporting ≡ u (begun_reporting s) → s'.has_begun ≡ true → s'.fault ≡ s.fault → EmitAfter plan (before ++ parts) s'
   stands_after s' sound k t b f =
       let h = makes.holds (begun_reporting s) holds_begun in
       let P : ReporterState → Type 0 = λ x. Holds plan (before ++ parts) x in
@@ -266,7 +266,7 @@ module _ (plan : PlanTables) (before parts : List Part) (ws : ReporterState → 
   pub parts_taken : (a b : Outputs) (s' : EmitState) (known : RulesState) (result : Result (Unit {0}) LinkFault)
       → first_fault before parts ≡ None → known ≡ known_of (before ++ parts)
       → Goes a b made s' (let now : EmitState = record s { known = known } in with_reporting (u (begun_reporting s)) now) result
-      → TakesParts plan before (call_of a b s s') parts result
+      → AcceptsParts plan before (call_of a b s s') parts result
   parts_taken a b s' known (Ok done) sound k (gains, is) = (
     stands_after s' sound (ap (λ x. x.known) is ∙ k) (ap (λ x. x.reporting) is) (ap (λ x. x.has_begun) is)
         (ap (λ x. x.fault) is),
@@ -291,7 +291,7 @@ module _ (plan : PlanTables) (before parts : List Part) (ws : ReporterState → 
 
   -- parts were refused
   refused_by : (a : Outputs) (s' : EmitState) (new : RulesState) (broken : ModuleFault)
-      → TakesAfter before new parts (Err broken) → TakesParts plan before (call_of a a s s') parts (Err (of_module broken))
+      → AcceptsAfter before new parts (Err broken) → AcceptsParts plan before (call_of a a s s') parts (Err (of_module broken))
   refused_by a s' new rule.BadOrder h = ((rule.BadOrder, h, refl), refl)
   refused_by a s' new rule.NoText h = ((rule.NoText, h, refl), refl)
   refused_by a s' new rule.BadDisplacement h = ((rule.BadDisplacement, h, refl), refl)
@@ -303,11 +303,11 @@ module _ (plan : PlanTables) (before parts : List Part) (ws : ReporterState → 
   refused_by a s' new rule.NoMemory h = inl (h, refl)
 
   pub parts_refused : (a : Outputs) (s' : EmitState) (new : RulesState) (broken : ModuleFault) (result : Result (Unit {0}) LinkFault)
-      → TakesAfter before new parts (Err broken) → IsErrAnd result (λ e. e ≡ of_module broken)
-      → TakesParts plan before (call_of a a s s') parts result
+      → AcceptsAfter before new parts (Err broken) → IsErrAnd result (λ e. e ≡ of_module broken)
+      → AcceptsParts plan before (call_of a a s s') parts result
   parts_refused a s' new broken (Ok done) h e = absurd e
   parts_refused a s' new broken (Err stopped) h e =
-      let P : LinkFault → Type 0 = λ x. TakesParts plan before (call_of a a s s') parts (Err x) in
+      let P : LinkFault → Type 0 = λ x. AcceptsParts plan before (call_of a a s s') parts (Err x) in
       subst P (sym e) (refused_by a s' new broken h)
 
 -- ---- what is written first, by calls
@@ -443,15 +443,15 @@ nothing_held a b ws t now s' result e h =
 -- ---- blocks and ends, by calls
 
 module _ {seen : EmitState} (plan : PlanTables) (before : List Part) (s : EmitState) (is : seen ≡ s)
-    (stands : EmitStands plan before s) where
-  pub here : EmitStands plan before seen
-  here = let P : EmitState → Type 0 = λ x. EmitStands plan before x in subst P (sym is) stands
+    (stands : EmitAfter plan before s) where
+  pub here : EmitAfter plan before seen
+  here = let P : EmitState → Type 0 = λ x. EmitAfter plan before x in subst P (sym is) stands
 
   pub end_refused : (a : Outputs) (s' : EmitState) (new : RulesState) (broken : ModuleFault) (result : Result (Unit {0}) LinkFault)
-      → (seen.known ≡ known_of before → TakesAfter before new (EndOfFile ∷ []) (Err broken))
-      → IsErrAnd result (λ e. e ≡ of_module broken) → TakesParts plan before (call_of a a s s') (EndOfFile ∷ []) result
+      → (seen.known ≡ known_of before → AcceptsAfter before new (EndOfFile ∷ []) (Err broken))
+      → IsErrAnd result (λ e. e ≡ of_module broken) → AcceptsParts plan before (call_of a a s s') (EndOfFile ∷ []) result
   end_refused a s' new broken result h e =
-      let P : EmitState → Type 0 = λ x. TakesParts plan before (call_of a a x s') (EndOfFile ∷ []) result in
+      let P : EmitState → Type 0 = λ x. AcceptsParts plan before (call_of a a x s') (EndOfFile ∷ []) result in
       subst P is (parts_refused plan before (EndOfFile ∷ []) (λ t. held_writes t.held) (with_held None) (end_makes plan before)
       seen here a s' new broken result (h here.known) e)
 
@@ -460,12 +460,12 @@ module _ {seen : EmitState} (plan : PlanTables) (before : List Part) (s : EmitSt
   ends_there e = head_none (fault_of before EndOfFile) None e
 
   pub end_taken : (a b : Outputs) (s' : EmitState) (known : RulesState) (result : Result (Unit {0}) LinkFault)
-      → (seen.known ≡ known_of before → TakesAfter before known (EndOfFile ∷ []) (Ok tt))
+      → (seen.known ≡ known_of before → AcceptsAfter before known (EndOfFile ∷ []) (Ok tt))
       → Goes a b (begin_writes seen) s'
       (let now : EmitState = record seen { known = known } in with_reporting (begun_reporting seen) now) result
-      → TakesParts plan before (call_of a b s s') (EndOfFile ∷ []) result
+      → AcceptsParts plan before (call_of a b s s') (EndOfFile ∷ []) result
   end_taken a b s' known result h k =
-      let P : EmitState → Type 0 = λ x. TakesParts plan before (call_of a b x s') (EndOfFile ∷ []) result in
+      let P : EmitState → Type 0 = λ x. AcceptsParts plan before (call_of a b x s') (EndOfFile ∷ []) result in
       let t = h here.known in
       let now : EmitState = record seen { known = known } in
       let none = none_held (planned plan) before here.sound (ends_there t.0) in
@@ -478,12 +478,12 @@ module _ {seen : EmitState} (plan : PlanTables) (before : List Part) (s : EmitSt
 -- ---- a record, by calls
 
 module _ {seen : EmitState} (plan : PlanTables) (before : List Part) (s : EmitState) (c : records.Content) (is : seen ≡ s)
-    (stands : EmitStands plan before s) where
+    (stands : EmitAfter plan before s) where
   pub content_refused : (a : Outputs) (s' : EmitState) (new : RulesState) (broken : ModuleFault) (result : Result (Unit {0}) LinkFault)
       → RulesTake seen.known new (parts_of c) (Err broken) → IsErrAnd result (λ f. f ≡ of_module broken)
-      → TakesParts plan before (call_of a a s s') (parts_of c) result
+      → AcceptsParts plan before (call_of a a s s') (parts_of c) result
   content_refused a s' new broken result h f =
-      let P : EmitState → Type 0 = λ x. TakesParts plan before (call_of a a x s') (parts_of c) result in
+      let P : EmitState → Type 0 = λ x. AcceptsParts plan before (call_of a a x s') (parts_of c) result in
       let now = here plan before s is stands in
       subst P is (parts_refused plan before (parts_of c) (made_by before c) (following before c) (content_makes plan before c)
       seen now a s' new broken result (taken_after before seen.known new (parts_of c) (Err broken) now.known h) f)
@@ -492,18 +492,18 @@ module _ {seen : EmitState} (plan : PlanTables) (before : List Part) (s : EmitSt
       → RulesTake seen.known known (parts_of c) (Ok tt)
       → Goes a b (begin_writes seen ++ made_by before c (begun_reporting seen)) s'
       (let now : EmitState = record seen { known = known } in with_reporting (following before c (begun_reporting seen)) now) result
-      → TakesParts plan before (call_of a b s s') (parts_of c) result
+      → AcceptsParts plan before (call_of a b s s') (parts_of c) result
   content_taken a b s' known result h k =
-      let P : EmitState → Type 0 = λ x. TakesParts plan before (call_of a b x s') (parts_of c) result in
+      let P : EmitState → Type 0 = λ x. AcceptsParts plan before (call_of a b x s') (parts_of c) result in
       let now = here plan before s is stands in
       let t = taken_after before seen.known known (parts_of c) (Ok tt) now.known h in
       subst P is (parts_taken plan before (parts_of c) (made_by before c) (following before c) (content_makes plan before c)
       seen now a b s' known result t.0 t.1 k)
 
 -- one that has no parts
-pub nothing_taken : (plan : PlanTables) (before : List Part) (s : EmitState) → EmitStands plan before s → (a b : Outputs) (s' : EmitState)
+pub nothing_taken : (plan : PlanTables) (before : List Part) (s : EmitState) → EmitAfter plan before s → (a b : Outputs) (s' : EmitState)
     (result : Result (Unit {0}) LinkFault) → Goes a b (begin_writes s) s' (with_reporting (begun_reporting s) s) result
-    → TakesParts plan before (call_of a b s s') [] result
+    → AcceptsParts plan before (call_of a b s s') [] result
 nothing_taken plan before s stands a b s' result k =
     let P : List Write → Type 0 = λ ws. Goes a b ws s' (with_reporting (begun_reporting s) s) result in
     content_taken plan before s records.InternalSymbols refl stands a b s' s.known result (none_taken s.known tt)
@@ -516,12 +516,12 @@ index_of before known e = ap (λ k. k.modules) e
 
 -- a directory record in the module of this index
 pub directory_taken : {seen : EmitState} (plan : PlanTables) (before : List Part) (s : EmitState) (entries : List GsdEntry) → seen ≡ s
-    → EmitStands plan before s → (a b : Outputs) (s' : EmitState) (known : RulesState) (index : ℕ) (result : Result (Unit {0}) LinkFault)
+    → EmitAfter plan before s → (a b : Outputs) (s' : EmitState) (known : RulesState) (index : ℕ) (result : Result (Unit {0}) LinkFault)
     → index ≡ seen.known.modules → RulesTake seen.known known (directory_parts entries) (Ok tt)
     → Goes a b (begin_writes seen ++ directory_writes index entries (begun_reporting seen)) s'
     (let now : EmitState = record seen { known = known } in
     with_reporting (with_directory index entries (begun_reporting seen)) now) result
-    → TakesParts plan before (call_of a b s s') (directory_parts entries) result
+    → AcceptsParts plan before (call_of a b s s') (directory_parts entries) result
 directory_taken {seen} plan before s entries is stands a b s' known index result l h k =
     let expected : ℕ → EmitState = λ i. let x : EmitState = record seen { known = known } in
     with_reporting (with_directory i entries (begun_reporting seen)) x in
@@ -541,13 +541,13 @@ location_of before known e = ap (λ k. (k.modules, k.section)) e
 
 -- a text at this location
 pub text_taken : {seen : EmitState} (plan : PlanTables) (before : List Part) (s : EmitState) (address : ℕ) (text : List ℕ) → seen ≡ s
-    → EmitStands plan before s → (a b : Outputs) (s' : EmitState) (known : RulesState) (location : Entered)
+    → EmitAfter plan before s → (a b : Outputs) (s' : EmitState) (known : RulesState) (location : Entered)
     (result : Result (Unit {0}) LinkFault) → ◌≡◌ {A = Entered} location (s.known.modules, s.known.section)
     → RulesTake seen.known known (Text address text ∷ []) (Ok tt)
     → Goes a b (begin_writes seen ++ held_writes (begun_reporting seen).held) s'
     (let now : EmitState = record seen { known = known } in
     with_reporting (with_text location.0 location.1 address text (begun_reporting seen)) now) result
-    → TakesParts plan before (call_of a b s s') (Text address text ∷ []) result
+    → AcceptsParts plan before (call_of a b s s') (Text address text ∷ []) result
 text_taken {seen} plan before s address text is stands a b s' known location result l h k =
     let expected : Entered → EmitState = λ at. let x : EmitState = record seen { known = known } in
     with_reporting (with_text at.0 at.1 address text (begun_reporting seen)) x in
@@ -574,7 +574,7 @@ same_but mid old reporting e f g =
     ∙ ap (λ o. with_these reporting old.has_begun o) g
 
 module _ (plan : PlanTables) (before : List Part) (relocations : List Relocation) (old mid : EmitState)
-    (stands : EmitStands plan before old) where
+    (stands : EmitAfter plan before old) where
   abbrev parts : List Part
   parts = Relocations ∷ relocated_parts relocations
 
@@ -583,7 +583,7 @@ module _ (plan : PlanTables) (before : List Part) (relocations : List Relocation
 
   pub relocations_refused : (a : Outputs) (s' : EmitState) (broken : ModuleFault) (result : Result (Unit {0}) LinkFault)
       → RulesTake old.known mid.known parts (Err broken) → IsErrAnd result (λ f. f ≡ of_module broken)
-      → TakesParts plan before (call_of a a old s') parts result
+      → AcceptsParts plan before (call_of a a old s') parts result
   relocations_refused a s' broken result h f =
       parts_refused plan before parts (λ t. []) (relocating relocations) relocations_make old stands a s' mid.known
       broken result (taken_after before old.known mid.known parts (Err broken) stands.known h) f
@@ -592,7 +592,7 @@ module _ (plan : PlanTables) (before : List Part) (relocations : List Relocation
       → RulesTake old.known mid.known parts (Ok tt) → mid.reporting ≡ relocating relocations old.reporting
       → mid.has_begun ≡ old.has_begun → mid.fault ≡ old.fault
       → Goes a b (begin_writes mid) s' (with_reporting (begun_reporting mid) mid) result
-      → TakesParts plan before (call_of a b old s') parts result
+      → AcceptsParts plan before (call_of a b old s') parts result
   relocations_taken a b s' result h e f g k =
       let t = taken_after before old.known mid.known parts (Ok tt) stands.known h in
       let P : EmitState → Type 0 = λ x. Goes a b (begin_writes x) s' (with_reporting (begun_reporting x) x) result in
@@ -631,7 +631,7 @@ no_record rule.TooManyModules inner e = cc
 -- no fault of parts is one of a block that is no record
 of_record : (plan : PlanTables) (before : List Part) (a b : Outputs) (s s' : EmitState) (items : List ℕ)
     (result : Result (Unit {0}) LinkFault) → IsRecord items
-    → TakesParts plan before (call_of a b s s') (record_parts items) result → TakesBlock plan before (call_of a b s s') items result
+    → AcceptsParts plan before (call_of a b s s') (record_parts items) result → AcceptsBlock plan before (call_of a b s s') items result
 of_record plan before a b s s' items (Ok done) is h = h
 of_record plan before a b s s' items (Err (fault.Write output)) is h = (is, h)
 of_record plan before a b s s' items (Err fault.NoMemory) is h = (is, h)
@@ -641,9 +641,9 @@ of_record plan before a b s s' items (Err stopped) is h = h
 -- a block was taken, by what stands in it
 pub content_block : (plan : PlanTables) (before : List Part) (a b : Outputs) (s s' : EmitState) (items : List ℕ)
     (content : records.Content) (result : Result (Unit {0}) LinkFault) → content_of items ≡ Ok content
-    → TakesParts plan before (call_of a b s s') (parts_of content) result → TakesBlock plan before (call_of a b s s') items result
+    → AcceptsParts plan before (call_of a b s s') (parts_of content) result → AcceptsBlock plan before (call_of a b s s') items result
 content_block plan before a b s s' items content result e h =
-    let P : Result records.Content RecordFault → Type 0 = λ r. TakesParts plan before (call_of a b s s') (parts_in r) result in
+    let P : Result records.Content RecordFault → Type 0 = λ r. AcceptsParts plan before (call_of a b s s') (parts_in r) result in
     of_record plan before a b s s' items result (ap (λ (r : Result records.Content RecordFault). is_ok r) e)
     (subst P (sym e) h)
 

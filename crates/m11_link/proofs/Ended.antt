@@ -1,7 +1,7 @@
 -- The end of the second pass.
 use Rattle.std.proofs.Common.{◌≡◌, Bool, true, false, if◌then◌else◌, List, [], ◌∷◌, ◌++◌, append_assoc, append-nil, None, Result, Ok, Err, IsErrAnd, IfOk, refl, sym, subst, ap, ap₂, ◌∙◌}
 use Rattle.m11_obj_blocks.specs.Tapes.{tape_block}
-use Rattle.m11_link_modules.specs.Laws.{TakesAfter}
+use Rattle.m11_link_modules.specs.Laws.{AcceptsAfter}
 use Rattle.m11_link_modules.specs.Parts.{Part, EndOfFile}
 use Rattle.m11_link_modules.specs.Positions.{RulesState, adds_name, known_of}
 use Rattle.m11_link_modules.specs.Rules.{fault_of, first_fault}
@@ -14,7 +14,7 @@ use Rattle.m11_link_layout.specs.Plan.{PlanTables}
 use Rattle.m11_link_layout.specs.declared.fault.LinkFault.{LinkFault}
 use Rattle.m11_link_layout.specs.declared.fault.LinkFault.TheVariants as fault
 use Rattle.m11_link.specs.declared.emit.LinkDone.{LinkDone}
-use Rattle.m11_link.specs.Emit.{EmitState, EmitEnds, GoesOn, EmitStands, begin_writes, begun_reporting, written}
+use Rattle.m11_link.specs.Emit.{EmitState, EmitEnds, GoesOn, EmitAfter, begin_writes, begun_reporting, written}
 use Rattle.m11_link_text.specs.Findings.{planned}
 use Rattle.m11_link.specs.Front.{front_writes}
 use Rattle.m11_link.specs.Outputs.{Finishes, Gains, StopsBetween, StopsIn}
@@ -46,9 +46,9 @@ all_written plan before false ws first =
     ap (λ these. (front_writes (planned plan) ++ these) ++ transfer plan) (none_written plan before (first refl))
     ∙ ap (λ these. these ++ transfer plan) (append-nil (front_writes (planned plan)))
 
-module _ {seen : EmitState} (plan : PlanTables) (before : List Part) (s : EmitState) (is : seen ≡ s) (stands : EmitStands plan before s)
+module _ {seen : EmitState} (plan : PlanTables) (before : List Part) (s : EmitState) (is : seen ≡ s) (stands : EmitAfter plan before s)
   where
-    now : EmitStands plan before seen
+    now : EmitAfter plan before seen
     now = here plan before s is stands
 
     abbrev made : List Write
@@ -113,13 +113,13 @@ module _ {seen : EmitState} (plan : PlanTables) (before : List Part) (s : EmitSt
     sound_end e = head_none (fault_of before EndOfFile) None e
 
     pub ended : (a b : Outputs) (known : RulesState) (result : Result LinkDone LinkFault)
-        → (seen.known ≡ known_of before → TakesAfter before known (EndOfFile ∷ []) (Ok tt)) → Finishes a b made result
+        → (seen.known ≡ known_of before → AcceptsAfter before known (EndOfFile ∷ []) (Ok tt)) → Finishes a b made result
         → IfOk result (λ done. done.messages ≡ (begun_reporting seen).messages) → Ended a b s result
     ended a b known result t h n =
         let P : EmitState → Type 0 = λ x. Ended a b x result in
         subst P is (ended_here a b result (sound_end (t now.known).0) h n)
 
-    inside : (a : Outputs) (new : RulesState) (broken : ModuleFault) → TakesAfter before new (EndOfFile ∷ []) (Err broken)
+    inside : (a : Outputs) (new : RulesState) (broken : ModuleFault) → AcceptsAfter before new (EndOfFile ∷ []) (Err broken)
         → Ended a a seen (Err (of_module broken))
     inside a new rule.BadOrder h = ((end_fault before rule.BadOrder h).1, refl)
     inside a new rule.NoMemory h = absurd (no_name_there h.taken h.part h.left h.split h.adds)
@@ -132,7 +132,7 @@ module _ {seen : EmitState} (plan : PlanTables) (before : List Part) (s : EmitSt
     inside a new rule.TooManyModules h = let e = (end_fault before rule.TooManyModules h).0 in absurd cc
 
     pub ended_inside : (a : Outputs) (new : RulesState) (broken : ModuleFault) (result : Result LinkDone LinkFault)
-        → (seen.known ≡ known_of before → TakesAfter before new (EndOfFile ∷ []) (Err broken))
+        → (seen.known ≡ known_of before → AcceptsAfter before new (EndOfFile ∷ []) (Err broken))
         → IsErrAnd result (λ e. e ≡ of_module broken) → Ended a a s result
     ended_inside a new broken (Ok done) t e = absurd e
     ended_inside a new broken (Err stopped) t e =

@@ -11,14 +11,14 @@ use Rattle.m11_link_modules.specs.declared.fault.ModuleFault.{ModuleFault}
 use Rattle.m11_link_modules.specs.declared.fault.ModuleFault.TheVariants as rule
 use Rattle.m11_link_layout.specs.Plan.{LayoutEnds, PlanTables}
 use Rattle.m11_link_layout.specs.Sections.{is_too_large}
-use Rattle.m11_link_layout.specs.Layout.{LayoutState, LayoutStands, TakesBlock, TakesParts}
+use Rattle.m11_link_layout.specs.Layout.{LayoutState, LayoutAfter, AcceptsBlock, AcceptsParts}
 use Rattle.m11_link_layout.specs.declared.fault.LinkFault.{LinkFault}
 use Rattle.m11_link_layout.specs.declared.fault.LinkFault.TheVariants as fault
-use Rattle.m11_link.specs.FirstPass.{LaysOut, LaysOutObject, Reaches, ReadsFirst, StandsBetween, of_block, pass_of}
+use Rattle.m11_link.specs.FirstPass.{LaysOut, LaysOutObject, Reaches, ReadsFirst, LayoutBetween, of_block, pass_of}
 use Rattle.m11_link.specs.Objects.{Item, AreItems, BlockOf, ObjectEnds, Refused, GivesItems, BeginsItems, ObjectItems, taken, taken_item, unless_too_large}
 use Rattle.m11_link.specs.Objects as objects
 use Rattle.m11_base.proofs.FeedsRead.{SoFar, begin, all_read, failed_here, given_more, none_failed, read_more}
-use Rattle.m11_link.proofs.ItemsTaken.{Decides, bind_on, bind_stops, block_decides, block_taken, decides_more, decides_then, end_decides, end_taken, ends_again, ends_first, fault_after, one_taken, taken_after}
+use Rattle.m11_link.proofs.ItemsAccepted.{Decides, bind_on, bind_stops, block_decides, block_taken, decides_more, decides_then, end_decides, end_taken, ends_again, ends_first, fault_after, one_taken, taken_after}
 use Rattle.m11_link.proofs.Steady.{objects_come}
 use Rattle.m11_link.proofs.ObjectsRead.{Walked, StopsObject, walk_begins, walk_ends, walk_more, walk_stops, walk_whole}
 
@@ -31,10 +31,10 @@ pub record Laid (text text' : Option Text) (faults faults' room bottom : ℕ) (b
   pub walked : Walked text text' faults faults' room done
   pub parts : List Part
   pub taken-is : taken before done ≡ Ok parts
-  pub stands : LayoutStands bottom parts layout
+  pub stands : LayoutAfter bottom parts layout
 
 pub laid_first : (text : Option Text) (faults bottom : ℕ) (before : List Part) (layout : LayoutState)
-    → LayoutStands bottom before layout → Laid text text faults faults most_bytes bottom before layout
+    → LayoutAfter bottom before layout → Laid text text faults faults most_bytes bottom before layout
 laid_first text faults bottom before layout s = record {
   done = [];
   walked = walk_begins text faults;
@@ -59,7 +59,7 @@ module _ (text text1 : Option Text) (faults faults1 room1 bottom : ℕ) (before 
     walked : Walked text text2 faults faults2 room2 (l.done ++ BlockOf content ∷ [])
     walked = walk_more text text1 faults faults1 room1 l.done l.walked text2 faults2 room2 content r
 
-    pub laid_more : TakesBlock bottom l.parts layout2 content (Ok tt) → IsRecord content
+    pub laid_more : AcceptsBlock bottom l.parts layout2 content (Ok tt) → IsRecord content
         → Laid text text2 faults faults2 room2 bottom before layout2
     laid_more t is = record {
       done = l.done ++ BlockOf content ∷ [];
@@ -71,7 +71,7 @@ module _ (text text1 : Option Text) (faults faults1 room1 bottom : ℕ) (before 
       stands = t;
     }
 
-    pub laid_refused : (stopped : LinkFault) → TakesBlock bottom l.parts layout2 content (Err stopped)
+    pub laid_refused : (stopped : LinkFault) → AcceptsBlock bottom l.parts layout2 content (Err stopped)
         → LaysOutObject text faults faults2 bottom before layout2 (Err stopped)
     laid_refused stopped t =
         let items = l.done ++ BlockOf content ∷ [] in
@@ -82,7 +82,7 @@ module _ (text text1 : Option Text) (faults faults1 room1 bottom : ℕ) (before 
         (block_decides bottom l.parts layout2 content stopped t)))
 
   pub laid_ends : Stops first_block (position text1 faults1 room1) (position text2 faults2 room2) EndsBetween
-      → (result : Result (Unit {0}) LinkFault) → TakesParts bottom l.parts layout2 (EndOfFile ∷ []) result
+      → (result : Result (Unit {0}) LinkFault) → AcceptsParts bottom l.parts layout2 (EndOfFile ∷ []) result
       → LaysOutObject text faults faults2 bottom before layout2 result
   laid_ends s (Ok done) t =
       let end = walk_ends text text1 faults faults1 room1 l.done l.walked text2 faults2 room2 s in (
@@ -151,7 +151,7 @@ pub record LaidAll {F : Type 0} (text : F → Option Text) (faults : F → ℕ) 
 
 module _ {F : Type 0} (text : F → Option Text) (faults : F → ℕ) where
   pub all_begin : (initial : List F) (bottom : ℕ) (before : List Part) (layout : LayoutState)
-      → StandsBetween bottom before layout → LaidAll text faults initial initial 0 bottom before layout
+      → LayoutBetween bottom before layout → LaidAll text faults initial initial 0 bottom before layout
   all_begin initial bottom before layout s = record {
     sources = [];
     items = [];
@@ -221,7 +221,7 @@ module _ {F : Type 0} (text : F → Option Text) (faults : F → ℕ) where
 
 -- ---- the whole first pass
 
-pub layout_begins : (bottom : ℕ) (layout : LayoutState) → LayoutStands bottom [] layout → StandsBetween bottom [] layout
+pub layout_begins : (bottom : ℕ) (layout : LayoutState) → LayoutAfter bottom [] layout → LayoutBetween bottom [] layout
 layout_begins bottom layout s = record { stands = s; between = ends_first }
 
 fits_is : (bottom : ℕ) (parts : List Part) (is_large : Bool) → is_too_large bottom parts ≡ is_large

@@ -8,7 +8,7 @@ use Rattle.m11_link_modules.specs.declared.fault.ModuleFault.{ModuleFault}
 use Rattle.m11_link_modules.specs.Parts.{Part, Directory, Entry, EndOfDirectory, Text, Relocations, Relocated, EndOfModule, EndOfFile}
 use Rattle.m11_link_modules.specs.Positions.{RulesState, global_of, known_of}
 use Rattle.m11_link_modules.specs.Rules.{fault_of, lies_within}
-use Rattle.m11_link_modules.specs.Steps.{TakesOne, known_after, with_optional_global}
+use Rattle.m11_link_modules.specs.Steps.{AcceptsOne, known_after, with_optional_global}
 use Rattle.m11_link_modules.specs.TextRelocation.{InText, in_text, stored_by, stored_in}
 use Rattle.m11_link_modules.proofs.KnownAfter.{known_after_part}
 use Rattle.m11_link_layout.specs.Plan.{PlanTables}
@@ -17,7 +17,7 @@ use Rattle.m11_link_layout.proofs.Walking.{walked}
 use Rattle.m11_link_text.specs.Findings.{Findings, planned}
 use Rattle.m11_link_text.specs.Relocation.{modulo}
 use Rattle.m11_link_text.proofs.Stored.{none_relocated, nothing_stored, size_kept}
-use Rattle.m11_link.specs.Emit.{EmitStands, EmitState, HoldsLastText, IsAsLong, ReporterState, held_at, held_text, held_with, with_held}
+use Rattle.m11_link.specs.Emit.{EmitAfter, EmitState, HoldsLastText, IsAsLong, ReporterState, held_at, held_text, held_with, with_held}
 use Rattle.m11_link.specs.Written.{PlacedText}
 use Rattle.m11_link.proofs.Emitted.{relocating}
 use Rattle.m11_link.proofs.WritesAfter.{held_more}
@@ -71,7 +71,7 @@ unfolding held_text
 as_long_first found = tt
 
 -- where the second pass stands, the text that it holds is as long as the rules know
-pub held_is_last : (plan : PlanTables) (before : List Part) (state : EmitState) → EmitStands plan before state
+pub held_is_last : (plan : PlanTables) (before : List Part) (state : EmitState) → EmitAfter plan before state
     → HoldsLastText state
 held_is_last plan before state stands =
     let found = planned plan in
@@ -124,10 +124,10 @@ nothing_changed found now relocation text e holds =
 -- the beginning of a record leaves the text that was held as the last one
 pub stored_after : {seen : EmitState} (state : EmitState) (begun : RulesState) (done : Unit {0}) (later : ReporterState)
     (relocations : List Relocation) (result : Result (Result (Unit {0}) ModuleFault) RecordFault) → seen ≡ state
-    → TakesOne seen.known begun Relocations (Ok done)
+    → AcceptsOne seen.known begun Relocations (Ok done)
     → IfOk result (λ judged. IfOk judged (λ _. IsAsLong begun.text seen.reporting.held → later ≡ relocating relocations seen.reporting))
     → IfOk result (λ judged. IfOk judged (λ _. HoldsLastText state → later ≡ relocating relocations state.reporting))
-unfolding TakesOne known_after
+unfolding AcceptsOne known_after
 stored_after {seen} state begun done later relocations (Ok (Ok stored)) is h go = λ holds.
     let P : RulesState → Type 0 = λ known. IsAsLong known.text seen.reporting.held in
     let Q : EmitState → Type 0 = λ x. later ≡ relocating relocations x.reporting in
@@ -137,10 +137,10 @@ stored_after state begun done later relocations (Err fault) is h go = tt
 
 -- after it the text that is held is still the last one
 pub holds_after : (old new : EmitState) (relocation : Relocation) (done : Unit {0})
-    → TakesOne old.known new.known (Relocated relocation) (Ok done)
+    → AcceptsOne old.known new.known (Relocated relocation) (Ok done)
     → new.reporting ≡ with_held (held_with (planned old.reporting.plan) old.reporting.held relocation) old.reporting
     → HoldsLastText old → HoldsLastText new
-unfolding TakesOne
+unfolding AcceptsOne
 holds_after old new relocation done h e holds =
     let found = planned old.reporting.plan in
     let P : Option ℕ → Type 0 = λ count. IsAsLong count new.reporting.held in

@@ -6,7 +6,7 @@ pub mod Emitted
 pub mod LastText
 pub mod Ended
 pub mod Steady
-pub mod ItemsTaken
+pub mod ItemsAccepted
 pub mod ObjectsRead
 pub mod FirstRead
 pub mod Sole

@@ -14,7 +14,7 @@ use Rattle.m11_link_layout.specs.Plan.{PlanTables}
 use Rattle.m11_link_layout.specs.declared.fault.LinkFault.{LinkFault}
 use Rattle.m11_link_layout.specs.declared.fault.LinkFault.TheVariants as fault
 use Rattle.m11_base_writes.specs.declared.outputs.Output.{Output}
-use Rattle.m11_link.specs.Emit.{EmitEnds, EmitStands, EmitState, GoesOn, TakesBlock, TakesParts, call_of, written}
+use Rattle.m11_link.specs.Emit.{EmitEnds, EmitAfter, EmitState, GoesOn, AcceptsBlock, AcceptsParts, call_of, written}
 use Rattle.m11_link.specs.FirstPass.{of_block, pass_of}
 use Rattle.m11_link.specs.Objects.{◌>>=◌, AreItems, Item, BlockOf, ObjectEnds, Refused, GiveItems, GivesItems, taken, taken_item}
 use Rattle.m11_link.specs.Objects as objects
@@ -27,7 +27,7 @@ use Rattle.m11_base_writes.specs.Outputs.{Outputs, Write, flushes}
 use Rattle.m11_base.proofs.FeedsRead.{SoFar, begin, all_read, failed_here, given_more, none_failed, read_more}
 use Rattle.m11_link.proofs.FirstRead.{are_after, one_object}
 use Rattle.m11_link.proofs.Steady.{objects_come}
-use Rattle.m11_link.proofs.ItemsTaken.{fault_after, PartsOrFault, Decides, block_taken, decides_more, decides_then, end_decides, end_taken, ends_again, no_record_decides, one_taken, parts_decide, taken_after}
+use Rattle.m11_link.proofs.ItemsAccepted.{fault_after, PartsOrFault, Decides, block_taken, decides_more, decides_then, end_decides, end_taken, ends_again, no_record_decides, one_taken, parts_decide, taken_after}
 use Rattle.m11_link.proofs.ObjectsRead.{StopsObject, Walked, walk_begins, walk_ends, walk_more, walk_stops, walk_whole}
 use Rattle.m11_base_writes.proofs.Writing.{gains_nothing, gains_then, stops_after}
 use Rattle.m11_link_layout.proofs.Standing.{sound_after}
@@ -158,24 +158,24 @@ module _ (plan : PlanTables) (parts : List Part) (sound : first_fault [] parts �
       (parts ++ EndOfFile ∷ [], end_taken parts (sound_after [] parts (EndOfFile ∷ []) sound none), h)
 
   refused_memory : (bytes : List ℕ) → IsRecord bytes
-      → TakesParts plan parts (call_of now new emit emit') (record_parts bytes) (Err fault.NoMemory)
+      → AcceptsParts plan parts (call_of now new emit emit') (record_parts bytes) (Err fault.NoMemory)
       → (new ≡ now) ⊎ Within plan emit.has_begun parts (BlockOf bytes) (StopsBetween now new)
   refused_memory bytes is (inl h) = inl h.1
   refused_memory bytes is (inr h) = inr (within_block bytes (StopsBetween now new) is h.0 h.1)
 
-  block_halts : (bytes : List ℕ) (stopped : LinkFault) → TakesBlock plan parts (call_of now new emit emit') bytes (Err stopped)
+  block_halts : (bytes : List ℕ) (stopped : LinkFault) → AcceptsBlock plan parts (call_of now new emit emit') bytes (Err stopped)
       → Halts plan emit.has_begun parts (BlockOf bytes) now new stopped
   block_halts bytes (fault.Write output) h = within_block bytes (StopsIn output now new) h.0 h.1.0 h.1.1
   block_halts bytes fault.NoMemory h = refused_memory bytes h.0 h.1
   block_halts bytes (fault.Record inner) h = (no_record_decides parts bytes inner h.0, h.1)
   block_halts bytes stopped h = (parts_decide parts bytes stopped h.0, h.1)
 
-  end_memory : TakesParts plan parts (call_of now new emit emit') (EndOfFile ∷ []) (Err fault.NoMemory)
+  end_memory : AcceptsParts plan parts (call_of now new emit emit') (EndOfFile ∷ []) (Err fault.NoMemory)
       → (new ≡ now) ⊎ Within plan emit.has_begun parts ObjectEnds (StopsBetween now new)
   end_memory (inl h) = inl h.1
   end_memory (inr k) = inr (within_end (StopsBetween now new) k.0 k.1)
 
-  end_halts : (stopped : LinkFault) → TakesParts plan parts (call_of now new emit emit') (EndOfFile ∷ []) (Err stopped)
+  end_halts : (stopped : LinkFault) → AcceptsParts plan parts (call_of now new emit emit') (EndOfFile ∷ []) (Err stopped)
       → Halts plan emit.has_begun parts ObjectEnds now new stopped
   end_halts (fault.Write output) h = within_end (StopsIn output now new) h.0 h.1
   end_halts fault.NoMemory h = end_memory h
@@ -273,12 +273,12 @@ pub record Sent (text text' : Option FeedText) (faults faults' room : ℕ) (plan
   pub walked : Walked text text' faults faults' room done
   pub parts : List Part
   pub taken-is : taken before done ≡ Ok parts
-  pub stands : EmitStands plan parts emit
+  pub stands : EmitAfter plan parts emit
   pub begun : emit.has_begun ≡ begun_by b done
   pub gains : Gains first now (written plan emit.has_begun parts)
 
 pub sent_first : (text : Option FeedText) (faults : ℕ) (plan : PlanTables) (before : List Part) (first now : Outputs)
-    (emit : EmitState) → EmitStands plan before emit → Gains first now (written plan emit.has_begun before)
+    (emit : EmitState) → EmitAfter plan before emit → Gains first now (written plan emit.has_begun before)
     → Sent text text faults faults most_bytes plan emit.has_begun before first now emit
 sent_first text faults plan before first now emit s g = record {
   done = [];
@@ -308,7 +308,7 @@ module _ (text text1 : Option FeedText) (faults faults1 room1 : ℕ) (plan : Pla
     walked : Walked text text2 faults faults2 room2 (l.done ++ BlockOf content ∷ [])
     walked = walk_more text text1 faults faults1 room1 l.done l.walked text2 faults2 room2 content r
 
-    pub sent_more : TakesBlock plan l.parts (call_of now new emit emit') content (Ok tt) → IsRecord content
+    pub sent_more : AcceptsBlock plan l.parts (call_of now new emit emit') content (Ok tt) → IsRecord content
         → Sent text text2 faults faults2 room2 plan b before first new emit'
     sent_more t is = record {
       done = l.done ++ BlockOf content ∷ [];
@@ -322,7 +322,7 @@ module _ (text text1 : Option FeedText) (faults faults1 room1 : ℕ) (plan : Pla
       gains = written_on first now new plan l.parts (record_parts content) emit emit' l.gains t.1 t.2;
     }
 
-    pub sent_refused : (stopped : LinkFault) → TakesBlock plan l.parts (call_of now new emit emit') content (Err stopped)
+    pub sent_refused : (stopped : LinkFault) → AcceptsBlock plan l.parts (call_of now new emit emit') content (Err stopped)
         → EmitsObject text faults faults2 (start_at plan b before first) new emit' (Err stopped)
     sent_refused stopped t =
         let whole = walk_whole text text2 faults faults2 room2 (l.done ++ BlockOf content ∷ []) walked in
@@ -331,7 +331,7 @@ module _ (text text1 : Option FeedText) (faults faults1 room1 : ℕ) (plan : Pla
         (block_halts plan l.parts l.stands.sound now new emit emit' content stopped t)
 
   pub sent_ends : Stops first_block (position text1 faults1 room1) (position text2 faults2 room2) EndsBetween
-      → (result : Result (Unit {0}) LinkFault) → TakesParts plan l.parts (call_of now new emit emit') (EndOfFile ∷ []) result
+      → (result : Result (Unit {0}) LinkFault) → AcceptsParts plan l.parts (call_of now new emit emit') (EndOfFile ∷ []) result
       → EmitsObject text faults faults2 (start_at plan b before first) new emit' result
   sent_ends s (Ok done) t =
       let end = walk_ends text text1 faults faults1 room1 l.done l.walked text2 faults2 room2 s in (
@@ -417,7 +417,7 @@ pub record SentAll {F : Type 0} (text : F → Option FeedText) (faults : F → �
 
 module _ {F : Type 0} (text : F → Option FeedText) (faults : F → ℕ) where
   pub all_begin : (initial : List F) (plan : PlanTables) (before : List Part) (first now : Outputs) (emit : EmitState)
-      → EmitStands plan before emit → fault_of before EndOfFile ≡ None
+      → EmitAfter plan before emit → fault_of before EndOfFile ≡ None
       → Gains first now (written plan emit.has_begun before)
       → SentAll text faults initial initial 0 plan emit.has_begun before first now emit
   all_begin initial plan before first now emit s b g = record {

@@ -179,7 +179,7 @@ written plan has_begun parts =
     if has_begun then front_writes (planned plan) ++ parts_writes (planned plan) parts else []
 
 -- a second pass stands after these parts, of which none has a fault
-pub record EmitStands (plan : PlanTables) (parts : List Part) (state : EmitState) : Type 0 where
+pub record EmitAfter (plan : PlanTables) (parts : List Part) (state : EmitState) : Type 0 where
   pub sound : first_fault [] parts ≡ None
   pub known : state.known ≡ known_of parts
   pub planned_so : state.reporting.plan ≡ plan
@@ -218,20 +218,20 @@ StopsInParts plan before old new state parts fault.NoMemory =
 StopsInParts plan before old new state parts stopped = FirstFault before parts stopped × (new ≡ old)
 
 -- parts were taken, and all that they make is written; or they weren't
-abbrev pub TakesParts : PlanTables → List Part → Call → List Part → Result (Unit {0}) LinkFault → Type 0
-TakesParts plan before call parts (Ok done) = EmitStands plan (before ++ parts) call.stands
+abbrev pub AcceptsParts : PlanTables → List Part → Call → List Part → Result (Unit {0}) LinkFault → Type 0
+AcceptsParts plan before call parts (Ok done) = EmitAfter plan (before ++ parts) call.stands
     × (call.stands.has_begun ≡ true)
     × GoesOn (Gains call.old call.new) (written plan call.stood.has_begun before) (written plan true (before ++ parts))
-TakesParts plan before call parts (Err stopped) = StopsInParts plan before call.old call.new call.stood parts stopped
+AcceptsParts plan before call parts (Err stopped) = StopsInParts plan before call.old call.new call.stood parts stopped
 
 -- a block is no record, or its parts were taken
-abbrev pub TakesBlock : PlanTables → List Part → Call → Bytes → Result (Unit {0}) LinkFault → Type 0
-TakesBlock plan before call bytes (Err (fault.Record inner)) = (content_of bytes ≡ Err inner) × (call.new ≡ call.old)
-TakesBlock plan before call bytes (Err (fault.Write output)) = IsRecord bytes
-    × TakesParts plan before call (record_parts bytes) (Err (fault.Write output))
-TakesBlock plan before call bytes (Err fault.NoMemory) = IsRecord bytes
-    × TakesParts plan before call (record_parts bytes) (Err fault.NoMemory)
-TakesBlock plan before call bytes result = TakesParts plan before call (record_parts bytes) result
+abbrev pub AcceptsBlock : PlanTables → List Part → Call → Bytes → Result (Unit {0}) LinkFault → Type 0
+AcceptsBlock plan before call bytes (Err (fault.Record inner)) = (content_of bytes ≡ Err inner) × (call.new ≡ call.old)
+AcceptsBlock plan before call bytes (Err (fault.Write output)) = IsRecord bytes
+    × AcceptsParts plan before call (record_parts bytes) (Err (fault.Write output))
+AcceptsBlock plan before call bytes (Err fault.NoMemory) = IsRecord bytes
+    × AcceptsParts plan before call (record_parts bytes) (Err fault.NoMemory)
+AcceptsBlock plan before call bytes result = AcceptsParts plan before call (record_parts bytes) result
 
 -- where a fault was returned, it is returned again, nothing changes and nothing is written
 abbrev pub FailsAgain : EmitState → EmitState → Outputs → Outputs → Result (Unit {0}) LinkFault → Type 0

@@ -7,7 +7,7 @@ use Rattle.m11_obj_blocks.specs.declared.block_fault.BlockFault.TheVariants as b
 use Rattle.m11_link_modules.specs.Parts.{Part, EndOfFile}
 use Rattle.m11_link_modules.specs.Rules.{fault_of}
 use Rattle.m11_link_layout.specs.Plan.{PlanTables, IsPlanOf}
-use Rattle.m11_link_layout.specs.Layout.{LayoutState, LayoutStands}
+use Rattle.m11_link_layout.specs.Layout.{LayoutState, LayoutAfter}
 use Rattle.m11_link_layout.specs.declared.fault.LinkFault.{LinkFault}
 use Rattle.m11_link_layout.specs.declared.fault.LinkFault.TheVariants as fault
 use Rattle.m11_link.specs.Objects.{Item, taken, outcome, GivesItems, BeginsItems, GiveItems, FailAfter}
@@ -29,19 +29,19 @@ of_block block.TooMuch = fault.TooMuch
 of_block inner = fault.Block inner
 
 -- the layout stands after parts, and an object may end there
-pub record StandsBetween (bottom : ℕ) (parts : List Part) (layout : LayoutState) : Type 0 where
-  pub stands : LayoutStands bottom parts layout
+pub record LayoutBetween (bottom : ℕ) (parts : List Part) (layout : LayoutState) : Type 0 where
+  pub stands : LayoutAfter bottom parts layout
   pub between : fault_of parts EndOfFile ≡ None
 
 -- the items yielded parts after those before, and the layout stands after them
 pub record Reaches (bottom : ℕ) (before : List Part) (items : List Item) (layout : LayoutState) : Type 0 where
   pub parts : List Part
   pub taken-is : taken before items ≡ Ok parts
-  pub stands : StandsBetween bottom parts layout
+  pub stands : LayoutBetween bottom parts layout
 
 -- the items have no fault
-abbrev pub AreTaken : List Part → List Item → Type 0
-AreTaken before items = (parts : List Part) × (taken before items ≡ Ok parts)
+abbrev pub AreAccepted : List Part → List Item → Type 0
+AreAccepted before items = (parts : List Part) × (taken before items ≡ Ok parts)
 
 -- one object was laid out after these parts; or its first fault was returned, whatever follows; or the feed failed,
 -- and what had come till then has no fault; or memory was refused
@@ -49,7 +49,7 @@ abbrev pub LaysOutObject : Option Text → ℕ → ℕ → ℕ → List Part →
 LaysOutObject text faults faults' bottom before layout (Ok done) =
     (faults' ≡ faults) × (items : List Item) × GivesItems text items × Reaches bottom before items layout
 LaysOutObject text faults faults' bottom before layout (Err fault.Read) =
-    Rises faults faults' × (items : List Item) × BeginsItems text items × AreTaken before items
+    Rises faults faults' × (items : List Item) × BeginsItems text items × AreAccepted before items
 LaysOutObject text faults faults' bottom before layout (Err fault.NoMemory) = faults' ≡ faults
 LaysOutObject text faults faults' bottom before layout (Err stopped) =
     (faults' ≡ faults) × (items : List Item) × GivesItems text items × (taken before items ≡ Err stopped)
@@ -60,7 +60,7 @@ abbrev pub LaysOut : {F : Type 0} → Pass F → ℕ → List Part → LayoutSta
 LaysOut pass bottom before layout (Ok done) = NoneFailed pass.faults pass.old pass.new
     × (items : List Item) × GiveItems pass.text pass.old items × Reaches bottom before items layout
 LaysOut pass bottom before layout (Err fault.Read) =
-    (items : List Item) × FailAfter pass.text pass.faults pass.old pass.new items × AreTaken before items
+    (items : List Item) × FailAfter pass.text pass.faults pass.old pass.new items × AreAccepted before items
 LaysOut pass bottom before layout (Err fault.NoMemory) = NoneFailed pass.faults pass.old pass.new
 LaysOut pass bottom before layout (Err stopped) = NoneFailed pass.faults pass.old pass.new
     × (items : List Item) × GiveItems pass.text pass.old items × (taken before items ≡ Err stopped)
@@ -72,7 +72,7 @@ ReadsFirst pass bottom (Ok plan) = NoneFailed pass.faults pass.old pass.new
     × (items : List Item) × GiveItems pass.text pass.old items
     × (parts : List Part) × (outcome bottom items ≡ Ok parts) × IsPlanOf bottom parts plan
 ReadsFirst pass bottom (Err fault.Read) =
-    (items : List Item) × FailAfter pass.text pass.faults pass.old pass.new items × AreTaken [] items
+    (items : List Item) × FailAfter pass.text pass.faults pass.old pass.new items × AreAccepted [] items
 ReadsFirst pass bottom (Err fault.NoMemory) = NoneFailed pass.faults pass.old pass.new
 ReadsFirst pass bottom (Err stopped) = NoneFailed pass.faults pass.old pass.new
     × (items : List Item) × GiveItems pass.text pass.old items × (outcome bottom items ≡ Err stopped)

@@ -8,9 +8,9 @@ use Rattle.m11_link_layout.specs.Plan.{PlanTables}
 use Rattle.m11_link_layout.specs.declared.fault.LinkFault.{LinkFault}
 use Rattle.m11_link_layout.specs.declared.fault.LinkFault.TheVariants as fault
 use Rattle.m11_link.specs.declared.emit.LinkDone.{LinkDone}
-use Rattle.m11_link.specs.Emit.{EmitState, EmitStands, written}
+use Rattle.m11_link.specs.Emit.{EmitState, EmitAfter, written}
 use Rattle.m11_link_text.specs.Findings.{planned}
-use Rattle.m11_link.specs.FirstPass.{AreTaken, Pass, ReadsFirst}
+use Rattle.m11_link.specs.FirstPass.{AreAccepted, Pass, ReadsFirst}
 use Rattle.m11_link.specs.Objects.{Item, taken, taken_item, GivesItems, BeginsItems, GiveItems, FailAfter}
 use Rattle.m11_link.specs.Outputs.{Gains, StopsIn, StopsBetween}
 use Rattle.m11_base_writes.specs.Outputs.{AreFlushed, Outputs, Write, flushes}
@@ -71,7 +71,7 @@ pub record Emitted (plan : PlanTables) (has_begun : Bool) (before : List Part) (
     (emit : EmitState) : Type 0 where
   pub parts : List Part
   pub taken-is : taken before items ≡ Ok parts
-  pub stands : EmitStands plan parts emit
+  pub stands : EmitAfter plan parts emit
   pub between : fault_of parts EndOfFile ≡ None
   pub begun : emit.has_begun ≡ begun_by has_begun items
   pub gains : Gains first now (written plan emit.has_begun parts)
@@ -140,7 +140,7 @@ ReadsSecond pass plan old new (Ok done) = NoneFailed pass.faults pass.old pass.n
     × (parts : List Part) × (taken [] items ≡ Ok parts) × Gains old new (link_writes (planned plan) parts)
     × (done.messages ≡ counted 0 (link_writes (planned plan) parts)) × AreFlushed new
 ReadsSecond pass plan old new (Err fault.Read) =
-    (items : List Item) × FailAfter pass.text pass.faults pass.old pass.new items × AreTaken [] items
+    (items : List Item) × FailAfter pass.text pass.faults pass.old pass.new items × AreAccepted [] items
     × WrittenAfter plan false [] items old new
 ReadsSecond pass plan old new (Err stopped) = NoneFailed pass.faults pass.old pass.new
     × (items : List Item) × GiveItems pass.text pass.old items × IsOfItems [] items stopped

@@ -8,10 +8,10 @@ ghost use Rattle.m11_obj.specs.Reading.{AreEntries, AreRelocations, IsRecord, ch
 ghost use Rattle.m11_obj_blocks.specs.Tapes.{tape_block};
 ghost use Rattle.m11_link_modules.specs.Grammar.{directory_parts};
 ghost use Rattle.m11_link_modules.specs.Parts.{Part, EndOfDirectory, EndOfFile, EndOfModule, Relocated, Relocations, Text};
-ghost use Rattle.m11_link_modules.specs.Steps.{RulesTake, TakesOne};
+ghost use Rattle.m11_link_modules.specs.Steps.{RulesTake, AcceptsOne};
 ghost use Rattle.m11_link_layout.specs.Plan.{PlanTables};
 ghost use Rattle.m11_link_layout.specs.declared.fault.LinkFault.{LinkFault};
-ghost use Rattle.m11_link.specs.Emit.{EmitEnds, EmitStands, FailsAgain, Goes, HoldsLastText, TakesBlock, TakesParts, begin_writes, begun_reporting, call_of, directory_writes, held_with, held_with_all, held_writes, relocated_parts, with_directory, with_held, with_reporting, with_text};
+ghost use Rattle.m11_link.specs.Emit.{EmitEnds, EmitAfter, FailsAgain, Goes, HoldsLastText, AcceptsBlock, AcceptsParts, begin_writes, begun_reporting, call_of, directory_writes, held_with, held_with_all, held_writes, relocated_parts, with_directory, with_held, with_reporting, with_text};
 ghost use Rattle.m11_link_text.specs.Findings.{planned};
 ghost use Rattle.m11_base_writes.specs.States.{OutputState, optional_output, output_of};
 ghost use Rattle.m11_link.specs.Outputs.{Finishes, Writes};
@@ -57,7 +57,7 @@ impl Model for Emit {
 impl Emit {
     /// No block came so far, and nothing is written.
     pub fn new(alloc: Global, plan: Plan) -> Emit
-        ensures stands { EmitStands plan [] result }
+        ensures stands { EmitAfter plan [] result }
         ensures fresh { result.has_begun ≡ false }
     {
         Emit {
@@ -81,8 +81,8 @@ impl Emit {
         map: &mut Option<T>,
         messages: &mut U,
     ) -> Result<(), LinkFault>
-        ensures takes { (plan : PlanTables) (before : List Part) → EmitStands plan before self.old
-            → TakesBlock plan before (call_of
+        ensures takes { (plan : PlanTables) (before : List Part) → EmitAfter plan before self.old
+            → AcceptsBlock plan before (call_of
             (outputs_of S.Sink T.Sink U.Sink tape.old map.old messages.old)
             (outputs_of S.Sink T.Sink U.Sink tape.new map.new messages.new)
             self.old self.new) block.now.items result }
@@ -106,8 +106,8 @@ impl Emit {
         map: &mut Option<T>,
         messages: &mut U,
     ) -> Result<(), LinkFault>
-        ensures takes { (plan : PlanTables) (before : List Part) → EmitStands plan before self.old
-            → TakesParts plan before (call_of
+        ensures takes { (plan : PlanTables) (before : List Part) → EmitAfter plan before self.old
+            → AcceptsParts plan before (call_of
             (outputs_of S.Sink T.Sink U.Sink tape.old map.old messages.old)
             (outputs_of S.Sink T.Sink U.Sink tape.new map.new messages.new)
             self.old self.new) (EndOfFile ∷ []) result }
@@ -134,7 +134,7 @@ impl Emit {
         map: &mut Option<T>,
         messages: &mut U,
     ) -> Result<LinkDone, LinkFault>
-        ensures ends { (plan : PlanTables) (before : List Part) → EmitStands plan before self → EmitEnds plan before
+        ensures ends { (plan : PlanTables) (before : List Part) → EmitAfter plan before self → EmitEnds plan before
             (outputs_of S.Sink T.Sink U.Sink tape.old map.old messages.old)
             (outputs_of S.Sink T.Sink U.Sink tape.new map.new messages.new)
             self result }
@@ -156,7 +156,7 @@ impl Emit {
         map: &mut Option<T>,
         messages: &mut U,
     ) -> Result<LinkDone, LinkFault>
-        ensures ends { (plan : PlanTables) (before : List Part) → EmitStands plan before self.old → EmitEnds plan before
+        ensures ends { (plan : PlanTables) (before : List Part) → EmitAfter plan before self.old → EmitEnds plan before
             (outputs_of S.Sink T.Sink U.Sink tape.old map.old messages.old)
             (outputs_of S.Sink T.Sink U.Sink tape.new map.new messages.new)
             self.old result }
@@ -178,8 +178,8 @@ impl Emit {
         map: &mut Option<T>,
         messages: &mut U,
     ) -> Result<(), LinkFault>
-        ensures takes { (plan : PlanTables) (before : List Part) → EmitStands plan before self.old
-            → TakesBlock plan before (call_of
+        ensures takes { (plan : PlanTables) (before : List Part) → EmitAfter plan before self.old
+            → AcceptsBlock plan before (call_of
             (outputs_of S.Sink T.Sink U.Sink tape.old map.old messages.old)
             (outputs_of S.Sink T.Sink U.Sink tape.new map.new messages.new)
             self.old self.new) block.now.items result }
@@ -211,8 +211,8 @@ impl Emit {
         messages: &mut U,
     ) -> Result<(), LinkFault>
         ensures takes { (plan : PlanTables) (before : List Part) (bytes : List ℕ)
-            → EmitStands plan before self.old → content_of bytes ≡ unread_directory unread.now
-            → TakesBlock plan before (call_of
+            → EmitAfter plan before self.old → content_of bytes ≡ unread_directory unread.now
+            → AcceptsBlock plan before (call_of
             (outputs_of S.Sink T.Sink U.Sink tape.old map.old messages.old)
             (outputs_of S.Sink T.Sink U.Sink tape.new map.new messages.new)
             self.old self.new) bytes result }
@@ -232,8 +232,8 @@ impl Emit {
         map: &mut Option<T>,
         messages: &mut U,
     ) -> Result<(), LinkFault>
-        ensures takes { (plan : PlanTables) (before : List Part) → EmitStands plan before self.old
-            → TakesParts plan before (call_of
+        ensures takes { (plan : PlanTables) (before : List Part) → EmitAfter plan before self.old
+            → AcceptsParts plan before (call_of
             (outputs_of S.Sink T.Sink U.Sink tape.old map.old messages.old)
             (outputs_of S.Sink T.Sink U.Sink tape.new map.new messages.new)
             self.old self.new) (directory_parts entries.now) result }
@@ -252,8 +252,8 @@ impl Emit {
         map: &mut Option<T>,
         messages: &mut U,
     ) -> Result<(), LinkFault>
-        ensures takes { (plan : PlanTables) (before : List Part) → EmitStands plan before self.old
-            → TakesParts plan before (call_of
+        ensures takes { (plan : PlanTables) (before : List Part) → EmitAfter plan before self.old
+            → AcceptsParts plan before (call_of
             (outputs_of S.Sink T.Sink U.Sink tape.old map.old messages.old)
             (outputs_of S.Sink T.Sink U.Sink tape.new map.new messages.new)
             self.old self.new) (EndOfDirectory ∷ []) result }
@@ -274,8 +274,8 @@ impl Emit {
         messages: &mut U,
     ) -> Result<(), LinkFault>
         requires { length bytes.now ≤ content_limit }
-        ensures takes { (plan : PlanTables) (before : List Part) → EmitStands plan before self.old
-            → TakesParts plan before (call_of
+        ensures takes { (plan : PlanTables) (before : List Part) → EmitAfter plan before self.old
+            → AcceptsParts plan before (call_of
             (outputs_of S.Sink T.Sink U.Sink tape.old map.old messages.old)
             (outputs_of S.Sink T.Sink U.Sink tape.new map.new messages.new)
             self.old self.new) (Text address bytes.now ∷ []) result }
@@ -294,8 +294,8 @@ impl Emit {
         map: &mut Option<T>,
         messages: &mut U,
     ) -> Result<(), LinkFault>
-        ensures takes { (plan : PlanTables) (before : List Part) → EmitStands plan before self.old
-            → TakesParts plan before (call_of
+        ensures takes { (plan : PlanTables) (before : List Part) → EmitAfter plan before self.old
+            → AcceptsParts plan before (call_of
             (outputs_of S.Sink T.Sink U.Sink tape.old map.old messages.old)
             (outputs_of S.Sink T.Sink U.Sink tape.new map.new messages.new)
             self.old self.new) (EndOfModule ∷ []) result }
@@ -315,8 +315,8 @@ impl Emit {
         messages: &mut U,
     ) -> Result<(), LinkFault>
         ensures takes { (tape : OutputState) (plan : PlanTables) (before : List Part) (bytes : List ℕ)
-            → EmitStands plan before self.old → content_of bytes ≡ unread_content unread.old
-            → TakesBlock plan before (call_of
+            → EmitAfter plan before self.old → content_of bytes ≡ unread_content unread.old
+            → AcceptsBlock plan before (call_of
             (outputs tape (optional_output T.Sink map.old) (output_of U.Sink messages.old))
             (outputs tape (optional_output T.Sink map.new) (output_of U.Sink messages.new))
             self.old self.new) bytes result }
@@ -377,9 +377,9 @@ impl Emit {
     }
 
     // Judges a relocation and stores it in the text that is held.
-    #[tactic(auto, unfolding(m11_link_modules::specs::Steps::TakesOne))]
+    #[tactic(auto, unfolding(m11_link_modules::specs::Steps::AcceptsOne))]
     fn store_relocation(&mut self, relocation: Relocation) -> Result<(), ModuleFault>
-        ensures judged { TakesOne self.old.known self.new.known (Relocated relocation) result }
+        ensures judged { AcceptsOne self.old.known self.new.known (Relocated relocation) result }
         ensures stored { IfOk result (λ _. HoldsLastText self.old → self.new.reporting ≡ with_held
             (held_with (planned self.old.reporting.plan) self.old.reporting.held relocation) self.old.reporting) }
         ensures begun { self.new.has_begun ≡ self.old.has_begun }
@@ -473,8 +473,8 @@ impl Emit {
         map: &mut Option<T>,
         messages: &mut U,
     ) -> Result<(), LinkFault>
-        ensures takes { (tape : OutputState) (plan : PlanTables) (before : List Part) → EmitStands plan before self.old
-            → TakesParts plan before (call_of
+        ensures takes { (tape : OutputState) (plan : PlanTables) (before : List Part) → EmitAfter plan before self.old
+            → AcceptsParts plan before (call_of
             (outputs tape (optional_output T.Sink map.old) (output_of U.Sink messages.old))
             (outputs tape (optional_output T.Sink map.new) (output_of U.Sink messages.new))
             self.old self.new) (EndOfFile ∷ []) result }

@@ -2,8 +2,8 @@
 
 ghost use Rattle.std.specs.Prelude.{◌≡◌, None, ℕ, List, is_some};
 ghost use Rattle.m11_link.specs.Objects.{AreItems, Item};
-ghost use Rattle.m11_link.specs.FirstPass.{LaysOut, LaysOutObject, ReadsFirst, StandsBetween, of_block, pass_of};
-ghost use Rattle.m11_link_layout.specs.Layout.{LayoutStands};
+ghost use Rattle.m11_link.specs.FirstPass.{LaysOut, LaysOutObject, ReadsFirst, LayoutBetween, of_block, pass_of};
+ghost use Rattle.m11_link_layout.specs.Layout.{LayoutAfter};
 ghost use Rattle.m11_link_layout.specs.Plan.{PlanTables};
 ghost use Rattle.m11_link_modules.specs.Parts.{Part, EndOfFile};
 ghost use Rattle.m11_link_modules.specs.Rules.{fault_of};
@@ -88,7 +88,7 @@ fn read_first<F: Feed>(alloc: Global, feeds: &mut [F], bottom: u16) -> Result<Pl
 
 // The objects of the first pass, one after another, up to the first fault.
 fn lay_out<F: Feed>(feeds: &mut [F], layout: &mut Layout) -> Result<(), LinkFault>
-    ensures { (bottom : ℕ) (before : List Part) → StandsBetween bottom before layout.old
+    ensures { (bottom : ℕ) (before : List Part) → LayoutBetween bottom before layout.old
         → LaysOut (pass_of F.text F.faults feeds.old feeds.new) bottom before layout.new result }
 {
     'feeds: for feed in feeds.iter_mut() {
@@ -103,7 +103,7 @@ fn lay_out<F: Feed>(feeds: &mut [F], layout: &mut Layout) -> Result<(), LinkFaul
 // One object of the first pass. A block is taken before the next one is read, so the first fault is that of the first byte
 // that shows one.
 fn lay_out_object<F: Feed>(feed: &mut F, layout: &mut Layout) -> Result<(), LinkFault>
-    ensures { (bottom : ℕ) (before : List Part) → LayoutStands bottom before layout.old
+    ensures { (bottom : ℕ) (before : List Part) → LayoutAfter bottom before layout.old
         → LaysOutObject (F.text feed.old) (F.faults feed.old) (F.faults feed.new) bottom before layout.new result }
 {
     let mut reader = BlockReader::new();
@@ -153,7 +153,7 @@ fn emit_all<F: Feed, S: Sink, T: Sink, U: Sink>(
     map: &mut Option<T>,
     messages: &mut U,
 ) -> Result<(), LinkFault>
-    ensures emits { (plan : PlanTables) (before : List Part) (first : Outputs) → emitting.EmitStands plan before emit.old
+    ensures emits { (plan : PlanTables) (before : List Part) (first : Outputs) → emitting.EmitAfter plan before emit.old
         → fault_of before EndOfFile ≡ None
         → Gains first
         (outputs_of S.Sink T.Sink U.Sink tape.old map.old messages.old)
@@ -179,7 +179,7 @@ fn emit_object<F: Feed, S: Sink, T: Sink, U: Sink>(
     map: &mut Option<T>,
     messages: &mut U,
 ) -> Result<(), LinkFault>
-    ensures emits { (plan : PlanTables) (before : List Part) (first : Outputs) → emitting.EmitStands plan before emit.old
+    ensures emits { (plan : PlanTables) (before : List Part) (first : Outputs) → emitting.EmitAfter plan before emit.old
         → Gains first
         (outputs_of S.Sink T.Sink U.Sink tape.old map.old messages.old)
         (written plan emit.old.has_begun before)

@@ -8,7 +8,7 @@ use Rattle.m11_link_modules.specs.declared.fault.ModuleFault.{ModuleFault}
 use Rattle.m11_link_modules.specs.Parts.{Part, EndOfFile, parts_in, parts_of, record_parts}
 use Rattle.m11_link_modules.specs.Rules.{first_fault}
 use Rattle.m11_link.specs.Objects.{◌>>=◌, Item, BlockOf, ObjectEnds, Refused, parts_or_fault, taken, taken_item, taken_parts, unless_fault}
-use Rattle.m11_link.proofs.ItemsTaken.{PartsOrFault, bind_ok}
+use Rattle.m11_link.proofs.ItemsAccepted.{PartsOrFault, bind_ok}
 
 -- the parts that an item has, if it has any
 abbrev pub parts_within : Item → List Part

@@ -8,7 +8,7 @@ use Rattle.m11_obj_blocks.proofs.BlockFrames.{begun, nothing_read, start_within,
 use Rattle.m11_link_modules.specs.Parts.{Part}
 use Rattle.m11_link.specs.Objects.{AreItems, BlockOf, Item, ObjectEnds, ObjectItems, outcome, taken, taken_item}
 use Rattle.m11_link.specs.Objects as objects
-use Rattle.m11_link.proofs.ItemsTaken.{bind_ok}
+use Rattle.m11_link.proofs.ItemsAccepted.{bind_ok}
 use Rattle.m11_link.proofs.Sole.{objects_same}
 use Rattle.m11_link.proofs.Steady.{block_shorter, block_steady}
 use Rattle.m11_link_laws.specs.Joining.{AreModules, LinkAlike}

@@ -23,7 +23,7 @@ use Rattle.m11_link_layout.proofs.Walking.{head_none, rest_none}
 use Rattle.m11_link.specs.Objects.{◌>>=◌, BlockOf, Item, ObjectEnds, Refused, parts_by, parts_or_fault, taken, taken_item, taken_parts, outcome, unless_fault, unless_too_large}
 use Rattle.m11_link_text.specs.Findings.{findings_of}
 use Rattle.m11_link.specs.Written.{link_writes}
-use Rattle.m11_link.proofs.ItemsTaken.{PartsOrFault, bind_ok, fault_after, one_taken, taken_after}
+use Rattle.m11_link.proofs.ItemsAccepted.{PartsOrFault, bind_ok, fault_after, one_taken, taken_after}
 use Rattle.m11_link_laws.specs.Joining.{LinkAlike}
 use Rattle.m11_link_laws.proofs.ItemsParts.{items_parts, parts_are, parts_within}
 use Rattle.m11_link_laws.proofs.JoiningEnds.{end_left, known_same, stage_same, without_append, without_ends}

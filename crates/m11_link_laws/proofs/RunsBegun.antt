@@ -17,7 +17,7 @@ use Rattle.m11_link.specs.Outputs.{Gains, Stops, link}
 use Rattle.m11_base_writes.specs.Outputs.{Outputs, Write, files, flushes, to_product}
 use Rattle.m11_link.specs.SecondPass.{ReadsSecond, StopsLast, StopsWithin, begun_by}
 use Rattle.m11_link.specs.Written.{link_writes, parts_writes}
-use Rattle.m11_link.proofs.ItemsTaken.{PartsOrFault, taken_after}
+use Rattle.m11_link.proofs.ItemsAccepted.{PartsOrFault, taken_after}
 use Rattle.m11_link.proofs.Sole.{objects_same}
 use Rattle.m11_link.proofs.Steady.{block_steady, object_comes, objects_come}
 use Rattle.m11_link.proofs.WritesAfter.{parts_more}

@@ -16,7 +16,7 @@ use Rattle.m11_link.specs.SecondPass.{LinkRuns, ReadsSecond}
 use Rattle.m11_link.specs.Written.{counted, link_writes}
 use Rattle.m11_link.specs.declared.emit.LinkDone.{LinkDone}
 use Rattle.m11_link.proofs.Agreeing.{written_by_definition}
-use Rattle.m11_link.proofs.ItemsTaken.{PartsOrFault}
+use Rattle.m11_link.proofs.ItemsAccepted.{PartsOrFault}
 use Rattle.m11_link.proofs.Sole.{objects_same}
 use Rattle.m11_base_writes.specs.Writes.{LeavesBeginnings}
 use Rattle.m11_link_laws.specs.Runs.{AreKnown, IsDecided, IsKnown, IsRefusal, MayStop}

@@ -14,7 +14,7 @@ use Rattle.m11_base_writes.specs.Outputs.{AreFlushed, Outputs}
 use Rattle.m11_link.specs.SecondPass.{LinkRuns}
 use Rattle.m11_link.specs.Written.{counted, link_writes}
 use Rattle.m11_link.specs.declared.emit.LinkDone.{LinkDone}
-use Rattle.m11_link.proofs.ItemsTaken.{PartsOrFault}
+use Rattle.m11_link.proofs.ItemsAccepted.{PartsOrFault}
 use Rattle.m11_link_laws.specs.Left.{Leaves}
 use Rattle.m11_link_laws.specs.LinkedTexts.{tape_blocks}
 use Rattle.m11_link_laws.specs.Runs.{AreKnown, IsDecided}

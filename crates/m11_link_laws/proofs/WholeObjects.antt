@@ -10,7 +10,7 @@ use Rattle.m11_link_modules.specs.Rules.{fault_of, first_fault}
 use Rattle.m11_link_layout.proofs.Standing.{sound_after}
 use Rattle.m11_link.specs.Objects.{◌>>=◌, AreItems, BlockOf, Item, ObjectEnds, ObjectItems, Refused, parts_or_fault, taken, taken_item, taken_parts, unless_fault}
 use Rattle.m11_link.specs.Objects as objects
-use Rattle.m11_link.proofs.ItemsTaken.{PartsOrFault, bind_ok, bind_on, ends_again, ends_first}
+use Rattle.m11_link.proofs.ItemsAccepted.{PartsOrFault, bind_ok, bind_on, ends_again, ends_first}
 
 -- ---- no part has a fault
 

@@ -11,7 +11,7 @@ use Rattle.m11_link_modules.specs.Positions.{known_of}
 use Rattle.m11_link_modules.specs.Rules.{fault_known, fault_of, first_fault, may_stand}
 use Rattle.m11_link_layout.specs.Tables.{LayoutTables, gathered_after, gathered_after_all, nothing_gathered}
 use Rattle.m11_link_layout.specs.Plan.{LayoutEnds, IsPlan, PlacesAll, PlanTables, Plans, StopsAtSection, bases_onto}
-use Rattle.m11_link_layout.specs.Layout.{FirstFault, LayoutState, LayoutStands}
+use Rattle.m11_link_layout.specs.Layout.{FirstFault, LayoutState, LayoutAfter}
 use Rattle.m11_link_layout.specs.declared.fault.LinkFault.{LinkFault}
 use Rattle.m11_link_layout.specs.declared.fault.LinkFault.TheVariants as fault
 use Rattle.m11_link_layout.proofs.PlansBounded.{plan_bounded, plan_grows}
@@ -72,7 +72,7 @@ unfolding gathered_after
 nothing_more bottom before = gathered_append bottom nothing_gathered before (EndOfFile ∷ [])
 
 planned : (bottom : ℕ) (before : List Part) (reading : LayoutState) (plan : PlanTables)
-    → LayoutStands bottom (before ++ EndOfFile ∷ []) reading
+    → LayoutAfter bottom (before ++ EndOfFile ∷ []) reading
     → Plans reading.bottom reading.gathered (Ok plan) → IsPlan bottom before plan
 planned bottom before reading plan s h =
     let P : LayoutTables → Type 0 = λ g. plan.gathered ≡ g in
@@ -87,7 +87,7 @@ planned bottom before reading plan s h =
       bottom_is = subst Q s.bottom_is h.1;
     }
 
-too_large : (bottom : ℕ) (before : List Part) (reading : LayoutState) → LayoutStands bottom (before ++ EndOfFile ∷ []) reading
+too_large : (bottom : ℕ) (before : List Part) (reading : LayoutState) → LayoutAfter bottom (before ++ EndOfFile ∷ []) reading
     → bases_onto [] reading.bottom reading.gathered.sections ≡ None
     → bases_onto [] bottom (gathered_after_all bottom nothing_gathered before).sections ≡ None
 too_large bottom before reading s h =
@@ -97,7 +97,7 @@ too_large bottom before reading s h =
 
 -- the plan after the end of the last file
 pub ended : (bottom : ℕ) (before : List Part) (reading : LayoutState) (result : Result PlanTables LinkFault)
-    → LayoutStands bottom (before ++ EndOfFile ∷ []) reading → Plans reading.bottom reading.gathered result
+    → LayoutAfter bottom (before ++ EndOfFile ∷ []) reading → Plans reading.bottom reading.gathered result
     → LayoutEnds bottom before result
 ended bottom before reading (Ok plan) s h = (
   end_sound [] before s.sound,
@@ -132,10 +132,10 @@ ended bottom before reading (Err fault.TextOutside) s h = absurd h
 
 pub ended_seen : {seen : LayoutState} (bottom : ℕ) (before : List Part) (reading : LayoutState)
     (result : Result PlanTables LinkFault) → seen ≡ reading
-    → LayoutStands bottom (before ++ EndOfFile ∷ []) reading → Plans seen.bottom seen.gathered result
+    → LayoutAfter bottom (before ++ EndOfFile ∷ []) reading → Plans seen.bottom seen.gathered result
     → LayoutEnds bottom before result
 ended_seen {seen} bottom before reading result is s h =
-    let P : LayoutState → Type 0 = λ r. LayoutStands bottom (before ++ EndOfFile ∷ []) r in
+    let P : LayoutState → Type 0 = λ r. LayoutAfter bottom (before ++ EndOfFile ∷ []) r in
     ended bottom before seen result (subst P (sym is) s) h
 
 -- ---- an end inside a module

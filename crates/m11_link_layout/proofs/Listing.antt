@@ -12,7 +12,7 @@ use Rattle.m11_base.proofs.SameNames.{same_name_equal}
 use Rattle.m11_link_modules.proofs.Indexing.{drop_at}
 use Rattle.m11_link_layout.specs.Plan.{Agrees, Bases, PlanTables, Plans, StopsAtSection, after_offset, bases_onto, contribution_bases, defined_value, definition_values, placed, planned_base, planned_section_base, planned_value, value_at}
 use Rattle.std.specs.Option.{unwrap_or}
-use Rattle.m11_link_layout.specs.Tables.{LayoutTables, StandsAt, is_contribution, with_reference}
+use Rattle.m11_link_layout.specs.Tables.{LayoutTables, LiesAt, is_contribution, with_reference}
 use Rattle.m11_link_layout.specs.declared.definition.Definition.{Definition}
 use Rattle.m11_link_layout.specs.declared.definition.Total.{Total}
 use Rattle.m11_link_layout.specs.declared.fault.LinkFault.{LinkFault}
@@ -77,9 +77,9 @@ reference_stays {seen} g name is_strong is e =
 -- where a contribution stands
 pub stands : {seen : LayoutTables} (g : LayoutTables) (key stored : ℕ × (ℕ × ℕ)) (index offset : ℕ) → seen ≡ g
     → slice_get seen.contributions index ≡ Some (stored, offset)
-    → Some stored ≡ lookup_key (is_contribution key) seen.contributions → StandsAt key index offset g.contributions
+    → Some stored ≡ lookup_key (is_contribution key) seen.contributions → LiesAt key index offset g.contributions
 stands {seen} g key stored index offset is at found =
-    let P : LayoutTables → Type 0 = λ x. StandsAt key index offset x.contributions in
+    let P : LayoutTables → Type 0 = λ x. LiesAt key index offset x.contributions in
     subst P is (stored, at, found_key (is_contribution key) seen.contributions stored (sym found))
 
 -- ---- lists that agree
@@ -100,7 +100,7 @@ based plan module_index section stored offset base e same =
     (sym (same_name_equal section stored same))
 
 pub base_listed : (plan : PlanTables) (module_index : ℕ) (section : ℕ × ℕ) (index offset base : ℕ)
-    → StandsAt (module_index, section) index offset plan.gathered.contributions
+    → LiesAt (module_index, section) index offset plan.gathered.contributions
     → lookup (is_contribution (module_index, section)) plan.gathered.contributions ≡ Some offset
     → slice_get (contribution_bases plan) index ≡ Some base
     → base ≡ planned_base plan module_index section
@@ -140,7 +140,7 @@ shown xs ys index value same lt e =
 
 module _ {seen : PlanTables} (plan : PlanTables) (is : seen ≡ plan) where
   pub base_shown : (module_index : ℕ) (section : ℕ × ℕ) (index offset base : ℕ) (bases taken : List ℕ)
-      → StandsAt (module_index, section) index offset seen.gathered.contributions
+      → LiesAt (module_index, section) index offset seen.gathered.contributions
       → Some offset ≡ lookup (is_contribution (module_index, section)) seen.gathered.contributions
       → Agrees bases (contribution_bases seen) → taken ≡ bases → index < length taken → base ≡ get_or taken index base
       → base ≡ planned_base plan module_index section

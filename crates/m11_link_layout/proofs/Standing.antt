@@ -8,19 +8,19 @@ use Rattle.m11_link_modules.specs.declared.fault.ModuleFault.{ModuleFault}
 use Rattle.m11_link_modules.specs.declared.fault.ModuleFault.TheVariants as rule
 use Rattle.m11_link_modules.proofs.KnownAfter.{taken_after}
 use Rattle.m11_link_modules.specs.Grammar.{directory_parts}
-use Rattle.m11_link_modules.specs.Laws.{TakesAfter}
+use Rattle.m11_link_modules.specs.Laws.{AcceptsAfter}
 use Rattle.m11_link_modules.specs.Parts.{Part, Entry, EndOfDirectory, EndOfFile, EndOfModule, Text, record_parts}
 use Rattle.m11_link_modules.specs.Positions.{RulesState, known_of}
 use Rattle.m11_link_modules.specs.Rules.{fault_of, first_fault}
 use Rattle.m11_link_modules.specs.Steps.{RulesTake}
 use Rattle.m11_link_layout.specs.Fault.{of_module}
 use Rattle.m11_link_layout.specs.Tables.{LayoutTables, gathered_after, gathered_after_all, nothing_gathered, with_end}
-use Rattle.m11_link_layout.specs.Layout.{FirstFault, LayoutState, LayoutStands, TakesBlock, TakesParts}
+use Rattle.m11_link_layout.specs.Layout.{FirstFault, LayoutState, LayoutAfter, AcceptsBlock, AcceptsParts}
 use Rattle.m11_link_layout.specs.declared.fault.LinkFault.{LinkFault}
 use Rattle.m11_link_layout.specs.declared.fault.LinkFault.TheVariants.{NoMemory, Record}
 
 pub begins : (bottom : ℕ) (reading : LayoutState) → reading.known ≡ known_of [] → reading.gathered ≡ nothing_gathered
-    → reading.bottom ≡ bottom → reading.fault ≡ None → LayoutStands bottom [] reading
+    → reading.bottom ≡ bottom → reading.fault ≡ None → LayoutAfter bottom [] reading
 unfolding first_fault
 begins bottom reading k g b f = record { sound = refl; known = k; gathered = g; bottom_is = b; fault = f }
 
@@ -52,9 +52,9 @@ gathered_append bottom g [] parts = refl
 gathered_append bottom g (part ∷ before) parts = gathered_append bottom (gathered_after bottom g part) before parts
 
 -- parts were taken and noted
-pub goes_on : (bottom : ℕ) (before parts : List Part) (old new : LayoutState) → LayoutStands bottom before old
-    → TakesAfter before new.known parts (Ok tt) → new.gathered ≡ gathered_after_all old.bottom old.gathered parts
-    → new.bottom ≡ old.bottom → new.fault ≡ old.fault → LayoutStands bottom (before ++ parts) new
+pub goes_on : (bottom : ℕ) (before parts : List Part) (old new : LayoutState) → LayoutAfter bottom before old
+    → AcceptsAfter before new.known parts (Ok tt) → new.gathered ≡ gathered_after_all old.bottom old.gathered parts
+    → new.bottom ≡ old.bottom → new.fault ≡ old.fault → LayoutAfter bottom (before ++ parts) new
 goes_on bottom before parts old new s t g b f =
     let P : ℕ → Type 0 = λ n. new.gathered ≡ gathered_after_all n old.gathered parts in
     let Q : LayoutTables → Type 0 = λ h. new.gathered ≡ gathered_after_all bottom h parts in
@@ -72,12 +72,12 @@ goes_on bottom before parts old new s t g b f =
 
 -- parts were judged and noted
 pub parts_taken : {seen new : LayoutState} (bottom : ℕ) (before parts : List Part) (old : LayoutState) → seen ≡ old
-    → LayoutStands bottom before old
-    → (seen.known ≡ known_of before → TakesAfter before new.known parts (Ok tt))
+    → LayoutAfter bottom before old
+    → (seen.known ≡ known_of before → AcceptsAfter before new.known parts (Ok tt))
     → new.gathered ≡ gathered_after_all seen.bottom seen.gathered parts
-    → new.bottom ≡ seen.bottom → new.fault ≡ seen.fault → LayoutStands bottom (before ++ parts) new
+    → new.bottom ≡ seen.bottom → new.fault ≡ seen.fault → LayoutAfter bottom (before ++ parts) new
 parts_taken {seen} {new} bottom before parts old is s t g b f =
-    let P : LayoutState → Type 0 = λ reading. LayoutStands bottom before reading in
+    let P : LayoutState → Type 0 = λ reading. LayoutAfter bottom before reading in
     let s' = subst P (sym is) s in
     goes_on bottom before parts seen new s' (t s'.known) g b f
 
@@ -105,7 +105,7 @@ fault_found before parts old new rule.TooManyModules is h =
 pub fault_reported : (before parts : List Part) (old new : RulesState) (broken : ModuleFault) (state : LayoutState) (bottom : ℕ)
     (result : Result (Unit {0}) LinkFault) → old ≡ known_of before
     → RulesTake old new parts (Err broken) → IsErrAnd result (λ e. e ≡ of_module broken)
-    → TakesParts bottom before state parts result
+    → AcceptsParts bottom before state parts result
 fault_reported before parts old new broken state bottom (Ok done) is h e = absurd e
 fault_reported before parts old new broken state bottom (Err stopped) is h e =
     let P : LinkFault → Type 0 = λ said. FirstFault before parts said in
@@ -113,8 +113,8 @@ fault_reported before parts old new broken state bottom (Err stopped) is h e =
 
 -- parts were judged, and memory was refused for what they say
 pub memory_refused : {seen : LayoutState} (bottom : ℕ) (before parts : List Part) (old state : LayoutState) (new : RulesState)
-    (result : Result (Unit {0}) LinkFault) → seen ≡ old → LayoutStands bottom before old
-    → RulesTake seen.known new parts (Ok tt) → IsErrAnd result (λ e. e ≡ NoMemory) → TakesParts bottom before state parts result
+    (result : Result (Unit {0}) LinkFault) → seen ≡ old → LayoutAfter bottom before old
+    → RulesTake seen.known new parts (Ok tt) → IsErrAnd result (λ e. e ≡ NoMemory) → AcceptsParts bottom before state parts result
 memory_refused {seen} bottom before parts old state new (Ok done) is s h e = absurd e
 memory_refused {seen} bottom before parts old state new (Err stopped) is s h e =
     let k = ap (λ (l : LayoutState). l.known) is ∙ s.known in
@@ -136,17 +136,17 @@ no_record rule.TooManyModules inner e = cc
 
 -- no fault of parts is one of a block that is no record
 of_record : (bottom : ℕ) (before : List Part) (new : LayoutState) (bytes : List ℕ) (result : Result (Unit {0}) LinkFault)
-    → TakesParts bottom before new (record_parts bytes) result → TakesBlock bottom before new bytes result
+    → AcceptsParts bottom before new (record_parts bytes) result → AcceptsBlock bottom before new bytes result
 of_record bottom before new bytes (Ok done) h = h
 of_record bottom before new bytes (Err (Record inner)) h = absurd (no_record h.0 inner h.2)
 of_record bottom before new bytes (Err stopped) h = h
 
 -- a block of these parts
 pub block_taken : (bottom : ℕ) (before parts : List Part) (new : LayoutState) (bytes : List ℕ)
-    (result : Result (Unit {0}) LinkFault) → record_parts bytes ≡ parts → TakesParts bottom before new parts result
-    → TakesBlock bottom before new bytes result
+    (result : Result (Unit {0}) LinkFault) → record_parts bytes ≡ parts → AcceptsParts bottom before new parts result
+    → AcceptsBlock bottom before new bytes result
 block_taken bottom before parts new bytes result e h =
-    let P : List Part → Type 0 = λ these. TakesParts bottom before new these result in
+    let P : List Part → Type 0 = λ these. AcceptsParts bottom before new these result in
     of_record bottom before new bytes result (subst P (sym e) h)
 
 -- nothing is noted of a text
@@ -179,12 +179,12 @@ unfolding gathered_after
 nothing_noted bottom g = refl
 
 pub end_taken : {seen new : LayoutState} (bottom : ℕ) (before : List Part) (old : LayoutState) → seen ≡ old
-    → LayoutStands bottom before old
-    → (seen.known ≡ known_of before → TakesAfter before new.known (EndOfFile ∷ []) (Ok tt))
+    → LayoutAfter bottom before old
+    → (seen.known ≡ known_of before → AcceptsAfter before new.known (EndOfFile ∷ []) (Ok tt))
     → new.gathered ≡ seen.gathered → new.bottom ≡ seen.bottom → new.fault ≡ seen.fault
-    → LayoutStands bottom (before ++ EndOfFile ∷ []) new
+    → LayoutAfter bottom (before ++ EndOfFile ∷ []) new
 end_taken {seen} {new} bottom before old is s t g b f =
-    let P : LayoutState → Type 0 = λ reading. LayoutStands bottom before reading in
+    let P : LayoutState → Type 0 = λ reading. LayoutAfter bottom before reading in
     let Q : LayoutTables → Type 0 = λ h. new.gathered ≡ h in
     let s' = subst P (sym is) s in
     goes_on bottom before (EndOfFile ∷ []) seen new s' (t s'.known)

@@ -20,7 +20,7 @@ pub record LayoutState : Type 0 where
   pub fault : Option LinkFault
 
 -- a layout stands after these parts, of which none has a fault
-pub record LayoutStands (bottom : ℕ) (parts : List Part) (reading : LayoutState) : Type 0 where
+pub record LayoutAfter (bottom : ℕ) (parts : List Part) (reading : LayoutState) : Type 0 where
   pub sound : first_fault [] parts ≡ None
   pub known : reading.known ≡ known_of parts
   pub gathered : reading.gathered ≡ gathered_after_all bottom nothing_gathered parts
@@ -35,14 +35,14 @@ FirstFault before parts reported =
     (fault : ModuleFault) × (first_fault before parts ≡ Some fault) × (reported ≡ of_module fault)
 
 -- parts were taken, or their first fault was returned
-abbrev pub TakesParts : ℕ → List Part → LayoutState → List Part → Result (Unit {0}) LinkFault → Type 0
-TakesParts bottom before new parts (Ok done) = LayoutStands bottom (before ++ parts) new
-TakesParts bottom before new parts (Err fault) = FirstFault before parts fault
+abbrev pub AcceptsParts : ℕ → List Part → LayoutState → List Part → Result (Unit {0}) LinkFault → Type 0
+AcceptsParts bottom before new parts (Ok done) = LayoutAfter bottom (before ++ parts) new
+AcceptsParts bottom before new parts (Err fault) = FirstFault before parts fault
 
 -- a block is no record, or its parts were taken
-abbrev pub TakesBlock : ℕ → List Part → LayoutState → Bytes → Result (Unit {0}) LinkFault → Type 0
-TakesBlock bottom before new bytes (Err (Record fault)) = content_of bytes ≡ Err fault
-TakesBlock bottom before new bytes result = TakesParts bottom before new (record_parts bytes) result
+abbrev pub AcceptsBlock : ℕ → List Part → LayoutState → Bytes → Result (Unit {0}) LinkFault → Type 0
+AcceptsBlock bottom before new bytes (Err (Record fault)) = content_of bytes ≡ Err fault
+AcceptsBlock bottom before new bytes result = AcceptsParts bottom before new (record_parts bytes) result
 
 -- where a fault was returned, it is returned again and nothing changes
 abbrev pub FailsAgain : LayoutState → LayoutState → Result (Unit {0}) LinkFault → Type 0

@@ -77,8 +77,8 @@ abbrev pub is_contribution : ℕ × Name → ℕ × Name → Bool
 is_contribution one other = (one.0 == other.0) && is_same_name one.1 other.1
 
 -- the contribution of a module to a section stands at this index, and lies at this offset
-abbrev pub StandsAt : ℕ × Name → ℕ → ℕ → List ((ℕ × Name) × ℕ) → Type 0
-StandsAt key index offset contributions = (stored : ℕ × Name)
+abbrev pub LiesAt : ℕ × Name → ℕ → ℕ → List ((ℕ × Name) × ℕ) → Type 0
+LiesAt key index offset contributions = (stored : ℕ × Name)
     × (slice_get contributions index ≡ Some (stored, offset)) × (is_contribution key stored ≡ true)
 
 abbrev pub with_total : Name → Total → LayoutTables → LayoutTables

@@ -7,11 +7,11 @@ ghost use Rattle.m11_obj.specs.Reading.{AreEntries, AreRelocations, IsRecord, ch
 ghost use Rattle.m11_link_modules.specs.Grammar.{directory_parts};
 ghost use Rattle.m11_link_modules.specs.Parts.{Part, EndOfDirectory, EndOfFile, EndOfModule, Relocated, Relocations, Text};
 ghost use Rattle.m11_link_modules.specs.Positions.{global_of};
-ghost use Rattle.m11_link_modules.specs.Steps.{RulesTake, TakesOne};
+ghost use Rattle.m11_link_modules.specs.Steps.{RulesTake, AcceptsOne};
 ghost use Rattle.m11_link_layout.specs.Tables.{gathered_after_all, with_relocated};
 ghost use Rattle.m11_link_layout.specs.Plan.{LayoutEnds};
 ghost use Rattle.m11_link_layout.specs.declared.fault.LinkFault.{LinkFault};
-ghost use Rattle.m11_link_layout.specs.Layout.{FailsAgain, LayoutStands, TakesBlock, TakesParts};
+ghost use Rattle.m11_link_layout.specs.Layout.{FailsAgain, LayoutAfter, AcceptsBlock, AcceptsParts};
 
 use crate::fault::LinkFault;
 use crate::plan::{Plan, plan_of};
@@ -46,7 +46,7 @@ impl Model for Layout {
 impl Layout {
     /// No block came so far; relocatable sections will lie from the bottom on, which may be any address.
     pub fn new(alloc: Global, bottom: u16) -> Layout
-        ensures { LayoutStands bottom [] result }
+        ensures { LayoutAfter bottom [] result }
     {
         Layout {
             alloc,
@@ -63,8 +63,8 @@ impl Layout {
     /// `NoMemory` where memory is refused, for a part up to which there is no fault. After a fault each call returns it
     /// again.
     pub fn block(&mut self, block: &Block) -> Result<(), LinkFault>
-        ensures takes { (bottom : ℕ) (before : List Part) → LayoutStands bottom before self.old
-            → TakesBlock bottom before self.new block.now.items result }
+        ensures takes { (bottom : ℕ) (before : List Part) → LayoutAfter bottom before self.old
+            → AcceptsBlock bottom before self.new block.now.items result }
         ensures is_record { IfOk result (λ _. IsRecord block.now.items) }
         ensures again { FailsAgain self.old self.new result }
         ensures kept { self.new.fault ≡ result_err result }
@@ -77,8 +77,8 @@ impl Layout {
     /// Takes the end of an object: `BadOrder` inside a module, and no other fault of its own. After a fault it is
     /// returned again.
     pub fn end_file(&mut self) -> Result<(), LinkFault>
-        ensures takes { (bottom : ℕ) (before : List Part) → LayoutStands bottom before self.old
-            → TakesParts bottom before self.new (EndOfFile ∷ []) result }
+        ensures takes { (bottom : ℕ) (before : List Part) → LayoutAfter bottom before self.old
+            → AcceptsParts bottom before self.new (EndOfFile ∷ []) result }
         ensures inside { self.old.fault ≡ None → IfErr result (λ fault. fault ≡ LinkFault.BadOrder) }
         ensures again { FailsAgain self.old self.new result }
         ensures kept { self.new.fault ≡ result_err result }
@@ -93,7 +93,7 @@ impl Layout {
     /// Faults: the one that came before; `BadOrder` inside a module; then `TooLarge` where a relocatable section ends
     /// past 160000; `NoMemory` where memory is refused for a section, once neither it nor one before it is too large.
     pub fn end(self) -> Result<Plan, LinkFault>
-        ensures ends { (bottom : ℕ) (before : List Part) → LayoutStands bottom before self → LayoutEnds bottom before result }
+        ensures ends { (bottom : ℕ) (before : List Part) → LayoutAfter bottom before self → LayoutEnds bottom before result }
         ensures again { (fault : LinkFault) → self.fault ≡ Some fault → result ≡ Err fault }
     {
         let mut layout = self;
@@ -112,8 +112,8 @@ impl Layout {
 
     // Takes the end of the last object, or returns the fault that came before.
     fn end_in_place(&mut self) -> Result<(), LinkFault>
-        ensures takes { (bottom : ℕ) (before : List Part) → LayoutStands bottom before self.old
-            → TakesParts bottom before self.new (EndOfFile ∷ []) result }
+        ensures takes { (bottom : ℕ) (before : List Part) → LayoutAfter bottom before self.old
+            → AcceptsParts bottom before self.new (EndOfFile ∷ []) result }
         ensures inside { self.old.fault ≡ None → IfErr result (λ fault. fault ≡ LinkFault.BadOrder) }
         ensures again { (fault : LinkFault) → self.old.fault ≡ Some fault → result ≡ Err fault }
     {
@@ -123,8 +123,8 @@ impl Layout {
 
     // Takes the end of an object where no fault came before.
     fn accept_end(&mut self) -> Result<(), LinkFault>
-        ensures takes { (bottom : ℕ) (before : List Part) → LayoutStands bottom before self.old
-            → TakesParts bottom before self.new (EndOfFile ∷ []) result }
+        ensures takes { (bottom : ℕ) (before : List Part) → LayoutAfter bottom before self.old
+            → AcceptsParts bottom before self.new (EndOfFile ∷ []) result }
         ensures inside { IfErr result (λ fault. fault ≡ LinkFault.BadOrder) }
         ensures kept { self.new.fault ≡ self.old.fault }
     {
@@ -134,8 +134,8 @@ impl Layout {
 
     // Takes one block where no fault came before.
     fn accept_block(&mut self, block: &Block) -> Result<(), LinkFault>
-        ensures takes { (bottom : ℕ) (before : List Part) → LayoutStands bottom before self.old
-            → TakesBlock bottom before self.new block.now.items result }
+        ensures takes { (bottom : ℕ) (before : List Part) → LayoutAfter bottom before self.old
+            → AcceptsBlock bottom before self.new block.now.items result }
         ensures is_record { IfOk result (λ _. IsRecord block.now.items) }
         ensures kept { self.new.fault ≡ self.old.fault }
     {
@@ -152,8 +152,8 @@ impl Layout {
     // Takes the entries of a directory record, which stand in a block of these bytes. All of them are read before one is
     // judged, since a fault of the record itself comes first.
     fn accept_directory(&mut self, unread: &UnreadEntries<'_>) -> Result<(), LinkFault>
-        ensures takes { (bottom : ℕ) (before : List Part) (bytes : List ℕ) → LayoutStands bottom before self.old
-            → content_of bytes ≡ unread_directory unread.now → TakesBlock bottom before self.new bytes result }
+        ensures takes { (bottom : ℕ) (before : List Part) (bytes : List ℕ) → LayoutAfter bottom before self.old
+            → content_of bytes ≡ unread_directory unread.now → AcceptsBlock bottom before self.new bytes result }
         ensures are { IfOk result (λ _. AreEntries unread.now) }
         ensures kept { self.new.fault ≡ self.old.fault }
     {
@@ -163,8 +163,8 @@ impl Layout {
 
     // Takes a directory record of these entries: they are judged, and then noted.
     fn accept_entries(&mut self, entries: &[GsdEntry]) -> Result<(), LinkFault>
-        ensures takes { (bottom : ℕ) (before : List Part) → LayoutStands bottom before self.old
-            → TakesParts bottom before self.new (directory_parts entries.now) result }
+        ensures takes { (bottom : ℕ) (before : List Part) → LayoutAfter bottom before self.old
+            → AcceptsParts bottom before self.new (directory_parts entries.now) result }
         ensures kept { self.new.fault ≡ self.old.fault }
     {
         self.rules.directory(entries)?;
@@ -174,8 +174,8 @@ impl Layout {
 
     // Takes the end of a directory, of which nothing is noted.
     fn accept_end_of_directory(&mut self) -> Result<(), LinkFault>
-        ensures takes { (bottom : ℕ) (before : List Part) → LayoutStands bottom before self.old
-            → TakesParts bottom before self.new (EndOfDirectory ∷ []) result }
+        ensures takes { (bottom : ℕ) (before : List Part) → LayoutAfter bottom before self.old
+            → AcceptsParts bottom before self.new (EndOfDirectory ∷ []) result }
         ensures kept { self.new.fault ≡ self.old.fault }
     {
         self.rules.end_of_directory()?;
@@ -184,8 +184,8 @@ impl Layout {
 
     // Takes a text, of which nothing is noted.
     fn accept_text(&mut self, address: u16, bytes: &[u8]) -> Result<(), LinkFault>
-        ensures takes { (bottom : ℕ) (before : List Part) → LayoutStands bottom before self.old
-            → TakesParts bottom before self.new (Text address bytes.now ∷ []) result }
+        ensures takes { (bottom : ℕ) (before : List Part) → LayoutAfter bottom before self.old
+            → AcceptsParts bottom before self.new (Text address bytes.now ∷ []) result }
         ensures kept { self.new.fault ≡ self.old.fault }
     {
         self.rules.text(address, bytes)?;
@@ -194,8 +194,8 @@ impl Layout {
 
     // Takes the end of a module: it is judged, and then noted.
     fn accept_end_of_module(&mut self) -> Result<(), LinkFault>
-        ensures takes { (bottom : ℕ) (before : List Part) → LayoutStands bottom before self.old
-            → TakesParts bottom before self.new (EndOfModule ∷ []) result }
+        ensures takes { (bottom : ℕ) (before : List Part) → LayoutAfter bottom before self.old
+            → AcceptsParts bottom before self.new (EndOfModule ∷ []) result }
         ensures kept { self.new.fault ≡ self.old.fault }
     {
         self.rules.end_of_module()?;
@@ -205,8 +205,8 @@ impl Layout {
 
     // Takes the relocations of a record, which stand in a block of these bytes.
     fn accept_relocations(&mut self, unread: &mut UnreadRelocations<'_>) -> Result<(), LinkFault>
-        ensures takes { (bottom : ℕ) (before : List Part) (bytes : List ℕ) → LayoutStands bottom before self.old
-            → content_of bytes ≡ unread_content unread.old → TakesBlock bottom before self.new bytes result }
+        ensures takes { (bottom : ℕ) (before : List Part) (bytes : List ℕ) → LayoutAfter bottom before self.old
+            → content_of bytes ≡ unread_content unread.old → AcceptsBlock bottom before self.new bytes result }
         ensures are { IfOk result (λ _. AreRelocations unread.old) }
         ensures kept { self.new.fault ≡ self.old.fault }
     {
@@ -263,9 +263,9 @@ impl Layout {
     }
 
     // Judges and notes a relocation.
-    #[tactic(auto, unfolding(m11_link_modules::specs::Steps::TakesOne))]
+    #[tactic(auto, unfolding(m11_link_modules::specs::Steps::AcceptsOne))]
     fn add_relocation(&mut self, relocation: Relocation) -> Result<(), ModuleFault>
-        ensures judged { TakesOne self.old.known self.new.known (Relocated relocation) result }
+        ensures judged { AcceptsOne self.old.known self.new.known (Relocated relocation) result }
         ensures noted { IfOk result (λ _. self.new.gathered ≡ with_relocated (global_of relocation.target) self.old.gathered) }
         ensures bottom { self.new.bottom ≡ self.old.bottom }
         ensures kept { self.new.fault ≡ self.old.fault }

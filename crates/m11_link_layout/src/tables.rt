@@ -6,7 +6,7 @@ ghost use Rattle.std.specs.Map.{lookup};
 ghost use Rattle.m11_base.specs.Names.{blank_name};
 ghost use Rattle.m11_base.specs.Rad50.{is_same_name};
 ghost use Rattle.m11_link_modules.specs.Positions.{global_of};
-ghost use Rattle.m11_link_layout.specs.Tables.{StandsAt, TablesKeep, is_contribution, contributed, gathered_after_all, nothing_gathered, entered_total, is_concatenated, is_even_after, is_relocated, joined, next_offset, settled, total_after, with_definition, with_end, with_entry, with_name, with_reference, with_relocated, with_contribution, with_section, with_settled, with_symbol, with_total, with_transfer, with_weak};
+ghost use Rattle.m11_link_layout.specs.Tables.{LiesAt, TablesKeep, is_contribution, contributed, gathered_after_all, nothing_gathered, entered_total, is_concatenated, is_even_after, is_relocated, joined, next_offset, settled, total_after, with_definition, with_end, with_entry, with_name, with_reference, with_relocated, with_contribution, with_section, with_settled, with_symbol, with_total, with_transfer, with_weak};
 ghost use Rattle.m11_link_layout.specs.Globals.{location_of};
 ghost use Rattle.m11_link_layout.specs.Sections.{control_attributes};
 
@@ -204,7 +204,7 @@ impl Tables {
     pub(crate) fn contribution(&self, module_index: usize, section: Name) -> Option<(usize, u32)>
         ensures offset { option_map (λ found. found.1) result
             ≡ lookup (is_contribution (module_index, section)) self.now.contributions }
-        ensures at { IfSome result (λ found. StandsAt (module_index, section) found.0 found.1 self.now.contributions) }
+        ensures at { IfSome result (λ found. LiesAt (module_index, section) found.0 found.1 self.now.contributions) }
     {
         match self.contributions.get_full(&(module_index, section)) {
             Some((index, _, offset)) => Some((index, *offset)),

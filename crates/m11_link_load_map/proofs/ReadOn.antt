@@ -6,18 +6,18 @@ use Rattle.m11_obj_blocks.specs.Blocks.{first_block}
 use Rattle.m11_obj_blocks.specs.Limited.{EndsBetween, Reads, Stops, most_bytes, position}
 use Rattle.m11_link_modules.specs.Parts.{Part, EndOfFile, record_parts}
 use Rattle.m11_obj.specs.Reading.{IsRecord}
-use Rattle.m11_link_layout.specs.Layout.{LayoutState, LayoutStands, TakesBlock, TakesParts}
+use Rattle.m11_link_layout.specs.Layout.{LayoutState, LayoutAfter, AcceptsBlock, AcceptsParts}
 use Rattle.m11_link_layout.specs.Plan.{LayoutEnds, PlanTables}
 use Rattle.m11_link_layout.specs.declared.fault.LinkFault.{LinkFault}
 use Rattle.m11_link_layout.specs.declared.fault.LinkFault.TheVariants as fault
-use Rattle.m11_link.specs.FirstPass.{StandsBetween, pass_of}
+use Rattle.m11_link.specs.FirstPass.{LayoutBetween, pass_of}
 use Rattle.m11_link.specs.Objects.{Item, BlockOf, ObjectEnds, taken, unless_too_large}
 use Rattle.m11_link.specs.Objects as objects
 use Rattle.m11_link.proofs.FirstRead.{Laid, LaidAll, are_after, laid_ends, one_object, reading_ends, reading_stops}
-use Rattle.m11_link.proofs.ItemsTaken.{bind_on, block_taken, end_taken, ends_again, one_taken, rest_sound, taken_after}
+use Rattle.m11_link.proofs.ItemsAccepted.{bind_on, block_taken, end_taken, ends_again, one_taken, rest_sound, taken_after}
 use Rattle.m11_link.proofs.ObjectsRead.{walk_begins, walk_ends, walk_more}
 use Rattle.m11_link_load_map.specs.Noted.{noted_of}
-use Rattle.m11_link_load_map.specs.Reading.{NotedBetween, NotesAll, NotesObject, NotesObjects, Stands}
+use Rattle.m11_link_load_map.specs.Reading.{NotedBetween, NotesAll, NotesObject, NotesObjects, NotedAfter}
 use Rattle.m11_link_load_map.specs.declared.noted.MapFact.{MapFact}
 use Rattle.m11_link_load_map.proofs.NotedParts.{noted-append, noted_end}
 
@@ -25,9 +25,9 @@ use Rattle.m11_link_load_map.proofs.NotedParts.{noted-append, noted_end}
 
 -- a block that a layout took, and that was noted
 pub block_noted : (bottom : ℕ) (before : List Part) (bytes : List ℕ) (layout layout' : LayoutState) (noted noted' : List MapFact)
-    → Stands bottom before layout noted → LayoutStands bottom (before ++ record_parts bytes) layout'
+    → NotedAfter bottom before layout noted → LayoutAfter bottom (before ++ record_parts bytes) layout'
     → noted' ≡ noted ++ noted_of (record_parts bytes)
-    → Stands bottom (before ++ record_parts bytes) layout' noted'
+    → NotedAfter bottom (before ++ record_parts bytes) layout' noted'
 block_noted bottom before bytes layout layout' noted noted' s laid e = record {
   laid = laid;
   noted-are = e ∙ ap (λ (these : List MapFact). these ++ noted_of (record_parts bytes)) s.noted-are
@@ -36,8 +36,8 @@ block_noted bottom before bytes layout layout' noted noted' s laid e = record {
 
 -- a block that a layout took, where memory was refused for what is noted
 pub block_lost : (bottom : ℕ) (before : List Part) (bytes : List ℕ) (layout : LayoutState)
-    → LayoutStands bottom (before ++ record_parts bytes) layout
-    → TakesBlock bottom before layout bytes (Err fault.NoMemory)
+    → LayoutAfter bottom (before ++ record_parts bytes) layout
+    → AcceptsBlock bottom before layout bytes (Err fault.NoMemory)
 block_lost bottom before bytes layout s = inr (rest_sound [] before (record_parts bytes) s.sound)
 
 -- ---- one object
@@ -49,7 +49,7 @@ pub record Seen (text text' : Option Text) (faults faults' room bottom : ℕ) (b
   pub noted-are : noted ≡ noted_of laid.parts
 
 pub seen_first : (text : Option Text) (faults bottom : ℕ) (before : List Part) (layout : LayoutState) (noted : List MapFact)
-    → Stands bottom before layout noted → Seen text text faults faults most_bytes bottom before layout noted
+    → NotedAfter bottom before layout noted → Seen text text faults faults most_bytes bottom before layout noted
 seen_first text faults bottom before layout noted s = record {
   laid = record {
     done = [];
@@ -63,7 +63,7 @@ seen_first text faults bottom before layout noted s = record {
 
 pub stands_here : (text text' : Option Text) (faults faults' room bottom : ℕ) (before : List Part) (layout : LayoutState)
     (noted : List MapFact) (l : Seen text text' faults faults' room bottom before layout noted)
-    → Stands bottom l.laid.parts layout noted
+    → NotedAfter bottom l.laid.parts layout noted
 stands_here text text' faults faults' room bottom before layout noted l = record {
   laid = l.laid.stands;
   noted-are = l.noted-are;
@@ -73,7 +73,7 @@ module _ (text text1 : Option Text) (faults faults1 room1 bottom : ℕ) (before 
     (noted1 : List MapFact) (l : Seen text text1 faults faults1 room1 bottom before layout1 noted1) (text2 : Option Text)
     (faults2 room2 : ℕ) (layout2 : LayoutState) (noted2 : List MapFact) where
   pub seen_more : (content : List ℕ) → Reads first_block (position text1 faults1 room1) (position text2 faults2 room2) content
-      → Stands bottom (l.laid.parts ++ record_parts content) layout2 noted2 → IsRecord content
+      → NotedAfter bottom (l.laid.parts ++ record_parts content) layout2 noted2 → IsRecord content
       → Seen text text2 faults faults2 room2 bottom before layout2 noted2
   seen_more content r s is = record {
     laid = record {
@@ -89,7 +89,7 @@ module _ (text text1 : Option Text) (faults faults1 room1 bottom : ℕ) (before 
   }
 
   pub seen_ends : Stops first_block (position text1 faults1 room1) (position text2 faults2 room2) EndsBetween
-      → (result : Result (Unit {0}) LinkFault) → TakesParts bottom l.laid.parts layout2 (EndOfFile ∷ []) result
+      → (result : Result (Unit {0}) LinkFault) → AcceptsParts bottom l.laid.parts layout2 (EndOfFile ∷ []) result
       → noted2 ≡ noted1 → NotesObject text faults faults2 bottom before layout2 noted2 result
   seen_ends s (Ok done) t e =
       let end = walk_ends text text1 faults faults1 room1 l.laid.done l.laid.walked text2 faults2 room2 s in (
@@ -144,7 +144,7 @@ module _ {F : Type 0} (text : F → Option Text) (faults : F → ℕ) where
 
   pub stands_now : (initial now : List F) (index bottom : ℕ) (before : List Part) (layout : LayoutState) (noted : List MapFact)
       (l : SeenAll text faults initial now index bottom before layout noted)
-      → Stands bottom l.laid.reaches.parts layout noted
+      → NotedAfter bottom l.laid.reaches.parts layout noted
   stands_now initial now index bottom before layout noted l = record {
     laid = l.laid.reaches.stands.stands;
     noted-are = l.noted-are;
@@ -195,7 +195,7 @@ module _ {F : Type 0} (text : F → Option Text) (faults : F → ℕ) (feeds fee
   all_end l (Err stopped) e =
       reading_ends text faults feeds feeds' bottom layout (l.0, l.1, l.2, l.3.reaches) (Err stopped) e
 
-pub noted_begins : (bottom : ℕ) (layout : LayoutState) (noted : List MapFact) → StandsBetween bottom [] layout → noted ≡ []
+pub noted_begins : (bottom : ℕ) (layout : LayoutState) (noted : List MapFact) → LayoutBetween bottom [] layout → noted ≡ []
     → NotedBetween bottom [] layout noted
 unfolding noted_of
 noted_begins bottom layout noted s e = record { between = s; noted-are = e }

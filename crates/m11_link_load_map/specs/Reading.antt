@@ -4,23 +4,23 @@ use Rattle.std.specs.Prelude.{◌≡◌, ℕ, List, ◌++◌, Option, Result, Ok
 use Rattle.m11_base.specs.Devices.{Bytes}
 use Rattle.m11_base.specs.Feed.{Text, NoneFailed}
 use Rattle.m11_link_modules.specs.Parts.{Part, record_parts}
-use Rattle.m11_link_layout.specs.Layout.{LayoutState, LayoutStands, TakesBlock}
+use Rattle.m11_link_layout.specs.Layout.{LayoutState, LayoutAfter, AcceptsBlock}
 use Rattle.m11_link_layout.specs.Plan.{PlanTables, IsPlanOf}
 use Rattle.m11_link_layout.specs.declared.fault.LinkFault.{LinkFault}
-use Rattle.m11_link.specs.FirstPass.{LaysOut, LaysOutObject, Pass, Reaches, ReadsFirst, StandsBetween}
+use Rattle.m11_link.specs.FirstPass.{LaysOut, LaysOutObject, Pass, Reaches, ReadsFirst, LayoutBetween}
 use Rattle.m11_link.specs.Objects.{Item, GiveItems, GivesItems, outcome}
 use Rattle.m11_link_load_map.specs.Noted.{noted_of}
 use Rattle.m11_link_load_map.specs.declared.noted.MapFact.{MapFact}
 
 -- a layout stands after these parts, and they are noted
-pub record Stands (bottom : ℕ) (parts : List Part) (layout : LayoutState) (noted : List MapFact) : Type 0 where
-  pub laid : LayoutStands bottom parts layout
+pub record NotedAfter (bottom : ℕ) (parts : List Part) (layout : LayoutState) (noted : List MapFact) : Type 0 where
+  pub laid : LayoutAfter bottom parts layout
   pub noted-are : noted ≡ noted_of parts
 
 -- a block was taken and noted; or a link refuses it, or memory was refused
 abbrev pub NotesBlock : ℕ → List Part → LayoutState → List MapFact → Bytes → Result (Unit {0}) LinkFault → Type 0
-NotesBlock bottom before layout noted bytes (Ok done) = Stands bottom (before ++ record_parts bytes) layout noted
-NotesBlock bottom before layout noted bytes (Err stopped) = TakesBlock bottom before layout bytes (Err stopped)
+NotesBlock bottom before layout noted bytes (Ok done) = NotedAfter bottom (before ++ record_parts bytes) layout noted
+NotesBlock bottom before layout noted bytes (Err stopped) = AcceptsBlock bottom before layout bytes (Err stopped)
 
 -- the items yielded parts after those before, which were taken and noted
 pub record ReachesNoted (bottom : ℕ) (before : List Part) (items : List Item) (layout : LayoutState) (noted : List MapFact)
@@ -37,7 +37,7 @@ NotesObject text faults faults' bottom before layout noted (Err stopped) =
 
 -- a layout stands between objects, whose parts are noted
 pub record NotedBetween (bottom : ℕ) (parts : List Part) (layout : LayoutState) (noted : List MapFact) : Type 0 where
-  pub between : StandsBetween bottom parts layout
+  pub between : LayoutBetween bottom parts layout
   pub noted-are : noted ≡ noted_of parts
 
 -- several objects were taken and noted; or they ended as the first pass of a link does

@@ -1,9 +1,9 @@
 //! The reading of objects: a link's first pass over them, and what the map needs besides.
 
 ghost use Rattle.std.specs.Prelude.{◌≡◌, ℕ, List, [], IfOk};
-ghost use Rattle.m11_link_layout.specs.Layout.{LayoutStands};
+ghost use Rattle.m11_link_layout.specs.Layout.{LayoutAfter};
 ghost use Rattle.m11_link.specs.FirstPass.{of_block, pass_of};
-ghost use Rattle.m11_link_load_map.specs.Reading.{NotedBetween, NotesAll, NotesBlock, NotesObject, NotesObjects, Stands};
+ghost use Rattle.m11_link_load_map.specs.Reading.{NotedBetween, NotesAll, NotesBlock, NotesObject, NotesObjects, NotedAfter};
 ghost use Rattle.m11_link_modules.specs.Parts.{Part};
 ghost use Rattle.m11_obj.specs.Reading.{IsRecord};
 
@@ -30,7 +30,7 @@ fn accept_block(
     noted: &mut Vec<MapFact>,
     block: &Block,
 ) -> Result<(), LinkFault>
-    ensures notes { (bottom : ℕ) (before : List Part) → Stands bottom before layout.old noted.old.items
+    ensures notes { (bottom : ℕ) (before : List Part) → NotedAfter bottom before layout.old noted.old.items
         → NotesBlock bottom before layout.new noted.new.items block.now.items result }
     ensures is_record { IfOk result (λ _. IsRecord block.now.items) }
 {
@@ -49,7 +49,7 @@ fn read_object<F: Feed>(
     layout: &mut Layout,
     noted: &mut Vec<MapFact>,
 ) -> Result<(), LinkFault>
-    ensures { (bottom : ℕ) (before : List Part) → Stands bottom before layout.old noted.old.items
+    ensures { (bottom : ℕ) (before : List Part) → NotedAfter bottom before layout.old noted.old.items
         → NotesObject (F.text feed.old) (F.faults feed.old) (F.faults feed.new) bottom before layout.new noted.new.items result }
 {
     let mut reader = BlockReader::new();

@@ -20,7 +20,7 @@ use Rattle.m11_obj.specs.declared.gsd.GsdKind.TheVariants.{ModuleName, ControlSe
 use Rattle.m11_link_modules.specs.declared.fault.ModuleFault.{ModuleFault}
 use Rattle.m11_link_modules.specs.declared.fault.ModuleFault.TheVariants.{BadOrder, NoText, BadDisplacement, UnknownSection, TextOutside, TooManyGlobals, TooManySections, TooManyModules, NoMemory}
 use Rattle.m11_link_modules.specs.Rules.{first_there, entry_fault, is_past, most_sections, fault_known, fault_of, first_fault}
-use Rattle.m11_link_modules.specs.Laws.{TakesAfter}
+use Rattle.m11_link_modules.specs.Laws.{AcceptsAfter}
 use Rattle.m11_link_modules.specs.Steps.{known_after, known_after_all, first_known_fault, RulesTake, with_entry, with_end, with_optional_global}
 use Rattle.m11_link_modules.specs.Positions.{global_of, section_by, global_by, this_module, ends_module, modules_in, stage_from, stage_after, section_in, sections_in, selected_by, section_after, current_section, length_after, text_length, distinct, distinct_after, global_in, global_names, section_names, RulesState, known_of}
 
@@ -313,7 +313,7 @@ all_after before old new parts is h e =
 
 -- what was taken by what is known was taken after the parts before
 pub taken_after : (before : List Part) (old new : RulesState) (parts : List Part) (result : Result (Unit {0}) ModuleFault)
-    → old ≡ known_of before → RulesTake old new parts result → TakesAfter before new parts result
+    → old ≡ known_of before → RulesTake old new parts result → AcceptsAfter before new parts result
 unfolding RulesTake
 taken_after before old new parts (Ok done) is h =
     (fault_after before old parts None is h.0, all_after before old new parts is h.0 h.1)

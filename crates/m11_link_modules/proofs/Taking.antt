@@ -8,7 +8,7 @@ use Rattle.m11_obj.specs.declared.relocations.Relocation.{Relocation}
 use Rattle.m11_link_modules.specs.Parts.{Part, Relocated}
 use Rattle.m11_link_modules.specs.Positions.{RulesState}
 use Rattle.m11_link_modules.specs.Rules.{returned, fault_known, relocation_fault}
-use Rattle.m11_link_modules.specs.Steps.{RulesTake, TakesOne, known_after, known_after_all, first_known_fault}
+use Rattle.m11_link_modules.specs.Steps.{RulesTake, AcceptsOne, known_after, known_after_all, first_known_fault}
 use Rattle.m11_link_modules.proofs.Indexing.{drop_at}
 use Rattle.m11_link_modules.proofs.Refusals.{no_memory}
 
@@ -21,8 +21,8 @@ none_taken known done = (refl, refl)
 
 -- a part that has a fault ends the taking
 pub refused_first : (old new other : RulesState) (part : Part) (parts : List Part) (fault : ModuleFault)
-    → TakesOne old other part (Err fault) → RulesTake old new (part ∷ parts) (Err fault)
-unfolding RulesTake TakesOne
+    → AcceptsOne old other part (Err fault) → RulesTake old new (part ∷ parts) (Err fault)
+unfolding RulesTake AcceptsOne
 refused_first old new other part parts NoMemory h = record {
   taken = [];
   part = part;
@@ -51,8 +51,8 @@ then_fault old middle part parts fault none e h =
     subst Q (sym none) g
 
 pub taken_then : (old middle new : RulesState) (part : Part) (parts : List Part) (done : Unit {0}) (result : Outcome)
-    → TakesOne old middle part (Ok done) → RulesTake middle new parts result → RulesTake old new (part ∷ parts) result
-unfolding RulesTake TakesOne
+    → AcceptsOne old middle part (Ok done) → RulesTake middle new parts result → RulesTake old new (part ∷ parts) result
+unfolding RulesTake AcceptsOne
 taken_then old middle new part parts done (Ok x) h k =
     let P : RulesState → Type 0 = λ m. new ≡ known_after_all m parts in
     (then_fault old middle part parts None h.0 h.1 k.0, subst P h.1 k.1)
@@ -74,7 +74,7 @@ taken_then old middle new part parts done (Err TooManySections) h k = then_fault
 taken_then old middle new part parts done (Err TooManyModules) h k = then_fault old middle part parts (Some TooManyModules) h.0 h.1 k
 
 -- one part alone
-pub taken_one : (old new : RulesState) (part : Part) (result : Outcome) → TakesOne old new part result → RulesTake old new (part ∷ []) result
+pub taken_one : (old new : RulesState) (part : Part) (result : Outcome) → AcceptsOne old new part result → RulesTake old new (part ∷ []) result
 taken_one old new part (Ok done) h = taken_then old new new part [] done (Ok done) h (none_taken new done)
 taken_one old new part (Err fault) h = refused_first old new new part [] fault h
 
@@ -87,11 +87,11 @@ pub begins : (old : RulesState) (all : List Part) → GoesOn old old all all
 begins old all new result h = h
 
 pub goes_on : (old now later : RulesState) (part : Part) (rest all : List Part) (done : Unit {0})
-    → GoesOn old now (part ∷ rest) all → TakesOne now later part (Ok done) → GoesOn old later rest all
+    → GoesOn old now (part ∷ rest) all → AcceptsOne now later part (Ok done) → GoesOn old later rest all
 goes_on old now later part rest all done i h new result k = i new result (taken_then now later new part rest done result h k)
 
 pub stops : (old now new other : RulesState) (part : Part) (rest all : List Part) (fault : ModuleFault)
-    → GoesOn old now (part ∷ rest) all → TakesOne now other part (Err fault) → RulesTake old new all (Err fault)
+    → GoesOn old now (part ∷ rest) all → AcceptsOne now other part (Err fault) → RulesTake old new all (Err fault)
 stops old now new other part rest all fault i h = i new (Err fault) (refused_first now new other part rest fault h)
 
 pub ends : (old now : RulesState) (all : List Part) (done : Unit {0}) → GoesOn old now [] all → RulesTake old now all (Ok done)
@@ -105,8 +105,8 @@ returned_some (Some fault) said e = search
 
 -- what a check returned is the fault of the part
 pub refused : (old new : RulesState) (part : Part) (fault : ModuleFault) → returned (fault_known old part) ≡ Err fault
-    → TakesOne old new part (Err fault)
-unfolding TakesOne
+    → AcceptsOne old new part (Err fault)
+unfolding AcceptsOne
 refused old new part NoMemory e = absurd (no_memory old part (returned_some (fault_known old part) NoMemory e))
 refused old new part BadOrder e = returned_some (fault_known old part) BadOrder e
 refused old new part NoText e = returned_some (fault_known old part) NoText e
@@ -125,9 +125,9 @@ opened known relocation fault e = e
 
 pub relocation_refused : {seen : RulesState} (old new : RulesState) (relocation : Relocation) (fault : ModuleFault) → seen ≡ old
     → returned (relocation_fault relocation seen.entered seen.text seen.globals) ≡ Err fault
-    → TakesOne old new (Relocated relocation) (Err fault)
+    → AcceptsOne old new (Relocated relocation) (Err fault)
 relocation_refused {seen} old new relocation fault is e =
-    let P : RulesState → Type 0 = λ known. TakesOne known new (Relocated relocation) (Err fault) in
+    let P : RulesState → Type 0 = λ known. AcceptsOne known new (Relocated relocation) (Err fault) in
     subst P is (refused seen new (Relocated relocation) fault (opened seen relocation fault e))
 
 -- ---- loops over the items of a record, each of which is one part
@@ -135,14 +135,14 @@ relocation_refused {seen} old new relocation fault is e =
 module _ {X : Type 0} (make : X → Part) where
   -- items that are left, one of which is taken
   pub walk_taken : (old now later : RulesState) (items rest following : List X) (item : X) (done : Unit {0}) → rest ≡ item ∷ following
-      → GoesOn old now (map make rest) (map make items) → TakesOne now later (make item) (Ok done)
+      → GoesOn old now (map make rest) (map make items) → AcceptsOne now later (make item) (Ok done)
       → GoesOn old later (map make following) (map make items)
   walk_taken old now later items rest following item done e i h =
       let P : List X → Type 0 = λ left. GoesOn old now (map make left) (map make items) in
       goes_on old now later (make item) (map make following) (map make items) done (subst P e i) h
 
   pub walk_refused : (old now new other : RulesState) (items rest following : List X) (item : X) (fault : ModuleFault) → rest ≡ item ∷ following
-      → GoesOn old now (map make rest) (map make items) → TakesOne now other (make item) (Err fault)
+      → GoesOn old now (map make rest) (map make items) → AcceptsOne now other (make item) (Err fault)
       → RulesTake old new (map make items) (Err fault)
   walk_refused old now new other items rest following item fault e i h =
       let P : List X → Type 0 = λ left. GoesOn old now (map make left) (map make items) in
@@ -156,13 +156,13 @@ module _ {X : Type 0} (make : X → Part) where
 
   -- the same by an index
   pub item_taken : (old now later : RulesState) (items : List X) (index : ℕ) (item : X) (done : Unit {0}) → slice_get items index ≡ Some item
-      → GoesOn old now (map make (drop index items)) (map make items) → TakesOne now later (make item) (Ok done)
+      → GoesOn old now (map make (drop index items)) (map make items) → AcceptsOne now later (make item) (Ok done)
       → GoesOn old later (map make (drop (index + 1) items)) (map make items)
   item_taken old now later items index item done e i h =
       walk_taken old now later items (drop index items) (drop (index + 1) items) item done (drop_at items index item e) i h
 
   pub item_refused : (old now new other : RulesState) (items : List X) (index : ℕ) (item : X) (fault : ModuleFault) → slice_get items index ≡ Some item
-      → GoesOn old now (map make (drop index items)) (map make items) → TakesOne now other (make item) (Err fault)
+      → GoesOn old now (map make (drop index items)) (map make items) → AcceptsOne now other (make item) (Err fault)
       → RulesTake old new (map make items) (Err fault)
   item_refused old now new other items index item fault e i h =
       walk_refused old now new other items (drop index items) (drop (index + 1) items) item fault (drop_at items index item e) i h

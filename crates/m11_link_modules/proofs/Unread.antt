@@ -9,7 +9,7 @@ use Rattle.m11_obj.proofs.Unread.{are_left, are_where_checked, checked_next, che
 use Rattle.m11_link_modules.specs.declared.fault.ModuleFault.{ModuleFault}
 use Rattle.m11_link_modules.specs.Parts.{Part, Relocated, Relocations, parts_in, record_parts}
 use Rattle.m11_link_modules.specs.Positions.{RulesState}
-use Rattle.m11_link_modules.specs.Steps.{RulesTake, TakesOne}
+use Rattle.m11_link_modules.specs.Steps.{RulesTake, AcceptsOne}
 use Rattle.m11_link_modules.proofs.Taking.{GoesOn, Outcome, walk_ended, walk_refused, walk_taken}
 
 -- the parts of relocations that are left in bytes
@@ -37,12 +37,12 @@ module _ (all bytes rest : List ℕ) (relocation : Relocation) (same : SameRead 
   left_after are = left_next bytes rest relocation (are_left bytes all same are) first
 
   pub one_taken : (old now later : RulesState) (done : Unit {0}) → LeadsOn old now bytes all
-      → TakesOne now later (Relocated relocation) (Ok done) → LeadsOn old later rest all
+      → AcceptsOne now later (Relocated relocation) (Ok done) → LeadsOn old later rest all
   one_taken old now later done i h = λ are. walk_taken (λ relocation. Relocated relocation) old now later
       (relocations_left all) (relocations_left bytes) (relocations_left rest) relocation done (left_after are) (i are) h
 
   pub one_refused : (old now new other : RulesState) (fault : ModuleFault) → LeadsOn old now bytes all
-      → TakesOne now other (Relocated relocation) (Err fault) → AreRelocations all
+      → AcceptsOne now other (Relocated relocation) (Err fault) → AreRelocations all
       → RulesTake old new (parts_left all) (Err fault)
   one_refused old now new other fault i h are = walk_refused (λ relocation. Relocated relocation) old now new other
       (relocations_left all) (relocations_left bytes) (relocations_left rest) relocation fault (left_after are) (i are) h

@@ -9,10 +9,10 @@ use Rattle.m11_link_modules.specs.Rules.{StopsAtName, first_fault, may_stand}
 
 -- parts that come after others are taken, and then stand after them; or their first fault is returned; or memory was
 -- refused at a part that adds a name, up to which there is no fault
-abbrev pub TakesAfter : List Part → RulesState → List Part → Result (Unit {0}) ModuleFault → Type 0
-TakesAfter before new parts (Ok done) = (first_fault before parts ≡ None) × (new ≡ known_of (before ++ parts))
-TakesAfter before new parts (Err NoMemory) = StopsAtName (first_fault before) parts
-TakesAfter before new parts (Err fault) = first_fault before parts ≡ Some fault
+abbrev pub AcceptsAfter : List Part → RulesState → List Part → Result (Unit {0}) ModuleFault → Type 0
+AcceptsAfter before new parts (Ok done) = (first_fault before parts ≡ None) × (new ≡ known_of (before ++ parts))
+AcceptsAfter before new parts (Err NoMemory) = StopsAtName (first_fault before) parts
+AcceptsAfter before new parts (Err fault) = first_fault before parts ≡ Some fault
 
 -- each part stands where it may, by the parts before it
 abbrev pub AreInOrder : List Part → Type 0

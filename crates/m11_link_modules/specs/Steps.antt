@@ -76,10 +76,10 @@ Notes new noted (Err NoMemory) = ⊤
 Notes new noted (Err fault) = ⊥
 
 -- a part was taken, or its fault was returned; or memory was refused at a part that adds a name and has no fault
-unfoldable pub TakesOne : RulesState → RulesState → Part → Result (Unit {0}) ModuleFault → Type 0
-TakesOne old new part (Ok done) = (fault_known old part ≡ None) × (new ≡ known_after old part)
-TakesOne old new part (Err NoMemory) = (fault_known old part ≡ None) × (adds_name part ≡ true)
-TakesOne old new part (Err fault) = fault_known old part ≡ Some fault
+unfoldable pub AcceptsOne : RulesState → RulesState → Part → Result (Unit {0}) ModuleFault → Type 0
+AcceptsOne old new part (Ok done) = (fault_known old part ≡ None) × (new ≡ known_after old part)
+AcceptsOne old new part (Err NoMemory) = (fault_known old part ≡ None) × (adds_name part ≡ true)
+AcceptsOne old new part (Err fault) = fault_known old part ≡ Some fault
 
 -- parts were taken, or their first fault was returned; or memory was refused at a part that adds a name, up to which
 -- there is no fault

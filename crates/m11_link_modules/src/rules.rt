@@ -2,11 +2,11 @@
 
 ghost use Rattle.std.specs.Prelude.{◌≡◌, ◌∷◌, [], List, Result, Ok, Err, IfErr, IfOk, is_some, map, true};
 ghost use Rattle.m11_obj.specs.Reading.{record_entries, record_relocations};
-ghost use Rattle.m11_link_modules.specs.Laws.{TakesAfter};
+ghost use Rattle.m11_link_modules.specs.Laws.{AcceptsAfter};
 ghost use Rattle.m11_link_modules.specs.Parts.{Part, Directory, Entry, EndOfDirectory, Text, Relocations, Relocated, EndOfModule, EndOfFile, record_parts};
 ghost use Rattle.m11_link_modules.specs.Positions.{adds_name, global_of, known_of};
 ghost use Rattle.m11_link_modules.specs.Rules.{outcome_of};
-ghost use Rattle.m11_link_modules.specs.Steps.{Notes, RulesTake, TakesOne, with_section, with_global, with_entry, with_target};
+ghost use Rattle.m11_link_modules.specs.Steps.{Notes, RulesTake, AcceptsOne, with_section, with_global, with_entry, with_target};
 ghost use Rattle.m11_link_modules.specs.TextRelocation.{stored_in};
 
 use crate::checks::{check_begin, check_entry, check_relocation, check_text, size_of};
@@ -89,7 +89,7 @@ impl Rules {
     #[tactic(auto, using(crate::proofs::KnownAfter::taken_after))]
     pub fn record(&mut self, record: &Record<'_>) -> Result<(), ModuleFault>
         ensures { (before : List Part) → self.old ≡ known_of before
-            → TakesAfter before self.new (record_parts «record».now) result }
+            → AcceptsAfter before self.new (record_parts «record».now) result }
     {
         self.accept_record(record)
     }
@@ -98,7 +98,7 @@ impl Rules {
     #[tactic(auto, using(crate::proofs::KnownAfter::taken_after, crate::proofs::Taking::taken_one))]
     pub fn end_of_file(&mut self) -> Result<(), ModuleFault>
         ensures takes { (before : List Part) → self.old ≡ known_of before
-            → TakesAfter before self.new (EndOfFile ∷ []) result }
+            → AcceptsAfter before self.new (EndOfFile ∷ []) result }
         ensures inside { IfErr result (λ fault. fault ≡ ModuleFault.BadOrder) }
     {
         self.accept_end_of_file()
@@ -120,9 +120,9 @@ impl Rules {
     }
 
     // Takes the end of a file.
-    #[tactic(auto, unfolding(crate::specs::Steps::TakesOne, crate::specs::Steps::known_after, crate::specs::Rules::fault_known))]
+    #[tactic(auto, unfolding(crate::specs::Steps::AcceptsOne, crate::specs::Steps::known_after, crate::specs::Rules::fault_known))]
     fn accept_end_of_file(&mut self) -> Result<(), ModuleFault>
-        ensures takes { TakesOne self.old self.new EndOfFile result }
+        ensures takes { AcceptsOne self.old self.new EndOfFile result }
         ensures inside { IfErr result (λ fault. fault ≡ ModuleFault.BadOrder) }
     {
         match self.stage {
@@ -132,9 +132,9 @@ impl Rules {
     }
 
     // A directory record begins.
-    #[tactic(auto, unfolding(crate::specs::Steps::TakesOne, crate::specs::Steps::known_after, crate::specs::Rules::fault_known))]
+    #[tactic(auto, unfolding(crate::specs::Steps::AcceptsOne, crate::specs::Steps::known_after, crate::specs::Rules::fault_known))]
     fn begin_directory(&mut self) -> Result<(), ModuleFault>
-        ensures { TakesOne self.old self.new Directory result }
+        ensures { AcceptsOne self.old self.new Directory result }
     {
         check_begin(self.stage, self.modules)?;
         self.stage = Stage::InDirectory;
@@ -144,9 +144,9 @@ impl Rules {
     /// Takes the end of a directory: this call is one of `record` for such a record.
     ///
     /// Faults: `BadOrder` in the body of a module, then `TooManyModules` where it begins one.
-    #[tactic(auto, unfolding(crate::specs::Steps::TakesOne, crate::specs::Steps::known_after, crate::specs::Rules::fault_known))]
+    #[tactic(auto, unfolding(crate::specs::Steps::AcceptsOne, crate::specs::Steps::known_after, crate::specs::Rules::fault_known))]
     pub fn end_of_directory(&mut self) -> Result<(), ModuleFault>
-        ensures { TakesOne self.old self.new EndOfDirectory result }
+        ensures { AcceptsOne self.old self.new EndOfDirectory result }
     {
         check_begin(self.stage, self.modules)?;
         self.stage = Stage::InBody;
@@ -156,9 +156,9 @@ impl Rules {
     /// Takes a text: this call is one of `record` for a text record, for a caller that has read what stands in it.
     ///
     /// Faults: `BadOrder` outside the body of a module, then `TextOutside`.
-    #[tactic(auto, unfolding(crate::specs::Steps::TakesOne, crate::specs::Steps::known_after, crate::specs::Rules::fault_known))]
+    #[tactic(auto, unfolding(crate::specs::Steps::AcceptsOne, crate::specs::Steps::known_after, crate::specs::Rules::fault_known))]
     pub fn text(&mut self, address: u16, bytes: &[u8]) -> Result<(), ModuleFault>
-        ensures { TakesOne self.old self.new (Text address bytes.now) result }
+        ensures { AcceptsOne self.old self.new (Text address bytes.now) result }
     {
         if self.stage != Stage::InBody {
             return Err(ModuleFault::BadOrder);
@@ -170,9 +170,9 @@ impl Rules {
     }
 
     /// Takes the end of a module: this call is one of `record` for such a record. `BadOrder` outside the body of a module.
-    #[tactic(auto, unfolding(crate::specs::Steps::TakesOne, crate::specs::Steps::known_after, crate::specs::Rules::fault_known))]
+    #[tactic(auto, unfolding(crate::specs::Steps::AcceptsOne, crate::specs::Steps::known_after, crate::specs::Rules::fault_known))]
     pub fn end_of_module(&mut self) -> Result<(), ModuleFault>
-        ensures { TakesOne self.old self.new EndOfModule result }
+        ensures { AcceptsOne self.old self.new EndOfModule result }
     {
         if self.stage != Stage::InBody {
             return Err(ModuleFault::BadOrder);
@@ -239,9 +239,9 @@ impl Rules {
     }
 
     // An entry.
-    #[tactic(auto, unfolding(crate::specs::Steps::TakesOne, crate::specs::Steps::known_after, crate::specs::Rules::fault_known))]
+    #[tactic(auto, unfolding(crate::specs::Steps::AcceptsOne, crate::specs::Steps::known_after, crate::specs::Rules::fault_known))]
     fn entry(&mut self, entry: &GsdEntry) -> Result<(), ModuleFault>
-        ensures { TakesOne self.old self.new (Entry entry.now) result }
+        ensures { AcceptsOne self.old self.new (Entry entry.now) result }
     {
         check_entry(entry, &self.entered, &self.sections, &self.globals)?;
         self.add_entry(entry)
@@ -283,12 +283,12 @@ impl Rules {
     ///
     /// Faults: `NoText`, `BadDisplacement`, `UnknownSection`, `TooManyGlobals`, and `NoMemory` where memory is refused
     /// for a global's name that passes no limit.
-    #[tactic(auto, unfolding(crate::specs::Steps::TakesOne, crate::specs::Steps::known_after, crate::specs::Rules::fault_known))]
+    #[tactic(auto, unfolding(crate::specs::Steps::AcceptsOne, crate::specs::Steps::known_after, crate::specs::Rules::fault_known))]
     pub fn relocation(
         &mut self,
         relocation: Relocation,
     ) -> Result<Option<TextRelocation>, ModuleFault>
-        ensures takes { TakesOne self.old self.new (Relocated relocation) (outcome_of result) }
+        ensures takes { AcceptsOne self.old self.new (Relocated relocation) (outcome_of result) }
         ensures stored { IfOk result (λ stored. stored ≡ stored_in relocation self.old.text) }
     {
         match check_relocation(&relocation, &self.entered, self.text, &self.globals) {
@@ -331,9 +331,9 @@ impl Rules {
     }
 
     /// Takes the beginning of a relocation record: `BadOrder` outside the body of a module.
-    #[tactic(auto, unfolding(crate::specs::Steps::TakesOne, crate::specs::Steps::known_after, crate::specs::Rules::fault_known))]
+    #[tactic(auto, unfolding(crate::specs::Steps::AcceptsOne, crate::specs::Steps::known_after, crate::specs::Rules::fault_known))]
     pub fn begin_relocations(&mut self) -> Result<(), ModuleFault>
-        ensures { TakesOne self.old self.new Relocations result }
+        ensures { AcceptsOne self.old self.new Relocations result }
     {
         match self.stage {
             Stage::InBody => Ok(()),

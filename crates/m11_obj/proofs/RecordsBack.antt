@@ -12,7 +12,7 @@ use Rattle.m11_obj_blocks.specs.Frames.{word_bytes, content_limit}
 use Rattle.m11_obj.specs.Gsd.{entry_bytes, EntryFits}
 use Rattle.m11_obj.specs.Relocations.{relocation_bytes, relocations_bytes, RelocationFits}
 use Rattle.m11_obj.specs.Records.{Content, Gsd, EndOfGsd, Text, Relocations, InternalSymbols, EndOfModule, record_data, Fits, HasFields, IsRecordOf}
-use Rattle.m11_obj.specs.Reading.{◌>>=◌, first_word, first_entry, items_of, entries_of, first_relocation, relocations_of, record_kind_of, first_type, content_after, content_of, SaysWhatStands, checked}
+use Rattle.m11_obj.specs.Reading.{◌>>=◌, first_word, first_entry, items_of, entries_of, first_relocation, relocations_of, record_kind_of, first_type, content_after, content_of, SaysWhatIsWritten, checked}
 use Rattle.m11_obj.proofs.FieldsOf.{done, ok_is, bind_ok, entries_length}
 use Rattle.m11_obj.proofs.Steps.{entry_shrinks, relocation_shrinks}
 use Rattle.m11_obj.proofs.RecordsAgain.{means}
@@ -202,7 +202,7 @@ all_bytes bytes fits = λ k d lt.
     let at = fits k in omega (arith, at, get_or_default bytes k d 0 lt)
 
 pub some_content : (bytes : List ℕ) (result : Result (Unit {0}) RecordFault) → All (λ byte. byte < 256) bytes
-    → length bytes ≤ content_limit → result ≡ checked (content_of bytes) → OnOk result (SaysWhatStands bytes)
+    → length bytes ≤ content_limit → result ≡ checked (content_of bytes) → OnOk result (SaysWhatIsWritten bytes)
 some_content bytes (Ok x) all le e =
     let found = content_found (content_of bytes) e in
     (found.0, found.1, read_stands bytes found.0 all le found.1)

@@ -200,8 +200,8 @@ abbrev pub IsHeldRecord : Bytes → Type 0
 IsHeldRecord bytes = IsRecord bytes × (length bytes ≤ content_limit)
 
 -- what is read stands in the bytes as it is written
-abbrev pub SaysWhatStands : Bytes → Type 0
-SaysWhatStands bytes = (content : Content) × (content_of bytes ≡ Ok content) × IsRecordOf content bytes
+abbrev pub SaysWhatIsWritten : Bytes → Type 0
+SaysWhatIsWritten bytes = (content : Content) × (content_of bytes ≡ Ok content) × IsRecordOf content bytes
 
 -- the record of a block's content, held as that content, or the first fault
 abbrev pub record_of : Bytes → Result Bytes RecordFault

@@ -4,7 +4,7 @@
 ghost use Rattle.std.specs.Prelude.{◌≡◌, ◌+◌, ◌≤◌, length, Ok, OnOk};
 ghost use Rattle.m11_obj.specs.Commands.{form_in};
 ghost use Rattle.m11_obj_blocks.specs.Frames.{content_limit};
-ghost use Rattle.m11_obj.specs.Reading.{Gives, checked, first_byte, first_word, first_name, entry_kind, first_entry, entries_of, first_target, first_relocation, relocations_of, record_kind_of, first_type, content_after, content_of, SaysWhatStands};
+ghost use Rattle.m11_obj.specs.Reading.{Gives, checked, first_byte, first_word, first_name, entry_kind, first_entry, entries_of, first_target, first_relocation, relocations_of, record_kind_of, first_type, content_after, content_of, SaysWhatIsWritten};
 
 use crate::commands::{Command, command_of};
 use crate::fault::RecordFault;
@@ -239,7 +239,7 @@ fn check_after(kind: RecordKind, bytes: &[u8]) -> Result<(), RecordFault>
 pub(crate) fn check_record(bytes: &[u8]) -> Result<(), RecordFault>
     requires { length bytes.now ≤ content_limit }
     ensures is { result ≡ checked (content_of bytes.now) }
-    ensures says { OnOk result (SaysWhatStands bytes.now) }
+    ensures says { OnOk result (SaysWhatIsWritten bytes.now) }
 {
     let (kind, rest) = first_type(bytes)?;
     check_after(kind, rest)

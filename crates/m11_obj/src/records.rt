@@ -4,7 +4,7 @@
 ghost use Rattle.std.specs.Prelude.{◌≡◌, ◌+◌, ◌≤◌, ◌<◌, ℕ, List, length, Ok, IfOk, All, Some, IsSome, slice_get, option_map};
 ghost use Rattle.m11_obj_blocks.specs.Frames.{word_bytes, content_limit};
 ghost use Rattle.m11_obj.specs.Gsd.{entry_limit};
-ghost use Rattle.m11_obj.specs.Reading.{content_of, IsRecord, SaysWhatStands, AreRelocations, relocations_left, record_of, record_kind, record_entries, record_text, record_relocations};
+ghost use Rattle.m11_obj.specs.Reading.{content_of, IsRecord, SaysWhatIsWritten, AreRelocations, relocations_left, record_of, record_kind, record_entries, record_text, record_relocations};
 ghost use Rattle.m11_obj.specs.Records.{Content, IsRecordOf};
 ghost use Rattle.m11_obj.specs.Relocations.{relocations_bytes, relocation_limit, FormExists};
 
@@ -279,7 +279,7 @@ pub fn read_record(block: &Block) -> Result<Record<'_>, RecordFault>
     ensures read { result ≡ record_of block.now.items }
 
     // What stands in the bytes as it is written is read, and nothing else is.
-    ensures says { IfOk result SaysWhatStands }
+    ensures says { IfOk result SaysWhatIsWritten }
     ensures all { (content : Content) → IsRecordOf content block.now.items
         → (content_of block.now.items ≡ Ok content) × (result ≡ Ok block.now.items) }
 {

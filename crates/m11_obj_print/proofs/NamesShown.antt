@@ -1,12 +1,13 @@
 -- The names of a section's attributes with a comma between each two, and how long they are.
-use Rattle.std.proofs.Common.{◌≡◌, ◌+◌, ◌≤◌, not, if◌then◌else◌, ℕ, Bool, true, false, List, [], ◌∷◌, ◌++◌, ◌∙◌, append-nil, append_assoc, length, refl, sym, ap, subst, arith, lit≤}
+use Rattle.std.proofs.Common.{◌≡◌, ◌+◌, ◌≤◌, ◌<◌, not, if◌then◌else◌, ℕ, Bool, true, false, List, [], ◌∷◌, ◌++◌, ◌∙◌, append-nil, length, slice_index_or, refl, sym, ap, subst, arith, lit≤}
 use Rattle.std.proofs.lemmas.Bool.{false≢true}
 use Rattle.std.proofs.lemmas.List.{length-append}
 use Rattle.std.specs.List.{join_with_byte}
 use Rattle.std.specs.Prelude.{codes}
 use Rattle.m11_base.specs.Devices.{Bytes}
-use Rattle.m11_obj.specs.Attributes.{Attribute, attribute_names, attributes, has_attribute, names_among, overlaid_bit, relocatable_bit, shown_name}
+use Rattle.m11_obj.specs.Attributes.{attribute_names, attributes, has_attribute, names_among, overlaid_bit, relocatable_bit, shown_name}
 use Rattle.m11_obj.specs.Gsd.{has_bits}
+use Rattle.m11_obj.specs.declared.attributes.Attribute.{Attribute}
 use Rattle.m11_obj_print.specs.Attributes.{attributes_text}
 
 -- ---- a mark before the first name, and a comma before each other
@@ -69,37 +70,13 @@ short bits =
 pub no_longer : (before after text : Bytes) → after ≡ before ++ text → length text ≤ 20 → length after ≤ length before + 20
 no_longer before after text is most = omega (arith, ap (λ (t : Bytes). length t) is, length-append before text, most)
 
--- ---- attributes one after the other
+-- ---- before the first name
 
 pub at_first : (before : Bytes) (rows : List Attribute) (bits : ℕ) → rows ≡ attributes
     → before ++ marked [] (names_among rows bits) ≡ before ++ attributes_text bits
 at_first before rows bits are =
     ap (λ (list : List Attribute). before ++ marked [] (names_among list bits)) are
     ∙ ap (λ (text : Bytes). before ++ text) (joined (attribute_names bits))
-
-taken_by : (b : Bool) (before mark name all : Bytes) (more : List Bytes) → b ≡ true
-    → before ++ marked mark (if b then name ∷ more else more) ≡ all
-    → ((before ++ mark) ++ name) ++ marked comma more ≡ all
-taken_by true before mark name all more e is =
-    append_assoc (before ++ mark) name (marked comma more) ∙ append_assoc before mark (name ++ marked comma more) ∙ is
-taken_by false before mark name all more e is = absurd (false≢true e)
-
-pub taken : (before mark all after : Bytes) (row : Attribute) (rows : List Attribute) (bits : ℕ) → has_attribute bits row ≡ true
-    → before ++ marked mark (names_among (row ∷ rows) bits) ≡ all → after ≡ (before ++ mark) ++ shown_name row.name
-    → after ++ marked comma (names_among rows bits) ≡ all
-taken before mark all after row rows bits has is put =
-    ap (λ (text : Bytes). text ++ marked comma (names_among rows bits)) put
-    ∙ taken_by (has_attribute bits row) before mark (shown_name row.name) all (names_among rows bits) has is
-
-passed_by : (b : Bool) (before mark name all : Bytes) (more : List Bytes) → b ≡ false
-    → before ++ marked mark (if b then name ∷ more else more) ≡ all → before ++ marked mark more ≡ all
-passed_by true before mark name all more e is = absurd (false≢true (sym e))
-passed_by false before mark name all more e is = is
-
-pub passed : (before mark all : Bytes) (row : Attribute) (rows : List Attribute) (bits : ℕ) → has_attribute bits row ≡ false
-    → before ++ marked mark (names_among (row ∷ rows) bits) ≡ all → before ++ marked mark (names_among rows bits) ≡ all
-passed before mark all row rows bits has is =
-    passed_by (has_attribute bits row) before mark (shown_name row.name) all (names_among rows bits) has is
 
 -- ---- there is room for a name and its mark
 
@@ -121,3 +98,18 @@ pub fits : (first before mark : Bytes) (row : Attribute) (rows : List Attribute)
 fits first before mark row rows bits has is h =
     fits_by (has_attribute bits row) before mark (shown_name row.name) (names_among rows bits) has
     (whole first before (marked mark (names_among (row ∷ rows) bits)) (attributes_text bits) is h (short bits))
+
+pub fits_first : (first before mark : Bytes) (rest : List Attribute) (none : Attribute) (bits : ℕ) → 1 ≤ length rest
+    → has_attribute bits (slice_index_or rest 0 none) ≡ true
+    → before ++ marked mark (names_among rest bits) ≡ first ++ attributes_text bits → length first ≤ 155
+    → length before + length mark + length (shown_name (slice_index_or rest 0 none).name) ≤ 175
+fits_first first before mark [] none bits l has is h = absurd (omega arith)
+fits_first first before mark (row ∷ rows) none bits l has is h = fits first before mark row rows bits has is h
+
+-- ---- when none is left
+
+pub at_last : (first before mark : Bytes) (rest : List Attribute) (bits : ℕ) → length rest < 1
+    → before ++ marked mark (names_among rest bits) ≡ first ++ attributes_text bits → length before ≤ length first + 20
+at_last first before mark [] bits l is =
+    no_longer first before (attributes_text bits) (sym (append-nil before) ∙ is) (short bits)
+at_last first before mark (row ∷ rows) bits l is = absurd (omega arith)

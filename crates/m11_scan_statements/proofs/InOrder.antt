@@ -14,7 +14,7 @@ use Rattle.m11_scan_statements.specs.declared.labels.LabelKind.{LabelKind}
 use Rattle.m11_scan_statements.specs.Bodies.{assigned, body_in, body_or, counter_set, name_set, operation, set_by}
 use Rattle.m11_scan_statements.specs.Labels.{before_labels, end_of, is_counter, kind_of, labelled, labels_at, labels_end, labels_in}
 use Rattle.m11_scan_statements.specs.Listed.{is_name}
-use Rattle.m11_scan_statements.specs.Order.{BodyStands, LabelsStand}
+use Rattle.m11_scan_statements.specs.Order.{BodyLies, LabelsLie}
 use Rattle.m11_scan_statements.specs.Statements.{body_of}
 
 -- tokens in order end no earlier than they begin
@@ -28,20 +28,20 @@ within size column (token ∷ tokens) o =
 
 labelled_stand : (size column : ℕ) (name colon : Lexeme) (labels : List Label) (kind : Option LabelKind)
     → column ≤ name.start → name.start < name.end → name.end < colon.end → colon.end ≤ size
-    → LabelsStand size colon.end labels → LabelsStand size column (before_labels (labelled name colon.end kind) labels)
+    → LabelsLie size colon.end labels → LabelsLie size column (before_labels (labelled name colon.end kind) labels)
 labelled_stand size column name colon labels None a b c d rest = omega arith
 labelled_stand size column name colon labels (Some kind) a b c d rest = (a, b, c, rest)
 
 label_stands : (size column : ℕ) (name colon : Lexeme) (labels : List Label) (is_next : Bool)
     → column ≤ name.start → name.start < name.end → name.end < colon.end → colon.end ≤ size
-    → LabelsStand size colon.end labels
-    → LabelsStand size column (before_labels
+    → LabelsLie size colon.end labels
+    → LabelsLie size column (before_labels
     (if is_next then labelled name colon.end (kind_of name.sort colon.sort name.text) else None) labels)
 label_stands size column name colon labels true a b c d rest =
     labelled_stand size column name colon labels (kind_of name.sort colon.sort name.text) a b c d rest
 label_stands size column name colon labels false a b c d rest = omega arith
 
-labels_stand : (size column : ℕ) (tokens : List Lexeme) → AreOrdered size column tokens → LabelsStand size column (labels_in tokens)
+labels_stand : (size column : ℕ) (tokens : List Lexeme) → AreOrdered size column tokens → LabelsLie size column (labels_in tokens)
 labels_stand size column [] o = o
 labels_stand size column (name ∷ []) o = within size column (name ∷ []) o
 labels_stand size column (name ∷ (colon ∷ tokens)) o =
@@ -51,47 +51,47 @@ labels_stand size column (name ∷ (colon ∷ tokens)) o =
     label_stands size column name colon (labels_in tokens) (eqb name.end colon.start) o.0 o.1 (omega arith) later
     (labels_stand size colon.end tokens o.2.2)
 
-end_within : (size column : ℕ) (labels : List Label) → LabelsStand size column labels → end_of column labels ≤ size
+end_within : (size column : ℕ) (labels : List Label) → LabelsLie size column labels → end_of column labels ≤ size
 end_within size column [] o = o
 end_within size column (label ∷ labels) o = end_within size label.end labels o.3
 
-pub labels_at-stand : (line : List ℕ) → LabelsStand (length line) 0 (labels_at line)
+pub labels_at-stand : (line : List ℕ) → LabelsLie (length line) 0 (labels_at line)
 labels_at-stand line = labels_stand (length line) 0 (tokens_of line) (tokens_of-ordered line)
 
 module _ (size column : ℕ) (first : Lexeme) (early : column ≤ first.start) (longer : first.start < first.end)
     (inside : first.end ≤ size) where
-  operation_stands : (is_operator : Bool) → BodyStands column size
+  operation_stands : (is_operator : Bool) → BodyLies column size
       (if is_operator then Operate (record { start = first.start; end = first.end }) else Words first.start)
   operation_stands true = (early, longer, inside)
   operation_stands false = (early, omega arith)
 
   module _ (equals : Lexeme) (next : first.end ≤ equals.start) (long : equals.start < equals.end) (ends : equals.end ≤ size)
-      (other : Body) (stands : BodyStands column size other) where
-    counter_stands : (sort : Sort) → BodyStands column size (body_or (counter_set sort equals.end) other)
+      (other : Body) (stands : BodyLies column size other) where
+    counter_stands : (sort : Sort) → BodyLies column size (body_or (counter_set sort equals.end) other)
     counter_stands Equals = (omega arith, ends)
     counter_stands _ = stands
 
-    name_stands : (sort : Sort) → BodyStands column size (body_or (name_set first.start first.end sort equals.end) other)
+    name_stands : (sort : Sort) → BodyLies column size (body_or (name_set first.start first.end sort equals.end) other)
     name_stands Equals = (early, longer, omega arith, ends)
     name_stands TwoEquals = (early, longer, omega arith, ends)
     name_stands _ = stands
 
-    target_stands : (is_dot : Bool) → BodyStands column size (body_or
+    target_stands : (is_dot : Bool) → BodyLies column size (body_or
         (if is_dot then counter_set equals.sort equals.end else name_set first.start first.end equals.sort equals.end)
         other)
     target_stands true = counter_stands equals.sort
     target_stands false = name_stands equals.sort
 
-    set_stands : (sort : Sort) → BodyStands column size (body_or (set_by sort first equals) other)
+    set_stands : (sort : Sort) → BodyLies column size (body_or (set_by sort first equals) other)
     set_stands Name = target_stands (is_counter first.text)
     set_stands _ = stands
 
-    assigned_stands : (is_apart : Bool) → BodyStands column size (body_or (if is_apart then None else assigned first equals) other)
+    assigned_stands : (is_apart : Bool) → BodyLies column size (body_or (if is_apart then None else assigned first equals) other)
     assigned_stands true = stands
     assigned_stands false = set_stands first.sort
 
 body_stands : (size column : ℕ) (line : List ℕ) (tokens : List Lexeme) → AreOrdered size column tokens
-    → BodyStands column size (body_in line tokens)
+    → BodyLies column size (body_in line tokens)
 body_stands size column line [] o = o
 body_stands size column line (first ∷ []) o = operation_stands size column first o.0 o.1 o.2 (is_name first)
 body_stands size column line (first ∷ (equals ∷ tokens)) o =
@@ -103,7 +103,7 @@ body_stands size column line (first ∷ (equals ∷ tokens)) o =
     (operation first) (operation_stands size column first o.0 o.1 inside (is_name first))
     (skipped_between line first.end equals.start)
 
-pub body_of-stands : (line : List ℕ) → BodyStands (labels_end line) (length line) (body_of line)
+pub body_of-stands : (line : List ℕ) → BodyLies (labels_end line) (length line) (body_of line)
 body_of-stands line =
     body_stands (length line) (labels_end line) line (tokens_from line (labels_end line))
     (tokens_from-ordered line (labels_end line) (end_within (length line) 0 (labels_at line) (labels_at-stand line)))

@@ -5,18 +5,18 @@ use Rattle.m11_scan_statements.specs.declared.bodies.Body.TheVariants.{Nothing, 
 use Rattle.m11_scan_statements.specs.declared.labels.Label.{Label}
 
 -- labels in order, the first of which begins no earlier than a column, and all of which end within a length
-abbrev pub LabelsStand : ℕ → ℕ → List Label → Type 0
-LabelsStand size column [] = column ≤ size
-LabelsStand size column (label ∷ labels) =
+abbrev pub LabelsLie : ℕ → ℕ → List Label → Type 0
+LabelsLie size column [] = column ≤ size
+LabelsLie size column (label ∷ labels) =
     (column ≤ label.name.start) × (label.name.start < label.name.end) × (label.name.end < label.end)
-    × LabelsStand size label.end labels
+    × LabelsLie size label.end labels
 
 -- what stands after labels begins no earlier than a column, and ends within a length
-abbrev pub BodyStands : ℕ → ℕ → Body → Type 0
-BodyStands column size Nothing = column ≤ size
-BodyStands column size (Assign assignment) =
+abbrev pub BodyLies : ℕ → ℕ → Body → Type 0
+BodyLies column size Nothing = column ≤ size
+BodyLies column size (Assign assignment) =
     (column ≤ assignment.name.start) × (assignment.name.start < assignment.name.end)
     × (assignment.name.end < assignment.value) × (assignment.value ≤ size)
-BodyStands column size (SetCounter value) = (column < value) × (value ≤ size)
-BodyStands column size (Operate name) = (column ≤ name.start) × (name.start < name.end) × (name.end ≤ size)
-BodyStands column size (Words start) = (column ≤ start) × (start < size)
+BodyLies column size (SetCounter value) = (column < value) × (value ≤ size)
+BodyLies column size (Operate name) = (column ≤ name.start) × (name.start < name.end) × (name.end ≤ size)
+BodyLies column size (Words start) = (column ≤ start) × (start < size)

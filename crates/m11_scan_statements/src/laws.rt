@@ -4,14 +4,14 @@ ghost use Rattle.std.specs.Prelude.{◌≡◌, Bool, length, map};
 ghost use Rattle.m11_base.specs.Devices.{Bytes};
 ghost use Rattle.m11_base.specs.NameCharacters.{folded};
 ghost use Rattle.m11_scan_statements.specs.Labels.{labels_at, labels_end};
-ghost use Rattle.m11_scan_statements.specs.Order.{BodyStands, LabelsStand};
+ghost use Rattle.m11_scan_statements.specs.Order.{BodyLies, LabelsLie};
 ghost use Rattle.m11_scan_statements.specs.Statements.{body_of, label_flags};
 
 /// The labels of a line, and what stands after them, lie in the line in order and apart.
 #[tactic(auto, using(crate::proofs::InOrder::orders))]
 pub fn labels_and_body_stand_in_order()
-    ensures labels { (line : Bytes) → LabelsStand (length line) 0 (labels_at line) }
-    ensures body { (line : Bytes) → BodyStands (labels_end line) (length line) (body_of line) }
+    ensures labels { (line : Bytes) → LabelsLie (length line) 0 (labels_at line) }
+    ensures body { (line : Bytes) → BodyLies (labels_end line) (length line) (body_of line) }
 {}
 
 /// Upper or lower case makes no difference to labels, to what stands after them, to their columns and to their flags.

@@ -33,11 +33,11 @@ four_same a b c d e f g h is =
 -- one more word is alike
 one_alike : (words memory : List ℕ) (from to next address : ℕ) → AreAlike words memory from to → next ≡ to + 1 → address ≡ 2 * to
     → get_or words to 0 ≡ word_at memory address → AreAlike words memory from next
-one_alike words memory from to next address before one place same = λ k le lt. elim (cases_lt k to) [
+one_alike words memory from to next address before one breakpoint same = λ k le lt. elim (cases_lt k to) [
   | inl below ↦ before k le below
   | inr above ↦
       let here : k ≡ to = omega (arith, above, lt, one) in
-      let at : address ≡ 2 * k = omega (arith, here, place) in
+      let at : address ≡ 2 * k = omega (arith, here, breakpoint) in
       ap (λ (n : ℕ). get_or words n 0) here ∙ same ∙ ap (word_at memory) at
 ]
 

@@ -59,11 +59,11 @@ take_again {X = X} n x xs = ap (λ (t : List X). x ∷ t) (take_less n xs)
 -- ---- how far they have come
 
 -- these steps were made, the latest first, which yielded this
-pub record Going (limit count : ℕ) (places : List ℕ) (m m' : Machine) (old new : Devices) (turn : Turn) (taken : List TracedStep)
+pub record Going (limit count : ℕ) (breakpoints : List ℕ) (m m' : Machine) (old new : Devices) (turn : Turn) (taken : List TracedStep)
     : Type 0 where
   pub steps : Follow m old taken m' new
   pub yielded : Yielded turn taken
-  pub elsewhere : AllByRecursion (IsElsewhere places) taken
+  pub elsewhere : AllByRecursion (IsElsewhere breakpoints) taken
   pub long : count ≡ length taken
   pub within : count ≤ limit
 
@@ -73,8 +73,8 @@ pub record Shown (first : ℕ) (taken : List TracedStep) (recent : List Shot) (o
   pub text : Appends output.text output'.text (lines_from first taken)
   pub faults : output'.faults ≡ output.faults
 
-pub none_made : (limit : ℕ) (places : List ℕ) (m : Machine) (old : Devices) → Going limit 0 places m m old old Next []
-none_made limit places m old = record {
+pub none_made : (limit : ℕ) (breakpoints : List ℕ) (m : Machine) (old : Devices) → Going limit 0 breakpoints m m old old Next []
+none_made limit breakpoints m old = record {
   steps = (refl, refl);
   yielded = refl;
   elsewhere = tt;
@@ -88,12 +88,12 @@ none_shown first recent output e = record { kept = e; text = appends_nothing out
 abbrev pub made : Machine → Turn → Machine → TracedStep
 made before turn later = record { before = before; turn = turn; later = later }
 
-module _ (limit count : ℕ) (places : List ℕ) (m m' : Machine) (old middle : Devices) (taken : List TracedStep)
-    (g : Going limit count places m m' old middle Next taken) where
+module _ (limit count : ℕ) (breakpoints : List ℕ) (m m' : Machine) (old middle : Devices) (taken : List TracedStep)
+    (g : Going limit count breakpoints m m' old middle Next taken) where
   -- one more step
-  pub one_made : (m'' : Machine) (new : Devices) (turn : Turn) → count < limit → is_at places m' ≡ false
+  pub one_made : (m'' : Machine) (new : Devices) (turn : Turn) → count < limit → is_at breakpoints m' ≡ false
       → Does (step m') middle new (turn, m'')
-      → Going limit (count + 1) places m m'' old new turn (made m' turn m'' ∷ taken)
+      → Going limit (count + 1) breakpoints m m'' old new turn (made m' turn m'' ∷ taken)
   one_made m'' new turn lt away does = record {
     steps = (middle, g.steps, g.yielded, does, refl);
     yielded = refl;
@@ -103,7 +103,7 @@ module _ (limit count : ℕ) (places : List ℕ) (m m' : Machine) (old middle : 
   }
 
   -- no more are allowed
-  pub at_limit : limit ≤ count → Goes (λ n. run_counted n m) limit places m old taken (ending.Stopped Limit) m' middle
+  pub at_limit : limit ≤ count → Goes (λ n. run_counted n m) limit breakpoints m old taken (ending.Stopped Limit) m' middle
   at_limit le =
       let same : length taken ≡ limit = omega (arith, g.long, g.within) in
       let P : ℕ → Type 0 = λ n. Does (run_counted n m) old middle (ran Limit (length taken), m') in
@@ -114,7 +114,7 @@ module _ (limit count : ℕ) (places : List ℕ) (m m' : Machine) (old middle : 
         runs = subst P same (runs_out taken m m' old middle g.steps g.yielded);
       }
 
-  pub at_place : count < limit → is_at places m' ≡ true → Goes (λ n. run_counted n m) limit places m old taken ending.Reached m' middle
+  pub at_place : count < limit → is_at breakpoints m' ≡ true → Goes (λ n. run_counted n m) limit breakpoints m old taken ending.Reached m' middle
   at_place lt there = record {
     steps = g.steps;
     elsewhere = g.elsewhere;
@@ -122,9 +122,9 @@ module _ (limit count : ℕ) (places : List ℕ) (m m' : Machine) (old middle : 
     runs = runs_out taken m m' old middle g.steps g.yielded;
   }
 
-pub at_stop : (limit count : ℕ) (places : List ℕ) (m m' : Machine) (old new : Devices) (stop : Stop) (taken : List TracedStep)
-    → Going limit count places m m' old new (Stopped stop) taken → Goes (λ n. run_counted n m) limit places m old taken (ending.Stopped stop) m' new
-at_stop limit count places m m' old new stop taken g = record {
+pub at_stop : (limit count : ℕ) (breakpoints : List ℕ) (m m' : Machine) (old new : Devices) (stop : Stop) (taken : List TracedStep)
+    → Going limit count breakpoints m m' old new (Stopped stop) taken → Goes (λ n. run_counted n m) limit breakpoints m old taken (ending.Stopped stop) m' new
+at_stop limit count breakpoints m m' old new stop taken g = record {
   steps = g.steps;
   elsewhere = g.elsewhere;
   ends = tt;
@@ -132,20 +132,20 @@ at_stop limit count places m m' old new stop taken g = record {
 }
 
 -- whatever the last step yielded, they are those of a run of as many steps
-pub at_any : (limit count : ℕ) (places : List ℕ) (m m' : Machine) (old new : Devices) (turn : Turn) (taken : List TracedStep)
-    → Going limit count places m m' old new turn taken
-    → (most : ℕ) × (most ≤ limit) × (e : Ending) × Goes (λ n. run_counted n m) most places m old taken e m' new
-at_any limit count places m m' old new Next taken g =
-    let at : Going (length taken) count places m m' old new Next taken = record {
+pub at_any : (limit count : ℕ) (breakpoints : List ℕ) (m m' : Machine) (old new : Devices) (turn : Turn) (taken : List TracedStep)
+    → Going limit count breakpoints m m' old new turn taken
+    → (most : ℕ) × (most ≤ limit) × (e : Ending) × Goes (λ n. run_counted n m) most breakpoints m old taken e m' new
+at_any limit count breakpoints m m' old new Next taken g =
+    let at : Going (length taken) count breakpoints m m' old new Next taken = record {
       steps = g.steps;
       yielded = g.yielded;
       elsewhere = g.elsewhere;
       long = g.long;
       within = omega (arith, g.long);
     } in
-    (length taken, omega (arith, g.long, g.within), ending.Stopped Limit, at_limit (length taken) count places m m' old new taken at (omega (arith, g.long)))
-at_any limit count places m m' old new (Stopped stop) taken g =
-    (limit, omega arith, ending.Stopped stop, at_stop limit count places m m' old new stop taken g)
+    (length taken, omega (arith, g.long, g.within), ending.Stopped Limit, at_limit (length taken) count breakpoints m m' old new taken at (omega (arith, g.long)))
+at_any limit count breakpoints m m' old new (Stopped stop) taken g =
+    (limit, omega arith, ending.Stopped stop, at_stop limit count breakpoints m m' old new stop taken g)
 
 -- ---- with their lines
 
@@ -188,19 +188,19 @@ module _ (first : ℕ) (taken : List TracedStep) (recent : List Shot) (output mi
       )
 
 -- the line of a step was not put
-pub not_put : (limit count first : ℕ) (places : List ℕ) (m m' m'' : Machine) (old middle new : Devices) (taken : List TracedStep)
+pub not_put : (limit count first : ℕ) (breakpoints : List ℕ) (m m' m'' : Machine) (old middle new : Devices) (taken : List TracedStep)
     (recent : List Shot) (output held output' : Output) (turn : Turn) (line : List ℕ) (fault : SimFault)
-    → Going limit count places m m' old middle Next taken → Shown first taken recent output held → count < limit
-    → is_at places m' ≡ false → Does (step m') middle new (turn, m'')
+    → Going limit count breakpoints m m' old middle Next taken → Shown first taken recent output held → count < limit
+    → is_at breakpoints m' ≡ false → Does (step m') middle new (turn, m'')
     → line ≡ line_from first (count + 1) (step_line (count + 1) m' m'')
     → PutsMessages {A = Unit {0}} held.text output'.text held.faults output'.faults line (Err fault)
-    → StepsWithLines (λ n. run_counted n m) limit first places m m'' old new output output' (Err fault)
-not_put limit count first places m m' m'' old middle new taken recent output held output' turn line Write g s lt away does is p =
-    let more = one_made limit count places m m' old middle taken g m'' new turn lt away does in
-    let any = at_any limit (count + 1) places m m'' old new turn (made m' turn m'' ∷ taken) more in
+    → StepsWithLines (λ n. run_counted n m) limit first breakpoints m m'' old new output output' (Err fault)
+not_put limit count first breakpoints m m' m'' old middle new taken recent output held output' turn line Write g s lt away does is p =
+    let more = one_made limit count breakpoints m m' old middle taken g m'' new turn lt away does in
+    let any = at_any limit (count + 1) breakpoints m m'' old new turn (made m' turn m'' ∷ taken) more in
     let part = part_shown first taken recent output held s m' m'' turn count line output' g.long is p.0 p.1 in
     (any.0, any.1, any.2, made m' turn m'' ∷ taken, any.3, part.0, part.1)
-not_put limit count first places m m' m'' old middle new taken recent output held output' turn line NoMemory g s lt away does is p =
+not_put limit count first breakpoints m m' m'' old middle new taken recent output held output' turn line NoMemory g s lt away does is p =
     absurd p
-not_put limit count first places m m' m'' old middle new taken recent output held output' turn line (Load f) g s lt away does is p =
+not_put limit count first breakpoints m m' m'' old middle new taken recent output held output' turn line (Load f) g s lt away does is p =
     absurd p

@@ -1,4 +1,4 @@
--- What is said at the end of a run with lines: where it stopped as a run does, what a run says; at a place that was named, the same
+-- What is said at the end of a run with lines: where it stopped as a run does, what a run says; at a breakpoint, the same
 -- with a word of its own. (This project's own.)
 use Rattle.std.specs.Prelude.{ℕ, codes}
 use Rattle.m11_base.specs.Devices.{Bytes}

@@ -17,9 +17,9 @@ numbered registers number = slice_index_or registers number 0
 abbrev pub counter_of : Machine → ℕ
 counter_of m = numbered m.registers 7
 
--- the program counter is at one of these places
+-- the program counter is at a breakpoint
 abbrev pub is_at : List ℕ → Machine → Bool
-is_at places m = list_any (λ place. place == counter_of m) places
+is_at breakpoints m = list_any (λ breakpoint. breakpoint == counter_of m) breakpoints
 
 -- the word some bytes after an even location, where the memory has one there
 abbrev pub word_past : Bytes → ℕ → ℕ → Option ℕ

@@ -1,4 +1,4 @@
--- A whole run with lines: a tape is loaded and run as without them, up to a place that was named, and the lines of its steps and its
+-- A whole run with lines: a tape is loaded and run as without them, up to a breakpoint, and the lines of its steps and its
 -- end are reported. (This project's own.)
 use Rattle.std.specs.Prelude.{◌≡◌, ℕ, ◌<◌, ◌≤◌, true, false, List, ◌++◌, length, unwrap_or, Result, Ok, Err, ⊤}
 use Rattle.std.specs.List.{AllByRecursion}
@@ -20,11 +20,11 @@ use Rattle.m11_trace.specs.declared.ending.Ending.{Ending}
 use Rattle.m11_trace.specs.declared.ending.Ending.TheVariants.{Stopped, Reached}
 use Rattle.m11_trace.specs.declared.ranges.Range.{Range}
 
--- a step was made elsewhere than at these places
+-- a step was made elsewhere than at these breakpoints
 abbrev pub IsElsewhere : List ℕ → TracedStep → Type 0
-IsElsewhere places taken = is_at places taken.before ≡ false
+IsElsewhere breakpoints taken = is_at breakpoints taken.before ≡ false
 
--- the outcome of the run without lines: all of it; or where a place was reached, that of as many steps as were made
+-- the outcome of the run without lines: all of it; or where a breakpoint was reached, that of as many steps as were made
 abbrev pub ran_by : Ending → ℕ → Ran
 ran_by (Stopped stop) steps = record { stop = stop; steps = steps }
 ran_by Reached steps = record { stop = Limit; steps = steps }
@@ -33,29 +33,29 @@ abbrev pub limit_by : Ending → ℕ → ℕ → ℕ
 limit_by (Stopped stop) steps limit = limit
 limit_by Reached steps limit = steps
 
--- where a place was reached, there were steps left to make
+-- where a breakpoint was reached, there were steps left to make
 abbrev pub EndsAt : Ending → List ℕ → ℕ → ℕ → Machine → Type 0
-EndsAt (Stopped stop) places steps limit m = ⊤
-EndsAt Reached places steps limit m = (steps < limit) × (is_at places m ≡ true)
+EndsAt (Stopped stop) breakpoints steps limit m = ⊤
+EndsAt Reached breakpoints steps limit m = (steps < limit) × (is_at breakpoints m ≡ true)
 
--- from a machine on these steps were made, the latest first, up to this end, and none of them at one of the places; they are
+-- from a machine on these steps were made, the latest first, up to this end, and none of them at one of the breakpoints; they are
 -- those of a run
-pub record Goes (run : ℕ → Dialogue (Ran × Machine)) (limit : ℕ) (places : List ℕ) (m : Machine) (old : Devices)
+pub record Goes (run : ℕ → Dialogue (Ran × Machine)) (limit : ℕ) (breakpoints : List ℕ) (m : Machine) (old : Devices)
     (taken : List TracedStep) (ending : Ending) (m' : Machine) (new : Devices) : Type 0 where
   pub steps : Follow m old taken m' new
-  pub elsewhere : AllByRecursion (IsElsewhere places) taken
-  pub ends : EndsAt ending places (length taken) limit m'
+  pub elsewhere : AllByRecursion (IsElsewhere breakpoints) taken
+  pub ends : EndsAt ending breakpoints (length taken) limit m'
   pub runs : Does (run (limit_by ending (length taken) limit)) old new (ran_by ending (length taken), m')
 
 -- a tape was loaded, and run from its start, or from the one that replaces it: machine, console and stop are those of a run of
 -- `m11 sim`, and these are its steps, the latest first
-pub record HasTraced (request : Request) (places : List ℕ) (before after : RunDevices) (taken : List TracedStep) (ending : Ending)
+pub record HasTraced (request : Request) (breakpoints : List ℕ) (before after : RunDevices) (taken : List TracedStep) (ending : Ending)
     (m : Machine) : Type 0 where
   pub run : HasRun (record request { limit = limit_by ending (length taken) request.limit }) before after
       (ran_by ending (length taken)) m
   pub steps : Follow (begun (unwrap_or request.start run.transfer) run.loaded) before.console taken m after.console
-  pub elsewhere : AllByRecursion (IsElsewhere places) taken
-  pub ends : EndsAt ending places (length taken) request.limit m
+  pub elsewhere : AllByRecursion (IsElsewhere breakpoints) taken
+  pub ends : EndsAt ending breakpoints (length taken) request.limit m
 
 -- what is reported: the lines of steps, from the one of a number on, or of the last ones; the end; and parts of memory
 abbrev pub report : ℕ → List Range → List TracedStep → Ending → Machine → Bytes
@@ -66,17 +66,17 @@ report first ranges taken ending m =
 -- reported; or it is a run with no more steps than that, and the report was put in part; or memory was refused before
 -- anything was read
 abbrev pub Traces : Request → ℕ → List ℕ → List Range → RunDevices → RunDevices → Result Ending SimFault → Type 0
-Traces request first places ranges before after (Ok ending) =
-    (m : Machine) × (taken : List TracedStep) × HasTraced request places before after taken ending m
+Traces request first breakpoints ranges before after (Ok ending) =
+    (m : Machine) × (taken : List TracedStep) × HasTraced request breakpoints before after taken ending m
     × Appends before.messages.text after.messages.text (report first ranges taken ending m)
     × (after.messages.faults ≡ before.messages.faults)
-Traces request first places ranges before after (Err (Load fault)) =
+Traces request first breakpoints ranges before after (Err (Load fault)) =
     (m : Machine) × Loaded request.words before.tape after.tape m (Err fault) × (after.console ≡ before.console)
     × (after.messages ≡ before.messages)
-Traces request first places ranges before after (Err Write) =
+Traces request first breakpoints ranges before after (Err Write) =
     (limit : ℕ) × (limit ≤ request.limit) × (ending : Ending) × (m : Machine) × (taken : List TracedStep)
-    × HasTraced (record request { limit = limit }) places before after taken ending m
+    × HasTraced (record request { limit = limit }) breakpoints before after taken ending m
     × AppendsBeginning before.messages.text after.messages.text (report first ranges taken ending m)
     × Rises before.messages.faults after.messages.faults
-Traces request first places ranges before after (Err NoMemory) =
+Traces request first breakpoints ranges before after (Err NoMemory) =
     (after.tape ≡ before.tape) × (after.console ≡ before.console) × (after.messages ≡ before.messages)

@@ -7,6 +7,6 @@ use m11_cpu_machine::Stop;
 pub enum Ending {
     /// At a stop, as a run without lines.
     Stopped(Stop),
-    /// At a place that was named, before its instruction.
+    /// At a breakpoint, before its instruction.
     Reached,
 }

@@ -52,11 +52,11 @@ fn take_step<I: Feed, O: Sink>(machine: &mut Machine, input: &mut I, output: &mu
     (turn, shot)
 }
 
-// The program counter is at one of these places.
-fn is_at(places: &[u16], machine: &Machine) -> bool
-    ensures { result ≡ is_at places.now machine.now }
+// The program counter is at a breakpoint.
+fn is_at(breakpoints: &[u16], machine: &Machine) -> bool
+    ensures { result ≡ is_at breakpoints.now machine.now }
 {
-    places.contains(&counter_of(machine))
+    breakpoints.contains(&counter_of(machine))
 }
 
 // Readies the copy of the memory for the first line: what was changed before it isn't shown.
@@ -130,7 +130,7 @@ fn put_line_from<M: Sink>(
     put_line(messages, number, shot, before, memory)
 }
 
-/// Makes steps, `limit` of them at most, up to one that stops or up to one of these places, and puts a line for each, from the one of
+/// Makes steps, `limit` of them at most, up to one that stops or up to one of these breakpoints, and puts a line for each, from the one of
 /// the number `first` on. In `before` it keeps the words of memory as they were before a step with a line. It takes no memory.
 ///
 /// `Write`: a line could not be written, and a beginning of it was. No step is made after that.
@@ -138,14 +138,14 @@ pub(crate) fn steps_with_lines<I: Feed, O: Sink, M: Sink>(
     machine: &mut Machine,
     limit: u32,
     first: u32,
-    places: &[u16],
+    breakpoints: &[u16],
     before: &mut [u16],
     input: &mut I,
     output: &mut O,
     messages: &mut M,
 ) -> Result<Steps, SimFault>
     requires { length before.old ≡ most_words }
-    ensures { StepsWithLines (λ most. run_counted most machine.old) limit first places.now machine.old machine.new
+    ensures { StepsWithLines (λ most. run_counted most machine.old) limit first breakpoints.now machine.old machine.new
         (both (I.text input.old) (I.faults input.old) (O.text output.old) (O.faults output.old))
         (both (I.text input.new) (I.faults input.new) (O.text output.new) (O.faults output.new))
         (output_of (M.text messages.old) (M.faults messages.old)) (output_of (M.text messages.new) (M.faults messages.new))
@@ -154,7 +154,7 @@ pub(crate) fn steps_with_lines<I: Feed, O: Sink, M: Sink>(
     let mut recent = Recent::new();
     let mut count = 0;
     'steps: while count < limit {
-        if is_at(places, machine) {
+        if is_at(breakpoints, machine) {
             return Ok(Steps {
                 ending: Ending::Reached,
                 count,

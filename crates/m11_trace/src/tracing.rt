@@ -22,7 +22,7 @@ use std::alloc::Global;
 
 /// Loads a tape into a new machine of `words` words of memory, 4,096 to 28,672, and makes steps from its start on, `limit` of them at
 /// most, as `m11_cpu::sim_run` does with the same words: the machine, what the console gives and takes, and the stop are the same. Where
-/// the program counter comes to one of `places` and a step is left to make, it stops there before that step, as that run does after so
+/// the program counter comes to one of `breakpoints` and a step is left to make, it stops there before that step, as that run does after so
 /// many steps.
 ///
 /// The line of each step goes to `messages` as soon as the step was made, from the one of the number `first` on. At the end come the
@@ -38,7 +38,7 @@ pub fn trace_run<T: Feed, I: Feed, O: Sink, M: Sink>(
     words: u16,
     limit: u32,
     first: u32,
-    places: &[u16],
+    breakpoints: &[u16],
     ranges: &[Range],
     input: &mut I,
     output: &mut O,
@@ -46,7 +46,7 @@ pub fn trace_run<T: Feed, I: Feed, O: Sink, M: Sink>(
 ) -> Result<Ending, SimFault>
     requires least { least_words ≤ words }
     requires most { words ≤ most_words }
-    ensures { Traces (request_of start words limit) first places.now ranges.now
+    ensures { Traces (request_of start words limit) first breakpoints.now ranges.now
         (run_devices (input_of (T.text tape.old) (T.faults tape.old))
         (both (I.text input.old) (I.faults input.old) (O.text output.old) (O.faults output.old))
         (output_of (M.text messages.old) (M.faults messages.old)))
@@ -63,7 +63,7 @@ pub fn trace_run<T: Feed, I: Feed, O: Sink, M: Sink>(
         start.unwrap_or(transfer),
         limit,
         first,
-        places,
+        breakpoints,
         &mut before,
         input,
         output,
@@ -79,14 +79,14 @@ fn started<I: Feed, O: Sink, M: Sink>(
     address: u16,
     limit: u32,
     first: u32,
-    places: &[u16],
+    breakpoints: &[u16],
     before: &mut [u16],
     input: &mut I,
     output: &mut O,
     messages: &mut M,
 ) -> Result<Steps, SimFault>
     requires { length before.old ≡ most_words }
-    ensures { StepsWithLines (λ most. started address most machine.old) limit first places.now (begun address machine.old) machine.new
+    ensures { StepsWithLines (λ most. started address most machine.old) limit first breakpoints.now (begun address machine.old) machine.new
         (both (I.text input.old) (I.faults input.old) (O.text output.old) (O.faults output.old))
         (both (I.text input.new) (I.faults input.new) (O.text output.new) (O.faults output.new))
         (output_of (M.text messages.old) (M.faults messages.old)) (output_of (M.text messages.new) (M.faults messages.new))
@@ -101,7 +101,14 @@ fn started<I: Feed, O: Sink, M: Sink>(
     }
     machine.start_at(address);
     steps_with_lines(
-        machine, limit, first, places, before, input, output, messages,
+        machine,
+        limit,
+        first,
+        breakpoints,
+        before,
+        input,
+        output,
+        messages,
     )
 }
 

@@ -2,13 +2,13 @@
 use Rattle.std.proofs.Common.{◌≡◌, ◌∙◌, ℕ, List, [], ◌∷◌, ◌++◌, append_assoc, Result, Ok, Err, inl, inr, sym, ap, ap₂}
 use Rattle.m11_cli_tasks.specs.Tasks.{address_of}
 use Rattle.m11_cli_tasks.specs.declared.usage.UsageFault.{UsageFault}
-use Rattle.m11_tracer.specs.Task.{AddsPlaces, AddsRanges, addresses_of, range_of, ranges_by, with_address, with_range}
+use Rattle.m11_tracer.specs.Task.{AddsBreakpoints, AddsRanges, addresses_of, range_of, ranges_by, with_address, with_range}
 use Rattle.m11_trace.specs.declared.ranges.Range.{Range}
 
 -- one was added, and then the others
 pub one_added : (text : List ℕ) (texts : List (List ℕ)) (address : ℕ) (old middle new : List ℕ) (result : Result (Unit {0}) UsageFault)
-    → Ok address ≡ address_of text → middle ≡ old ++ address ∷ [] → AddsPlaces texts middle new result
-    → AddsPlaces (text ∷ texts) old new result
+    → Ok address ≡ address_of text → middle ≡ old ++ address ∷ [] → AddsBreakpoints texts middle new result
+    → AddsBreakpoints (text ∷ texts) old new result
 one_added text texts address old middle new (Ok done) is added more =
     let whole = ap₂ with_address (sym is) more.1 in
     let long = more.2 ∙ ap (λ (xs : List ℕ). xs ++ more.0) added ∙ append_assoc old (address ∷ []) more.0 in
@@ -18,7 +18,7 @@ one_added text texts address old middle new (Err fault) is added (inr e) = inr (
 
 -- the first has a fault
 pub first_refused : (text : List ℕ) (texts : List (List ℕ)) (old new : List ℕ) (fault : UsageFault)
-    → Err fault ≡ address_of text → AddsPlaces (text ∷ texts) old new (Err fault)
+    → Err fault ≡ address_of text → AddsBreakpoints (text ∷ texts) old new (Err fault)
 first_refused text texts old new fault is =
     let to : Result ℕ UsageFault → Result (List ℕ) UsageFault = λ r. with_address r (addresses_of texts) in
     inr (sym (ap to is))

@@ -9,9 +9,9 @@ use Rattle.m11_cli_tasks.specs.Commands.{most_steps, option_rule, start_rule, st
 abbrev pub from_rule : Rule
 from_rule = record (option_rule (codes "from") 0o146) { parser = Some (Signed (pos 0) (pos most_steps)) }
 
--- `-p OCTAL`, `--place OCTAL`: a place to stop at
-abbrev pub place_rule : Rule
-place_rule = record (option_rule (codes "place") 0o160) { action = Some Append }
+-- `-p OCTAL`, `--place OCTAL`: an address to stop at
+abbrev pub breakpoint_rule : Rule
+breakpoint_rule = record (option_rule (codes "place") 0o160) { action = Some Append }
 
 -- `-r FIRST:LAST`, `--range FIRST:LAST`: a part of memory to show at the end
 abbrev pub range_rule : Rule
@@ -21,4 +21,4 @@ range_rule = record (option_rule (codes "range") 0o162) { action = Some Append }
 abbrev pub application : App
 application =
     with_rule (with_rule (with_rule (with_rule (with_rule (with_rule (with_rule (new_app (codes "m11-trace")) steps_rule) start_rule)
-    words_rule) from_rule) place_rule) range_rule) tape_rule
+    words_rule) from_rule) breakpoint_rule) range_rule) tape_rule

@@ -10,7 +10,7 @@ use Rattle.m11_trace.specs.declared.ending.Ending.TheVariants.{Stopped, Reached}
 use Rattle.m11_tracer.specs.declared.outcome.Outcome.{Outcome}
 use Rattle.m11_tracer.specs.declared.outcome.Outcome.TheVariants.{Usage, NotOpened, Ran}
 
--- where a place was reached it is that of a run that was allowed no more steps
+-- where a breakpoint was reached it is that of a run that was allowed no more steps
 abbrev pub ending_status : Ending → ℕ
 ending_status (Stopped stop) = stop_status stop
 ending_status Reached = 1

@@ -21,9 +21,9 @@ abbrev pub addresses_of : List Text → Result (List ℕ) UsageFault
 addresses_of [] = Ok []
 addresses_of (text ∷ texts) = with_address (address_of text) (addresses_of texts)
 
--- the places to stop at
-abbrev pub places_of : List Row → Result (List ℕ) UsageFault
-places_of rows = addresses_of (unwrap_or (all_of (codes "place") rows) [])
+-- the breakpoints
+abbrev pub breakpoints_of : List Row → Result (List ℕ) UsageFault
+breakpoints_of rows = addresses_of (unwrap_or (all_of (codes "place") rows) [])
 
 -- where the colon of a text stands, or its end where it has none
 abbrev pub colon_in : Text → ℕ
@@ -53,18 +53,18 @@ abbrev pub ranges_of : List Row → Result (List Range) UsageFault
 ranges_of rows = ranges_by (unwrap_or (all_of (codes "range") rows) [])
 
 -- a run with lines, as entries state it: the run is that of `m11 sim`; the first line is that of the number of `from`, or of the
--- first step; the places are the addresses of `place`, and the parts of memory those of `range`, in order
+-- first step; the breakpoints are the addresses of `place`, and the parts of memory those of `range`, in order
 pub record IsTraceTask (rows : List Row) (task : TraceTask) : Type 0 where
   pub sim : IsSimTask rows task.sim
   pub first : task.from ≡ number_or 0 0 most_steps (one_of (codes "from") rows)
-  pub places : places_of rows ≡ Ok task.places.items
+  pub breakpoints : breakpoints_of rows ≡ Ok task.breakpoints.items
   pub ranges : ranges_of rows ≡ Ok task.ranges.items
 
--- why entries that the parser takes give no task: the start has this fault, or a place, or a part of memory; or memory was refused
+-- why entries that the parser takes give no task: the start has this fault, or a breakpoint, or a part of memory; or memory was refused
 abbrev pub IsRefused : List Row → UsageFault → Type 0
 IsRefused rows fault =
     (fault ≡ NoMemory) ⊎ ((start_of (first_of (codes "start") rows) ≡ Err fault)
-    ⊎ ((places_of rows ≡ Err fault) ⊎ (ranges_of rows ≡ Err fault)))
+    ⊎ ((breakpoints_of rows ≡ Err fault) ⊎ (ranges_of rows ≡ Err fault)))
 
 abbrev pub EntriesGive : List Row → Result TraceTask UsageFault → Type 0
 EntriesGive rows (Ok task) = IsTraceTask rows task
@@ -77,9 +77,9 @@ Plans words result = tasks.Plans application EntriesGive words result
 -- ---- parts of it
 
 -- the addresses of texts were added; or the first fault among them, or memory was refused
-abbrev pub AddsPlaces : List Text → List ℕ → List ℕ → Result (Unit {0}) UsageFault → Type 0
-AddsPlaces texts old new (Ok done) = (more : List ℕ) × (addresses_of texts ≡ Ok more) × (new ≡ old ++ more)
-AddsPlaces texts old new (Err fault) = (fault ≡ NoMemory) ⊎ (addresses_of texts ≡ Err fault)
+abbrev pub AddsBreakpoints : List Text → List ℕ → List ℕ → Result (Unit {0}) UsageFault → Type 0
+AddsBreakpoints texts old new (Ok done) = (more : List ℕ) × (addresses_of texts ≡ Ok more) × (new ≡ old ++ more)
+AddsBreakpoints texts old new (Err fault) = (fault ≡ NoMemory) ⊎ (addresses_of texts ≡ Err fault)
 
 -- the parts of memory that texts name were added; or the first fault among them, or memory was refused
 abbrev pub AddsRanges : List Text → List Range → List Range → Result (Unit {0}) UsageFault → Type 0

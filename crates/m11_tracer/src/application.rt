@@ -2,7 +2,7 @@
 
 ghost use Rattle.std.specs.Prelude.{IfOk};
 ghost use Rattle.m11_cli_tasks.specs.Commands.{IsArgument, IsCommand};
-ghost use Rattle.m11_tracer.specs.Application.{application, from_rule, place_rule, range_rule};
+ghost use Rattle.m11_tracer.specs.Application.{application, from_rule, breakpoint_rule, range_rule};
 
 use clap::{Arg, ArgAction, Command, value_parser};
 use m11_cli_tasks::{
@@ -21,7 +21,7 @@ pub(crate) fn application_command<'a>(alloc: Global) -> Result<Command<'a>, Allo
     let command = with_argument(command, start_argument(alloc));
     let command = with_argument(command, words_argument(alloc));
     let command = with_argument(command, from_argument(alloc));
-    let command = with_argument(command, place_argument(alloc));
+    let command = with_argument(command, breakpoint_argument(alloc));
     let command = with_argument(command, range_argument(alloc));
     with_argument(command, tape_argument(alloc))
 }
@@ -36,10 +36,10 @@ fn from_argument<'a>(alloc: Global) -> Arg<'a>
 }
 
 // `-p OCTAL`, any number of times. The parser takes any text: it is read once all words are taken, since its faults come after theirs.
-fn place_argument<'a>(alloc: Global) -> Arg<'a>
-    ensures { IsArgument place_rule result }
+fn breakpoint_argument<'a>(alloc: Global) -> Arg<'a>
+    ensures { IsArgument breakpoint_rule result }
 {
-    let help = "A place to stop at, before its instruction: even, at most 157776";
+    let help = "An address to stop at, before its instruction: even, at most 157776";
     option_argument(alloc, "place", 'p', "OCTAL", help).action(ArgAction::Append)
 }
 

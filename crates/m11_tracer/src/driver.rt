@@ -46,11 +46,11 @@ where
         × (result ≡ status_of outcome) }
 {
     let outcome = outcome_of(alloc, files, input, out, err, words);
-    finish(&outcome, err)
+    report_outcome(&outcome, err)
 }
 
 // Reports the line of the outcome's fault, and gives the status. Where the line cannot be reported, the status still reports the fault.
-fn finish<E: Sink>(outcome: &Outcome, err: &mut E) -> u8
+fn report_outcome<E: Sink>(outcome: &Outcome, err: &mut E) -> u8
     ensures status { result ≡ status_of outcome.now }
     ensures line { Reports (line_of outcome.now)
         (output_of E.Sink err.old) (output_of E.Sink err.new) }
@@ -142,7 +142,7 @@ fn run_tape<T: Feed + Drop, I: Feed, O: Sink, E: Sink>(
         sim.words,
         sim.limit,
         task.from,
-        task.places.as_slice(),
+        task.breakpoints.as_slice(),
         task.ranges.as_slice(),
         input,
         out,

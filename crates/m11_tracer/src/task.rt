@@ -5,7 +5,7 @@ ghost use Rattle.clap.specs.Words.{found_of, rows_of};
 ghost use Rattle.m11_cli_tasks.specs.Opened.{texts};
 ghost use Rattle.m11_cli_tasks.specs.Tasks.{IsDoable};
 ghost use Rattle.m11_cli_tasks.specs.declared.tasks.Task.TheVariants.{Sim};
-ghost use Rattle.m11_tracer.specs.Task.{AddsPlaces, AddsRanges, EntriesGive, Plans, colon_in, range_of};
+ghost use Rattle.m11_tracer.specs.Task.{AddsBreakpoints, AddsRanges, EntriesGive, Plans, colon_in, range_of};
 
 use crate::application::application_command;
 use clap::ArgMatches;
@@ -23,8 +23,8 @@ pub struct TraceTask<'a> {
     pub sim: SimTask<'a>,
     /// The number of the step whose line is the first, up to 1,000,000,000.
     pub from: u32,
-    /// The places to stop at, each an even address up to 0o157776.
-    pub places: Vec<u16>,
+    /// The breakpoints, each an even address up to 0o157776.
+    pub breakpoints: Vec<u16>,
     /// The parts of memory to show at the end, of such addresses.
     pub ranges: Vec<Range>,
 }
@@ -35,7 +35,7 @@ const MOST_STEPS: u32 = 1_000_000_000;
 /// Reads a command line, whose first word is the program's name.
 ///
 /// `Help` where help is asked for, and `Words` where the parser refuses the words; where it takes them, `BadOctal`, `OddAddress` and
-/// `BadAddress` of the start, of the first place that has a fault, and of the first part of memory that has one, in this order; and `NoMemory`.
+/// `BadAddress` of the start, of the first breakpoint that has a fault, and of the first part of memory that has one, in this order; and `NoMemory`.
 pub(crate) fn plan<'a, S: AsStr>(alloc: Global, words: &'a [S]) -> Result<TraceTask<'a>, UsageFault>
     ensures planned { Plans (map S.text words.entry.now) result }
     ensures doable { IfOk result (λ task. IsDoable (Sim task.sim)) }
@@ -54,28 +54,28 @@ fn task_given<'a>(alloc: Global, entries: &ArgMatches<'a>) -> Result<TraceTask<'
 {
     let sim = sim_task(entries)?;
     let named = all_texts(alloc, entries, "place")?;
-    let mut places = Vec::new(alloc);
-    add_places(&mut places, named.as_slice())?;
+    let mut breakpoints = Vec::new(alloc);
+    add_breakpoints(&mut breakpoints, named.as_slice())?;
     let parts = all_texts(alloc, entries, "range")?;
     let mut ranges = Vec::new(alloc);
     add_ranges(&mut ranges, parts.as_slice())?;
     Ok(TraceTask {
         sim,
         from: number_given(entries, "from", 0, MOST_STEPS, 0),
-        places,
+        breakpoints,
         ranges,
     })
 }
 
 // Adds the addresses that texts spell.
-fn add_places(places: &mut Vec<u16>, named: &[&str]) -> Result<(), UsageFault>
-    ensures { AddsPlaces (texts named.now) places.old.items places.new.items result }
+fn add_breakpoints(breakpoints: &mut Vec<u16>, named: &[&str]) -> Result<(), UsageFault>
+    ensures { AddsBreakpoints (texts named.now) breakpoints.old.items breakpoints.new.items result }
 {
     match named {
         [] => Ok(()),
         [text, others @ ..] => {
-            places.push(address(*text)?)?;
-            add_places(places, others)
+            breakpoints.push(address(*text)?)?;
+            add_breakpoints(breakpoints, others)
         }
     }
 }

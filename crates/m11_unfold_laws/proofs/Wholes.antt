@@ -13,7 +13,7 @@ use Rattle.m11_unfold_rules.specs.Taking.{Gives, Live, Passes, NothingLeft, line
 use Rattle.m11_unfold_rules.specs.Unfolding.{UnfoldedLine, Leads, Unfolds}
 use Rattle.m11_unfold_rules.specs.Unfolding as steps
 use Rattle.m11_unfold_rules.proofs.OneUnfolding as unfoldings
-use Rattle.m11_unfold_laws.specs.Laws.{Arrived, BeginWith, HasLiveLines, IsEndedAfter, StandsIn, before_lines}
+use Rattle.m11_unfold_laws.specs.Laws.{Arrived, BeginWith, HasLiveLines, IsEndedAfter, IsAtLevel, before_lines}
 use Rattle.m11_unfold_laws.specs.Limits.{IsCutShort, PassesLimit}
 use Rattle.m11_unfold_laws.specs.Limits as limits
 use Rattle.m11_unfold_laws.specs.Levels.{Level, Situation, beginning, mark_at, source_level, stage_of, within_expansion}
@@ -25,7 +25,7 @@ use Rattle.m11_unfold_laws.proofs.Shaped.{AtEnd, at_mark, returned, shape}
 -- ---- lines before what is left
 
 pub goes_on : (level : Level) (before after : Situation) (lines : List SourceLine) (gives : List UnfoldedLine) (left : List RemainingItem)
-    → Shape level before lines gives after shapes.Ending.GoesOn → StandsIn level left
+    → Shape level before lines gives after shapes.Ending.GoesOn → IsAtLevel level left
     → Leads (before_lines level before lines left) gives (stage_of level after left)
     ⊎ IsCutShort (before_lines level before lines left) gives
 goes_on level before after lines gives left shaped stands =
@@ -36,7 +36,7 @@ pub expands : (level : Level) (before after : Situation) (arguments : Option ℕ
     (gives : List UnfoldedLine)
     (ending : Ending) (left : List RemainingItem) → Shape (within_expansion arguments bytes level) before lines gives after ending
     → Returns ending
-    → StandsIn level left
+    → IsAtLevel level left
     → Leads (before_lines (within_expansion arguments bytes level) before lines (End (mark_at level arguments bytes) ∷ left))
     gives (stage_of level after left)
     ⊎ IsCutShort (before_lines (within_expansion arguments bytes level) before lines
@@ -54,7 +54,7 @@ expands level before after arguments bytes lines gives ending left shaped return
     arrived first (stage_of level after left) gives (subst (λ (g : List UnfoldedLine). Runs first g Q) (append-nil gives) whole)
 
 pub ends : (level : Level) (before after : Situation) (lines : List SourceLine) (gives : List UnfoldedLine) (left : List RemainingItem)
-    → Shape level before lines gives after shapes.Ending.Ends → StandsIn level left
+    → Shape level before lines gives after shapes.Ending.Ends → IsAtLevel level left
     → IsEndedAfter (before_lines level before lines left) gives ⊎ IsCutShort (before_lines level before lines left) gives
 ends level before after lines gives left shaped stands =
     ended (shape level before lines gives after shapes.Ending.Ends shaped left stands.around stands.is_live tt) where

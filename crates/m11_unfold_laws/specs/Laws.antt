@@ -11,7 +11,7 @@ use Rattle.m11_unfold_laws.specs.Levels.{Level, Situation, beginning, source_lev
 use Rattle.m11_unfold_laws.specs.Shapes.{Ending, GoesOn, Stops, Ends, Shape}
 
 -- what is left after lines is so at their level: these expansions are open, and the lines are live in all conditions
-pub record StandsIn (level : Level) (left : List RemainingItem) : Type 0 where
+pub record IsAtLevel (level : Level) (left : List RemainingItem) : Type 0 where
   pub around : marks left ≡ level.around
   pub is_live : is_live_inside level.entered ≡ true
 

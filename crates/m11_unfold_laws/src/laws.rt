@@ -11,7 +11,7 @@ ghost use Rattle.m11_unfold_rules.specs.Stages.{Purpose, Stage, start};
 ghost use Rattle.m11_unfold_rules.specs.Taking.{Live, NothingLeft, ended, move, used};
 ghost use Rattle.m11_unfold_rules.specs.Unfolding.{UnfoldedLine, Leads, Unfolds};
 ghost use Rattle.m11_unfold_laws.specs.Bodies.{StaysOpen, past_body, past_open_body, rest_of_body, with_body};
-ghost use Rattle.m11_unfold_laws.specs.Laws.{BeginWith, HasLiveLines, HasShape, IsEndedAfter, StandsIn, before_lines};
+ghost use Rattle.m11_unfold_laws.specs.Laws.{BeginWith, HasLiveLines, HasShape, IsEndedAfter, IsAtLevel, before_lines};
 ghost use Rattle.m11_unfold_laws.specs.Limits.{IsCutShort};
 ghost use Rattle.m11_unfold_laws.specs.Levels.{Level, Situation, beginning, mark_at, source_level, stage_of, within_expansion};
 ghost use Rattle.m11_unfold_laws.specs.Shapes.{Ending, GoesOn, Ends, Returns, Shape};
@@ -21,19 +21,19 @@ ghost use Rattle.m11_unfold_laws.specs.Shapes.{Ending, GoesOn, Ends, Returns, Sh
 /// them; after `.END` nothing is taken.
 pub fn lines_give_the_live_lines_of_their_shape()
     ensures onwards { (level : Level) (before after : Situation) (lines : List SourceLine) (gives : List UnfoldedLine) (left : List RemainingItem)
-        → Shape level before lines gives after GoesOn → StandsIn level left
+        → Shape level before lines gives after GoesOn → IsAtLevel level left
         → Leads (before_lines level before lines left) gives (stage_of level after left)
         ⊎ IsCutShort (before_lines level before lines left) gives }
     ensures expanded { (level : Level) (before after : Situation) (arguments : Option ℕ) (bytes : ℕ) (lines : List SourceLine)
         (gives : List UnfoldedLine) (ending : Ending) (left : List RemainingItem)
-        → Shape (within_expansion arguments bytes level) before lines gives after ending → Returns ending → StandsIn level left
+        → Shape (within_expansion arguments bytes level) before lines gives after ending → Returns ending → IsAtLevel level left
         → Leads (before_lines (within_expansion arguments bytes level) before lines
         (End (mark_at level arguments bytes) ∷ left)) gives
         (stage_of level after left)
         ⊎ IsCutShort
         (before_lines (within_expansion arguments bytes level) before lines (End (mark_at level arguments bytes) ∷ left)) gives }
     ensures ended { (level : Level) (before after : Situation) (lines : List SourceLine) (gives : List UnfoldedLine) (left : List RemainingItem)
-        → Shape level before lines gives after Ends → StandsIn level left
+        → Shape level before lines gives after Ends → IsAtLevel level left
         → IsEndedAfter (before_lines level before lines left) gives ⊎ IsCutShort (before_lines level before lines left) gives }
 {}
 

@@ -7,5 +7,5 @@ returns-in_err-first g c = none_given g.F.Feed.text g.F.Feed.faults c.args.feeds
 
 pub returns-in-Ok : goal.returns-in-Ok
 returns-in-Ok g c =
-    all_given (pass_of g.F.Feed.text g.F.Feed.faults c.args.feeds.now c.take_lines.new.feeds) c.take_lines.new.first
+    all_given (pass_of g.F.Feed.text g.F.Feed.faults c.args.feeds.now c.read_lines.new.feeds) c.read_lines.new.first
     (c.in-Ok.ensures c.in_ok-first.ensures) c.end.result c.end.ensures.symbols c.end.ensures.fault

@@ -6,7 +6,7 @@ use Rattle.m11_asm_directives.proofs.attributes.with_attributes.Given as goal
 
 abbrev pub invariant-names : goal.invariant-names
 invariant-names l =
-    with_attributes (bits_of l.after) (texts_of l.line.text l.rest) ≡ with_attributes (bits_of l.flags) (texts_of l.line.text l.names)
+    with_attributes (bits_of l.after) (texts_of l.line.text l.rest) ≡ with_attributes (bits_of l.fn.flags) (texts_of l.line.text l.names)
 
 abbrev pub decreases-names : goal.decreases-names
 decreases-names l = length l.rest

@@ -25,26 +25,26 @@ parts-preserved g c =
           c.parts.invariant.0 c.parts.invariant.1
           (position (g.F.Feed.text c.next.new.feed) (g.F.Feed.faults c.next.new.feed) c.next.new.self.room) c.next.new.self.stage
           c.next.result c.next.ensures.reads
-          address count is (position (g.F.Feed.text c.take_data.new.feed) (g.F.Feed.faults c.take_data.new.feed) c.take_data.new.reader.room)
-          c.take_data.new.reader.stage (output_of g.S.Sink c.take_data.new.sink)
+          address count is (position (g.F.Feed.text c.show_block_data.new.feed) (g.F.Feed.faults c.show_block_data.new.feed) c.show_block_data.new.reader.room)
+          c.show_block_data.new.reader.stage (output_of g.S.Sink c.show_block_data.new.sink)
           c.in-Ok.field-0 fits.0 c.in-Ok.ensures,
     )
 
-pub returns-in-Err-take_data : goal.returns-in-Err-take_data
-returns-in-Err-take_data g c =
+pub returns-in-Err-show_block_data : goal.returns-in-Err-show_block_data
+returns-in-Err-show_block_data g c =
     let address = c.in-Ok-Data.address in
     let count = c.in-Ok-Data.count in
     let is : c.next.result ≡ Ok (Data address count) = cc in (
-      c.take_data.new.reader.room,
+      c.show_block_data.new.reader.room,
       data_fails c.args.view (position (g.F.Feed.text c.args.feed.now) (g.F.Feed.faults c.args.feed.now) most_bytes)
           (position (g.F.Feed.text c.parts.feed) (g.F.Feed.faults c.parts.feed) c.parts.reader.room)
           (output_of g.S.Sink c.args.sink.now) (output_of g.S.Sink c.parts.sink) c.parts.reader.stage c.parts.passed
           c.parts.invariant.0 c.parts.invariant.1
           (position (g.F.Feed.text c.next.new.feed) (g.F.Feed.faults c.next.new.feed) c.next.new.self.room) c.next.new.self.stage
           c.next.result c.next.ensures.reads
-          address count is (position (g.F.Feed.text c.take_data.new.feed) (g.F.Feed.faults c.take_data.new.feed) c.take_data.new.reader.room)
-          c.take_data.new.reader.stage (output_of g.S.Sink c.take_data.new.sink)
-          c.in-Err-take_data.fault c.placed_after.result c.placed_after.ensures c.in-Err-take_data.ensures,
+          address count is (position (g.F.Feed.text c.show_block_data.new.feed) (g.F.Feed.faults c.show_block_data.new.feed) c.show_block_data.new.reader.room)
+          c.show_block_data.new.reader.stage (output_of g.S.Sink c.show_block_data.new.sink)
+          c.in-Err-show_block_data.fault c.placed_after.result c.placed_after.ensures c.in-Err-show_block_data.ensures,
     )
 
 pub returns-in-Ok-show_start : goal.returns-in-Ok-show_start

@@ -2,7 +2,7 @@ use Rattle.std.proofs.Common.{◌≡◌, List, None, is_some}
 use Rattle.m11_link_modules.specs.Parts.{Part, EndOfFile}
 use Rattle.m11_link_modules.specs.Rules.{fault_of}
 use Rattle.m11_link_layout.specs.Plan.{PlanTables}
-use Rattle.m11_link.specs.Emit.{EmitStands, written}
+use Rattle.m11_link.specs.Emit.{EmitAfter, written}
 use Rattle.m11_link.specs.Outputs.{Gains}
 use Rattle.m11_base_writes.specs.Outputs.{Outputs, outputs_of}
 use Rattle.m11_link.proofs.SecondRead.{SentAll}
@@ -10,7 +10,7 @@ use Rattle.m11_link.proofs.run.emit_all.Given as goal
 
 abbrev pub invariant-feeds : goal.invariant-feeds
 invariant-feeds g l = record {
-  sent : (plan : PlanTables) (before : List Part) (first : Outputs) → EmitStands plan before l.initial.emit
+  sent : (plan : PlanTables) (before : List Part) (first : Outputs) → EmitAfter plan before l.initial.emit
       → fault_of before EndOfFile ≡ None
       → Gains first
       (outputs_of g.S.Sink g.T.Sink g.U.Sink l.initial.tape l.initial.map l.initial.messages)

@@ -1,7 +1,7 @@
 use Rattle.std.proofs.Common.{◌≡◌, List, false, is_some}
 use Rattle.m11_link_modules.specs.Parts.{Part}
 use Rattle.m11_link_layout.specs.Plan.{PlanTables}
-use Rattle.m11_link.specs.Emit.{EmitStands, written}
+use Rattle.m11_link.specs.Emit.{EmitAfter, written}
 use Rattle.m11_link.specs.Outputs.{Gains}
 use Rattle.m11_base_writes.specs.Outputs.{Outputs, outputs_of}
 use Rattle.m11_link.proofs.SecondRead.{Sent}
@@ -10,7 +10,7 @@ use Rattle.m11_link.proofs.run.emit_object.Given as goal
 abbrev pub invariant-items : goal.invariant-items
 invariant-items g l = record {
   reads : l.reader.has_failed ≡ false;
-  sent : (plan : PlanTables) (before : List Part) (first : Outputs) → EmitStands plan before l.initial.emit
+  sent : (plan : PlanTables) (before : List Part) (first : Outputs) → EmitAfter plan before l.initial.emit
       → Gains first
       (outputs_of g.S.Sink g.T.Sink g.U.Sink l.initial.tape l.initial.map l.initial.messages)
       (written plan l.initial.emit.has_begun before)

@@ -1,6 +1,6 @@
 use Rattle.std.proofs.Common.{[]}
 use Rattle.m11_base_writes.specs.Outputs.{outputs_of}
-use Rattle.m11_link.proofs.ItemsTaken.{ends_first}
+use Rattle.m11_link.proofs.ItemsAccepted.{ends_first}
 use Rattle.m11_link.proofs.SecondRead.{nothing_written, second_ends, second_stops}
 use Rattle.m11_link.proofs.run.read_second.Goals as goal
 

@@ -8,7 +8,7 @@ use Rattle.m11_trace.proofs.steps.steps_with_lines.Given as goal
 
 abbrev pub invariant-steps : goal.invariant-steps
 invariant-steps g l = (taken : List TracedStep)
-    × Going l.fn.limit l.count l.fn.places l.fn.machine l.machine
+    × Going l.fn.limit l.count l.fn.breakpoints l.fn.machine l.machine
     (both (g.I.Feed.text l.fn.input) (g.I.Feed.faults l.fn.input) (g.O.Sink.text l.fn.output) (g.O.Sink.faults l.fn.output))
     (both (g.I.Feed.text l.input) (g.I.Feed.faults l.input) (g.O.Sink.text l.output) (g.O.Sink.faults l.output))
     Next taken

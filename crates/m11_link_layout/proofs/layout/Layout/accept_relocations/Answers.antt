@@ -5,7 +5,7 @@ use Rattle.m11_link_modules.specs.Steps.{RulesTake}
 use Rattle.m11_link_modules.proofs.KnownAfter.{taken_after}
 use Rattle.m11_link_modules.proofs.Taking.{Outcome}
 use Rattle.m11_link_modules.proofs.Unread.{parts_left, record_of_parts}
-use Rattle.m11_link_layout.specs.Layout.{LayoutStands}
+use Rattle.m11_link_layout.specs.Layout.{LayoutAfter}
 use Rattle.m11_link_layout.proofs.Standing.{block_taken, fault_reported, parts_taken}
 use Rattle.m11_link_layout.proofs.layout.Layout.accept_relocations.Goals as goal
 
@@ -31,7 +31,7 @@ returns-clause-takes c = λ bottom before bytes s e.
     let old = c.args.self.now.known in
     let new = c.add_relocations.new.self.known in
     let P : Outcome → Type 0 = λ judged. RulesTake old new parts judged in
-    let Q : List Part → Type 0 = λ these. LayoutStands bottom (before ++ these) c.add_relocations.new.self in
+    let Q : List Part → Type 0 = λ these. LayoutAfter bottom (before ++ these) c.add_relocations.new.self in
     subst Q (sym (record_of_parts bytes unread e are))
     (parts_taken bottom before parts c.args.self.now refl s
     (λ k. taken_after before old new parts (Ok tt) k (subst P c.in_ok-branch.was c.in_ok-add_relocations.ensures.judged))

@@ -13,7 +13,7 @@ use Rattle.m11_link_modules.specs.Rules.{fault_known, fault_of, first_fault}
 use Rattle.m11_link_modules.specs.Steps.{known_after}
 use Rattle.m11_link_modules.proofs.KnownAfter.{known_after_part}
 use Rattle.m11_link_layout.specs.Fault.{of_module}
-use Rattle.m11_link_layout.specs.Layout.{FirstFault, LayoutState, TakesBlock}
+use Rattle.m11_link_layout.specs.Layout.{FirstFault, LayoutState, AcceptsBlock}
 use Rattle.m11_link_layout.specs.declared.fault.LinkFault.{LinkFault}
 use Rattle.m11_link_layout.specs.declared.fault.LinkFault.TheVariants as fault
 use Rattle.m11_link_layout.proofs.Walking.{head_none, rest_none}
@@ -183,7 +183,7 @@ end_decides before stopped h =
     stopped h
 
 pub block_decides : (bottom : ℕ) (before : List Part) (layout : LayoutState) (bytes : List ℕ) (stopped : LinkFault)
-    → TakesBlock bottom before layout bytes (Err stopped) → Decides before (BlockOf bytes ∷ []) stopped
+    → AcceptsBlock bottom before layout bytes (Err stopped) → Decides before (BlockOf bytes ∷ []) stopped
 block_decides bottom before layout bytes (fault.Record inner) h = no_record_decides before bytes inner h
 block_decides bottom before layout bytes stopped h = parts_decide before bytes stopped h
 

@@ -3,7 +3,7 @@ use Rattle.m11_obj_blocks.specs.Limited.{position}
 use Rattle.m11_base_writes.specs.States.{output_of}
 use Rattle.m11_dump.specs.Tapes.{Puts, block_text}
 use Rattle.m11_dump.proofs.Taping.{data_taken}
-use Rattle.m11_dump.proofs.tapes.take_data.Goals as goal
+use Rattle.m11_dump.proofs.tapes.show_block_data.Goals as goal
 
 pub returns-in-Ok : goal.returns-in-Ok
 returns-in-Ok g c =

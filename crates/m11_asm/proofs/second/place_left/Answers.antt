@@ -4,7 +4,7 @@ use Rattle.m11_asm_passes.specs.Placed.{live_in}
 use Rattle.m11_asm_passes.specs.Turns.{SaysPlaced}
 use Rattle.m11_asm_passes.specs.declared.turns.Turn.TheVariants.{NeedLine}
 use Rattle.m11_asm.proofs.SecondTaking.{fails_all, left_ends, left_rests, placed_more, stops_there}
-use Rattle.m11_asm.proofs.second.take_left.Goals as goal
+use Rattle.m11_asm.proofs.second.place_left.Goals as goal
 
 pub lines-preserved : goal.lines-preserved
 lines-preserved g c = record {

@@ -12,7 +12,7 @@ use Rattle.m11_cpu_machine.specs.declared.stop.LastingStop.TheVariants.{StackFau
 use Rattle.m11_cpu_machine.specs.declared.stop.Turn.{Turn}
 use Rattle.m11_cpu_machine.specs.declared.stop.Turn.TheVariants.{Next, Stopped}
 use Rattle.m11_cpu_machine.specs.Dialogue.{after, Asked, Asks, Comes, Dialogue, Exchange, Leads, Sends, Sent}
-use Rattle.m11_cpu_laws.specs.Laws.{StopStands}
+use Rattle.m11_cpu_laws.specs.Laws.{StopLasts}
 use Rattle.m11_cpu_machine.specs.Steps.{ended, instruction, step, step_unless, turned}
 use Rattle.m11_cpu_machine.specs.Stop.{stop_of}
 use Rattle.m11_cpu_machine.specs.Traps.{push_state, stopped_by, trap, trap_pushed}
@@ -35,55 +35,55 @@ unfolding Leads
 at_once x y [] h = h
 at_once x y (e ∷ es) h = absurd h
 
-abbrev pub StandsAt : Turn × Machine → Type 0
-StandsAt y = StopStands y.0 y.1
+abbrev pub LastsAt : Turn × Machine → Type 0
+LastsAt y = StopLasts y.0 y.1
 
-stopped_stands : (stop : LastingStop) (m : Machine) → m.stopped ≡ Some stop → StandsAt (Stopped (stop_of stop), m)
+stopped_stands : (stop : LastingStop) (m : Machine) → m.stopped ≡ Some stop → LastsAt (Stopped (stop_of stop), m)
 stopped_stands StackFault m e = e
 stopped_stands InputFault m e = e
 stopped_stands OutputFault m e = e
 
 pushed_stands : (vector : Vector) (pushed : Result (Unit {0}) Abort) (m : Machine) (es : List Exchange)
     (y : Turn × Machine)
-    → Leads (trap_pushed vector pushed m) es y → StandsAt y
-pushed_stands vector (Ok done) m es y h = subst StandsAt (sym (at_once _ y es h)) tt
+    → Leads (trap_pushed vector pushed m) es y → LastsAt y
+pushed_stands vector (Ok done) m es y h = subst LastsAt (sym (at_once _ y es h)) tt
 pushed_stands vector (Err (Traps other)) m es y h =
-    subst StandsAt (sym (at_once _ y es h)) (stopped_stands StackFault (stopped_by StackFault m).1 refl)
+    subst LastsAt (sym (at_once _ y es h)) (stopped_stands StackFault (stopped_by StackFault m).1 refl)
 pushed_stands vector (Err (Stops stop)) m es y h =
-    subst StandsAt (sym (at_once _ y es h)) (stopped_stands stop (stopped_by stop m).1 refl)
+    subst LastsAt (sym (at_once _ y es h)) (stopped_stands stop (stopped_by stop m).1 refl)
 
 trap_stands : (vector : Vector) (m : Machine) (es : List Exchange) (y : Turn × Machine) → Leads (trap vector m) es y
-    → StandsAt y
+    → LastsAt y
 unfolding trap
 trap_stands vector m es y h =
     let b = after_it (push_state m) (λ pushed. trap_pushed vector pushed.0 pushed.1) es y h in
     pushed_stands vector b.0.0 b.0.1 b.1 y b.2
 
 traced_stands : (trace : Bool) (m : Machine) (es : List Exchange) (y : Turn × Machine)
-    → Leads (cond trace (trap Breakpoint m) (Comes (Next, m))) es y → StandsAt y
+    → Leads (cond trace (trap Breakpoint m) (Comes (Next, m))) es y → LastsAt y
 traced_stands true m es y h = trap_stands Breakpoint m es y h
-traced_stands false m es y h = subst StandsAt (sym (at_once _ y es h)) tt
+traced_stands false m es y h = subst LastsAt (sym (at_once _ y es h)) tt
 
 turned_stands : (came : Result Ending Abort) (m : Machine) (es : List Exchange) (y : Turn × Machine)
-    → Leads (turned came m) es y → StandsAt y
+    → Leads (turned came m) es y → LastsAt y
 unfolding turned ended
 turned_stands (Ok ending.Next) m es y h = traced_stands m.status.trace m es y h
-turned_stands (Ok ending.Untraced) m es y h = subst StandsAt (sym (at_once _ y es h)) tt
-turned_stands (Ok ending.Halts) m es y h = subst StandsAt (sym (at_once _ y es h)) tt
-turned_stands (Ok ending.Waits) m es y h = subst StandsAt (sym (at_once _ y es h)) tt
+turned_stands (Ok ending.Untraced) m es y h = subst LastsAt (sym (at_once _ y es h)) tt
+turned_stands (Ok ending.Halts) m es y h = subst LastsAt (sym (at_once _ y es h)) tt
+turned_stands (Ok ending.Waits) m es y h = subst LastsAt (sym (at_once _ y es h)) tt
 turned_stands (Err (Traps vector)) m es y h = trap_stands vector m es y h
 turned_stands (Err (Stops stop)) m es y h =
-    subst StandsAt (sym (at_once _ y es h)) (stopped_stands stop (stopped_by stop m).1 refl)
+    subst LastsAt (sym (at_once _ y es h)) (stopped_stands stop (stopped_by stop m).1 refl)
 
 unless_stands : (stands : Option LastingStop) (m : Machine) (es : List Exchange) (y : Turn × Machine)
     → m.stopped ≡ stands
-    → Leads (step_unless stands m) es y → StandsAt y
-unless_stands (Some stop) m es y e h = subst StandsAt (sym (at_once _ y es h)) (stopped_stands stop m e)
+    → Leads (step_unless stands m) es y → LastsAt y
+unless_stands (Some stop) m es y e h = subst LastsAt (sym (at_once _ y es h)) (stopped_stands stop m e)
 unless_stands None m es y e h =
     let b = after_it (instruction m) (λ came. turned came.0 came.1) es y h in
     turned_stands b.0.0 b.0.1 b.1 y b.2
 
-pub step_stands : (m : Machine) (es : List Exchange) (y : Turn × Machine) → Leads (step m) es y → StopStands y.0 y.1
+pub step_stands : (m : Machine) (es : List Exchange) (y : Turn × Machine) → Leads (step m) es y → StopLasts y.0 y.1
 unfolding step
 step_stands m es y h = unless_stands m.stopped m es y refl h
 

@@ -6,7 +6,7 @@ use Rattle.m11_scan_lines.specs.Line.{SourceLine}
 use Rattle.m11_asm_rules.specs.Meanings.{Map}
 use Rattle.m11_asm_lines.specs.declared.counting.Counting.{Counting}
 use Rattle.m11_asm_passes.specs.Lines.{NumberedLine}
-use Rattle.m11_asm_passes.specs.States.{PassState, SourcePassState, PassStands}
+use Rattle.m11_asm_passes.specs.States.{PassState, SourcePassState, PassAfter}
 
 -- what a pass keeps of the lines of its source: where it stands, how many were read, whether `.END` became live, and the fault that ended
 -- the pass, if one did
@@ -22,24 +22,24 @@ pub record GoesOn (fault : Option AsmFault) (has_ended : Bool) (pass : SourcePas
   pub needs : fault ≡ None → has_ended ≡ false → pass.pass_state.unfolder.stage.left ≡ []
 
 -- these are the live lines of a source, under a map and by which names count, and they are done with
-pub record Taken (map : Map) (counting : Counting) (Done : List NumberedLine → Type 0) (source : List SourceLine) (lines : List NumberedLine)
+pub record LiveLinesDone (map : Map) (counting : Counting) (Done : List NumberedLine → Type 0) (source : List SourceLine) (lines : List NumberedLine)
     (pass_state : PassState) : Type 0 where
-  pub stands : PassStands map counting source lines pass_state
+  pub stands : PassAfter map counting source lines pass_state
   pub done : Done lines
 
 -- all that follows from lines of the source is done
-pub record Stands (map : Map) (counting : Counting) (Done : List NumberedLine → Type 0) (source : List SourceLine) (state : LineState)
+pub record LinesDone (map : Map) (counting : Counting) (Done : List NumberedLine → Type 0) (source : List SourceLine) (state : LineState)
     : Type 0 where
   pub lines : List NumberedLine
-  pub taken : Taken map counting Done source lines state.pass_state
+  pub taken : LiveLinesDone map counting Done source lines state.pass_state
   pub read : state.read ≡ length source
   pub ended : state.has_ended ≡ state.pass_state.unfolder.stage.has_ended
   pub needs : state.has_ended ≡ false → state.pass_state.unfolder.stage.left ≡ []
   pub goes_on : state.fault ≡ None
 
 -- all that follows from the last line of the source is taken, up to the end of what is left
-pub record TakesAll (map : Map) (counting : Counting) (Done : List NumberedLine → Type 0) (source : List SourceLine) (pass_state : PassState)
+pub record AllDone (map : Map) (counting : Counting) (Done : List NumberedLine → Type 0) (source : List SourceLine) (pass_state : PassState)
     (has_ended : Bool) : Type 0 where
   pub lines : List NumberedLine
-  pub taken : Taken map counting Done source lines pass_state
+  pub taken : LiveLinesDone map counting Done source lines pass_state
   pub ended : has_ended ≡ pass_state.unfolder.stage.has_ended

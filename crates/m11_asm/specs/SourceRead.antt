@@ -7,15 +7,15 @@ use Rattle.m11_asm.specs.Extents.{HaveGiven}
 use Rattle.m11_asm.specs.Passes.{Pass, Reads}
 
 -- these lines of a reading were taken: up to that in which `.END` became live, or all of them
-abbrev pub IsTakenUp : Reading → List SourceLine → Bool → Type 0
-IsTakenUp reading source true = (more : List SourceLine) × (reading.lines ≡ source ++ more)
-IsTakenUp reading source false = (reading.lines ≡ source) × (reading.fault ≡ None)
+abbrev pub AreLinesRead : Reading → List SourceLine → Bool → Type 0
+AreLinesRead reading source true = (more : List SourceLine) × (reading.lines ≡ source ++ more)
+AreLinesRead reading source false = (reading.lines ≡ source) × (reading.fault ≡ None)
 
 -- the pass stands after all lines that it takes of what the feeds give
-pub record SourceTaken {F : Type 0} (pass : Pass F) (StandsAfter : List SourceLine → Type 0) (has_ended : Bool) : Type 0 where
+pub record SourceRead {F : Type 0} (pass : Pass F) (After : List SourceLine → Type 0) (has_ended : Bool) : Type 0 where
   pub reading : Reading
   pub reads : Reads pass reading
   pub source : List SourceLine
-  pub stands : StandsAfter source
-  pub taken_up : IsTakenUp reading source has_ended
+  pub stands : After source
+  pub taken_up : AreLinesRead reading source has_ended
   pub given : HaveGiven pass source has_ended

@@ -6,16 +6,16 @@ use Rattle.m11_unfold_rules.specs.Limits.{most_lines}
 use Rattle.m11_asm.specs.Program.{Program}
 use Rattle.m11_asm_lines.specs.declared.counting.Counting.TheVariants.{Definitions}
 use Rattle.m11_asm.specs.Second.{Wrote}
-use Rattle.m11_asm.specs.Standing.{Taken}
+use Rattle.m11_asm.specs.LinesDone.{LiveLinesDone}
 use Rattle.m11_asm.proofs.Taking.{SomeTaken}
-use Rattle.m11_asm.proofs.second.take_left.Given as goal
+use Rattle.m11_asm.proofs.second.place_left.Given as goal
 
 abbrev pub invariant-lines : goal.invariant-lines
 invariant-lines g l = record {
   goes_on : l.pass.fault ≡ None;
   takes : (program : Program) (source : List SourceLine) (lines : List NumberedLine) (first : Outputs)
       → l.map ≡ program.map → l.number ≡ length source
-      → Taken program.map Definitions
+      → LiveLinesDone program.map Definitions
       (Wrote program first (outputs_of g.S.Sink g.T.Sink g.U.Sink l.initial.object l.initial.listing l.initial.messages)
       l.initial.writing) source lines l.initial.pass.pass_state
       → SomeTaken program.map Definitions

@@ -3,7 +3,7 @@ use Rattle.m11_scan_lines.specs.Line.{SourceLine}
 use Rattle.m11_scan_lines.specs.Reader.{LineReading, ReadsNext, position}
 use Rattle.m11_asm.proofs.FirstLines.{first_ended, first_goes_on, first_read, first_refuses, first_stops}
 use Rattle.m11_asm.proofs.LinesRead.{reader_begins}
-use Rattle.m11_asm.proofs.first_reading.take_lines.Goals as goal
+use Rattle.m11_asm.proofs.first_reading.read_lines.Goals as goal
 
 pub lines-init : goal.lines-init
 lines-init g c = record {

@@ -5,7 +5,7 @@ use Rattle.m11_asm_passes.specs.Placed.{live_in}
 use Rattle.m11_asm_passes.specs.Turns.{SaysLive}
 use Rattle.m11_asm_passes.specs.declared.turns.Turn.TheVariants.{NeedLine}
 use Rattle.m11_asm.proofs.FirstTaking.{fails_all, left_ends, left_rests, placed_more}
-use Rattle.m11_asm.proofs.first.take_left.Goals as goal
+use Rattle.m11_asm.proofs.first.place_left.Goals as goal
 
 pub lines-preserved : goal.lines-preserved
 lines-preserved c = record {
