@@ -22,7 +22,8 @@ use Rattle.m11_asm.specs.Extents.{GivesToEnd}
 use Rattle.m11_asm.specs.FirstReading.{FirstStops, FirstTaken, GivesSymbols, ReadsLines}
 use Rattle.m11_asm.specs.Outcome as outcome
 use Rattle.m11_asm.specs.Outcome.{Unended}
-use Rattle.m11_asm.specs.Passes.{Pass, ReadsFirst, pass_of}
+use Rattle.m11_base_pass_rules.specs.Passes.{Pass, pass_of}
+use Rattle.m11_asm.specs.Passes.{ReadsFirst}
 use Rattle.m11_asm.proofs.LinesRead.{Begun, SoFar, begun, failed, few_read, lines_given, one_more, reader_begins, too_many, too_much}
 use Rattle.m11_asm.proofs.LinesTaken.{IsAfterSoFar, ends_by, given_to_end, given_to_fault, taken_to_end, taken_wholly, unended_so}
 use Rattle.m11_asm_lines.specs.Counting.{none_used}

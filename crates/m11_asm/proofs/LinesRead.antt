@@ -13,7 +13,8 @@ use Rattle.m11_scan_line_laws.specs.Extents.{GaveAll, GaveLines, GavePast, GaveT
 use Rattle.m11_scan_line_laws.proofs.Feeds as feeds
 use Rattle.m11_scan_line_laws.proofs.HowFar as how_far
 use Rattle.m11_scan_line_laws.proofs.Reached.{begins, goes_on}
-use Rattle.m11_asm.specs.Passes.{Pass, Reads, ReadsTill, pass_of}
+use Rattle.m11_base_pass_rules.specs.Passes.{Pass, pass_of}
+use Rattle.m11_asm.specs.Passes.{Reads, ReadsTill}
 
 -- the lines begin a reading of what the feeds give
 pub record Begun {F : Type 0} (pass : Pass F) (lines : List SourceLine) : Type 0 where

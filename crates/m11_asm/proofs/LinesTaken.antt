@@ -15,7 +15,7 @@ use Rattle.m11_asm.specs.Extents as extents
 use Rattle.m11_asm.specs.Extents.{GivesToEnd, GivesToFault, HaveGiven}
 use Rattle.m11_asm.specs.Outcome as outcome
 use Rattle.m11_asm.specs.Outcome.{Ends, Unended}
-use Rattle.m11_asm.specs.Passes.{Pass, pass_of}
+use Rattle.m11_base_pass_rules.specs.Passes.{Pass, pass_of}
 use Rattle.m11_asm.specs.SourceRead.{AreLinesRead, SourceRead}
 use Rattle.m11_asm.specs.LinesDone.{LineState, LinesDone}
 use Rattle.m11_asm.specs.Written.{EndOfSource}

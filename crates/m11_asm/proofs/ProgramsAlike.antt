@@ -43,7 +43,8 @@ use Rattle.m11_asm.specs.Extents.{GivesToEnd, GivesToFault, GivesToStop, SecondG
 use Rattle.m11_asm.specs.Outcome as outcome
 use Rattle.m11_asm.specs.Outcome.{Ends, Refuses, Unended}
 use Rattle.m11_asm.specs.Passes as passes
-use Rattle.m11_asm.specs.Passes.{AreWrites, Pass, ReadsSecond, StopsAmongWrites}
+use Rattle.m11_base_pass_rules.specs.Passes.{Pass}
+use Rattle.m11_asm.specs.Passes.{AreWrites, ReadsSecond, StopsAmongWrites}
 use Rattle.m11_asm_lines.specs.declared.counting.Counting.TheVariants.{Definitions}
 
 pub record AlikePrograms (one other : Program) : Type 0 where

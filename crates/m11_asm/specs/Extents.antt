@@ -13,7 +13,7 @@ use Rattle.m11_asm_lines.specs.declared.counting.Counting.{Counting}
 use Rattle.m11_asm_lines.specs.declared.counting.Counting.TheVariants.{Definitions}
 use Rattle.m11_scan_line_laws.specs.Extents.{GaveAll, GaveLines, GavePast, GaveTill}
 use Rattle.m11_asm.specs.Outcome.{Unended}
-use Rattle.m11_asm.specs.Passes.{Pass}
+use Rattle.m11_base_pass_rules.specs.Passes.{Pass}
 use Rattle.m11_asm.specs.Program.{Program, program_of}
 use Rattle.m11_asm.specs.declared.done.AsmDone.{AsmDone}
 use Rattle.m11_unfold_rules.specs.Stages.{Stage}

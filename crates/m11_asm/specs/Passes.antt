@@ -1,11 +1,12 @@
 -- Passes over feeds: what their texts yield, and where a pass ends early. (This project's own.)
-use Rattle.std.specs.Prelude.{◌≡◌, List, ◌++◌, None, Option, ℕ, Result, Ok, Err}
+use Rattle.std.specs.Prelude.{◌≡◌, List, ◌++◌, None, Result, Ok, Err}
 use Rattle.m11_asm_outputs.specs.Object.{AllFit, object_contents}
 use Rattle.m11_asm_faults.specs.declared.fault.AsmFault.{AsmFault}
 use Rattle.m11_asm_faults.specs.declared.fault.AsmFault.TheVariants as fault
 use Rattle.m11_asm_outputs.specs.Outputs.{Gains, StopsBetween, StopsIn}
 use Rattle.m11_base_writes.specs.Outputs.{AreFlushed, Outputs, Write}
-use Rattle.m11_base.specs.Feed.{NoneFailed, Text}
+use Rattle.m11_base.specs.Feed.{NoneFailed}
+use Rattle.m11_base_pass_rules.specs.Passes.{Pass}
 use Rattle.m11_scan_lines.specs.Line.{SourceLine}
 use Rattle.m11_asm_passes.specs.Lines.{NumberedLine, PassLines}
 use Rattle.m11_asm_rules.specs.Meanings.{empty_map}
@@ -18,16 +19,6 @@ use Rattle.m11_asm.specs.Written.{EndOfSource, flagged_count, pieces_in, program
 use Rattle.m11_asm.specs.declared.done.AsmDone.{AsmDone}
 use Rattle.m11_unfold_rules.specs.Stages.{Stage}
 use Rattle.m11_asm.specs.Outcome.{Ends, Refuses, Unended}
-
--- the feeds of a pass, before it and after it: what is known of the text of each, and its count of failures
-pub record Pass (F : Type 0) : Type 0 where
-  pub text : F → Option Text
-  pub faults : F → ℕ
-  pub old : List F
-  pub new : List F
-
-abbrev pub pass_of : {F : Type 0} → (F → Option Text) → (F → ℕ) → List F → List F → Pass F
-pass_of text faults old new = record { text = text; faults = faults; old = old; new = new }
 
 -- no feed failed, and this is the reading of what they give
 abbrev pub Reads : {F : Type 0} → Pass F → Reading → Type 0

@@ -4,7 +4,8 @@ use Rattle.std.specs.Prelude.{◌≡◌, Bool, true, false, List, ◌++◌, None
 use Rattle.m11_scan_lines.specs.Line.{SourceLine}
 use Rattle.m11_scan_line_laws.specs.Readings.{Reading}
 use Rattle.m11_asm.specs.Extents.{HaveGiven}
-use Rattle.m11_asm.specs.Passes.{Pass, Reads}
+use Rattle.m11_base_pass_rules.specs.Passes.{Pass}
+use Rattle.m11_asm.specs.Passes.{Reads}
 
 -- these lines of a reading were taken: up to that in which `.END` became live, or all of them
 abbrev pub AreLinesRead : Reading → List SourceLine → Bool → Type 0

@@ -2,7 +2,7 @@
 
 ghost use Rattle.std.specs.Prelude.{[]};
 ghost use Rattle.m11_asm.specs.FirstReading.{GivesSymbols, ReadsLines};
-ghost use Rattle.m11_asm.specs.Passes.{pass_of};
+ghost use Rattle.m11_base_pass_rules.specs.Passes.{pass_of};
 ghost use Rattle.m11_asm.specs.First.{FirstAfter};
 
 use crate::first::First;

@@ -2,7 +2,7 @@
 
 ghost use Rattle.std.specs.Prelude.{◌≡◌};
 ghost use Rattle.m11_asm.specs.Extents.{AsmGives};
-ghost use Rattle.m11_asm.specs.Passes.{pass_of};
+ghost use Rattle.m11_base_pass_rules.specs.Passes.{pass_of};
 ghost use Rattle.m11_asm.specs.Run.{AsmRuns, AsmRunsOr};
 ghost use Rattle.m11_base_writes.specs.Outputs.{outputs_of};
 

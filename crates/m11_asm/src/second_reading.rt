@@ -1,7 +1,7 @@
 //! The second pass: what the lines of the sources write.
 
 ghost use Rattle.std.specs.Prelude.{[]};
-ghost use Rattle.m11_asm.specs.Passes.{pass_of};
+ghost use Rattle.m11_base_pass_rules.specs.Passes.{pass_of};
 ghost use Rattle.m11_asm.specs.SecondReading.{PutsAll, PutsLines};
 ghost use Rattle.m11_base_writes.specs.Outputs.{Outputs, outputs_of};
 ghost use Rattle.m11_asm.specs.Program.{Program, program_in};

@@ -1,7 +1,8 @@
 -- A run over known sources comes to what their live lines say.
 use Rattle.std.proofs.Common.{◌≡◌, ℕ, List, Option, Result, Ok, Err, inl, inr, sym, subst}
 use Rattle.m11_asm.specs.Outcome.{Ends, Refuses}
-use Rattle.m11_asm.specs.Passes.{ReadsFirst, ReadsSecond, pass_of}
+use Rattle.m11_base_pass_rules.specs.Passes.{AreKnown, pass_of}
+use Rattle.m11_asm.specs.Passes.{ReadsFirst, ReadsSecond}
 use Rattle.m11_asm.specs.Run.{AsmRuns}
 use Rattle.m11_asm.specs.Written.{EndOfSource, pieces_in, program_writes}
 use Rattle.m11_asm.specs.declared.done.AsmDone.{AsmDone}
@@ -15,7 +16,7 @@ use Rattle.m11_base.specs.Feed.{Text}
 use Rattle.m11_asm_passes.specs.Lines.{NumberedLine}
 use Rattle.m11_asm_rules.specs.Meanings.{empty_map}
 use Rattle.m11_scan_line_laws.specs.Readings.{Reading, reading_of}
-use Rattle.m11_asm_outcome_laws.specs.Beginnings.{AreKnown, MayStop}
+use Rattle.m11_asm_outcome_laws.specs.Beginnings.{MayStop}
 use Rattle.m11_asm_outcome_laws.specs.Live.{ComesTo, WritesLive}
 use Rattle.m11_asm_outcome_laws.specs.OneText.{program_after}
 use Rattle.m11_asm_outcome_laws.proofs.OneText.{EndAlike, PassesNone, never, same_end}

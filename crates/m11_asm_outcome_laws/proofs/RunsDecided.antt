@@ -2,7 +2,8 @@
 use Rattle.std.proofs.Common.{◌≡◌, ◌∙◌, List, [], ◌∷◌, ◌++◌, ℕ, append_assoc, append-nil, Option, None, Result, Ok, Err, inl, inr, refl, sym, ap, ap₂, subst}
 use Rattle.m11_asm.specs.Outcome.{Assembled, Ends, Outcome, Refused, Refuses}
 use Rattle.m11_asm.specs.Passes as passes
-use Rattle.m11_asm.specs.Passes.{AreWrites, Pass, ReadsFirst, ReadsSecond, StopsAmongWrites, pass_of}
+use Rattle.m11_base_pass_rules.specs.Passes.{AreKnown, Pass, pass_of}
+use Rattle.m11_asm.specs.Passes.{AreWrites, ReadsFirst, ReadsSecond, StopsAmongWrites}
 use Rattle.m11_asm.specs.Program.{Program, program_of}
 use Rattle.m11_asm.specs.Run.{AsmRuns}
 use Rattle.m11_asm.specs.Written.{EndOfSource, flagged_count, head_before, last_writes, line_writes, program_writes, written, written_after}
@@ -22,7 +23,7 @@ use Rattle.m11_scan_line_laws.specs.Readings.{Reading, reading_of}
 use Rattle.m11_unfold_rules.specs.Stages.{Stage}
 use Rattle.m11_base_writes.specs.Writes.{LeavesBeginnings, gained}
 use Rattle.m11_base_writes.proofs.Writing.{beginnings_left, gained-append, keeps, stops_before}
-use Rattle.m11_asm_outcome_laws.specs.Beginnings.{AreKnown, IsDecided, IsRefusal, MayStop}
+use Rattle.m11_asm_outcome_laws.specs.Beginnings.{IsDecided, IsRefusal, MayStop}
 use Rattle.m11_asm_outcome_laws.specs.OneText.{IsDecidedByFirst, program_after}
 use Rattle.m11_asm_outcome_laws.specs.Sources.{AssembleTo}
 use Rattle.m11_asm_outcome_laws.proofs.OnePass.{EndsOnce, EndsOrExceeds, EndsSo, ExceedsOnce, ends_so, not_both, one_end, one_refusal}

@@ -11,7 +11,7 @@ use Rattle.m11_scan_line_laws.specs.Calls.{FailReading, HaveReading}
 use Rattle.m11_scan_line_laws.specs.Readings.{Reading, fault_at, lines_of, reading_from, reading_of, reading_of_input, unless_fault}
 use Rattle.m11_scan_line_laws.proofs.Passing.{extends}
 use Rattle.m11_scan_line_laws.proofs.Pieces.{cut_more, following}
-use Rattle.m11_asm_outcome_laws.specs.Beginnings.{AreKnown, IsKnown}
+use Rattle.m11_base_pass_rules.specs.Passes.{AreKnown, IsKnown}
 
 -- ---- the lines of a beginning of an input are the first lines of the whole
 

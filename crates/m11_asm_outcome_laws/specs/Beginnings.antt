@@ -1,27 +1,13 @@
 -- What a run of the assembler yields over known sources. (That sources are read twice, and what may end a run early, is this
 -- project's own.)
-use Rattle.std.specs.Prelude.{◌≡◌, List, [], ◌∷◌, ⊤, Option, Some, None, Result, Ok, Err}
+use Rattle.std.specs.Prelude.{◌≡◌, ⊤, Result, Ok, Err}
 use Rattle.m11_asm_faults.specs.declared.fault.AsmFault.{AsmFault}
 use Rattle.m11_asm_faults.specs.declared.fault.AsmFault.TheVariants as fault
-use Rattle.m11_base.specs.Devices.{Bytes}
-use Rattle.m11_base.specs.Feed.{Text}
 use Rattle.m11_asm_outputs.specs.Outputs.{Gains, assembly}
 use Rattle.m11_base_writes.specs.Outputs.{AreFlushed, Outputs}
 use Rattle.m11_base_writes.specs.Writes.{LeavesBeginnings}
 use Rattle.m11_asm.specs.Outcome.{Assembled, Outcome, Refused}
 use Rattle.m11_asm.specs.declared.done.AsmDone.{AsmDone}
-
--- a text is known, and is these bytes
-abbrev pub IsKnown : Option Text → Bytes → Type 0
-IsKnown None source = ⊥
-IsKnown (Some text) source = text.bytes ≡ source
-
--- the texts of all feeds are known, and are these
-abbrev pub AreKnown : {F : Type 0} → (F → Option Text) → List F → List Bytes → Type 0
-AreKnown text [] [] = ⊤
-AreKnown text [] (source ∷ sources) = ⊥
-AreKnown text (feed ∷ feeds) [] = ⊥
-AreKnown text (feed ∷ feeds) (source ∷ sources) = IsKnown (text feed) source × AreKnown text feeds sources
 
 -- what may stop a run over sources that aren't refused
 abbrev pub MayStop : AsmFault → Type 0
@@ -37,8 +23,8 @@ IsRefusal refused fault.NoMemory = ⊤
 IsRefusal refused stopped = stopped ≡ refused
 
 -- sources that are assembled: all that the outcome says was written, object and listing hold nothing of it back, and its flagged
--- lines are counted; or the run was stopped, and
--- each output has a beginning of what it would have gained. Sources that are refused: the refusal, and nothing written
+-- lines are counted; or the run was stopped, and each output has a beginning of what it would have gained. Sources that are refused:
+-- the refusal, and nothing written
 abbrev pub IsDecided : Outcome → Outputs → Outputs → Result AsmDone AsmFault → Type 0
 IsDecided (Assembled writes flagged) old new (Ok done) = Gains old new writes × (done.flagged ≡ flagged) × AreFlushed new
 IsDecided (Assembled writes flagged) old new (Err stopped) = MayStop stopped × LeavesBeginnings assembly old new writes

@@ -2,13 +2,13 @@
 
 ghost use Rattle.std.specs.Prelude.{List, Result};
 ghost use Rattle.m11_asm.specs.Outcome.{Outcome};
-ghost use Rattle.m11_asm.specs.Passes.{pass_of};
+ghost use Rattle.m11_base_pass_rules.specs.Passes.{AreKnown, pass_of};
 ghost use Rattle.m11_asm.specs.Run.{AsmRuns};
 ghost use Rattle.m11_asm.specs.declared.done.AsmDone.{AsmDone};
 ghost use Rattle.m11_asm_faults.specs.declared.fault.AsmFault.{AsmFault};
 ghost use Rattle.m11_base_writes.specs.Outputs.{Outputs};
 ghost use Rattle.m11_base.specs.Devices.{Bytes};
-ghost use Rattle.m11_asm_outcome_laws.specs.Beginnings.{AreKnown, IsDecided};
+ghost use Rattle.m11_asm_outcome_laws.specs.Beginnings.{IsDecided};
 ghost use Rattle.m11_asm_outcome_laws.specs.Live.{ComesTo};
 ghost use Rattle.m11_asm_outcome_laws.specs.Sources.{AssembleTo};
 

@@ -6,7 +6,6 @@ use Rattle.m11_asm_faults.specs.declared.fault.AsmFault.TheVariants as asm-fault
 use Rattle.m11_base.specs.Devices.{Bytes, Rises}
 use Rattle.m11_base.specs.Sink.{handed_on}
 use Rattle.m11_base.specs.declared.sink.Sink.{Ghosts}
-use Rattle.m11_asm.specs.Passes as assembling
 use Rattle.m11_asm.specs.Run.{AsmRuns}
 use Rattle.m11_cpu_machine.specs.Dialogue.{Input}
 use Rattle.m11_cpu.specs.Simulation.{Simulates, request_of}
@@ -34,7 +33,7 @@ use Rattle.m11_cli_tasks.specs.declared.tasks.LinkTask.{LinkTask}
 use Rattle.m11_cli_tasks.specs.declared.tasks.SimTask.{SimTask}
 use Rattle.m11_cli_tasks.specs.declared.tasks.Task.{Task}
 use Rattle.m11_cli_tasks.specs.declared.tasks.Task.TheVariants as task
-use Rattle.m11_link.specs.FirstPass.{pass_of}
+use Rattle.m11_base_pass_rules.specs.Passes.{pass_of}
 
 -- ---- files that are not all open
 
@@ -79,8 +78,8 @@ pub record Assembles (asm : AsmTask) (old new : Store) (reported reported' : Out
   pub read-again : AreFiles (λ s. s.text) old.files (asm_inputs asm) second
   pub emptied : IsEmptied old.files object.text
   pub emptied-listing : IsEmptiedSome (λ l. l.text) old.files asm.listing listing
-  pub runs : AsmRuns (assembling.pass_of (λ s. s.text) (λ s. s.faults) first first')
-      (assembling.pass_of (λ s. s.text) (λ s. s.faults) second second')
+  pub runs : AsmRuns (pass_of (λ s. s.text) (λ s. s.faults) first first')
+      (pass_of (λ s. s.text) (λ s. s.faults) second second')
       (outputs object listing reported) (outputs object' listing' reported') result
   pub kept : new.files ≡ keeping_some got asm.listing listing'
       (keeping asm.object.now (got object') (creating (asm_outputs asm) old.files))

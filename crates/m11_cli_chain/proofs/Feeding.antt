@@ -2,8 +2,7 @@
 use Rattle.std.proofs.Common.{◌≡◌, List, [], ◌∷◌, map, Option, Some, None, ap, subst, sym}
 use Rattle.m11_base.specs.Devices.{Bytes}
 use Rattle.m11_base.specs.Feed.{Ends, Text}
-use Rattle.m11_link_laws.specs.Runs as links
-use Rattle.m11_asm_outcome_laws.specs.Beginnings as assemblies
+use Rattle.m11_base_pass_rules.specs.Passes.{AreKnown, IsKnown}
 use Rattle.m11_cli_chain.specs.Steps.{whole_text}
 
 same_text : (one other : Text) → ◌≡◌ {A = Option Text} (Some one) (Some other) → one ≡ other
@@ -25,40 +24,20 @@ some_is : (one : Option Text) (ones : Texts) → ◌≡◌ {A = Texts} (one ∷ 
 some_is one ones e = cc
 
 module _ {F : Type 0} (text : F → Option Text) where
-  known_to_assembler : (one : Option Text) (bytes : Bytes) → one ≡ whole_text bytes → assemblies.IsKnown one bytes
-  known_to_assembler (Some t) bytes e = ap (λ (u : Text). u.bytes) (same_text t (record { bytes = bytes; ending = Ends }) e)
-  known_to_assembler None bytes e = absurd cc
+  is_known : (one : Option Text) (bytes : Bytes) → one ≡ whole_text bytes → IsKnown one bytes
+  is_known (Some t) bytes e = ap (λ (u : Text). u.bytes) (same_text t (record { bytes = bytes; ending = Ends }) e)
+  is_known None bytes e = absurd cc
 
-  known_to_linker : (one : Option Text) (bytes : Bytes) → one ≡ whole_text bytes → links.IsKnown one bytes
-  known_to_linker (Some t) bytes e = ap (λ (u : Text). u.bytes) (same_text t (record { bytes = bytes; ending = Ends }) e)
-  known_to_linker None bytes e = absurd cc
-
-  are_known : (feeds : List F) (sources : List Bytes) → map text feeds ≡ map whole_text sources
-      → assemblies.AreKnown text feeds sources
+  are_known : (feeds : List F) (sources : List Bytes) → map text feeds ≡ map whole_text sources → AreKnown text feeds sources
   are_known [] [] e = tt
   are_known [] (source ∷ sources) e = none_is (whole_text source) (map whole_text sources) e
   are_known (feed ∷ feeds) [] e = some_is (text feed) (map text feeds) e
   are_known (feed ∷ feeds) (source ∷ sources) e = (
-    known_to_assembler (text feed) source (first_is (text feed) (whole_text source) (map text feeds) (map whole_text sources) e),
+    is_known (text feed) source (first_is (text feed) (whole_text source) (map text feeds) (map whole_text sources) e),
     are_known feeds sources (rest_is (text feed) (whole_text source) (map text feeds) (map whole_text sources) e),
-  )
-
-  are_known_objects : (feeds : List F) (sources : List Bytes) → map text feeds ≡ map whole_text sources
-      → links.AreKnown text feeds sources
-  are_known_objects [] [] e = tt
-  are_known_objects [] (source ∷ sources) e = none_is (whole_text source) (map whole_text sources) e
-  are_known_objects (feed ∷ feeds) [] e = some_is (text feed) (map text feeds) e
-  are_known_objects (feed ∷ feeds) (source ∷ sources) e = (
-    known_to_linker (text feed) source (first_is (text feed) (whole_text source) (map text feeds) (map whole_text sources) e),
-    are_known_objects feeds sources (rest_is (text feed) (whole_text source) (map text feeds) (map whole_text sources) e),
   )
 
   -- those of a slice of the feeds
   pub known_slice : (slice feeds : List F) (sources : List Bytes) → slice ≡ feeds → map text feeds ≡ map whole_text sources
-      → assemblies.AreKnown text slice sources
-  known_slice slice feeds sources same e = subst (λ (fs : List F). assemblies.AreKnown text fs sources) (sym same) (are_known feeds sources e)
-
-  pub known_objects : (slice feeds : List F) (sources : List Bytes) → slice ≡ feeds → map text feeds ≡ map whole_text sources
-      → links.AreKnown text slice sources
-  known_objects slice feeds sources same e =
-      subst (λ (fs : List F). links.AreKnown text fs sources) (sym same) (are_known_objects feeds sources e)
+      → AreKnown text slice sources
+  known_slice slice feeds sources same e = subst (λ (fs : List F). AreKnown text fs sources) (sym same) (are_known feeds sources e)

@@ -9,6 +9,7 @@ use Rattle.m11_asm_faults.specs.declared.fault.AsmFault.TheVariants as assembly
 use Rattle.m11_base_writes.specs.Outputs.{Outputs}
 use Rattle.m11_base.specs.Devices.{Bytes, Rises}
 use Rattle.m11_base.specs.Feed.{OneFailed, Text}
+use Rattle.m11_base_pass_rules.specs.Passes.{pass_of}
 use Rattle.m11_link_layout.specs.Plan.{PlanTables}
 use Rattle.m11_link_layout.specs.declared.fault.LinkFault.{LinkFault}
 use Rattle.m11_link_layout.specs.declared.fault.LinkFault.TheVariants as linking
@@ -33,41 +34,41 @@ module _ {F : Type 0} (text : F → Option Text) (faults : F → ℕ) (never : N
   -- ---- an assembly
 
   module _ (before after : List F) where
-    first_reads : asm.ReadsFirst (asm.pass_of text faults before after) (Err assembly.Read) → ⊥
+    first_reads : asm.ReadsFirst (pass_of text faults before after) (Err assembly.Read) → ⊥
     first_reads (source, (sources, beginning, failed, same), lines, unended) = none_failed before after sources beginning failed
 
     second_reads : (program : Program) (old new : Outputs)
-        → asm.ReadsSecond (asm.pass_of text faults before after) program old new (Err assembly.Read) → ⊥
+        → asm.ReadsSecond (pass_of text faults before after) program old new (Err assembly.Read) → ⊥
     second_reads program old new (source, (sources, beginning, failed, same), lines, unended, writes) =
         none_failed before after sources beginning failed
 
   module _ (first again second later : List F) where
     pub assembly_reads : (old new : Outputs) (returned : Result AsmDone AsmFault)
-        → AsmRuns (asm.pass_of text faults first again) (asm.pass_of text faults second later) old new returned
+        → AsmRuns (pass_of text faults first again) (pass_of text faults second later) old new returned
         → IfErr returned (λ fault. fault ≢ assembly.Read)
     assembly_reads old new (Ok done) runs = tt
     assembly_reads old new (Err stopped) (inl (reads, unread, same)) = λ e.
-        first_reads first again (subst (λ (f : AsmFault). asm.ReadsFirst (asm.pass_of text faults first again) (Err f)) e reads)
+        first_reads first again (subst (λ (f : AsmFault). asm.ReadsFirst (pass_of text faults first again) (Err f)) e reads)
     assembly_reads old new (Err stopped) (inr (lines, reads, reads')) = λ e.
         second_reads second later (program_of (givens lines)) old new
-        (subst (λ (f : AsmFault). asm.ReadsSecond (asm.pass_of text faults second later) (program_of (givens lines)) old new (Err f)) e reads')
+        (subst (λ (f : AsmFault). asm.ReadsSecond (pass_of text faults second later) (program_of (givens lines)) old new (Err f)) e reads')
 
   -- ---- a link
 
   module _ (before after : List F) where
-    first_links : (bottom : ℕ) → first_pass.ReadsFirst (first_pass.pass_of text faults before after) bottom (Err linking.Read) → ⊥
+    first_links : (bottom : ℕ) → first_pass.ReadsFirst (pass_of text faults before after) bottom (Err linking.Read) → ⊥
     first_links bottom (items, fails, taken) = none_failed before after fails.sources fails.beginning fails.failed
 
     second_links : (plan : PlanTables) (old new : Outputs)
-        → ReadsSecond (first_pass.pass_of text faults before after) plan old new (Err linking.Read) → ⊥
+        → ReadsSecond (pass_of text faults before after) plan old new (Err linking.Read) → ⊥
     second_links plan old new (items, fails, taken, writes) = none_failed before after fails.sources fails.beginning fails.failed
 
   module _ (first again second later : List F) where
     pub link_reads : (bottom : ℕ) (old new : Outputs) (returned : Result LinkDone LinkFault)
-        → LinkRuns (first_pass.pass_of text faults first again) (first_pass.pass_of text faults second later) bottom old new returned
+        → LinkRuns (pass_of text faults first again) (pass_of text faults second later) bottom old new returned
         → IfErr returned (λ fault. fault ≢ linking.Read)
     link_reads bottom old new (Ok done) runs = tt
     link_reads bottom old new (Err stopped) (inl (reads, unread, same)) = λ e. first_links first again bottom
-        (subst (λ (f : LinkFault). first_pass.ReadsFirst (first_pass.pass_of text faults first again) bottom (Err f)) e reads)
+        (subst (λ (f : LinkFault). first_pass.ReadsFirst (pass_of text faults first again) bottom (Err f)) e reads)
     link_reads bottom old new (Err stopped) (inr (plan, reads, reads')) = λ e. second_links second later plan old new
-        (subst (λ (f : LinkFault). ReadsSecond (first_pass.pass_of text faults second later) plan old new (Err f)) e reads')
+        (subst (λ (f : LinkFault). ReadsSecond (pass_of text faults second later) plan old new (Err f)) e reads')

@@ -9,7 +9,7 @@ ghost use Rattle.m11_cpu_machine.specs.Memory.{least_words, most_words};
 ghost use Rattle.m11_link_layout.specs.declared.fault.LinkFault.TheVariants as linking;
 ghost use Rattle.m11_link.specs.Objects.{AreItems, Item, outcome};
 ghost use Rattle.m11_link_laws.specs.Runs as links;
-ghost use Rattle.m11_asm_outcome_laws.specs.Beginnings.{AreKnown};
+ghost use Rattle.m11_base_pass_rules.specs.Passes.{AreKnown};
 ghost use Rattle.m11_cli_chain.specs.Assemblies.{AssemblyYields};
 ghost use Rattle.m11_cli_chain.specs.Chain.{Chains};
 ghost use Rattle.m11_cli_chain.specs.Steps.{AreObjectsOf, AssembliesFail, AssemblyFails, IsObjectOf, IsTapeOfObjects, LinkFails, LoadFails, LoadsNew, NeverFail, of_assembly, of_link, whole_text};
@@ -162,8 +162,8 @@ fn run_link<F: Feed, S: Sink, T: Sink, U: Sink>(
     messages: &mut U,
 ) -> Result<LinkDone, LinkFault>
     ensures reads { NeverFail F.faults → IfErr result (λ fault. fault ≢ linking.Read) }
-    ensures decided { (objects : List Bytes) (items : List Item) → AreItems objects items → links.AreKnown F.text first.old objects
-        → links.AreKnown F.text second.old objects
+    ensures decided { (objects : List Bytes) (items : List Item) → AreItems objects items → AreKnown F.text first.old objects
+        → AreKnown F.text second.old objects
         → links.IsDecided bottom (outcome bottom items) (outputs_of S.Sink T.Sink U.Sink tape.old map.old messages.old)
         (outputs_of S.Sink T.Sink U.Sink tape.new map.new messages.new) result }
 {

@@ -3,7 +3,7 @@
 
 ghost use Rattle.std.specs.Prelude.{◌≡◌, ◌∷◌, List, Result};
 ghost use Rattle.std.specs.List.{AllByRecursion};
-ghost use Rattle.m11_asm.specs.Passes.{pass_of};
+ghost use Rattle.m11_base_pass_rules.specs.Passes.{AreKnown, pass_of};
 ghost use Rattle.m11_asm.specs.Run.{AsmRuns};
 ghost use Rattle.m11_asm.specs.declared.done.AsmDone.{AsmDone};
 ghost use Rattle.m11_asm_faults.specs.declared.fault.AsmFault.{AsmFault};
@@ -11,7 +11,6 @@ ghost use Rattle.m11_base_writes.specs.Outputs.{Outputs};
 ghost use Rattle.m11_base.specs.Devices.{Bytes};
 ghost use Rattle.m11_base.specs.Names.{absolute_name};
 ghost use Rattle.m11_cli_image.specs.Objects.{LiesAtWord};
-ghost use Rattle.m11_asm_outcome_laws.specs.Beginnings.{AreKnown};
 ghost use Rattle.m11_asm_passes.specs.Lines.{NumberedLine};
 ghost use Rattle.m11_asm_rules.specs.Sections.{of_absolute, section};
 ghost use Rattle.m11_asm_rules.specs.declared.sections.Section.{Section};

@@ -2,6 +2,7 @@
 use Rattle.std.specs.Prelude.{◌≡◌, ℕ, List, [], Option, None, Result, Ok, Err}
 use Rattle.m11_base.specs.Devices.{Rises}
 use Rattle.m11_base.specs.Feed.{Text, NoneFailed}
+use Rattle.m11_base_pass_rules.specs.Passes.{Pass}
 use Rattle.m11_obj_blocks.specs.declared.block_fault.BlockFault.{BlockFault}
 use Rattle.m11_obj_blocks.specs.declared.block_fault.BlockFault.TheVariants as block
 use Rattle.m11_link_modules.specs.Parts.{Part, EndOfFile}
@@ -11,16 +12,6 @@ use Rattle.m11_link_layout.specs.Layout.{LayoutState, LayoutAfter}
 use Rattle.m11_link_layout.specs.declared.fault.LinkFault.{LinkFault}
 use Rattle.m11_link_layout.specs.declared.fault.LinkFault.TheVariants as fault
 use Rattle.m11_link.specs.Objects.{Item, taken, outcome, GivesItems, BeginsItems, GiveItems, FailAfter}
-
--- the feeds of a pass, before it and after it: what is known of the text of each, and its count of failures
-pub record Pass (F : Type 0) : Type 0 where
-  pub text : F → Option Text
-  pub faults : F → ℕ
-  pub old : List F
-  pub new : List F
-
-abbrev pub pass_of : {F : Type 0} → (F → Option Text) → (F → ℕ) → List F → List F → Pass F
-pass_of text faults old new = record { text = text; faults = faults; old = old; new = new }
 
 -- a fault of a block as that of a link
 abbrev pub of_block : BlockFault → LinkFault

@@ -2,7 +2,8 @@
 
 ghost use Rattle.std.specs.Prelude.{◌≡◌, None, ℕ, List, is_some};
 ghost use Rattle.m11_link.specs.Objects.{AreItems, Item};
-ghost use Rattle.m11_link.specs.FirstPass.{LaysOut, LaysOutObject, ReadsFirst, LayoutBetween, of_block, pass_of};
+ghost use Rattle.m11_base_pass_rules.specs.Passes.{pass_of};
+ghost use Rattle.m11_link.specs.FirstPass.{LaysOut, LaysOutObject, ReadsFirst, LayoutBetween, of_block};
 ghost use Rattle.m11_link_layout.specs.Layout.{LayoutAfter};
 ghost use Rattle.m11_link_layout.specs.Plan.{PlanTables};
 ghost use Rattle.m11_link_modules.specs.Parts.{Part, EndOfFile};

@@ -9,7 +9,7 @@ use Rattle.m11_link_layout.specs.declared.fault.LinkFault.{LinkFault}
 use Rattle.m11_link_layout.specs.declared.fault.LinkFault.TheVariants as fault
 use Rattle.m11_link_text.specs.Findings.{Findings, planned}
 use Rattle.m11_link.specs.Emit.{written}
-use Rattle.m11_link.specs.FirstPass.{pass_of}
+use Rattle.m11_base_pass_rules.specs.Passes.{AreKnown, IsKnown, pass_of}
 use Rattle.m11_link.specs.Front.{front_writes}
 use Rattle.m11_link.specs.Objects.{AreItems, BeginningItems, FailAfter, GiveItems, Item, BlockOf, ObjectItems, taken}
 use Rattle.m11_link.specs.Objects as objects
@@ -23,7 +23,6 @@ use Rattle.m11_link.proofs.Steady.{block_steady, object_comes, objects_come}
 use Rattle.m11_link.proofs.WritesAfter.{parts_more}
 use Rattle.m11_base_writes.specs.Writes.{LeavesBeginnings, gained}
 use Rattle.m11_base_writes.proofs.Writing.{beginnings_left, flushed_beginnings, gained-append, keeps, stops_before}
-use Rattle.m11_link_laws.specs.Runs.{AreKnown, IsKnown}
 use Rattle.m11_link_laws.proofs.ItemsParts.{items_parts, parts_are}
 
 -- ---- the items of a beginning of an object are the first ones of the whole

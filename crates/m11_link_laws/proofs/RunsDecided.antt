@@ -8,7 +8,8 @@ use Rattle.m11_link_layout.specs.Sections.{is_too_large}
 use Rattle.m11_link_layout.specs.declared.fault.LinkFault.{LinkFault}
 use Rattle.m11_link_layout.specs.declared.fault.LinkFault.TheVariants as fault
 use Rattle.m11_link_text.specs.Findings.{findings_of, planned}
-use Rattle.m11_link.specs.FirstPass.{ReadsFirst, pass_of}
+use Rattle.m11_base_pass_rules.specs.Passes.{AreKnown, IsKnown, pass_of}
+use Rattle.m11_link.specs.FirstPass.{ReadsFirst}
 use Rattle.m11_link.specs.Objects.{◌>>=◌, AreItems, GiveItems, Item, outcome, taken, unless_too_large}
 use Rattle.m11_link.specs.Outputs.{Gains, StopsBetween, StopsIn, link}
 use Rattle.m11_base_writes.specs.Outputs.{AreFlushed, Outputs, Write}
@@ -19,7 +20,7 @@ use Rattle.m11_link.proofs.Agreeing.{written_by_definition}
 use Rattle.m11_link.proofs.ItemsAccepted.{PartsOrFault}
 use Rattle.m11_link.proofs.Sole.{objects_same}
 use Rattle.m11_base_writes.specs.Writes.{LeavesBeginnings}
-use Rattle.m11_link_laws.specs.Runs.{AreKnown, IsDecided, IsKnown, IsRefusal, MayStop}
+use Rattle.m11_link_laws.specs.Runs.{IsDecided, IsRefusal, MayStop}
 use Rattle.m11_link_laws.proofs.RunsBegun.{nothing_begun, read_begun, stop_begun}
 
 -- ---- answers

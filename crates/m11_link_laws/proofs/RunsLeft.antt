@@ -7,7 +7,7 @@ use Rattle.m11_link_modules.specs.Parts.{Part}
 use Rattle.m11_link_layout.specs.Transfers.{transfer_address}
 use Rattle.m11_base_writes.specs.declared.outputs.Output.TheVariants.{Product, Report, Messages}
 use Rattle.m11_link_text.specs.Findings.{findings_of}
-use Rattle.m11_link.specs.FirstPass.{pass_of}
+use Rattle.m11_base_pass_rules.specs.Passes.{AreKnown, pass_of}
 use Rattle.m11_link.specs.Objects.{AreItems, Item, outcome}
 use Rattle.m11_link.specs.Outputs.{Gains}
 use Rattle.m11_base_writes.specs.Outputs.{AreFlushed, Outputs}
@@ -17,7 +17,7 @@ use Rattle.m11_link.specs.declared.emit.LinkDone.{LinkDone}
 use Rattle.m11_link.proofs.ItemsAccepted.{PartsOrFault}
 use Rattle.m11_link_laws.specs.Left.{Leaves}
 use Rattle.m11_link_laws.specs.LinkedTexts.{tape_blocks}
-use Rattle.m11_link_laws.specs.Runs.{AreKnown, IsDecided}
+use Rattle.m11_link_laws.specs.Runs.{IsDecided}
 use Rattle.m11_link_laws.proofs.LinesWritten.{lines_counted, map_of_lines, messages_of_lines}
 use Rattle.m11_link_laws.proofs.RunsDecided.{run_decided}
 use Rattle.m11_link_laws.proofs.TapesOfObjects.{objects_make_a_tape, tape_of_objects}

@@ -1,6 +1,5 @@
 -- What a run of the linker yields over known objects. (This project's own.)
-use Rattle.std.specs.Prelude.{◌≡◌, ℕ, List, [], ◌∷◌, ⊤, Option, Some, None, Result, Ok, Err}
-use Rattle.m11_base.specs.Feed.{Text}
+use Rattle.std.specs.Prelude.{◌≡◌, ℕ, List, ⊤, Result, Ok, Err}
 use Rattle.m11_link_modules.specs.Parts.{Part}
 use Rattle.m11_link_layout.specs.declared.fault.LinkFault.{LinkFault}
 use Rattle.m11_link_layout.specs.declared.fault.LinkFault.TheVariants as fault
@@ -10,18 +9,6 @@ use Rattle.m11_base_writes.specs.Outputs.{AreFlushed, Outputs}
 use Rattle.m11_link.specs.Written.{counted, link_writes}
 use Rattle.m11_link.specs.declared.emit.LinkDone.{LinkDone}
 use Rattle.m11_base_writes.specs.Writes.{LeavesBeginnings}
-
--- a text is known, and is these bytes
-abbrev pub IsKnown : Option Text → List ℕ → Type 0
-IsKnown None source = ⊥
-IsKnown (Some text) source = text.bytes ≡ source
-
--- the texts of all feeds are known, and are these
-abbrev pub AreKnown : {F : Type 0} → (F → Option Text) → List F → List (List ℕ) → Type 0
-AreKnown text [] [] = ⊤
-AreKnown text [] (source ∷ sources) = ⊥
-AreKnown text (feed ∷ feeds) [] = ⊥
-AreKnown text (feed ∷ feeds) (source ∷ sources) = IsKnown (text feed) source × AreKnown text feeds sources
 
 -- what may stop a link of objects that have no fault
 abbrev pub MayStop : LinkFault → Type 0
@@ -37,8 +24,8 @@ IsRefusal refused fault.NoMemory = ⊤
 IsRefusal refused stopped = stopped ≡ refused
 
 -- objects of these parts: all that the definitions say was written, tape and map hold nothing of it back, and its messages
--- are counted; or it was stopped, and each
--- output has a beginning of what it would have gained. Objects that are refused: the refusal, and nothing written
+-- are counted; or it was stopped, and each output has a beginning of what it would have gained. Objects that are refused:
+-- the refusal, and nothing written
 abbrev pub IsDecided : ℕ → Result (List Part) LinkFault → Outputs → Outputs → Result LinkDone LinkFault → Type 0
 IsDecided bottom (Ok parts) old new (Ok done) = Gains old new (link_writes (findings_of bottom parts) parts)
     × (done.messages ≡ counted 0 (link_writes (findings_of bottom parts) parts)) × AreFlushed new
