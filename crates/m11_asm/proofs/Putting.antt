@@ -44,16 +44,13 @@ use Rattle.m11_base_writes.proofs.Writing.{gains_nothing, stops_after, stops_bef
 use Rattle.m11_asm.specs.Program.{Program, all_names, program_kept, directory_facts_in}
 use Rattle.m11_asm.specs.Writing.{Writing, WritingAfter, begun, counted, counted_last, is_some_line, most_counted, opened}
 use Rattle.m11_asm.specs.Written.{added_to_both, added_writes, closing_writes, flagged_count, flagged_in, head_before, is_flagged, flag_E, flags_at, line_writes, message_writes, pieces_in}
+use Rattle.m11_asm_outputs.proofs.Looping.{writes_as}
 use Rattle.m11_asm.proofs.LinesWritten.{flagged_more, none_flagged, pieces_more}
 
 -- ---- writes
 
 pub writes_nothing : (a : Outputs) (ws : List Write) → ws ≡ [] → Gains a a ws
 writes_nothing a ws none = let P : List Write → Type 0 = λ w. Gains a a w in subst P (sym none) (gains_nothing assembly a)
-
-pub writes_as : {A : Type 0} (a b : Outputs) (xs ys : List Write) (result : Result A AsmFault) → xs ≡ ys
-    → Writes a b xs result → Writes a b ys result
-writes_as a b xs ys result e h = let P : List Write → Type 0 = λ these. Writes a b these result in subst P e h
 
 pub gains_as : (a b : Outputs) (xs ys : List Write) → xs ≡ ys → Gains a b xs → Gains a b ys
 gains_as a b xs ys e h = let P : List Write → Type 0 = λ these. Gains a b these in subst P e h

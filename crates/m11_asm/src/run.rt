@@ -26,6 +26,9 @@ use std::alloc::Global;
 /// line, after which no byte is taken, either. Where the first pass is refused nothing is written. Then `Write`, after which nothing more is
 /// written, and the same faults again where the second pass gives other bytes: what the live lines before the fault write is then written.
 /// `NoMemory` wherever memory is refused.
+///
+/// An output may hold back what it is given until it is flushed. Object and listing are flushed before the count of flagged lines is told:
+/// where a run is Ok they hold nothing back, and where a flush fails that is `Write` of this output.
 pub fn asm_run<F: Feed, S: Sink, T: Sink, U: Sink>(
     alloc: Global,
     first: &mut [F],
@@ -44,14 +47,10 @@ pub fn asm_run<F: Feed, S: Sink, T: Sink, U: Sink>(
         (outputs_of S.Sink T.Sink U.Sink object.new listing.new messages.new) result }
     ensures gives { AsmGives (pass_of F.text F.faults first.old first.new) (pass_of F.text F.faults second.old second.new) result }
 {
-    match read_first(alloc, first) {
-        Ok(symbols) => {
-            first_passes_that_agree_have_the_same_rows();
-            first_passes_that_agree_have_the_same_symbols();
-            first_passes_that_agree_have_the_same_sections();
-            symbols.sections_are_within_the_limit();
-            read_second(alloc, second, symbols, object, listing, messages)
-        }
-        Err(fault) => Err(fault),
-    }
+    let symbols = read_first(alloc, first)?;
+    first_passes_that_agree_have_the_same_rows();
+    first_passes_that_agree_have_the_same_symbols();
+    first_passes_that_agree_have_the_same_sections();
+    symbols.sections_are_within_the_limit();
+    read_second(alloc, second, symbols, object, listing, messages)
 }

@@ -58,10 +58,7 @@ fn put_lines<F: Feed, S: Sink, T: Sink, U: Sink>(
             return Ok(());
         }
         match reader.next(feeds) {
-            Ok(true) => match second.line(reader.line(), object, listing, messages) {
-                Ok(()) => {}
-                Err(fault) => return Err(fault),
-            },
+            Ok(true) => second.line(reader.line(), object, listing, messages)?,
             Ok(false) => return Ok(()),
             Err(fault) => return Err(AsmFault::from(fault)),
         }

@@ -58,10 +58,7 @@ fn put_rows<S: Sink>(
         → OnOk result (AllFit (records_filled_by before rows.now)) }
 {
     'rows: for row in rows {
-        match put_row(alloc, object, waiting, row) {
-            Ok(()) => {}
-            Err(fault) => return Err(fault),
-        }
+        put_row(alloc, object, waiting, row)?;
     }
     Ok(())
 }
@@ -158,10 +155,7 @@ pub fn put_pieces<S: Sink>(
             location: next,
             content: *content,
         };
-        match put_piece(alloc, object, text, &piece) {
-            Ok(()) => {}
-            Err(fault) => return Err(fault),
-        }
+        put_piece(alloc, object, text, &piece)?;
         next = location_after(next, content);
     }
     Ok(())
@@ -268,10 +262,7 @@ fn put_blocks<S: Sink>(alloc: Global, object: &mut S, contents: &[Block]) -> Res
 {
     'contents: for content in contents {
         what_is_read_fits(content);
-        match put_record(alloc, object, content) {
-            Ok(()) => {}
-            Err(fault) => return Err(fault),
-        }
+        put_record(alloc, object, content)?;
     }
     Ok(())
 }

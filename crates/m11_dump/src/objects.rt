@@ -104,10 +104,10 @@ fn accept_record<S: Sink>(
         → spec.ShowsBlock view stand parts rules.new «record».now read (output_of S.Sink sink.old) (output_of S.Sink sink.new) result }
 {
     match show_record(alloc, view, record, stand, sink) {
-        Ok(after) => match judge_record(rules, record, stand.blocks, read) {
-            Ok(()) => Ok(after),
-            Err(broken) => Err(broken),
-        },
+        Ok(after) => {
+            judge_record(rules, record, stand.blocks, read)?;
+            Ok(after)
+        }
         Err(fault) => Err(placed(fault, stand.blocks, u64::from(read))),
     }
 }
@@ -154,10 +154,8 @@ fn dump_blocks<F: Feed, S: Sink>(
     'reading: loop {
         match reader.next_into(feed, &mut block) {
             Ok(true) => {
-                match accept_block(alloc, view, rules, &block, stand, reader.bytes_read(), sink) {
-                    Ok(after) => stand = after,
-                    Err(placed) => return Err(placed),
-                }
+                let read = reader.bytes_read();
+                stand = accept_block(alloc, view, rules, &block, stand, read, sink)?;
             }
             Ok(false) => return judge_end(rules, stand.blocks, reader.bytes_read()),
             Err(fault) => {

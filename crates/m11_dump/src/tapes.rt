@@ -128,10 +128,8 @@ fn show_block_data<F: Feed, S: Sink>(
         (position (F.text feed.new) (F.faults feed.new) reader.new.room) reader.new.stage address count
         (output_of S.Sink sink.old) (output_of S.Sink sink.new) result }
 {
-    match read_data(alloc, reader, feed, address, count) {
-        Ok(bytes) => show_data(alloc, view, address, &bytes, sink),
-        Err(fault) => Err(fault),
-    }
+    let bytes = read_data(alloc, reader, feed, address, count)?;
+    show_data(alloc, view, address, &bytes, sink)
 }
 
 // A fault of the block after so many, after all that the reader has read.

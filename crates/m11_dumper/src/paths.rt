@@ -47,13 +47,9 @@ pub(crate) fn plan<'a, S: AsStr>(alloc: Global, words: &'a [S]) -> Result<Reques
 fn request_given<'a>(alloc: Global, matches: &ArgMatches<'a>) -> Result<Request<'a>, UsageFault>
     ensures { EntriesGive (rows_of (found_of matches.now)) result }
 {
-    match show_given(matches) {
-        Ok(show) => match all_texts(alloc, matches, "files") {
-            Ok(paths) => Ok(Request { show, paths }),
-            Err(_) => Err(UsageFault::NoMemory),
-        },
-        Err(fault) => Err(fault),
-    }
+    let show = show_given(matches)?;
+    let paths = all_texts(alloc, matches, "files")?;
+    Ok(Request { show, paths })
 }
 
 // What is to be shown: the load map where `-m` is given, whatever `-d` says; or the fault of the bottom.

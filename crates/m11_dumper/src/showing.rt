@@ -30,10 +30,10 @@ pub(crate) fn show_all<'a, F: Opens, O: Sink>(
 {
     match paths {
         [] => Ok(()),
-        [path, others @ ..] => match show_file(alloc, files, view, *path, out) {
-            Ok(()) => show_all(alloc, files, view, others, out),
-            Err(stop) => Err(stop),
-        },
+        [path, others @ ..] => {
+            show_file(alloc, files, view, *path, out)?;
+            show_all(alloc, files, view, others, out)
+        }
     }
 }
 

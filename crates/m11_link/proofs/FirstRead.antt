@@ -9,13 +9,14 @@ use Rattle.m11_obj.specs.Reading.{IsRecord}
 use Rattle.m11_link_modules.specs.Parts.{Part, EndOfFile, record_parts}
 use Rattle.m11_link_modules.specs.declared.fault.ModuleFault.{ModuleFault}
 use Rattle.m11_link_modules.specs.declared.fault.ModuleFault.TheVariants as rule
+use Rattle.m11_link_layout.specs.Fault.{of_block}
 use Rattle.m11_link_layout.specs.Plan.{LayoutEnds, PlanTables}
 use Rattle.m11_link_layout.specs.Sections.{is_too_large}
 use Rattle.m11_link_layout.specs.Layout.{LayoutState, LayoutAfter, AcceptsBlock, AcceptsParts}
 use Rattle.m11_link_layout.specs.declared.fault.LinkFault.{LinkFault}
 use Rattle.m11_link_layout.specs.declared.fault.LinkFault.TheVariants as fault
 use Rattle.m11_base_pass_rules.specs.Passes.{pass_of}
-use Rattle.m11_link.specs.FirstPass.{LaysOut, LaysOutObject, Reaches, ReadsFirst, LayoutBetween, of_block}
+use Rattle.m11_link.specs.FirstPass.{LaysOut, LaysOutObject, Reaches, ReadsFirst, LayoutBetween}
 use Rattle.m11_link.specs.Objects.{Item, AreItems, BlockOf, ObjectEnds, Refused, GivesItems, BeginsItems, ObjectItems, taken, taken_item, unless_too_large}
 use Rattle.m11_link.specs.Objects as objects
 use Rattle.m11_base.proofs.FeedsRead.{SoFar, begin, all_read, failed_here, given_more, none_failed, read_more}

@@ -10,7 +10,7 @@ use Rattle.m11_obj_blocks.specs.Limited.{Fails, EndsBetween, EndsInside, Passes,
 use Rattle.m11_obj_blocks.proofs.Limits.{took_nothing, took_then}
 use Rattle.m11_link_layout.specs.declared.fault.LinkFault.{LinkFault}
 use Rattle.m11_link_layout.specs.declared.fault.LinkFault.TheVariants as fault
-use Rattle.m11_link.specs.FirstPass.{of_block}
+use Rattle.m11_link_layout.specs.Fault.{of_block}
 use Rattle.m11_link.specs.Objects.{Item, BlockOf, ObjectEnds, Refused, ObjectItems, BeginningItems, GivesItems, BeginsItems}
 use Rattle.m11_link.specs.Objects as objects
 use Rattle.m11_link.proofs.Steady.{block_shorter, object_comes}

@@ -10,13 +10,13 @@ use Rattle.m11_link_modules.specs.declared.fault.ModuleFault.{ModuleFault}
 use Rattle.m11_link_modules.specs.Parts.{Part, EndOfFile, record_parts}
 use Rattle.m11_link_modules.specs.Rules.{fault_of, first_fault}
 use Rattle.m11_link_modules.specs.declared.fault.ModuleFault.TheVariants as rule
+use Rattle.m11_link_layout.specs.Fault.{of_block}
 use Rattle.m11_link_layout.specs.Plan.{PlanTables}
 use Rattle.m11_link_layout.specs.declared.fault.LinkFault.{LinkFault}
 use Rattle.m11_link_layout.specs.declared.fault.LinkFault.TheVariants as fault
 use Rattle.m11_base_writes.specs.declared.outputs.Output.{Output}
 use Rattle.m11_link.specs.Emit.{EmitEnds, EmitAfter, EmitState, GoesOn, AcceptsBlock, AcceptsParts, call_of, written}
 use Rattle.m11_base_pass_rules.specs.Passes.{pass_of}
-use Rattle.m11_link.specs.FirstPass.{of_block}
 use Rattle.m11_link.specs.Objects.{◌>>=◌, AreItems, Item, BlockOf, ObjectEnds, Refused, GiveItems, GivesItems, taken, taken_item}
 use Rattle.m11_link.specs.Objects as objects
 use Rattle.m11_link.specs.declared.emit.LinkDone.{LinkDone}

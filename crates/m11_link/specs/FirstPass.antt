@@ -3,8 +3,6 @@ use Rattle.std.specs.Prelude.{◌≡◌, ℕ, List, [], Option, None, Result, Ok
 use Rattle.m11_base.specs.Devices.{Rises}
 use Rattle.m11_base.specs.Feed.{Text, NoneFailed}
 use Rattle.m11_base_pass_rules.specs.Passes.{Pass}
-use Rattle.m11_obj_blocks.specs.declared.block_fault.BlockFault.{BlockFault}
-use Rattle.m11_obj_blocks.specs.declared.block_fault.BlockFault.TheVariants as block
 use Rattle.m11_link_modules.specs.Parts.{Part, EndOfFile}
 use Rattle.m11_link_modules.specs.Rules.{fault_of}
 use Rattle.m11_link_layout.specs.Plan.{PlanTables, IsPlanOf}
@@ -12,12 +10,6 @@ use Rattle.m11_link_layout.specs.Layout.{LayoutState, LayoutAfter}
 use Rattle.m11_link_layout.specs.declared.fault.LinkFault.{LinkFault}
 use Rattle.m11_link_layout.specs.declared.fault.LinkFault.TheVariants as fault
 use Rattle.m11_link.specs.Objects.{Item, taken, outcome, GivesItems, BeginsItems, GiveItems, FailAfter}
-
--- a fault of a block as that of a link
-abbrev pub of_block : BlockFault → LinkFault
-of_block block.Device = fault.Read
-of_block block.TooMuch = fault.TooMuch
-of_block inner = fault.Block inner
 
 -- the layout stands after parts, and an object may end there
 pub record LayoutBetween (bottom : ℕ) (parts : List Part) (layout : LayoutState) : Type 0 where

@@ -61,10 +61,7 @@ fn put_undefined<U: Sink>(plan: &Plan, messages: &mut U, count: u32) -> Result<u
 {
     let mut reported = count;
     'references: for index in 0..plan.reference_count() {
-        match put_if_undefined(plan, plan.reference_at(index), messages, reported) {
-            Ok(following) => reported = following,
-            Err(fault) => return Err(fault),
-        }
+        reported = put_if_undefined(plan, plan.reference_at(index), messages, reported)?;
     }
     Ok(reported)
 }
@@ -86,10 +83,10 @@ fn put_if_undefined<U: Sink>(
     ensures no_memory { IfErr result (λ fault. fault ≢ LinkFault.NoMemory) }
 {
     match undefined(plan, reference, true) {
-        Some(name) => match put_message(messages, undefined_line(name).as_slice()) {
-            Ok(()) => Ok(count.saturating_add(1)),
-            Err(fault) => Err(fault),
-        },
+        Some(name) => {
+            put_message::<U, LinkFault>(messages, undefined_line(name).as_slice())?;
+            Ok(count.saturating_add(1))
+        }
         None => Ok(count),
     }
 }
@@ -134,10 +131,7 @@ fn put_each_section<T: Sink>(plan: &Plan, map: &mut Option<T>) -> Result<(), Lin
     'sections: for index in 0..plan.section_count() {
         let section = plan.section_at(index);
         let line = section_line(section.name, section.base, section.size, section.attributes);
-        match put_report(map, line.as_slice()) {
-            Ok(()) => {}
-            Err(fault) => return Err(fault),
-        }
+        put_report::<T, LinkFault>(map, line.as_slice())?;
     }
     Ok(())
 }
@@ -167,10 +161,7 @@ fn put_each_global<T: Sink>(plan: &Plan, map: &mut Option<T>) -> Result<(), Link
     'globals: for index in 0..plan.global_count() {
         let global = plan.global_at(index);
         let line = global_line(global.name, global.value, global.module_name);
-        match put_report(map, line.as_slice()) {
-            Ok(()) => {}
-            Err(fault) => return Err(fault),
-        }
+        put_report::<T, LinkFault>(map, line.as_slice())?;
     }
     Ok(())
 }
@@ -232,10 +223,7 @@ fn put_each_name<T: Sink>(
     ensures no_memory { IfErr result (λ fault. fault ≢ LinkFault.NoMemory) }
 {
     'references: for index in 0..plan.reference_count() {
-        match put_if_of_strength(plan, plan.reference_at(index), is_strong, map) {
-            Ok(()) => {}
-            Err(fault) => return Err(fault),
-        }
+        put_if_of_strength(plan, plan.reference_at(index), is_strong, map)?;
     }
     Ok(())
 }

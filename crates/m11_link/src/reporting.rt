@@ -92,7 +92,7 @@ impl Reporter {
         Ok(())
     }
 
-    /// Notes a directory record of these entries in the module of this index: it ends a text that is held, and its entries
+    /// Reports on a directory record of these entries in the module of this index: it ends a text that is held, and its entries
     /// may give messages.
     ///
     /// `Write` where an output failed; `NoMemory` where there is none for a block of the tape or a name.
@@ -142,13 +142,9 @@ impl Reporter {
             (outputs (output_of S.Sink tape.new) map messages)
             (held_writes self.old.held) self.new (with_held None self.old) result }
     {
-        match self.put_held(tape) {
-            Ok(()) => {
-                self.is_held = false;
-                Ok(())
-            }
-            Err(fault) => Err(fault),
-        }
+        self.put_held(tape)?;
+        self.is_held = false;
+        Ok(())
     }
 
     // The text that is held, as a block of the tape.
@@ -194,7 +190,7 @@ impl Reporter {
         self.text.relocate(&self.plan, relocation);
     }
 
-    // Notes the entries of a directory record in their order, in which their messages come.
+    // Reports the entries of a directory record in their order, in which their messages come.
     fn report_entries<U: Sink>(
         &mut self,
         module_index: usize,
@@ -208,15 +204,12 @@ impl Reporter {
             self.new (with_entries module_index entries.now self.old) result }
     {
         'entries: for entry in entries {
-            match self.report_entry(module_index, entry, messages) {
-                Ok(()) => {}
-                Err(fault) => return Err(fault),
-            }
+            self.report_entry(module_index, entry, messages)?;
         }
         Ok(())
     }
 
-    // Notes an entry. Only sections and globals can be at odds with other modules, so others give no message.
+    // Reports an entry. Only sections and globals can be at odds with other modules, so others give no message.
     fn report_entry<U: Sink>(
         &mut self,
         module_index: usize,

@@ -3,7 +3,7 @@
 ghost use Rattle.std.specs.Prelude.{◌≡◌, None, ℕ, List, is_some};
 ghost use Rattle.m11_link.specs.Objects.{AreItems, Item};
 ghost use Rattle.m11_base_pass_rules.specs.Passes.{pass_of};
-ghost use Rattle.m11_link.specs.FirstPass.{LaysOut, LaysOutObject, ReadsFirst, LayoutBetween, of_block};
+ghost use Rattle.m11_link.specs.FirstPass.{LaysOut, LaysOutObject, ReadsFirst, LayoutBetween};
 ghost use Rattle.m11_link_layout.specs.Layout.{LayoutAfter};
 ghost use Rattle.m11_link_layout.specs.Plan.{PlanTables};
 ghost use Rattle.m11_link_modules.specs.Parts.{Part, EndOfFile};
@@ -17,7 +17,7 @@ ghost use Rattle.m11_base_writes.specs.Outputs.{Outputs, outputs_of};
 use crate::emit::{Emit, LinkDone};
 use m11_base::{Feed, Sink};
 use m11_link_layout::{Layout, LinkFault, Plan};
-use m11_obj::{Block, BlockFault, BlockReader};
+use m11_obj::{Block, BlockReader};
 use std::alloc::Global;
 
 /// Links objects, each read twice, into an absolute loader tape, a map and messages.
@@ -28,6 +28,9 @@ use std::alloc::Global;
 /// they were. Then `Write`, after which nothing more is written, and the same faults again where the second pass
 /// gives other bytes: what the records before the fault make is then written, but for a text that hasn't ended.
 /// `NoMemory` wherever memory is refused. A map that is there stays there, however the run ends.
+///
+/// An output may hold back what it is given until it is flushed. Tape and map are flushed after all else is written: where a run is Ok they
+/// hold nothing back, and where a flush fails that is `Write` of this output.
 pub fn link_run<F: Feed, S: Sink, T: Sink, U: Sink>(
     alloc: Global,
     first: &mut [F],
@@ -47,10 +50,8 @@ pub fn link_run<F: Feed, S: Sink, T: Sink, U: Sink>(
         (outputs_of S.Sink T.Sink U.Sink tape.new map.new messages.new) result }
     ensures stays { is_some map.new ≡ is_some map.old }
 {
-    match read_first(alloc, first, bottom) {
-        Ok(plan) => read_second(alloc, second, plan, tape, map, messages),
-        Err(fault) => Err(fault),
-    }
+    let plan = read_first(alloc, first, bottom)?;
+    read_second(alloc, second, plan, tape, map, messages)
 }
 
 /// Whatever the bytes of objects are, they yield items, and no others.
@@ -60,17 +61,6 @@ pub fn objects_yield_items()
     ensures same { (sources : List (List ℕ)) (items others : List Item)
         → AreItems sources items → AreItems sources others → items ≡ others }
 {}
-
-// The fault of a block as that of the link: a device and a limit have faults of their own there.
-fn block_fault(fault: BlockFault) -> LinkFault
-    ensures { result ≡ of_block fault }
-{
-    match fault {
-        BlockFault::Device => LinkFault::Read,
-        BlockFault::TooMuch => LinkFault::TooMuch,
-        other => LinkFault::Block(other),
-    }
-}
 
 // The first pass: the plan of all objects.
 fn read_first<F: Feed>(alloc: Global, feeds: &mut [F], bottom: u16) -> Result<Plan, LinkFault>
@@ -93,10 +83,7 @@ fn lay_out<F: Feed>(feeds: &mut [F], layout: &mut Layout) -> Result<(), LinkFaul
         → LaysOut (pass_of F.text F.faults feeds.old feeds.new) bottom before layout.new result }
 {
     'feeds: for feed in feeds.iter_mut() {
-        match lay_out_object(feed, layout) {
-            Ok(()) => {}
-            Err(fault) => return Err(fault),
-        }
+        lay_out_object(feed, layout)?;
     }
     Ok(())
 }
@@ -109,16 +96,10 @@ fn lay_out_object<F: Feed>(feed: &mut F, layout: &mut Layout) -> Result<(), Link
 {
     let mut reader = BlockReader::new();
     let mut block = Block::new();
-    'items: loop {
-        match reader.next_into(feed, &mut block) {
-            Ok(true) => match layout.block(&block) {
-                Ok(()) => {}
-                Err(fault) => return Err(fault),
-            },
-            Ok(false) => return layout.end_file(),
-            Err(fault) => return Err(block_fault(fault)),
-        }
+    'items: while reader.next_into(feed, &mut block)? {
+        layout.block(&block)?;
     }
+    layout.end_file()
 }
 
 // The second pass: all that the link writes.
@@ -164,10 +145,7 @@ fn emit_all<F: Feed, S: Sink, T: Sink, U: Sink>(
     ensures stays { is_some map.new ≡ is_some map.old }
 {
     'feeds: for feed in feeds.iter_mut() {
-        match emit_object(feed, emit, tape, map, messages) {
-            Ok(()) => {}
-            Err(fault) => return Err(fault),
-        }
+        emit_object(feed, emit, tape, map, messages)?;
     }
     Ok(())
 }
@@ -191,14 +169,8 @@ fn emit_object<F: Feed, S: Sink, T: Sink, U: Sink>(
 {
     let mut reader = BlockReader::new();
     let mut block = Block::new();
-    'items: loop {
-        match reader.next_into(feed, &mut block) {
-            Ok(true) => match emit.feed(&block, tape, map, messages) {
-                Ok(()) => {}
-                Err(fault) => return Err(fault),
-            },
-            Ok(false) => return emit.end_file(tape, map, messages),
-            Err(fault) => return Err(block_fault(fault)),
-        }
+    'items: while reader.next_into(feed, &mut block)? {
+        emit.feed(&block, tape, map, messages)?;
     }
+    emit.end_file(tape, map, messages)
 }

@@ -1,6 +1,8 @@
 -- The faults of a link, and how they are reported. (This project's own.)
 use Rattle.std.specs.Prelude.{ℕ, Option, Some, None, codes}
 use Rattle.m11_base.specs.Devices.{Bytes}
+use Rattle.m11_obj_blocks.specs.declared.block_fault.BlockFault.{BlockFault}
+use Rattle.m11_obj_blocks.specs.declared.block_fault.BlockFault.TheVariants as block
 use Rattle.m11_link_modules.specs.declared.fault.ModuleFault.{ModuleFault}
 use Rattle.m11_link_modules.specs.declared.fault.ModuleFault.TheVariants as rule
 use Rattle.m11_link_layout.specs.declared.fault.LinkFault.{LinkFault}
@@ -47,6 +49,12 @@ abbrev pub stop_of : LinkFault → Option (Stop Output)
 stop_of (fault.Write output) = Some (In output)
 stop_of fault.NoMemory = Some Between
 stop_of _ = None
+
+-- the fault of a block as that of a link, in which a device and a limit have faults of their own
+abbrev pub of_block : BlockFault → LinkFault
+of_block block.Device = fault.Read
+of_block block.TooMuch = fault.TooMuch
+of_block inner = fault.Block inner
 
 -- a fault of the order of records is reported as the same fault of the link
 abbrev pub of_module : ModuleFault → LinkFault

@@ -67,10 +67,7 @@ pub(crate) fn place_all(
     let mut next = bottom;
     'sections: for index in 0..tables.section_count() {
         let (name, total) = tables.section_at(index);
-        match place(bases, next, name, total) {
-            Ok(end) => next = end,
-            Err(fault) => return Err(fault),
-        }
+        next = place(bases, next, name, total)?;
     }
     Ok(next)
 }

@@ -1,7 +1,7 @@
 //! What can go wrong in a link, each with its number and name.
 
 ghost use Rattle.std.specs.Prelude.{◌≡◌};
-ghost use Rattle.m11_link_layout.specs.Fault.{link_fault_name, link_fault_number, of_module, stop_of};
+ghost use Rattle.m11_link_layout.specs.Fault.{link_fault_name, link_fault_number, of_block, of_module, stop_of};
 ghost use Rattle.m11_link_layout.specs.declared.fault.LinkFault.TheVariants.{NoMemory, Record};
 
 use m11_base_writes::{Output, OutputFault};
@@ -131,6 +131,19 @@ impl From<ModuleFault> for LinkFault {
             ModuleFault::TooManySections => LinkFault::TooManySections,
             ModuleFault::TooManyModules => LinkFault::TooManyModules,
             ModuleFault::NoMemory => LinkFault::NoMemory,
+        }
+    }
+}
+
+impl From<BlockFault> for LinkFault {
+    ghost from_gives = { λ fault e. e ≡ of_block fault };
+
+    // A device and a limit have faults of their own in a link.
+    fn from(fault: BlockFault) -> LinkFault {
+        match fault {
+            BlockFault::Device => LinkFault::Read,
+            BlockFault::TooMuch => LinkFault::TooMuch,
+            other => LinkFault::Block(other),
         }
     }
 }

@@ -306,10 +306,7 @@ impl Tables {
         ensures { TablesKeep self.new (gathered_after_all bottom self.old (map (λ entry. Entry entry) entries.now)) result }
     {
         'entries: for entry in entries {
-            match self.add_entry(bottom, entry) {
-                Ok(()) => {}
-                Err(refused) => return Err(refused),
-            }
+            self.add_entry(bottom, entry)?;
         }
         Ok(())
     }

@@ -55,10 +55,7 @@ fn add_entries(noted: &mut Vec<MapFact>, entries: &[GsdEntry]) -> Result<(), All
     ensures { OnOk result (noted.new.items ≡ noted.old.items ++ noted_of (map (λ entry. Entry entry) entries.now)) }
 {
     'entries: for entry in entries {
-        match add_entry(noted, entry) {
-            Ok(()) => {}
-            Err(refused) => return Err(refused),
-        }
+        add_entry(noted, entry)?;
     }
     Ok(())
 }

@@ -3,7 +3,6 @@
 ghost use Rattle.std.specs.Prelude.{◌≡◌, ℕ, List, [], IfOk};
 ghost use Rattle.m11_link_layout.specs.Layout.{LayoutAfter};
 ghost use Rattle.m11_base_pass_rules.specs.Passes.{pass_of};
-ghost use Rattle.m11_link.specs.FirstPass.{of_block};
 ghost use Rattle.m11_link_load_map.specs.Reading.{NotedBetween, NotesAll, NotesBlock, NotesObject, NotesObjects, NotedAfter};
 ghost use Rattle.m11_link_modules.specs.Parts.{Part};
 ghost use Rattle.m11_obj.specs.Reading.{IsRecord};
@@ -11,19 +10,8 @@ ghost use Rattle.m11_obj.specs.Reading.{IsRecord};
 use crate::noted::{MapFact, add_block};
 use m11_base::Feed;
 use m11_link_layout::{Layout, LinkFault, Plan};
-use m11_obj::{Block, BlockFault, BlockReader};
+use m11_obj::{Block, BlockReader};
 use std::alloc::Global;
-
-// The fault of a block as that of the link: a device and a limit have faults of their own there.
-fn block_fault(fault: BlockFault) -> LinkFault
-    ensures { result ≡ of_block fault }
-{
-    match fault {
-        BlockFault::Device => LinkFault::Read,
-        BlockFault::TooMuch => LinkFault::TooMuch,
-        other => LinkFault::Block(other),
-    }
-}
 
 // Takes one block, and notes what the map needs of it.
 fn accept_block(
@@ -35,13 +23,9 @@ fn accept_block(
         → NotesBlock bottom before layout.new noted.new.items block.now.items result }
     ensures is_record { IfOk result (λ _. IsRecord block.now.items) }
 {
-    match layout.block(block) {
-        Ok(()) => match add_block(noted, block) {
-            Ok(()) => Ok(()),
-            Err(_) => Err(LinkFault::NoMemory),
-        },
-        Err(fault) => Err(fault),
-    }
+    layout.block(block)?;
+    add_block(noted, block)?;
+    Ok(())
 }
 
 // Reads one object, block by block, up to its first fault.
@@ -55,16 +39,10 @@ fn read_object<F: Feed>(
 {
     let mut reader = BlockReader::new();
     let mut block = Block::new();
-    'items: loop {
-        match reader.next_into(feed, &mut block) {
-            Ok(true) => match accept_block(layout, noted, &block) {
-                Ok(()) => {}
-                Err(fault) => return Err(fault),
-            },
-            Ok(false) => return layout.end_file(),
-            Err(fault) => return Err(block_fault(fault)),
-        }
+    'items: while reader.next_into(feed, &mut block)? {
+        accept_block(layout, noted, &block)?;
     }
+    layout.end_file()
 }
 
 // Reads the objects one after another, up to the first fault.
@@ -77,10 +55,7 @@ fn read_objects<F: Feed>(
         → NotesObjects (pass_of F.text F.faults feeds.old feeds.new) bottom before layout.new noted.new.items result }
 {
     'feeds: for feed in feeds.iter_mut() {
-        match read_object(feed, layout, noted) {
-            Ok(()) => {}
-            Err(fault) => return Err(fault),
-        }
+        read_object(feed, layout, noted)?;
     }
     Ok(())
 }

@@ -44,10 +44,7 @@ fn put_contributions(text: &mut Vec<u8>, plan: &Plan, noted: &[MapFact]) -> Resu
 {
     let mut module_index = 0;
     'noted: for item in noted {
-        match add_fact(text, plan, module_index, *item) {
-            Ok(index) => module_index = index,
-            Err(refused) => return Err(refused),
-        }
+        module_index = add_fact(text, plan, module_index, *item)?;
     }
     Ok(())
 }

@@ -194,10 +194,8 @@ impl Rules {
     pub fn directory(&mut self, entries: &[GsdEntry]) -> Result<(), ModuleFault>
         ensures { RulesTake self.old self.new (Directory ∷ map (λ entry. Entry entry) entries.now) result }
     {
-        match self.begin_directory() {
-            Ok(()) => self.entries(entries),
-            Err(fault) => Err(fault),
-        }
+        self.begin_directory()?;
+        self.entries(entries)
     }
 
     // The entries of a directory record, which were read.
@@ -205,10 +203,7 @@ impl Rules {
         ensures { RulesTake self.old self.new (map (λ entry. Entry entry) entries.now) result }
     {
         'entries: for entry in entries {
-            match self.entry(entry) {
-                Ok(()) => {}
-                Err(fault) => return Err(fault),
-            }
+            self.entry(entry)?;
         }
         Ok(())
     }
@@ -219,10 +214,8 @@ impl Rules {
         ensures { RulesTake self.old self.new
             (Directory ∷ map (λ entry. Entry entry) (record_entries «record».now)) result }
     {
-        match self.begin_directory() {
-            Ok(()) => self.each_entry(record),
-            Err(fault) => Err(fault),
-        }
+        self.begin_directory()?;
+        self.each_entry(record)
     }
 
     // The entries of a directory record, each of which is read when it comes.
@@ -230,10 +223,7 @@ impl Rules {
         ensures { RulesTake self.old self.new (map (λ entry. Entry entry) (record_entries «record».now)) result }
     {
         'entries: for index in 0..record.entry_count() {
-            match self.entry(&record.entry(index)) {
-                Ok(()) => {}
-                Err(fault) => return Err(fault),
-            }
+            self.entry(&record.entry(index))?;
         }
         Ok(())
     }
@@ -291,13 +281,9 @@ impl Rules {
         ensures takes { AcceptsOne self.old self.new (Relocated relocation) (outcome_of result) }
         ensures stored { IfOk result (λ stored. stored ≡ stored_in relocation self.old.text) }
     {
-        match check_relocation(&relocation, &self.entered, self.text, &self.globals) {
-            Ok(stored) => {
-                self.add_target(relocation.target)?;
-                Ok(stored)
-            }
-            Err(fault) => Err(fault),
-        }
+        let stored = check_relocation(&relocation, &self.entered, self.text, &self.globals)?;
+        self.add_target(relocation.target)?;
+        Ok(stored)
     }
 
     // Keeps what a relocation names: a section that texts go to from now on, or a global.
@@ -324,10 +310,8 @@ impl Rules {
         ensures { RulesTake self.old self.new
             (Relocations ∷ map (λ relocation. Relocated relocation) (record_relocations «record».now)) result }
     {
-        match self.begin_relocations() {
-            Ok(()) => self.each_relocation(record),
-            Err(fault) => Err(fault),
-        }
+        self.begin_relocations()?;
+        self.each_relocation(record)
     }
 
     /// Takes the beginning of a relocation record: `BadOrder` outside the body of a module.
@@ -346,10 +330,7 @@ impl Rules {
         ensures { RulesTake self.old self.new (map (λ relocation. Relocated relocation) (record_relocations «record».now)) result }
     {
         'relocations: for relocation in record.each_relocation() {
-            match self.relocation(relocation) {
-                Ok(_) => {}
-                Err(fault) => return Err(fault),
-            }
+            self.relocation(relocation)?;
         }
         Ok(())
     }

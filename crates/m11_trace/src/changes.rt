@@ -106,10 +106,8 @@ pub(crate) fn put_changes<M: Sink>(
     'changes: while index < MOST_WORDS {
         let address = 2 * index as u16;
         let word = word_or_none(memory, address);
-        match put_text(messages, word_text(address, word).as_slice()) {
-            Ok(()) => before[index] = word,
-            Err(fault) => return Err(fault),
-        }
+        put_text(messages, word_text(address, word).as_slice())?;
+        before[index] = word;
         index = changed_from(before, memory, index + 1);
     }
     Ok(())

@@ -51,10 +51,10 @@ fn put_words<M: Sink>(
     'words: while index < count {
         match word_past(memory, first, 2 * index) {
             None => return Ok(()),
-            Some(word) => match put_text(messages, word_cell(first, index, word).as_slice()) {
-                Ok(()) => index += 1,
-                Err(fault) => return Err(fault),
-            },
+            Some(word) => {
+                put_text(messages, word_cell(first, index, word).as_slice())?;
+                index += 1;
+            }
         }
     }
     Ok(())
@@ -74,10 +74,8 @@ fn put_part<M: Sink>(messages: &mut M, memory: &Memory, range: &Range) -> Result
         (spec.words_text memory.now range.now) result }
 {
     let first = range.first - range.first % 2;
-    match put_words(messages, memory, first, count_of(range)) {
-        Ok(()) => put_text(messages, b"\n"),
-        Err(fault) => Err(fault),
-    }
+    put_words(messages, memory, first, count_of(range))?;
+    put_text(messages, b"\n")
 }
 
 // The line before the words of a part.
@@ -95,10 +93,8 @@ fn put_range<M: Sink>(messages: &mut M, memory: &Memory, range: &Range) -> Resul
     ensures { PutsMessages (M.text messages.old) (M.text messages.new) (M.faults messages.old) (M.faults messages.new)
         (spec.range_text memory.now range.now) result }
 {
-    match put_text(messages, head(range).as_slice()) {
-        Ok(()) => put_part(messages, memory, range),
-        Err(fault) => Err(fault),
-    }
+    put_text(messages, head(range).as_slice())?;
+    put_part(messages, memory, range)
 }
 
 /// Puts parts of memory, one after another. `Write`: the sink failed after a beginning of them.
@@ -112,9 +108,9 @@ pub(crate) fn put_ranges<M: Sink>(
 {
     match ranges {
         [] => Ok(()),
-        [range, others @ ..] => match put_range(messages, memory, range) {
-            Ok(()) => put_ranges(messages, memory, others),
-            Err(fault) => Err(fault),
-        },
+        [range, others @ ..] => {
+            put_range(messages, memory, range)?;
+            put_ranges(messages, memory, others)
+        }
     }
 }

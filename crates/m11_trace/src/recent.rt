@@ -32,10 +32,10 @@ fn put_shots<M: Sink>(messages: &mut M, number: u32, shots: &[Shot]) -> Result<(
 {
     match shots {
         [] => Ok(()),
-        [shot, earlier @ ..] => match put_shots(messages, number.saturating_sub(1), earlier) {
-            Ok(()) => put_text(messages, short_line(number, shot).as_slice()),
-            Err(fault) => Err(fault),
-        },
+        [shot, earlier @ ..] => {
+            put_shots(messages, number.saturating_sub(1), earlier)?;
+            put_text(messages, short_line(number, shot).as_slice())
+        }
     }
 }
 

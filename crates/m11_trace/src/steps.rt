@@ -83,10 +83,8 @@ fn put_rest<M: Sink>(
     ensures size { length before.new ≡ most_words }
     ensures same { OnOk result (HaveSameWords (bytes_of before.new) memory.now) }
 {
-    match put_changes(messages, before, memory) {
-        Ok(()) => put_text(messages, line_end(shot).as_slice()),
-        Err(fault) => Err(fault),
-    }
+    put_changes(messages, before, memory)?;
+    put_text(messages, line_end(shot).as_slice())
 }
 
 // Puts the line of a step.
@@ -103,10 +101,8 @@ fn put_line<M: Sink>(
     ensures size { length before.new ≡ most_words }
     ensures same { OnOk result (HaveSameWords (bytes_of before.new) memory.now) }
 {
-    match put_text(messages, line_front(number, shot).as_slice()) {
-        Ok(()) => put_rest(messages, shot, before, memory),
-        Err(fault) => Err(fault),
-    }
+    put_text(messages, line_front(number, shot).as_slice())?;
+    put_rest(messages, shot, before, memory)
 }
 
 // Puts the line of a step, from the one of a number on.

@@ -123,10 +123,8 @@ fn put_end<M: Sink>(
     ensures { PutsMessages (M.text messages.old) (M.text messages.new) (M.faults messages.old) (M.faults messages.new)
         (end_text first steps.now ranges.now machine.now) result }
 {
-    match put_recent(messages, first, steps.count, steps.recent.as_slice()) {
-        Ok(()) => put_stop(messages, steps, ranges, machine),
-        Err(fault) => Err(fault),
-    }
+    put_recent(messages, first, steps.count, steps.recent.as_slice())?;
+    put_stop(messages, steps, ranges, machine)
 }
 
 // Puts the two lines of the end, and parts of memory.
@@ -139,8 +137,6 @@ fn put_stop<M: Sink>(
     ensures { PutsMessages (M.text messages.old) (M.text messages.new) (M.faults messages.old) (M.faults messages.new)
         (stop_text steps.now ranges.now machine.now) result }
 {
-    match put_ending(messages, steps.ending, steps.count, machine) {
-        Ok(()) => put_ranges(messages, &machine.memory, ranges),
-        Err(fault) => Err(fault),
-    }
+    put_ending(messages, steps.ending, steps.count, machine)?;
+    put_ranges(messages, &machine.memory, ranges)
 }

@@ -1,4 +1,5 @@
 use Rattle.std.proofs.Common.{◌∙◌, [], Some, Ok, ap, sym, subst}
+use Rattle.std.proofs.lemmas.Result.{err_from_is_err_and}
 use Rattle.m11_scan_lines.specs.Line.{SourceLine}
 use Rattle.m11_scan_lines.specs.Reader.{LineReading, ReadsNext, position}
 use Rattle.m11_base_writes.specs.Outputs.{outputs_of}
@@ -34,20 +35,22 @@ lines-preserved g c = record {
       (sym c.has_ended.ensures ∙ c.if-has_ended.false) c.next.new.feeds c.next.new.self c.line.result.now
       (subst P (sym c.line.ensures) (rw c.in-Ok-true.field-0-test at (c.in-Ok-true.ensures.reads c.lines.invariant.sound))) c.in-Ok-true.ensures.keeps
       (outputs_of g.S.Sink g.T.Sink g.U.Sink c.line-in-Ok-true.new.object c.line-in-Ok-true.new.listing c.line-in-Ok-true.new.messages)
-      c.line-in-Ok-true.new.self (c.in-Ok.ensures.takes program so.source old so.stands);
+      c.line-in-Ok-true.new.self (c.in_ok-line-in-Ok-true.ensures.takes program so.source old so.stands);
 }
 
-pub returns-in-Err-line : goal.returns-in-Err-line
-returns-in-Err-line g c = λ program old stands.
+pub returns-in_err-line-in-Ok-true : goal.returns-in_err-line-in-Ok-true
+returns-in_err-line-in-Ok-true g c = λ program old stands.
+    let r = c.from_residual in
+    let p = err_from_is_err_and r.result r.ensures.1 in
     let so = c.lines.invariant.so_far program old stands in
     let P : SourceLine → Type 0 = λ l. ReadsNext (position g.F.Feed.text g.F.Feed.faults c.lines.feeds c.lines.reader)
     (position g.F.Feed.text g.F.Feed.faults c.next.new.feeds c.next.new.self) (Ok (Some l)) in
-    second_refuses g.F.Feed.text g.F.Feed.faults program old c.args.feeds.now c.lines.feeds c.lines.reader
+    rw (p.1, p.2) (second_refuses g.F.Feed.text g.F.Feed.faults program old c.args.feeds.now c.lines.feeds c.lines.reader
     (outputs_of g.S.Sink g.T.Sink g.U.Sink c.lines.object c.lines.listing c.lines.messages) c.lines.second so
     (sym c.has_ended.ensures ∙ c.if-has_ended.false) c.next.new.feeds c.next.new.self c.line.result.now
     (subst P (sym c.line.ensures) (rw c.in-Ok-true.field-0-test at (c.in-Ok-true.ensures.reads c.lines.invariant.sound))) c.in-Ok-true.ensures.keeps
     (outputs_of g.S.Sink g.T.Sink g.U.Sink c.line-in-Ok-true.new.object c.line-in-Ok-true.new.listing c.line-in-Ok-true.new.messages)
-    c.line-in-Ok-true.new.self c.in-Err-line.fault (c.in-Err-line.ensures.takes program so.source old so.stands)
+    c.line-in-Ok-true.new.self _ (c.in_err-line-in-Ok-true.ensures.takes program so.source old so.stands))
 
 pub returns-in-Ok-false : goal.returns-in-Ok-false
 returns-in-Ok-false g c = λ program old stands.

@@ -1,4 +1,5 @@
 use Rattle.std.proofs.Common.{arith, ap, sym, ◌∙◌, ◌∷◌, ◌+◌, ℕ, drop}
+use Rattle.std.proofs.lemmas.Result.{err_from_is_err_and}
 use Rattle.std.proofs.lemmas.List.{drop_all}
 use Rattle.m11_asm_rules.specs.Contents.{piece, pieces_from}
 use Rattle.m11_asm_outputs.specs.Object.{IsOpenAfter, closed_records}
@@ -12,15 +13,18 @@ contents-init g c =
     none_taken closed_records closed-grows IsOpenAfter _ c.args.text.now
     (pieces_from c.args.section c.args.location c.args.contents.now)
 
-pub returns-in-Err-clause-writes : goal.returns-in-Err-clause-writes
-returns-in-Err-clause-writes g c = λ before h listing messages.
-    stopped_at closed_records closed-grows IsOpenAfter _ c.args.text.now
+pub returns-in_err-put_piece-clause-writes : goal.returns-in_err-put_piece-clause-writes
+returns-in_err-put_piece-clause-writes g c = λ before h listing messages.
+    let r = c.from_residual in
+    let p = err_from_is_err_and r.result r.ensures.1 in
+    rw (p.1, p.2)
+    (stopped_at closed_records closed-grows IsOpenAfter _ c.args.text.now
     (pieces_from c.args.section c.args.location c.args.contents.now) _ c.contents.text
     (piece c.args.section c.contents.next c.content-item.result) _ _
     (ap (pieces_from c.args.section c.contents.next)
     (item_left c.args.contents.now c.contents.content-index c.content-item.result c.contents-test.true c.content-item.is))
-    c.contents.invariant before h listing messages _ c.in-Err.fault
-    (λ done held. c.in-Err.ensures.writes done held listing messages)
+    c.contents.invariant before h listing messages _ _
+    (λ done held. c.in_err-put_piece.ensures.writes done held listing messages))
 
 pub contents-preserved : goal.contents-preserved
 contents-preserved g c =
@@ -31,7 +35,7 @@ contents-preserved g c =
     (ap (pieces_from c.args.section c.contents.next)
     (item_left c.args.contents.now c.contents.content-index c.content-item.result c.contents-test.true c.content-item.is)
     ∙ ap (λ (next : ℕ). this ∷ pieces_from c.args.section next rest) (sym c.location_after-next.ensures))
-    c.contents.invariant _ _ c.in-Ok.ensures.writes c.in-Ok.ensures.opens c.in-Ok.ensures.fit
+    c.contents.invariant _ _ c.in_ok-put_piece.ensures.writes c.in_ok-put_piece.ensures.opens c.in_ok-put_piece.ensures.fit
 
 pub returns-clause-writes : goal.returns-clause-writes
 returns-clause-writes g c = λ before h listing messages.

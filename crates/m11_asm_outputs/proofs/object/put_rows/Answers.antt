@@ -1,4 +1,5 @@
 use Rattle.std.proofs.Common.{arith}
+use Rattle.std.proofs.lemmas.Result.{err_from_is_err_and}
 use Rattle.std.proofs.lemmas.List.{drop_all}
 use Rattle.m11_asm_outputs.specs.Object.{WaitsAfter, full_records}
 use Rattle.m11_asm_outputs.proofs.Closing.{full-grows}
@@ -9,17 +10,20 @@ use Rattle.m11_asm_outputs.proofs.object.put_rows.Goals as goal
 pub rows-init : goal.rows-init
 rows-init g c = none_taken full_records full-grows WaitsAfter _ c.args.waiting.now c.args.rows.now
 
-pub returns-in-Err-clause-writes : goal.returns-in-Err-clause-writes
-returns-in-Err-clause-writes g c = λ before h listing messages.
-    stopped_at full_records full-grows WaitsAfter _ c.args.waiting.now c.args.rows.now _ c.rows.waiting c.row-item.result _ _
+pub returns-in_err-put_row-clause-writes : goal.returns-in_err-put_row-clause-writes
+returns-in_err-put_row-clause-writes g c = λ before h listing messages.
+    let r = c.from_residual in
+    let p = err_from_is_err_and r.result r.ensures.1 in
+    rw (p.1, p.2)
+    (stopped_at full_records full-grows WaitsAfter _ c.args.waiting.now c.args.rows.now _ c.rows.waiting c.row-item.result _ _
     (item_left c.args.rows.now c.rows.row-index c.row-item.result c.rows-test.true c.row-item.is) c.rows.invariant before h
-    listing messages _ c.in-Err.fault (λ done held. c.in-Err.ensures.writes done held listing messages)
+    listing messages _ _ (λ done held. c.in_err-put_row.ensures.writes done held listing messages))
 
 pub rows-preserved : goal.rows-preserved
 rows-preserved g c =
     one_taken full_records full-grows WaitsAfter _ c.args.waiting.now c.args.rows.now _ c.rows.waiting c.row-item.result _ _
     (item_left c.args.rows.now c.rows.row-index c.row-item.result c.rows-test.true c.row-item.is) c.rows.invariant _ _
-    c.in-Ok.ensures.writes c.in-Ok.ensures.waits c.in-Ok.ensures.fit
+    c.in_ok-put_row.ensures.writes c.in_ok-put_row.ensures.waits c.in_ok-put_row.ensures.fit
 
 pub returns-clause-writes : goal.returns-clause-writes
 returns-clause-writes g c = λ before h listing messages.

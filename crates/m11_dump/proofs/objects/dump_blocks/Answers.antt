@@ -1,4 +1,5 @@
 use Rattle.std.proofs.Common.{[], ◌∷◌, ◌++◌, refl}
+use Rattle.std.proofs.lemmas.Result.{err_from_is_err_and}
 use Rattle.m11_obj_blocks.specs.Limited.{most_bytes, position}
 use Rattle.m11_base_writes.specs.States.{output_of}
 use Rattle.m11_dump.proofs.Reading.{block_refused, block_taken, block_stops, dump_begins, dump_ends, reads_on, room_falls}
@@ -30,23 +31,26 @@ reading-preserved g c =
           (output_of g.S.Sink c.args.sink.now) (output_of g.S.Sink c.reading.sink) c.reading.stand c.reading.rules c.reading.invariant.contents
           c.reading.invariant.dumping
           (position (g.F.Feed.text c.next_into.new.feed) (g.F.Feed.faults c.next_into.new.feed) c.next_into.new.self.room)
-          c.next_into.new.block.items reads (output_of g.S.Sink c.accept_block.new.sink) c.bytes_read.result c.accept_block.new.rules
-          c.in-Ok.after (c.in-Ok.ensures (parts_all c.reading.invariant.contents) c.reading.invariant.dumping.judged);
+          c.next_into.new.block.items reads (output_of g.S.Sink c.accept_block.new.sink) c.bytes_read-read.result c.accept_block.new.rules
+          _ (c.in_ok-stand-in-Ok-true.ensures (parts_all c.reading.invariant.contents) c.reading.invariant.dumping.judged);
     }
 
-pub returns-in-Err-accept_block : goal.returns-in-Err-accept_block
-returns-in-Err-accept_block g c =
-    let reads = rw (c.reading.invariant.reads, c.in-Ok-true.field-0-test) at c.in-Ok-true.ensures.reads in (
+pub returns-in_err-stand-in-Ok-true : goal.returns-in_err-stand-in-Ok-true
+returns-in_err-stand-in-Ok-true g c =
+    let r = c.from_residual in
+    let p = err_from_is_err_and r.result r.ensures.1 in
+    rw (p.1, p.2)
+    (let reads = rw (c.reading.invariant.reads, c.in-Ok-true.field-0-test) at c.in-Ok-true.ensures.reads in (
       c.next_into.new.self.room,
       block_stops c.args.view (position (g.F.Feed.text c.args.feed.now) (g.F.Feed.faults c.args.feed.now) most_bytes)
           (position (g.F.Feed.text c.reading.feed) (g.F.Feed.faults c.reading.feed) c.reading.reader.room)
           (output_of g.S.Sink c.args.sink.now) (output_of g.S.Sink c.reading.sink) c.reading.stand c.reading.rules c.reading.invariant.contents
           c.reading.invariant.dumping
           (position (g.F.Feed.text c.next_into.new.feed) (g.F.Feed.faults c.next_into.new.feed) c.next_into.new.self.room)
-          c.next_into.new.block.items reads (output_of g.S.Sink c.accept_block.new.sink) c.bytes_read.result
-          c.accept_block.new.rules c.in-Err-accept_block.placed c.bytes_read.ensures
-          (c.in-Err-accept_block.ensures (parts_all c.reading.invariant.contents) c.reading.invariant.dumping.judged),
-    )
+          c.next_into.new.block.items reads (output_of g.S.Sink c.accept_block.new.sink) c.bytes_read-read.result
+          c.accept_block.new.rules _ c.bytes_read-read.ensures
+          (c.in_err-stand-in-Ok-true.ensures (parts_all c.reading.invariant.contents) c.reading.invariant.dumping.judged),
+    ))
 
 pub returns-in-Ok-false : goal.returns-in-Ok-false
 returns-in-Ok-false g c =
@@ -57,7 +61,7 @@ returns-in-Ok-false g c =
           (output_of g.S.Sink c.args.sink.now) (output_of g.S.Sink c.reading.sink) c.reading.stand c.reading.rules c.reading.invariant.contents
           c.reading.invariant.dumping
           (position (g.F.Feed.text c.next_into.new.feed) (g.F.Feed.faults c.next_into.new.feed) c.next_into.new.self.room)
-          c.bytes_read-in-Ok-false.result c.judge_end.result c.bytes_read-in-Ok-false.ensures stops
+          c.bytes_read.result c.judge_end.result c.bytes_read.ensures stops
           (c.judge_end.ensures (parts_all c.reading.invariant.contents) c.reading.invariant.dumping.judged),
     )
 

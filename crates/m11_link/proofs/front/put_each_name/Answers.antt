@@ -1,21 +1,26 @@
 use Rattle.std.proofs.Common.{◌∙◌, arith}
+use Rattle.std.proofs.lemmas.Result.{err_from_is_err_and}
 use Rattle.m11_link_text.specs.Findings.{planned}
 use Rattle.m11_base_writes.proofs.Looping.{stopped_there, wrote_all, wrote_one}
 use Rattle.m11_link.specs.Outputs.{link}
 use Rattle.m11_link.proofs.Looping.{name_left, name_writes_end}
 use Rattle.m11_link.proofs.front.put_each_name.Goals as goal
 
-pub returns-in-Err-clause-writes : goal.returns-in-Err-clause-writes
-returns-in-Err-clause-writes g c = λ tape messages. stopped_there link _ _ _ _ _ _ _ c.in-Err.fault
+pub returns-in_err-put_if_of_strength-clause-writes : goal.returns-in_err-put_if_of_strength-clause-writes
+returns-in_err-put_if_of_strength-clause-writes g c = λ tape messages.
+    let r = c.from_residual in
+    let p = err_from_is_err_and r.result r.ensures.1 in
+    rw (p.1, p.2)
+    (stopped_there link _ _ _ _ _ _ _ _
     (name_left (planned c.args.plan.now) c.args.is_strong c.args.plan.now.gathered.references c.references.index
-    c.reference_at.result c.reference_at.ensures) (c.references.invariant.leads tape messages) (c.in-Err.ensures.writes tape messages)
+    c.reference_at.result c.reference_at.ensures) (c.references.invariant.leads tape messages) (c.in_err-put_if_of_strength.ensures.writes tape messages))
 
 pub references-preserved : goal.references-preserved
 references-preserved g c = record {
   leads = λ tape messages. wrote_one link _ _ _ _ _ _ _
       (name_left (planned c.args.plan.now) c.args.is_strong c.args.plan.now.gathered.references c.references.index
-      c.reference_at.result c.reference_at.ensures) (c.references.invariant.leads tape messages) (c.in-Ok.ensures.writes tape messages);
-  stays = c.in-Ok.ensures.stays ∙ c.references.invariant.stays;
+      c.reference_at.result c.reference_at.ensures) (c.references.invariant.leads tape messages) (c.in_ok-put_if_of_strength.ensures.writes tape messages);
+  stays = c.in_ok-put_if_of_strength.ensures.stays ∙ c.references.invariant.stays;
 }
 
 pub returns-clause-writes : goal.returns-clause-writes

@@ -1,4 +1,5 @@
 use Rattle.std.proofs.Common.{get_or, refl, arith, ◌∙◌}
+use Rattle.std.proofs.lemmas.Result.{err_from_is_err_and}
 use Rattle.m11_base_writes.specs.Outputs.{outputs_of}
 use Rattle.m11_link.proofs.SecondRead.{all_begin, all_sent, object_sent, object_stops}
 use Rattle.m11_link.proofs.run.emit_all.Goals as goal
@@ -21,19 +22,22 @@ feeds-preserved g c = record {
       (outputs_of g.S.Sink g.T.Sink g.U.Sink c.emit_object.new.tape c.emit_object.new.map c.emit_object.new.messages)
       c.feeds.emit c.emit_object.new.emit l (omega (arith, c.feeds-test.true)) c.feed-item.result
       (get_or c.feeds.feeds c.feeds.feed-index c.feed-item.result) c.emit_object.new.feed refl
-      (c.in-Ok.ensures.emits plan l.emitted.parts first l.emitted.stands l.emitted.gains);
-  stays = c.in-Ok.ensures.stays ∙ c.feeds.invariant.stays;
+      (c.in_ok-emit_object.ensures.emits plan l.emitted.parts first l.emitted.stands l.emitted.gains);
+  stays = c.in_ok-emit_object.ensures.stays ∙ c.feeds.invariant.stays;
 }
 
-pub returns-in-Err-clause-emits : goal.returns-in-Err-clause-emits
-returns-in-Err-clause-emits g c = λ plan before first s b w.
-    let l = c.feeds.invariant.sent plan before first s b w in
+pub returns-in_err-emit_object-clause-emits : goal.returns-in_err-emit_object-clause-emits
+returns-in_err-emit_object-clause-emits g c = λ plan before first s b w.
+    let r = c.from_residual in
+    let p = err_from_is_err_and r.result r.ensures.1 in
+    rw (p.1, p.2)
+    (let l = c.feeds.invariant.sent plan before first s b w in
     object_stops g.F.Feed.text g.F.Feed.faults c.args.feeds.now c.feeds.feeds c.feeds.feed-index plan c.args.emit.now.has_begun before first
     (outputs_of g.S.Sink g.T.Sink g.U.Sink c.feeds.tape c.feeds.map c.feeds.messages)
     (outputs_of g.S.Sink g.T.Sink g.U.Sink c.emit_object.new.tape c.emit_object.new.map c.emit_object.new.messages)
     c.feeds.emit c.emit_object.new.emit l (omega (arith, c.feeds-test.true)) c.feed-item.result
     (get_or c.feeds.feeds c.feeds.feed-index c.feed-item.result) c.emit_object.new.feed refl
-    c.in-Err.fault (c.in-Err.ensures.emits plan l.emitted.parts first l.emitted.stands l.emitted.gains)
+    _ (c.in_err-emit_object.ensures.emits plan l.emitted.parts first l.emitted.stands l.emitted.gains))
 
 pub returns-clause-emits : goal.returns-clause-emits
 returns-clause-emits g c = λ plan before first s b w.

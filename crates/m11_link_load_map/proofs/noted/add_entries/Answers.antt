@@ -10,7 +10,7 @@ entries-preserved c =
     entry_noted (c.args.noted.now.items ++ noted_of (map (λ entry. Entry entry) c.args.entries.now))
     c.entries.noted.items c.add_entry.new.noted.items c.args.entries.now c.entries.entry-index c.entry-item.result
     (found_at c.args.entries.now c.entries.entry-index c.entry-item.result c.entries-test.true c.entry-item.is)
-    c.entries.invariant c.in-Ok.ensures
+    c.entries.invariant c.in_ok-add_entry.ensures
 
 pub returns : goal.returns
 returns c =

@@ -1,4 +1,5 @@
 use Rattle.std.proofs.Common.{◌∙◌, ◌+◌, ◌-◌, arith}
+use Rattle.std.proofs.lemmas.Result.{err_from_is_err_and}
 use Rattle.m11_trace.proofs.Copies.{alike_walked, all_walked, change_failed, none_walked, one_changed, same_words}
 use Rattle.m11_trace.proofs.changes.put_changes.Goals as goal
 
@@ -10,18 +11,21 @@ changes-init g c =
       from.ensures.changed,
     )
 
-pub returns-in-Err-clause-puts : goal.returns-in-Err-clause-puts
-returns-in-Err-clause-puts g c =
+pub returns-in_err-put_text-clause-puts : goal.returns-in_err-put_text-clause-puts
+returns-in_err-put_text-clause-puts g c =
     let w = c.changes.invariant in
-    change_failed _ _ _ _ _ _ _ _ w.0 c.changes-test.true _ c.word_or_none-word.ensures
+    let r = c.from_residual in
+    let p = err_from_is_err_and r.result r.ensures.1 in
+    rw (p.1, p.2)
+    (change_failed _ _ _ _ _ _ _ _ w.0 c.changes-test.true _ c.word_or_none-word.ensures
     (λ e. w.2 c.changes-test.true (e ∙ c.word_or_none-word.ensures))
-    _ (c.as_slice.ensures.value ∙ c.word_text.ensures) _ _ c.in-Err.fault c.in-Err.ensures
+    _ (c.as_slice.ensures.value ∙ c.word_text.ensures) _ _ _ c.in_err-put_text.ensures)
 
 pub changes-preserved : goal.changes-preserved
 changes-preserved g c =
     let w = c.changes.invariant in
     let from = c.changed_from-index-in-changes in
-    let put = c.in-Ok.ensures in
+    let put = c.in_ok-put_text.ensures in
     let one = one_changed _ _ _ _ _ _ _ _ w.0 c.changes-test.true _ c.word_or_none-word.ensures
     (λ e. w.2 c.changes-test.true (e ∙ c.word_or_none-word.ensures)) _ (c.as_slice.ensures.value ∙ c.word_text.ensures) _ _ (omega arith)
     put.0 put.1 in (

@@ -5,7 +5,8 @@ use Rattle.m11_asm_outputs.specs.Outputs.{assembly}
 use Rattle.m11_obj_texts.specs.declared.directory.DirectoryRow.{DirectoryRow}
 use Rattle.m11_base_writes.proofs.Writing.{stopped_alone}
 use Rattle.m11_asm.specs.Writing.{Writing}
-use Rattle.m11_asm.proofs.Putting.{gains_as, head_is, head_stays, writes_as, writes_nothing}
+use Rattle.m11_asm_outputs.proofs.Looping.{writes_as}
+use Rattle.m11_asm.proofs.Putting.{gains_as, head_is, head_stays, writes_nothing}
 use Rattle.m11_asm.proofs.writing.Writing.begin.Goals as goal
 
 pub returns-then-self-clause-writes : goal.returns-then-self-clause-writes

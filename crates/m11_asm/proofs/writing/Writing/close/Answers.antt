@@ -9,7 +9,8 @@ use Rattle.m11_obj.specs.Records.{EndOfModule}
 use Rattle.m11_obj_texts.specs.Texts.{TextParts}
 use Rattle.m11_base_writes.proofs.Writing.{gains_then, stopped_alone, stopped_first, writes_then}
 use Rattle.m11_asm.specs.Writing.{Writing}
-use Rattle.m11_asm.proofs.Putting.{gains_as, stops_as, table_so, writes_as}
+use Rattle.m11_asm_outputs.proofs.Looping.{writes_as}
+use Rattle.m11_asm.proofs.Putting.{gains_as, stops_as, table_so}
 use Rattle.m11_asm.proofs.writing.Writing.close.Goals as goal
 
 pub returns-in_err-put_last-clause-writes : goal.returns-in_err-put_last-clause-writes

@@ -6,7 +6,8 @@ use Rattle.m11_asm_outputs.specs.Outputs.{assembly}
 use Rattle.m11_base_writes.specs.Outputs.{Write}
 use Rattle.m11_base_writes.proofs.Writing.{stopped_first, writes_then}
 use Rattle.m11_asm.specs.Written.{EndOfSource, added_writes, closing_writes, flagged_count, head_before, last_location, pieces_in}
-use Rattle.m11_asm.proofs.Putting.{closes_so, gains_as, last_open, object_fits, stops_as, writes_as}
+use Rattle.m11_asm_outputs.proofs.Looping.{writes_as}
+use Rattle.m11_asm.proofs.Putting.{closes_so, gains_as, last_open, object_fits, stops_as}
 use Rattle.m11_asm.proofs.writing.Writing.end.Goals as goal
 
 pub returns-in_err-begin-clause-writes : goal.returns-in_err-begin-clause-writes

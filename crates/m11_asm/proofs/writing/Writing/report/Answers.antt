@@ -1,6 +1,7 @@
 use Rattle.m11_asm_outputs.specs.Outputs.{assembly}
 use Rattle.m11_base_writes.proofs.Writing.{stopped_alone}
-use Rattle.m11_asm.proofs.Putting.{flagged, gains_as, unflagged, writes_as, writes_nothing}
+use Rattle.m11_asm_outputs.proofs.Looping.{writes_as}
+use Rattle.m11_asm.proofs.Putting.{flagged, gains_as, unflagged, writes_nothing}
 use Rattle.m11_asm.proofs.writing.Writing.report.Goals as goal
 
 pub returns-then-is_empty-clause-writes : goal.returns-then-is_empty-clause-writes
