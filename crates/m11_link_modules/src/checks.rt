@@ -38,14 +38,15 @@ pub(crate) fn check_begin(stage: Stage, modules: usize) -> Result<(), ModuleFaul
     }
 }
 
-/// A text, which has to end inside its section.
-pub(crate) fn check_text(size: u16, address: u16, bytes: &[u8]) -> Result<(), ModuleFault>
-    ensures { result ≡ returned (text_fault size address (length bytes.now)) }
+/// A text, which has to end inside its section. Its length is handed on.
+pub(crate) fn check_text(size: u16, address: u16, bytes: &[u8]) -> Result<u16, ModuleFault>
+    ensures judged { outcome_of result ≡ returned (text_fault size address (length bytes.now)) }
+    ensures text_length { IfOk result (λ count. count ≡ length bytes.now) }
 {
     if usize::from(address) + bytes.len() > usize::from(size) {
         return Err(ModuleFault::TextOutside);
     }
-    Ok(())
+    Ok(bytes.len() as u16)
 }
 
 /// The size of a section in its module, where the module knows it.
@@ -151,10 +152,7 @@ fn check_global(globals: &IndexSet<Name>, name: Name) -> Result<(), ModuleFault>
 }
 
 // The location of a relocation has to lie within the text before it.
-fn check_location(
-    relocation: &Relocation,
-    text: Option<usize>,
-) -> Result<TextRelocation, ModuleFault>
+fn check_location(relocation: &Relocation, text: Option<u16>) -> Result<TextRelocation, ModuleFault>
     ensures judged { outcome_of result ≡ returned (location_fault relocation.now text) }
     ensures within { IfOk result (λ within. Some within ≡ in_text_before relocation.now text) }
 {
@@ -192,7 +190,7 @@ fn check_target(
 pub(crate) fn check_relocation(
     relocation: &Relocation,
     entered: &IndexMap<Name, u16>,
-    text: Option<usize>,
+    text: Option<u16>,
     globals: &IndexSet<Name>,
 ) -> Result<Option<TextRelocation>, ModuleFault>
     ensures judged { outcome_of result ≡ returned (relocation_fault relocation.now entered.now.entries text globals.now.keys) }

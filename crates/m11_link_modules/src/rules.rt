@@ -28,7 +28,7 @@ pub struct Rules {
     globals: IndexSet<Name>,
     entered: IndexMap<Name, u16>,
     section: Name,
-    text: Option<usize>,
+    text: Option<u16>,
 }
 
 impl Model for Rules {
@@ -164,8 +164,8 @@ impl Rules {
             return Err(ModuleFault::BadOrder);
         }
         let size = size_of(&self.entered, self.section).unwrap_or(0);
-        check_text(size, address, bytes)?;
-        self.text = Some(bytes.len());
+        let text_length = check_text(size, address, bytes)?;
+        self.text = Some(text_length);
         Ok(())
     }
 
@@ -273,6 +273,8 @@ impl Rules {
     ///
     /// Faults: `NoText`, `BadDisplacement`, `UnknownSection`, `TooManyGlobals`, and `NoMemory` where memory is refused
     /// for a global's name that passes no limit.
+    // speed: a call would hand the judged relocation on by memory.
+    #[inline(always)]
     #[tactic(auto, unfolding(crate::specs::Steps::AcceptsOne, crate::specs::Steps::known_after, crate::specs::Rules::fault_known))]
     pub fn relocation(
         &mut self,

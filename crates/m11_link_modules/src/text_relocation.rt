@@ -12,7 +12,8 @@ use std::marker::Model;
 #[derive(Drop)]
 pub struct TextRelocation {
     relocation: Relocation,
-    text_length: usize,
+    // speed: as short as a length may be, so that a judged relocation goes through registers
+    text_length: u16,
 }
 
 impl Model for TextRelocation {
@@ -29,7 +30,7 @@ impl Model for TextRelocation {
 
 impl TextRelocation {
     /// A relocation, where all bytes that it stores lie within a text of n bytes. The first has the displacement 4.
-    pub(crate) fn within(relocation: &Relocation, text_length: usize) -> Option<TextRelocation>
+    pub(crate) fn within(relocation: &Relocation, text_length: u16) -> Option<TextRelocation>
         ensures { result ≡ (if lies_within relocation.now text_length then Some (in_text relocation.now text_length)
             else None) }
     {
@@ -70,9 +71,9 @@ fn width_of(relocation: &Relocation) -> usize
 }
 
 // Whether all bytes that a relocation stores lie within a text of n bytes.
-fn lies_within(relocation: &Relocation, count: usize) -> bool
+fn lies_within(relocation: &Relocation, count: u16) -> bool
     ensures { result ≡ lies_within relocation.now count }
 {
     let displacement = usize::from(relocation.displacement);
-    displacement >= 4 && displacement + width_of(relocation) - 4 <= count
+    displacement >= 4 && displacement + width_of(relocation) - 4 <= usize::from(count)
 }
