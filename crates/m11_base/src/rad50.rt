@@ -1,14 +1,10 @@
 //! RADIX-50: three characters in one word, and names of six characters in two words.
 //! (MACRO-11 Language Reference Manual, appendix on the RADIX-50 character set.)
 
-ghost use Rattle.std.specs.Prelude.{◌≡◌, ◌<◌, ◌+◌, ◌*◌, ℕ, Some, IfSome, SomeIff, is_none};
-ghost use Rattle.std.proofs.Common.{rules};
-ghost use Rattle.std.specs.Cmp.Rules.{hashing};
-ghost use Rattle.std.specs.Hash as fed;
+ghost use Rattle.std.specs.Prelude.{◌≡◌, ◌<◌, ℕ, Some, IfSome, SomeIff, is_none};
 ghost use Rattle.std.specs.List.{list_any};
 ghost use Rattle.m11_base.specs.Rad50.{code_of, character_of, packed_at, unpacked, word_limit, characters_of, HasNoPercent, IsName, is_same_name, name_of, name_text};
 
-use std::hash::{Hash, Hasher};
 use std::marker::Model;
 
 // The characters, each at the index of its code.
@@ -100,7 +96,7 @@ impl Rad50 {
 
 /// A name of six characters in RADIX-50: two words, each below octal 175000. Names are in the order
 /// of their two words.
-#[derive(Clone, Copy, Debug, PartialEq, Eq, PartialOrd, Ord)]
+#[derive(Clone, Copy, Debug, PartialEq, Eq, PartialOrd, Ord, Hash)]
 pub struct Name {
     first: u16,
     second: u16,
@@ -114,18 +110,6 @@ impl Model for Name {
     ghost invariant = { λ n. (n.first < word_limit) × (n.second < word_limit) };
 
     ghost inverse = { λ n. record { first = n.0; second = n.1 } };
-}
-
-// speed: a name is hashed as one number. A derive hashes its words one after the other, and a link looks up a name for
-// each relocation.
-impl Hash for Name {
-    ghost hash_input = { λ n. fed.u32 (n.0 * 0o200000 + n.1) };
-
-    ghost respects_eq = { Prim.search (hashing, rules) };
-
-    fn hash<H: Hasher>(&self, state: &mut H) {
-        (u32::from(self.first) * 0o200000 + u32::from(self.second)).hash(state);
-    }
 }
 
 impl Name {
