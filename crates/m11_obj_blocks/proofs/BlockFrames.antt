@@ -9,7 +9,7 @@ use Rattle.m11_obj_blocks.specs.declared.block_fault.BlockFault.TheVariants as f
 use Rattle.m11_obj_blocks.specs.Frames.{word_bytes, word, sum_byte, header, block, content_limit, AreBlocks, Nothing, Zero, Block}
 use Rattle.m11_obj_blocks.specs.Limited.{Between, Inside, Refused, Read, ◌>>=◌}
 use Rattle.m11_obj_blocks.specs.Blocks.{second, count_of, count, content_of, summed, first_block, AreRead}
-use Rattle.m11_obj_blocks.proofs.FrameReads.{second_takes, second_within, word_again, word_takes, word_within, closed_again, closed_takes, closed_within}
+use Rattle.m11_obj_blocks.proofs.FrameReads.{second_takes, second_within, word_takes, word_within, closed_again, closed_takes, closed_within}
 use Rattle.m11_obj_blocks.proofs.ReadSteps.{Bytes, bytes_after, bind_ok, bind_err, chosen, done, rest_is, value_is}
 use Rattle.m11_obj_blocks.proofs.BlockParts.{after_start, after_second, after_count, after_content}
 pub use Rattle.m11_obj_blocks.proofs.BlockParts.{count_again}
