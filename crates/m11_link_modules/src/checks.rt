@@ -1,16 +1,16 @@
 //! What is wrong with one part of an object, by what is known before it.
 
 ghost use Rattle.std.specs.Prelude.{◌≡◌, length, IfOk, Some};
-ghost use Rattle.m11_link_modules.specs.Positions.{size_known};
 ghost use Rattle.m11_link_modules.specs.Rules.{returned, outcome_of, entering_fault, entry_fault, is_past, opening_fault, location_fault, relocation_fault, section_fault, symbol_fault, global_fault, target_fault, text_fault, defines_relocatable};
 ghost use Rattle.m11_link_modules.specs.TextRelocation.{in_text_before, stored_in};
 
+use crate::entered::EnteredSections;
 use crate::fault::ModuleFault;
 use crate::stage::Stage;
 use crate::text_relocation::TextRelocation;
 use bitflags::Flags;
-use indexmap::{IndexMap, IndexSet};
-use m11_base::{Name, absolute_section};
+use indexmap::IndexSet;
+use m11_base::Name;
 use m11_obj::{GsdEntry, GsdKind, Relocation, SymbolFlags, Target};
 
 /// The most modules of a link.
@@ -49,22 +49,6 @@ pub(crate) fn check_text(size: u16, address: u16, bytes: &[u8]) -> Result<u16, M
     Ok(bytes.len() as u16)
 }
 
-/// The size of a section in its module, where the module knows it.
-pub(crate) fn size_of(entered: &IndexMap<Name, u16>, name: Name) -> Option<u16>
-    ensures { result ≡ size_known entered.now.entries name }
-{
-    match entered.get(&name) {
-        Some(size) => Some(*size),
-        None => {
-            if name == absolute_section() {
-                Some(0)
-            } else {
-                None
-            }
-        }
-    }
-}
-
 // Whether there is no room for a name. It is looked for only where there are as many as may be.
 fn is_past(most: usize, names: &IndexSet<Name>, name: Name) -> bool
     ensures { result ≡ is_past most names.now.keys name }
@@ -75,11 +59,12 @@ fn is_past(most: usize, names: &IndexSet<Name>, name: Name) -> bool
 /// An entry of a directory.
 pub(crate) fn check_entry(
     entry: &GsdEntry,
-    entered: &IndexMap<Name, u16>,
+    entered: &mut EnteredSections,
     sections: &IndexSet<Name>,
     globals: &IndexSet<Name>,
 ) -> Result<(), ModuleFault>
-    ensures { result ≡ returned (entry_fault entry.now.kind entry.now entered.now.entries sections.now.keys globals.now.keys) }
+    ensures judged { result ≡ returned (entry_fault entry.now.kind entry.now entered.old sections.now.keys globals.now.keys) }
+    ensures same { entered.new ≡ entered.old }
 {
     match entry.kind {
         GsdKind::ControlSection => check_entering(entered, sections, entry.name),
@@ -92,30 +77,28 @@ pub(crate) fn check_entry(
 
 // A section that is entered: once in a module, and its name has to have room.
 fn check_entering(
-    entered: &IndexMap<Name, u16>,
+    entered: &EnteredSections,
     sections: &IndexSet<Name>,
     name: Name,
 ) -> Result<(), ModuleFault>
-    ensures { result ≡ returned (entering_fault entered.now.entries sections.now.keys name) }
+    ensures { result ≡ returned (entering_fault entered.now sections.now.keys name) }
 {
-    match entered.get(&name) {
-        Some(_) => Err(ModuleFault::BadOrder),
-        None => {
-            if is_past(MOST_SECTIONS, sections, name) {
-                return Err(ModuleFault::TooManySections);
-            }
-            Ok(())
-        }
+    if entered.contains(name) {
+        return Err(ModuleFault::BadOrder);
     }
+    if is_past(MOST_SECTIONS, sections, name) {
+        return Err(ModuleFault::TooManySections);
+    }
+    Ok(())
 }
 
 // A global symbol: a relocatable one is defined after a section's entry.
 fn check_symbol(
     entry: &GsdEntry,
-    entered: &IndexMap<Name, u16>,
+    entered: &EnteredSections,
     globals: &IndexSet<Name>,
 ) -> Result<(), ModuleFault>
-    ensures { result ≡ returned (symbol_fault entry.now entered.now.entries globals.now.keys) }
+    ensures { result ≡ returned (symbol_fault entry.now entered.now globals.now.keys) }
 {
     if defines_relocatable(entry) && entered.is_empty() {
         return Err(ModuleFault::BadOrder);
@@ -132,10 +115,11 @@ fn defines_relocatable(entry: &GsdEntry) -> bool
 }
 
 // The section of that name has to be known.
-fn check_section(entered: &IndexMap<Name, u16>, name: Name) -> Result<(), ModuleFault>
-    ensures { result ≡ returned (section_fault entered.now.entries name) }
+fn check_section(entered: &mut EnteredSections, name: Name) -> Result<(), ModuleFault>
+    ensures judged { result ≡ returned (section_fault entered.old name) }
+    ensures same { entered.new ≡ entered.old }
 {
-    match size_of(entered, name) {
+    match entered.size_of(name) {
         Some(_) => Ok(()),
         None => Err(ModuleFault::UnknownSection),
     }
@@ -168,10 +152,11 @@ fn check_location(relocation: &Relocation, text: Option<u16>) -> Result<TextRelo
 // The target of a relocation: what it names has to be known, or there has to be room for the name.
 fn check_target(
     target: Target,
-    entered: &IndexMap<Name, u16>,
+    entered: &mut EnteredSections,
     globals: &IndexSet<Name>,
 ) -> Result<(), ModuleFault>
-    ensures { result ≡ returned (target_fault target entered.now.entries globals.now.keys) }
+    ensures judged { result ≡ returned (target_fault target entered.old globals.now.keys) }
+    ensures same { entered.new ≡ entered.old }
 {
     match target {
         Target::Section(name)
@@ -187,14 +172,17 @@ fn check_target(
 }
 
 /// A relocation. Where it stores bytes, it is handed on as one that lies within the text before it.
+// speed: inline, and its caller too: a call would hand each judged relocation on by memory.
+#[inline(always)]
 pub(crate) fn check_relocation(
     relocation: &Relocation,
-    entered: &IndexMap<Name, u16>,
+    entered: &mut EnteredSections,
     text: Option<u16>,
     globals: &IndexSet<Name>,
 ) -> Result<Option<TextRelocation>, ModuleFault>
-    ensures judged { outcome_of result ≡ returned (relocation_fault relocation.now entered.now.entries text globals.now.keys) }
+    ensures judged { outcome_of result ≡ returned (relocation_fault relocation.now entered.old text globals.now.keys) }
     ensures stored { IfOk result (λ stored. stored ≡ stored_in relocation.now text) }
+    ensures same { entered.new ≡ entered.old }
 {
     match relocation.target {
         Target::LocationCounterDefinition(name, _) => {

@@ -9,6 +9,7 @@ pub use fault::ModuleFault;
 
 // Where a record may stand, and what is asked of its parts.
 mod checks;
+mod entered;
 mod stage;
 mod text_relocation;
 

@@ -9,11 +9,12 @@ ghost use Rattle.m11_link_modules.specs.Rules.{outcome_of};
 ghost use Rattle.m11_link_modules.specs.Steps.{Notes, RulesTake, AcceptsOne, with_section, with_global, with_entry, with_target};
 ghost use Rattle.m11_link_modules.specs.TextRelocation.{stored_in};
 
-use crate::checks::{check_begin, check_entry, check_relocation, check_text, size_of};
+use crate::checks::{check_begin, check_entry, check_relocation, check_text};
+use crate::entered::EnteredSections;
 use crate::fault::ModuleFault;
 use crate::stage::Stage;
 use crate::text_relocation::TextRelocation;
-use indexmap::{IndexMap, IndexSet};
+use indexmap::IndexSet;
 use m11_base::{Name, absolute_section};
 use m11_obj::{GsdEntry, GsdKind, Record, RecordKind, Relocation, Target};
 use std::alloc::Global;
@@ -26,7 +27,7 @@ pub struct Rules {
     modules: usize,
     sections: IndexSet<Name>,
     globals: IndexSet<Name>,
-    entered: IndexMap<Name, u16>,
+    entered: EnteredSections,
     section: Name,
     text: Option<u16>,
 }
@@ -42,7 +43,7 @@ impl Model for Rules {
       modules = r.modules;
       sections = r.sections.keys;
       globals = r.globals.keys;
-      entered = r.entered.entries;
+      entered = r.entered;
       section = r.section;
       text = r.text;
     } };
@@ -61,7 +62,7 @@ impl Rules {
             modules: 0,
             sections: IndexSet::new(alloc),
             globals: IndexSet::new(alloc),
-            entered: IndexMap::new(alloc),
+            entered: EnteredSections::new(alloc),
             section: absolute_section(),
             text: None,
         }
@@ -163,7 +164,7 @@ impl Rules {
         if self.stage != Stage::InBody {
             return Err(ModuleFault::BadOrder);
         }
-        let size = size_of(&self.entered, self.section).unwrap_or(0);
+        let size = self.entered.size_of(self.section).unwrap_or(0);
         let text_length = check_text(size, address, bytes)?;
         self.text = Some(text_length);
         Ok(())
@@ -233,7 +234,7 @@ impl Rules {
     fn entry(&mut self, entry: &GsdEntry) -> Result<(), ModuleFault>
         ensures { AcceptsOne self.old self.new (Entry entry.now) result }
     {
-        check_entry(entry, &self.entered, &self.sections, &self.globals)?;
+        check_entry(entry, &mut self.entered, &self.sections, &self.globals)?;
         self.add_entry(entry)
     }
 
@@ -273,7 +274,7 @@ impl Rules {
     ///
     /// Faults: `NoText`, `BadDisplacement`, `UnknownSection`, `TooManyGlobals`, and `NoMemory` where memory is refused
     /// for a global's name that passes no limit.
-    // speed: a call would hand the judged relocation on by memory.
+    // speed: inline, and `check_relocation` too: a call would hand each judged relocation on by memory.
     #[inline(always)]
     #[tactic(auto, unfolding(crate::specs::Steps::AcceptsOne, crate::specs::Steps::known_after, crate::specs::Rules::fault_known))]
     pub fn relocation(
@@ -283,7 +284,7 @@ impl Rules {
         ensures takes { AcceptsOne self.old self.new (Relocated relocation) (outcome_of result) }
         ensures stored { IfOk result (λ stored. stored ≡ stored_in relocation self.old.text) }
     {
-        let stored = check_relocation(&relocation, &self.entered, self.text, &self.globals)?;
+        let stored = check_relocation(&relocation, &mut self.entered, self.text, &self.globals)?;
         self.add_target(relocation.target)?;
         Ok(stored)
     }

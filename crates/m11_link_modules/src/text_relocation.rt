@@ -12,7 +12,7 @@ use std::marker::Model;
 #[derive(Drop)]
 pub struct TextRelocation {
     relocation: Relocation,
-    // speed: as short as a length may be, so that a judged relocation goes through registers
+    // speed: 16 bits keep what is handed on of each relocation short.
     text_length: u16,
 }
 

@@ -8,5 +8,5 @@ returns-in_err-stored-clause-takes c =
     let r = c.from_residual in
     let p = err_from_is_err_and r.result r.ensures.1 in
     rw (p.1, p.2)
-    (relocation_refused c.args.self.now c.args.self.now c.args.relocation _ c.self.view_is
+    (relocation_refused c.args.self.now _ c.args.relocation _ c.self.view_is
     (sym c.in_err-stored.ensures.judged))

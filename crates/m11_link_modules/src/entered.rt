@@ -1,0 +1,103 @@
+//! The sections that a module entered. (RT-11 Volume and File Formats Manual, "Object file format", GSD block.)
+
+ghost use Rattle.std.specs.Prelude.{◌≡◌, [], OnOk, is_some, length, nat_eq};
+ghost use Rattle.std.specs.Map.{lookup};
+ghost use Rattle.indexmap.specs.IndexMap.{insert_entry};
+ghost use Rattle.m11_base.specs.Rad50.{is_same_name};
+ghost use Rattle.m11_link_modules.specs.Positions.{size_known};
+
+use indexmap::IndexMap;
+use m11_base::{Name, absolute_section};
+use std::alloc::{AllocFailed, Global};
+use std::marker::Model;
+
+/// The sections that a module entered, with their sizes in it, in bytes.
+#[derive(Drop)]
+pub(crate) struct EnteredSections {
+    sizes: IndexMap<Name, u16>,
+    // The section that was asked for last, with its size.
+    // speed: relocations name the same section many times in a row, and no table is asked for it again.
+    last: Option<(Name, u16)>,
+}
+
+impl Model for EnteredSections {
+    ghost use Rattle.std.specs.Prelude.{◌≡◌, ℕ, List, Some, IfSome};
+    ghost use Rattle.m11_base.specs.Rad50.{Name as SectionName};
+    ghost use Rattle.m11_link_modules.specs.Positions.{size_known};
+
+    ghost Value = { List (SectionName × ℕ) };
+
+    ghost view = { λ e. e.sizes.entries };
+
+    ghost invariant = { λ e. IfSome e.last (λ known. size_known e.sizes.entries known.0 ≡ Some known.1) };
+}
+
+impl EnteredSections {
+    /// None is entered.
+    pub(crate) fn new(alloc: Global) -> EnteredSections
+        ensures { result ≡ [] }
+    {
+        EnteredSections {
+            sizes: IndexMap::new(alloc),
+            last: None,
+        }
+    }
+
+    /// Whether none is entered.
+    pub(crate) fn is_empty(&self) -> bool
+        ensures { result ≡ nat_eq (length self.now) 0 }
+    {
+        self.sizes.is_empty()
+    }
+
+    /// Whether a section is entered.
+    pub(crate) fn contains(&self, name: Name) -> bool
+        ensures { result ≡ is_some (lookup (is_same_name name) self.now) }
+    {
+        self.sizes.contains_key(&name)
+    }
+
+    /// The size of a section in its module, where the module knows it: of one that it entered, or of `. ABS.`.
+    pub(crate) fn size_of(&mut self, name: Name) -> Option<u16>
+        ensures size { result ≡ size_known self.old name }
+        ensures same { self.new ≡ self.old }
+    {
+        if let Some((last, size)) = self.last {
+            if last == name {
+                return Some(size);
+            }
+        }
+        self.look_up(name)
+    }
+
+    // The size of a section that isn't the last one.
+    fn look_up(&mut self, name: Name) -> Option<u16>
+        ensures size { result ≡ size_known self.old name }
+        ensures same { self.new ≡ self.old }
+    {
+        let size = match self.sizes.get(&name) {
+            Some(size) => *size,
+            None if name == absolute_section() => 0,
+            None => return None,
+        };
+        self.last = Some((name, size));
+        Some(size)
+    }
+
+    /// Enters a section, with its size.
+    pub(crate) fn insert(&mut self, name: Name, size: u16) -> Result<(), AllocFailed<(Name, u16)>>
+        ensures { OnOk result (self.new ≡ insert_entry is_same_name self.old name size) }
+    {
+        self.last = None;
+        self.sizes.insert(name, size)?;
+        Ok(())
+    }
+
+    /// A module has ended.
+    pub(crate) fn clear(&mut self)
+        ensures { self.new ≡ [] }
+    {
+        self.last = None;
+        self.sizes.clear();
+    }
+}
