@@ -9,16 +9,18 @@ use Rattle.m11_base_instructions.specs.declared.instruction.ConditionCodes.{Cond
 use Rattle.m11_base_instructions.specs.declared.instruction.ConditionOp.{ConditionOp}
 use Rattle.m11_base_instructions.specs.declared.instruction.ConditionOp.TheVariants.{Clear, Set}
 use Rattle.m11_base_instructions.specs.declared.instruction.DoubleOp.{DoubleOp}
-use Rattle.m11_base_instructions.specs.declared.instruction.DoubleOp.TheVariants.{Add, Bic, Bis, Cmp, Mov, Sub}
+use Rattle.m11_base_instructions.specs.declared.instruction.DoubleOp.TheVariants.{Add, Bic, Bis, Bit, Cmp, Mov, Sub}
 use Rattle.m11_base_instructions.specs.declared.instruction.ExtendedOp.TheVariants.{Mul}
 use Rattle.m11_base_instructions.specs.declared.instruction.Insn.TheVariants as instruction
 use Rattle.m11_base_instructions.specs.declared.instruction.Op.TheVariants as op
 use Rattle.m11_base_instructions.specs.declared.instruction.RegisterOp.TheVariants.{Jsr}
 use Rattle.m11_base_instructions.specs.declared.instruction.SingleOp.{SingleOp}
-use Rattle.m11_base_instructions.specs.declared.instruction.SingleOp.TheVariants.{Adc, Asl, Asr, Clr, Com, Dec, Inc, Jmp, Neg, Rol, Ror, Sbc, Tst}
+use Rattle.m11_base_instructions.specs.declared.instruction.SingleOp.TheVariants.{Adc, Asl, Asr, Clr, Com, Dec, Inc, Jmp, Neg, Rol, Ror, Sbc, Swab, Sxt, Tst}
 use Rattle.m11_base_instructions.specs.declared.operand.Size.{Size}
 use Rattle.m11_base_instructions.specs.declared.operand.Size.TheVariants.{Word, Byte}
 use Rattle.m11_cpu_quick.specs.Forms.{IsForm}
+use Rattle.m11_cpu_quick.specs.declared.double_kinds.DoubleKind.{DoubleKind}
+use Rattle.m11_cpu_quick.specs.declared.double_kinds.DoubleKind.TheVariants as two
 use Rattle.m11_cpu_quick.specs.declared.forms.Form.{Form}
 use Rattle.m11_cpu_quick.specs.declared.forms.Form.TheVariants as form
 use Rattle.m11_cpu_quick.specs.declared.kinds.Kind.{Kind}
@@ -62,83 +64,125 @@ carry_alone = record { negative = false; zero = false; overflow = false; carry =
 abbrev pub IsOnCarry : ConditionOp → ℕ → Type 0
 IsOnCarry operation word = meaning (operation_by_tables word) word ≡ instruction.Condition operation carry_alone
 
--- a word is that of MUL, of a register before SP
-pub record IsProduct (word : ℕ) : Type 0 where
+-- a word is that of MUL, of a register before SP, by a source of a form
+pub record IsProduct (source : Form) (word : ℕ) : Type 0 where
   pub operation_is : operation_by_tables word ≡ Some (op.Extended Mul)
   pub general : word / 0o100 % 0o10 < 6
+  pub source_is : IsForm source Word (operand_of (word % 0o100))
+
+-- a kind is that of a word of an operation on two operands
+abbrev pub DescribesDouble : DoubleKind → ℕ → Type 0
+DescribesDouble two.MovRegisterRegister word = IsDouble Mov Word form.Register form.Register word
+DescribesDouble two.MovDeferredRegister word = IsDouble Mov Word form.Deferred form.Register word
+DescribesDouble two.MovIncrementRegister word = IsDouble Mov Word form.Increment form.Register word
+DescribesDouble two.MovIndexRegister word = IsDouble Mov Word form.Index form.Register word
+DescribesDouble two.MovAbsoluteRegister word = IsDouble Mov Word form.Absolute form.Register word
+DescribesDouble two.MovRelativeRegister word = IsDouble Mov Word form.Relative form.Register word
+DescribesDouble two.MovImmediateRegister word = IsDouble Mov Word form.Immediate form.Register word
+DescribesDouble two.MovRegisterDeferred word = IsDouble Mov Word form.Register form.Deferred word
+DescribesDouble two.MovRegisterIncrement word = IsDouble Mov Word form.Register form.Increment word
+DescribesDouble two.MovRegisterDecrement word = IsDouble Mov Word form.Register form.Decrement word
+DescribesDouble two.MovRegisterIndex word = IsDouble Mov Word form.Register form.Index word
+DescribesDouble two.MovRegisterAbsolute word = IsDouble Mov Word form.Register form.Absolute word
+DescribesDouble two.MovRegisterRelative word = IsDouble Mov Word form.Register form.Relative word
+DescribesDouble two.MovDeferredDeferred word = IsDouble Mov Word form.Deferred form.Deferred word
+DescribesDouble two.MovDeferredDecrement word = IsDouble Mov Word form.Deferred form.Decrement word
+DescribesDouble two.MovIncrementDeferred word = IsDouble Mov Word form.Increment form.Deferred word
+DescribesDouble two.MovIncrementIncrement word = IsDouble Mov Word form.Increment form.Increment word
+DescribesDouble two.MovIncrementIndex word = IsDouble Mov Word form.Increment form.Index word
+DescribesDouble two.MovIndexDeferred word = IsDouble Mov Word form.Index form.Deferred word
+DescribesDouble two.MovIndexDecrement word = IsDouble Mov Word form.Index form.Decrement word
+DescribesDouble two.MovIndexIndex word = IsDouble Mov Word form.Index form.Index word
+DescribesDouble two.MovRelativeDecrement word = IsDouble Mov Word form.Relative form.Decrement word
+DescribesDouble two.MovImmediateDecrement word = IsDouble Mov Word form.Immediate form.Decrement word
+DescribesDouble two.MovImmediateIndex word = IsDouble Mov Word form.Immediate form.Index word
+DescribesDouble two.MovImmediateAbsolute word = IsDouble Mov Word form.Immediate form.Absolute word
+DescribesDouble two.MovImmediateRelative word = IsDouble Mov Word form.Immediate form.Relative word
+DescribesDouble two.CmpRegisterRegister word = IsDouble Cmp Word form.Register form.Register word
+DescribesDouble two.CmpDeferredRegister word = IsDouble Cmp Word form.Deferred form.Register word
+DescribesDouble two.CmpIncrementRegister word = IsDouble Cmp Word form.Increment form.Register word
+DescribesDouble two.CmpIndexRegister word = IsDouble Cmp Word form.Index form.Register word
+DescribesDouble two.CmpRelativeRegister word = IsDouble Cmp Word form.Relative form.Register word
+DescribesDouble two.CmpImmediateRegister word = IsDouble Cmp Word form.Immediate form.Register word
+DescribesDouble two.CmpRegisterIndex word = IsDouble Cmp Word form.Register form.Index word
+DescribesDouble two.CmpRegisterRelative word = IsDouble Cmp Word form.Register form.Relative word
+DescribesDouble two.CmpRegisterImmediate word = IsDouble Cmp Word form.Register form.Immediate word
+DescribesDouble two.CmpIncrementIncrement word = IsDouble Cmp Word form.Increment form.Increment word
+DescribesDouble two.CmpIndexIndex word = IsDouble Cmp Word form.Index form.Index word
+DescribesDouble two.CmpIndexImmediate word = IsDouble Cmp Word form.Index form.Immediate word
+DescribesDouble two.BitRegisterRegister word = IsDouble Bit Word form.Register form.Register word
+DescribesDouble two.BitImmediateRegister word = IsDouble Bit Word form.Immediate form.Register word
+DescribesDouble two.BitImmediateIndex word = IsDouble Bit Word form.Immediate form.Index word
+DescribesDouble two.BicRegisterRegister word = IsDouble Bic Word form.Register form.Register word
+DescribesDouble two.BicImmediateRegister word = IsDouble Bic Word form.Immediate form.Register word
+DescribesDouble two.BisRegisterRegister word = IsDouble Bis Word form.Register form.Register word
+DescribesDouble two.BisIndexRegister word = IsDouble Bis Word form.Index form.Register word
+DescribesDouble two.BisImmediateRegister word = IsDouble Bis Word form.Immediate form.Register word
+DescribesDouble two.AddRegisterRegister word = IsDouble Add Word form.Register form.Register word
+DescribesDouble two.AddDeferredRegister word = IsDouble Add Word form.Deferred form.Register word
+DescribesDouble two.AddIncrementRegister word = IsDouble Add Word form.Increment form.Register word
+DescribesDouble two.AddIndexRegister word = IsDouble Add Word form.Index form.Register word
+DescribesDouble two.AddRelativeRegister word = IsDouble Add Word form.Relative form.Register word
+DescribesDouble two.AddImmediateRegister word = IsDouble Add Word form.Immediate form.Register word
+DescribesDouble two.AddRegisterIndex word = IsDouble Add Word form.Register form.Index word
+DescribesDouble two.AddRegisterRelative word = IsDouble Add Word form.Register form.Relative word
+DescribesDouble two.AddImmediateIndex word = IsDouble Add Word form.Immediate form.Index word
+DescribesDouble two.MovbRegisterRegister word = IsDouble Mov Byte form.Register form.Register word
+DescribesDouble two.MovbDeferredRegister word = IsDouble Mov Byte form.Deferred form.Register word
+DescribesDouble two.MovbIncrementRegister word = IsDouble Mov Byte form.Increment form.Register word
+DescribesDouble two.MovbIndexRegister word = IsDouble Mov Byte form.Index form.Register word
+DescribesDouble two.MovbRegisterDeferred word = IsDouble Mov Byte form.Register form.Deferred word
+DescribesDouble two.MovbRegisterIncrement word = IsDouble Mov Byte form.Register form.Increment word
+DescribesDouble two.MovbRegisterIndex word = IsDouble Mov Byte form.Register form.Index word
+DescribesDouble two.MovbIncrementIncrement word = IsDouble Mov Byte form.Increment form.Increment word
+DescribesDouble two.MovbDecrementIncrement word = IsDouble Mov Byte form.Decrement form.Increment word
+DescribesDouble two.MovbIndexIncrement word = IsDouble Mov Byte form.Index form.Increment word
+DescribesDouble two.CmpbRegisterRegister word = IsDouble Cmp Byte form.Register form.Register word
+DescribesDouble two.CmpbRegisterImmediate word = IsDouble Cmp Byte form.Register form.Immediate word
+DescribesDouble two.CmpbDeferredImmediate word = IsDouble Cmp Byte form.Deferred form.Immediate word
+DescribesDouble two.CmpbIncrementIncrement word = IsDouble Cmp Byte form.Increment form.Increment word
+DescribesDouble two.CmpbIncrementImmediate word = IsDouble Cmp Byte form.Increment form.Immediate word
+DescribesDouble two.CmpbIndexImmediate word = IsDouble Cmp Byte form.Index form.Immediate word
+DescribesDouble two.BicbImmediateDeferred word = IsDouble Bic Byte form.Immediate form.Deferred word
+DescribesDouble two.SubRegisterRegister word = IsDouble Sub Word form.Register form.Register word
+DescribesDouble two.SubIncrementRegister word = IsDouble Sub Word form.Increment form.Register word
+DescribesDouble two.SubIndexRegister word = IsDouble Sub Word form.Index form.Register word
+DescribesDouble two.SubImmediateRegister word = IsDouble Sub Word form.Immediate form.Register word
+DescribesDouble two.Rarer word = Unit {0}
 
 -- a kind is that of a word
 abbrev pub Describes : Kind → ℕ → Type 0
-Describes kind.MovRegisterRegister word = IsDouble Mov Word form.Register form.Register word
-Describes kind.MovDeferredRegister word = IsDouble Mov Word form.Deferred form.Register word
-Describes kind.MovIncrementRegister word = IsDouble Mov Word form.Increment form.Register word
-Describes kind.MovIndexRegister word = IsDouble Mov Word form.Index form.Register word
-Describes kind.MovAbsoluteRegister word = IsDouble Mov Word form.Absolute form.Register word
-Describes kind.MovRelativeRegister word = IsDouble Mov Word form.Relative form.Register word
-Describes kind.MovImmediateRegister word = IsDouble Mov Word form.Immediate form.Register word
-Describes kind.MovRegisterDeferred word = IsDouble Mov Word form.Register form.Deferred word
-Describes kind.MovRegisterIncrement word = IsDouble Mov Word form.Register form.Increment word
-Describes kind.MovRegisterDecrement word = IsDouble Mov Word form.Register form.Decrement word
-Describes kind.MovRegisterIndex word = IsDouble Mov Word form.Register form.Index word
-Describes kind.MovRegisterAbsolute word = IsDouble Mov Word form.Register form.Absolute word
-Describes kind.MovRegisterRelative word = IsDouble Mov Word form.Register form.Relative word
-Describes kind.MovImmediateDecrement word = IsDouble Mov Word form.Immediate form.Decrement word
-Describes kind.MovImmediateIndex word = IsDouble Mov Word form.Immediate form.Index word
-Describes kind.MovIndexIndex word = IsDouble Mov Word form.Index form.Index word
-Describes kind.MovIndexDecrement word = IsDouble Mov Word form.Index form.Decrement word
-Describes kind.MovIndexDeferred word = IsDouble Mov Word form.Index form.Deferred word
-Describes kind.MovIncrementIncrement word = IsDouble Mov Word form.Increment form.Increment word
-Describes kind.MovDeferredDeferred word = IsDouble Mov Word form.Deferred form.Deferred word
-Describes kind.CmpRegisterRegister word = IsDouble Cmp Word form.Register form.Register word
-Describes kind.CmpDeferredRegister word = IsDouble Cmp Word form.Deferred form.Register word
-Describes kind.CmpIndexRegister word = IsDouble Cmp Word form.Index form.Register word
-Describes kind.CmpRegisterImmediate word = IsDouble Cmp Word form.Register form.Immediate word
-Describes kind.CmpIndexImmediate word = IsDouble Cmp Word form.Index form.Immediate word
-Describes kind.CmpIndexIndex word = IsDouble Cmp Word form.Index form.Index word
-Describes kind.BicImmediateRegister word = IsDouble Bic Word form.Immediate form.Register word
-Describes kind.BisRegisterRegister word = IsDouble Bis Word form.Register form.Register word
-Describes kind.BisIndexRegister word = IsDouble Bis Word form.Index form.Register word
-Describes kind.AddRegisterRegister word = IsDouble Add Word form.Register form.Register word
-Describes kind.AddIndexRegister word = IsDouble Add Word form.Index form.Register word
-Describes kind.AddImmediateRegister word = IsDouble Add Word form.Immediate form.Register word
-Describes kind.AddImmediateIndex word = IsDouble Add Word form.Immediate form.Index word
-Describes kind.MovbRegisterRegister word = IsDouble Mov Byte form.Register form.Register word
-Describes kind.MovbDeferredRegister word = IsDouble Mov Byte form.Deferred form.Register word
-Describes kind.MovbIncrementRegister word = IsDouble Mov Byte form.Increment form.Register word
-Describes kind.MovbIndexRegister word = IsDouble Mov Byte form.Index form.Register word
-Describes kind.MovbRegisterDeferred word = IsDouble Mov Byte form.Register form.Deferred word
-Describes kind.MovbRegisterIncrement word = IsDouble Mov Byte form.Register form.Increment word
-Describes kind.MovbRegisterIndex word = IsDouble Mov Byte form.Register form.Index word
-Describes kind.MovbIncrementIncrement word = IsDouble Mov Byte form.Increment form.Increment word
-Describes kind.MovbIndexIncrement word = IsDouble Mov Byte form.Index form.Increment word
-Describes kind.MovbDecrementIncrement word = IsDouble Mov Byte form.Decrement form.Increment word
-Describes kind.CmpbRegisterRegister word = IsDouble Cmp Byte form.Register form.Register word
-Describes kind.CmpbRegisterImmediate word = IsDouble Cmp Byte form.Register form.Immediate word
-Describes kind.CmpbDeferredImmediate word = IsDouble Cmp Byte form.Deferred form.Immediate word
-Describes kind.CmpbIncrementImmediate word = IsDouble Cmp Byte form.Increment form.Immediate word
-Describes kind.CmpbIndexImmediate word = IsDouble Cmp Byte form.Index form.Immediate word
-Describes kind.CmpbIncrementIncrement word = IsDouble Cmp Byte form.Increment form.Increment word
-Describes kind.BicbImmediateDeferred word = IsDouble Bic Byte form.Immediate form.Deferred word
-Describes kind.SubRegisterRegister word = IsDouble Sub Word form.Register form.Register word
-Describes kind.SubIndexRegister word = IsDouble Sub Word form.Index form.Register word
+Describes (kind.Double double) word = DescribesDouble double word
 Describes kind.ClrRegister word = IsSingle Clr Word form.Register word
+Describes kind.ClrDeferred word = IsSingle Clr Word form.Deferred word
+Describes kind.ClrIncrement word = IsSingle Clr Word form.Increment word
+Describes kind.ClrDecrement word = IsSingle Clr Word form.Decrement word
 Describes kind.ClrIndex word = IsSingle Clr Word form.Index word
+Describes kind.ClrRelative word = IsSingle Clr Word form.Relative word
 Describes kind.ComRegister word = IsSingle Com Word form.Register word
 Describes kind.IncRegister word = IsSingle Inc Word form.Register word
+Describes kind.IncDeferred word = IsSingle Inc Word form.Deferred word
 Describes kind.IncIndex word = IsSingle Inc Word form.Index word
 Describes kind.IncAbsolute word = IsSingle Inc Word form.Absolute word
+Describes kind.IncRelative word = IsSingle Inc Word form.Relative word
 Describes kind.DecRegister word = IsSingle Dec Word form.Register word
 Describes kind.DecDeferred word = IsSingle Dec Word form.Deferred word
 Describes kind.DecIndex word = IsSingle Dec Word form.Index word
+Describes kind.DecRelative word = IsSingle Dec Word form.Relative word
 Describes kind.NegRegister word = IsSingle Neg Word form.Register word
 Describes kind.AdcRegister word = IsSingle Adc Word form.Register word
 Describes kind.SbcRegister word = IsSingle Sbc Word form.Register word
 Describes kind.TstRegister word = IsSingle Tst Word form.Register word
+Describes kind.TstDeferred word = IsSingle Tst Word form.Deferred word
+Describes kind.TstIncrement word = IsSingle Tst Word form.Increment word
 Describes kind.TstIndex word = IsSingle Tst Word form.Index word
+Describes kind.TstRelative word = IsSingle Tst Word form.Relative word
 Describes kind.RorRegister word = IsSingle Ror Word form.Register word
 Describes kind.RolRegister word = IsSingle Rol Word form.Register word
 Describes kind.AsrRegister word = IsSingle Asr Word form.Register word
 Describes kind.AslRegister word = IsSingle Asl Word form.Register word
+Describes kind.SxtRegister word = IsSingle Sxt Word form.Register word
+Describes kind.SwabRegister word = IsSingle Swab Word form.Register word
 Describes kind.TstbRegister word = IsSingle Tst Byte form.Register word
 Describes kind.TstbDeferred word = IsSingle Tst Byte form.Deferred word
 Describes kind.TstbIncrement word = IsSingle Tst Byte form.Increment word
@@ -170,5 +214,11 @@ Describes kind.JsrRelative word = IsCall form.Relative word
 Describes kind.Rts word = IsReturn word
 Describes kind.Clc word = IsOnCarry Clear word
 Describes kind.Sec word = IsOnCarry Set word
-Describes kind.Mul word = IsProduct word
+Describes kind.MulRegister word = IsProduct form.Register word
+Describes kind.MulDeferred word = IsProduct form.Deferred word
+Describes kind.MulIncrement word = IsProduct form.Increment word
+Describes kind.MulIndex word = IsProduct form.Index word
+Describes kind.MulAbsolute word = IsProduct form.Absolute word
+Describes kind.MulRelative word = IsProduct form.Relative word
+Describes kind.MulImmediate word = IsProduct form.Immediate word
 Describes kind.Rarer word = Unit {0}

@@ -7,11 +7,12 @@ ghost use Rattle.m11_base_instructions.specs.OperationTables.{operation_by_table
 ghost use Rattle.m11_base_instructions.specs.declared.instruction.Insn.TheVariants as instruction;
 ghost use Rattle.m11_base_instructions.specs.declared.instruction.SingleOp.TheVariants as one;
 ghost use Rattle.m11_base_instructions.specs.declared.operand.Size.TheVariants as size;
-ghost use Rattle.m11_cpu_quick.specs.Kinds.{Describes, IsBranch, IsCall, IsCount, IsDouble, IsOnCarry, IsProduct, IsReturn, IsSingle};
+ghost use Rattle.m11_cpu_quick.specs.Kinds.{Describes, DescribesDouble, IsBranch, IsCall, IsCount, IsDouble, IsOnCarry, IsProduct, IsReturn, IsSingle};
 ghost use Rattle.m11_cpu_quick.specs.Near.{NearKeeps};
 ghost use Rattle.m11_cpu_quick.specs.Quick.{Executes};
 ghost use Rattle.m11_cpu_quick.specs.declared.forms.Form.TheVariants as form;
 
+use crate::double_kinds::DoubleKind;
 use crate::doubles::{double_to_memory, double_to_register};
 use crate::extended::multiply;
 use crate::forms::Form;
@@ -21,8 +22,10 @@ use crate::forms::Form::{
 use crate::jumps::{call, count_down, jump, return_by_counter, take_branch};
 use crate::kinds::Kind;
 use crate::singles::single;
-use m11_base_instructions::DoubleOp::{Add, Bic, Bis, Cmp, Mov, Sub};
-use m11_base_instructions::SingleOp::{Adc, Asl, Asr, Clr, Com, Dec, Inc, Neg, Rol, Ror, Sbc, Tst};
+use m11_base_instructions::DoubleOp::{Add, Bic, Bis, Bit, Cmp, Mov, Sub};
+use m11_base_instructions::SingleOp::{
+    Adc, Asl, Asr, Clr, Com, Dec, Inc, Neg, Rol, Ror, Sbc, Swab, Sxt, Tst,
+};
 use m11_base_instructions::Size::{Byte, Word};
 use m11_base_instructions::{
     BranchOp, ConditionCodes, ConditionOp, DoubleOp, Insn, Operand, SingleOp, Size, decode,
@@ -36,9 +39,8 @@ pub(crate) struct Code {
     pub(crate) counter: u16,
 }
 
-/// An instruction, by the kind of its word. It is one match, so that a step jumps once to what it does.
+/// An instruction, by the kind of its word; None also where it has none of its own.
 #[inline(always)]
-#[rattlefmt::skip]
 pub(crate) fn act(
     machine: &mut Machine,
     kind: Kind,
@@ -53,76 +55,157 @@ pub(crate) fn act(
     ensures registers { result ≡ None → registers.new ≡ registers.old }
 {
     match kind {
-        Kind::MovRegisterRegister => to_register(machine, Mov, Word, Register, code, registers),
-        Kind::MovDeferredRegister => to_register(machine, Mov, Word, Deferred, code, registers),
-        Kind::MovIncrementRegister => to_register(machine, Mov, Word, Increment, code, registers),
-        Kind::MovIndexRegister => to_register(machine, Mov, Word, Index, code, registers),
-        Kind::MovAbsoluteRegister => to_register(machine, Mov, Word, Absolute, code, registers),
-        Kind::MovRelativeRegister => to_register(machine, Mov, Word, Relative, code, registers),
-        Kind::MovImmediateRegister => to_register(machine, Mov, Word, Immediate, code, registers),
-        Kind::MovRegisterDeferred => to_memory(machine, Mov, Word, Register, Deferred, code, registers),
-        Kind::MovRegisterIncrement => to_memory(machine, Mov, Word, Register, Increment, code, registers),
-        Kind::MovRegisterDecrement => to_memory(machine, Mov, Word, Register, Decrement, code, registers),
-        Kind::MovRegisterIndex => to_memory(machine, Mov, Word, Register, Index, code, registers),
-        Kind::MovRegisterAbsolute => to_memory(machine, Mov, Word, Register, Absolute, code, registers),
-        Kind::MovRegisterRelative => to_memory(machine, Mov, Word, Register, Relative, code, registers),
-        Kind::MovImmediateDecrement => to_memory(machine, Mov, Word, Immediate, Decrement, code, registers),
-        Kind::MovImmediateIndex => to_memory(machine, Mov, Word, Immediate, Index, code, registers),
-        Kind::MovIndexIndex => to_memory(machine, Mov, Word, Index, Index, code, registers),
-        Kind::MovIndexDecrement => to_memory(machine, Mov, Word, Index, Decrement, code, registers),
-        Kind::MovIndexDeferred => to_memory(machine, Mov, Word, Index, Deferred, code, registers),
-        Kind::MovIncrementIncrement => to_memory(machine, Mov, Word, Increment, Increment, code, registers),
-        Kind::MovDeferredDeferred => to_memory(machine, Mov, Word, Deferred, Deferred, code, registers),
-        Kind::CmpRegisterRegister => to_register(machine, Cmp, Word, Register, code, registers),
-        Kind::CmpDeferredRegister => to_register(machine, Cmp, Word, Deferred, code, registers),
-        Kind::CmpIndexRegister => to_register(machine, Cmp, Word, Index, code, registers),
-        Kind::CmpRegisterImmediate => to_memory(machine, Cmp, Word, Register, Immediate, code, registers),
-        Kind::CmpIndexImmediate => to_memory(machine, Cmp, Word, Index, Immediate, code, registers),
-        Kind::CmpIndexIndex => to_memory(machine, Cmp, Word, Index, Index, code, registers),
-        Kind::BicImmediateRegister => to_register(machine, Bic, Word, Immediate, code, registers),
-        Kind::BisRegisterRegister => to_register(machine, Bis, Word, Register, code, registers),
-        Kind::BisIndexRegister => to_register(machine, Bis, Word, Index, code, registers),
-        Kind::AddRegisterRegister => to_register(machine, Add, Word, Register, code, registers),
-        Kind::AddIndexRegister => to_register(machine, Add, Word, Index, code, registers),
-        Kind::AddImmediateRegister => to_register(machine, Add, Word, Immediate, code, registers),
-        Kind::AddImmediateIndex => to_memory(machine, Add, Word, Immediate, Index, code, registers),
-        Kind::MovbRegisterRegister => to_register(machine, Mov, Byte, Register, code, registers),
-        Kind::MovbDeferredRegister => to_register(machine, Mov, Byte, Deferred, code, registers),
-        Kind::MovbIncrementRegister => to_register(machine, Mov, Byte, Increment, code, registers),
-        Kind::MovbIndexRegister => to_register(machine, Mov, Byte, Index, code, registers),
-        Kind::MovbRegisterDeferred => to_memory(machine, Mov, Byte, Register, Deferred, code, registers),
-        Kind::MovbRegisterIncrement => to_memory(machine, Mov, Byte, Register, Increment, code, registers),
-        Kind::MovbRegisterIndex => to_memory(machine, Mov, Byte, Register, Index, code, registers),
-        Kind::MovbIncrementIncrement => to_memory(machine, Mov, Byte, Increment, Increment, code, registers),
-        Kind::MovbIndexIncrement => to_memory(machine, Mov, Byte, Index, Increment, code, registers),
-        Kind::MovbDecrementIncrement => to_memory(machine, Mov, Byte, Decrement, Increment, code, registers),
-        Kind::CmpbRegisterRegister => to_register(machine, Cmp, Byte, Register, code, registers),
-        Kind::CmpbRegisterImmediate => to_memory(machine, Cmp, Byte, Register, Immediate, code, registers),
-        Kind::CmpbDeferredImmediate => to_memory(machine, Cmp, Byte, Deferred, Immediate, code, registers),
-        Kind::CmpbIncrementImmediate => to_memory(machine, Cmp, Byte, Increment, Immediate, code, registers),
-        Kind::CmpbIndexImmediate => to_memory(machine, Cmp, Byte, Index, Immediate, code, registers),
-        Kind::CmpbIncrementIncrement => to_memory(machine, Cmp, Byte, Increment, Increment, code, registers),
-        Kind::BicbImmediateDeferred => to_memory(machine, Bic, Byte, Immediate, Deferred, code, registers),
-        Kind::SubRegisterRegister => to_register(machine, Sub, Word, Register, code, registers),
-        Kind::SubIndexRegister => to_register(machine, Sub, Word, Index, code, registers),
+        Kind::Double(double) => act_on_two(machine, double, code, registers),
+        _ => act_on_others(machine, kind, code, registers),
+    }
+}
+
+// An operation on two operands, by its kind; None also where it has none of its own.
+// speed: one match, so that a step jumps once to what it does. The compiler inlines a function of one call while it has fewer
+// than some 3,000 instructions, so the kinds are in two.
+#[inline]
+#[rattlefmt::skip]
+fn act_on_two(
+    machine: &mut Machine,
+    kind: DoubleKind,
+    code: Code,
+    registers: &mut [u16; 8],
+) -> Option<u16>
+    requires { DescribesDouble kind code.word }
+    ensures some { IfSome result (λ after.
+        Executes code.word code.counter registers.old machine.old after registers.new machine.new) }
+    ensures keeps { NearKeeps machine.old machine.new }
+    ensures none { result ≡ None → machine.new ≡ machine.old }
+    ensures registers { result ≡ None → registers.new ≡ registers.old }
+{
+    match kind {
+        DoubleKind::MovRegisterRegister => to_register(machine, Mov, Word, Register, code, registers),
+        DoubleKind::MovDeferredRegister => to_register(machine, Mov, Word, Deferred, code, registers),
+        DoubleKind::MovIncrementRegister => to_register(machine, Mov, Word, Increment, code, registers),
+        DoubleKind::MovIndexRegister => to_register(machine, Mov, Word, Index, code, registers),
+        DoubleKind::MovAbsoluteRegister => to_register(machine, Mov, Word, Absolute, code, registers),
+        DoubleKind::MovRelativeRegister => to_register(machine, Mov, Word, Relative, code, registers),
+        DoubleKind::MovImmediateRegister => to_register(machine, Mov, Word, Immediate, code, registers),
+        DoubleKind::MovRegisterDeferred => to_memory(machine, Mov, Word, Register, Deferred, code, registers),
+        DoubleKind::MovRegisterIncrement => to_memory(machine, Mov, Word, Register, Increment, code, registers),
+        DoubleKind::MovRegisterDecrement => to_memory(machine, Mov, Word, Register, Decrement, code, registers),
+        DoubleKind::MovRegisterIndex => to_memory(machine, Mov, Word, Register, Index, code, registers),
+        DoubleKind::MovRegisterAbsolute => to_memory(machine, Mov, Word, Register, Absolute, code, registers),
+        DoubleKind::MovRegisterRelative => to_memory(machine, Mov, Word, Register, Relative, code, registers),
+        DoubleKind::MovDeferredDeferred => to_memory(machine, Mov, Word, Deferred, Deferred, code, registers),
+        DoubleKind::MovDeferredDecrement => to_memory(machine, Mov, Word, Deferred, Decrement, code, registers),
+        DoubleKind::MovIncrementDeferred => to_memory(machine, Mov, Word, Increment, Deferred, code, registers),
+        DoubleKind::MovIncrementIncrement => to_memory(machine, Mov, Word, Increment, Increment, code, registers),
+        DoubleKind::MovIncrementIndex => to_memory(machine, Mov, Word, Increment, Index, code, registers),
+        DoubleKind::MovIndexDeferred => to_memory(machine, Mov, Word, Index, Deferred, code, registers),
+        DoubleKind::MovIndexDecrement => to_memory(machine, Mov, Word, Index, Decrement, code, registers),
+        DoubleKind::MovIndexIndex => to_memory(machine, Mov, Word, Index, Index, code, registers),
+        DoubleKind::MovRelativeDecrement => to_memory(machine, Mov, Word, Relative, Decrement, code, registers),
+        DoubleKind::MovImmediateDecrement => to_memory(machine, Mov, Word, Immediate, Decrement, code, registers),
+        DoubleKind::MovImmediateIndex => to_memory(machine, Mov, Word, Immediate, Index, code, registers),
+        DoubleKind::MovImmediateAbsolute => to_memory(machine, Mov, Word, Immediate, Absolute, code, registers),
+        DoubleKind::MovImmediateRelative => to_memory(machine, Mov, Word, Immediate, Relative, code, registers),
+        DoubleKind::CmpRegisterRegister => to_register(machine, Cmp, Word, Register, code, registers),
+        DoubleKind::CmpDeferredRegister => to_register(machine, Cmp, Word, Deferred, code, registers),
+        DoubleKind::CmpIncrementRegister => to_register(machine, Cmp, Word, Increment, code, registers),
+        DoubleKind::CmpIndexRegister => to_register(machine, Cmp, Word, Index, code, registers),
+        DoubleKind::CmpRelativeRegister => to_register(machine, Cmp, Word, Relative, code, registers),
+        DoubleKind::CmpImmediateRegister => to_register(machine, Cmp, Word, Immediate, code, registers),
+        DoubleKind::CmpRegisterIndex => to_memory(machine, Cmp, Word, Register, Index, code, registers),
+        DoubleKind::CmpRegisterRelative => to_memory(machine, Cmp, Word, Register, Relative, code, registers),
+        DoubleKind::CmpRegisterImmediate => to_memory(machine, Cmp, Word, Register, Immediate, code, registers),
+        DoubleKind::CmpIncrementIncrement => to_memory(machine, Cmp, Word, Increment, Increment, code, registers),
+        DoubleKind::CmpIndexIndex => to_memory(machine, Cmp, Word, Index, Index, code, registers),
+        DoubleKind::CmpIndexImmediate => to_memory(machine, Cmp, Word, Index, Immediate, code, registers),
+        DoubleKind::BitRegisterRegister => to_register(machine, Bit, Word, Register, code, registers),
+        DoubleKind::BitImmediateRegister => to_register(machine, Bit, Word, Immediate, code, registers),
+        DoubleKind::BitImmediateIndex => to_memory(machine, Bit, Word, Immediate, Index, code, registers),
+        DoubleKind::BicRegisterRegister => to_register(machine, Bic, Word, Register, code, registers),
+        DoubleKind::BicImmediateRegister => to_register(machine, Bic, Word, Immediate, code, registers),
+        DoubleKind::BisRegisterRegister => to_register(machine, Bis, Word, Register, code, registers),
+        DoubleKind::BisIndexRegister => to_register(machine, Bis, Word, Index, code, registers),
+        DoubleKind::BisImmediateRegister => to_register(machine, Bis, Word, Immediate, code, registers),
+        DoubleKind::AddRegisterRegister => to_register(machine, Add, Word, Register, code, registers),
+        DoubleKind::AddDeferredRegister => to_register(machine, Add, Word, Deferred, code, registers),
+        DoubleKind::AddIncrementRegister => to_register(machine, Add, Word, Increment, code, registers),
+        DoubleKind::AddIndexRegister => to_register(machine, Add, Word, Index, code, registers),
+        DoubleKind::AddRelativeRegister => to_register(machine, Add, Word, Relative, code, registers),
+        DoubleKind::AddImmediateRegister => to_register(machine, Add, Word, Immediate, code, registers),
+        DoubleKind::AddRegisterIndex => to_memory(machine, Add, Word, Register, Index, code, registers),
+        DoubleKind::AddRegisterRelative => to_memory(machine, Add, Word, Register, Relative, code, registers),
+        DoubleKind::AddImmediateIndex => to_memory(machine, Add, Word, Immediate, Index, code, registers),
+        DoubleKind::MovbRegisterRegister => to_register(machine, Mov, Byte, Register, code, registers),
+        DoubleKind::MovbDeferredRegister => to_register(machine, Mov, Byte, Deferred, code, registers),
+        DoubleKind::MovbIncrementRegister => to_register(machine, Mov, Byte, Increment, code, registers),
+        DoubleKind::MovbIndexRegister => to_register(machine, Mov, Byte, Index, code, registers),
+        DoubleKind::MovbRegisterDeferred => to_memory(machine, Mov, Byte, Register, Deferred, code, registers),
+        DoubleKind::MovbRegisterIncrement => to_memory(machine, Mov, Byte, Register, Increment, code, registers),
+        DoubleKind::MovbRegisterIndex => to_memory(machine, Mov, Byte, Register, Index, code, registers),
+        DoubleKind::MovbIncrementIncrement => to_memory(machine, Mov, Byte, Increment, Increment, code, registers),
+        DoubleKind::MovbDecrementIncrement => to_memory(machine, Mov, Byte, Decrement, Increment, code, registers),
+        DoubleKind::MovbIndexIncrement => to_memory(machine, Mov, Byte, Index, Increment, code, registers),
+        DoubleKind::CmpbRegisterRegister => to_register(machine, Cmp, Byte, Register, code, registers),
+        DoubleKind::CmpbRegisterImmediate => to_memory(machine, Cmp, Byte, Register, Immediate, code, registers),
+        DoubleKind::CmpbDeferredImmediate => to_memory(machine, Cmp, Byte, Deferred, Immediate, code, registers),
+        DoubleKind::CmpbIncrementIncrement => to_memory(machine, Cmp, Byte, Increment, Increment, code, registers),
+        DoubleKind::CmpbIncrementImmediate => to_memory(machine, Cmp, Byte, Increment, Immediate, code, registers),
+        DoubleKind::CmpbIndexImmediate => to_memory(machine, Cmp, Byte, Index, Immediate, code, registers),
+        DoubleKind::BicbImmediateDeferred => to_memory(machine, Bic, Byte, Immediate, Deferred, code, registers),
+        DoubleKind::SubRegisterRegister => to_register(machine, Sub, Word, Register, code, registers),
+        DoubleKind::SubIncrementRegister => to_register(machine, Sub, Word, Increment, code, registers),
+        DoubleKind::SubIndexRegister => to_register(machine, Sub, Word, Index, code, registers),
+        DoubleKind::SubImmediateRegister => to_register(machine, Sub, Word, Immediate, code, registers),
+        DoubleKind::Rarer => None,
+    }
+}
+
+// What isn't an operation on two operands, by its kind; None also where it has none of its own.
+#[inline]
+#[rattlefmt::skip]
+fn act_on_others(
+    machine: &mut Machine,
+    kind: Kind,
+    code: Code,
+    registers: &mut [u16; 8],
+) -> Option<u16>
+    requires { Describes kind code.word }
+    ensures some { IfSome result (λ after.
+        Executes code.word code.counter registers.old machine.old after registers.new machine.new) }
+    ensures keeps { NearKeeps machine.old machine.new }
+    ensures none { result ≡ None → machine.new ≡ machine.old }
+    ensures registers { result ≡ None → registers.new ≡ registers.old }
+{
+    match kind {
         Kind::ClrRegister => on_one(machine, Clr, Word, Register, code, registers),
+        Kind::ClrDeferred => on_one(machine, Clr, Word, Deferred, code, registers),
+        Kind::ClrIncrement => on_one(machine, Clr, Word, Increment, code, registers),
+        Kind::ClrDecrement => on_one(machine, Clr, Word, Decrement, code, registers),
         Kind::ClrIndex => on_one(machine, Clr, Word, Index, code, registers),
+        Kind::ClrRelative => on_one(machine, Clr, Word, Relative, code, registers),
         Kind::ComRegister => on_one(machine, Com, Word, Register, code, registers),
         Kind::IncRegister => on_one(machine, Inc, Word, Register, code, registers),
+        Kind::IncDeferred => on_one(machine, Inc, Word, Deferred, code, registers),
         Kind::IncIndex => on_one(machine, Inc, Word, Index, code, registers),
         Kind::IncAbsolute => on_one(machine, Inc, Word, Absolute, code, registers),
+        Kind::IncRelative => on_one(machine, Inc, Word, Relative, code, registers),
         Kind::DecRegister => on_one(machine, Dec, Word, Register, code, registers),
         Kind::DecDeferred => on_one(machine, Dec, Word, Deferred, code, registers),
         Kind::DecIndex => on_one(machine, Dec, Word, Index, code, registers),
+        Kind::DecRelative => on_one(machine, Dec, Word, Relative, code, registers),
         Kind::NegRegister => on_one(machine, Neg, Word, Register, code, registers),
         Kind::AdcRegister => on_one(machine, Adc, Word, Register, code, registers),
         Kind::SbcRegister => on_one(machine, Sbc, Word, Register, code, registers),
         Kind::TstRegister => on_one(machine, Tst, Word, Register, code, registers),
+        Kind::TstDeferred => on_one(machine, Tst, Word, Deferred, code, registers),
+        Kind::TstIncrement => on_one(machine, Tst, Word, Increment, code, registers),
         Kind::TstIndex => on_one(machine, Tst, Word, Index, code, registers),
+        Kind::TstRelative => on_one(machine, Tst, Word, Relative, code, registers),
         Kind::RorRegister => on_one(machine, Ror, Word, Register, code, registers),
         Kind::RolRegister => on_one(machine, Rol, Word, Register, code, registers),
         Kind::AsrRegister => on_one(machine, Asr, Word, Register, code, registers),
         Kind::AslRegister => on_one(machine, Asl, Word, Register, code, registers),
+        Kind::SxtRegister => on_one(machine, Sxt, Word, Register, code, registers),
+        Kind::SwabRegister => on_one(machine, Swab, Word, Register, code, registers),
         Kind::TstbRegister => on_one(machine, Tst, Byte, Register, code, registers),
         Kind::TstbDeferred => on_one(machine, Tst, Byte, Deferred, code, registers),
         Kind::TstbIncrement => on_one(machine, Tst, Byte, Increment, code, registers),
@@ -154,8 +237,14 @@ pub(crate) fn act(
         Kind::Rts => return_to(machine, code, registers),
         Kind::Clc => on_carry(machine, ConditionOp::Clear, code, registers),
         Kind::Sec => on_carry(machine, ConditionOp::Set, code, registers),
-        Kind::Mul => product(machine, code, registers),
-        Kind::Rarer => rarer(machine, code, registers),
+        Kind::MulRegister => product(machine, Register, code, registers),
+        Kind::MulDeferred => product(machine, Deferred, code, registers),
+        Kind::MulIncrement => product(machine, Increment, code, registers),
+        Kind::MulIndex => product(machine, Index, code, registers),
+        Kind::MulAbsolute => product(machine, Absolute, code, registers),
+        Kind::MulRelative => product(machine, Relative, code, registers),
+        Kind::MulImmediate => product(machine, Immediate, code, registers),
+        _ => None,
     }
 }
 
@@ -358,8 +447,8 @@ fn on_carry(
 
 // MUL.
 #[inline(always)]
-fn product(machine: &mut Machine, code: Code, registers: &mut [u16; 8]) -> Option<u16>
-    requires { IsProduct code.word }
+fn product(machine: &mut Machine, source: Form, code: Code, registers: &mut [u16; 8]) -> Option<u16>
+    requires { IsProduct source code.word }
     ensures some { IfSome result (λ after.
         Executes code.word code.counter registers.old machine.old after registers.new machine.new) }
     ensures keeps { NearKeeps machine.old machine.new }
@@ -367,14 +456,14 @@ fn product(machine: &mut Machine, code: Code, registers: &mut [u16; 8]) -> Optio
     ensures registers { result ≡ None → registers.new ≡ registers.old }
 {
     let register = m11_base_instructions::Register::of_bits(code.word / 0o100);
-    let source = Operand::of_bits(code.word);
-    let after = multiply(machine, register, source, registers, code.counter)?;
+    let operand = Operand::of_bits(code.word);
+    let after = multiply(machine, register, source, operand, registers, code.counter)?;
     Some(after)
 }
 
-// An instruction of none of the other kinds, where it is an operation on one operand or two.
+/// An instruction without a kind of its own, where it is an operation on one operand or two.
 #[inline(always)]
-fn rarer(machine: &mut Machine, code: Code, registers: &mut [u16; 8]) -> Option<u16>
+pub(crate) fn rarer(machine: &mut Machine, code: Code, registers: &mut [u16; 8]) -> Option<u16>
     ensures some { IfSome result (λ after.
         Executes code.word code.counter registers.old machine.old after registers.new machine.new) }
     ensures keeps { NearKeeps machine.old machine.new }

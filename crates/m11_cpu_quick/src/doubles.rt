@@ -51,7 +51,9 @@ pub(crate) fn double_to_register(
 
 /// An operation whose destination lies in memory: the program counter after it; None where source or destination isn't
 /// plain, and nothing changes.
-#[inline(always)]
+// speed: with `inline(always)` here `to_memory` would be so large that the compiler drops the hint on it, and all operations
+// would share one call.
+#[inline]
 pub(crate) fn double_to_memory(
     machine: &mut Machine,
     operation: DoubleOp,

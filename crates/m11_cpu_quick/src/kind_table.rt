@@ -22,7 +22,7 @@ impl Model for KindTable {
 }
 
 impl KindTable {
-    /// The kinds of all words. It takes no memory but that of the table itself, 64 KiB.
+    /// The kinds of all words. It takes no memory but that of the table itself, 128 KiB.
     pub fn new() -> KindTable {
         let mut of_words = [Kind::Rarer; 65536];
         'words: for word in 0..65536u32 {

@@ -3,6 +3,7 @@
 #![tactic(auto)]
 
 // The kinds of instructions, and a table of the kind of each word.
+mod double_kinds;
 mod kind_table;
 mod kinds;
 

@@ -10,7 +10,7 @@ ghost use Rattle.m11_cpu_machine.specs.declared.stop.Turn.TheVariants.{Next};
 ghost use Rattle.m11_cpu_quick.specs.Beside.{shown};
 ghost use Rattle.m11_cpu_quick.specs.Quick.{QuickRuns, StepsAtOnce};
 
-use crate::arms::{Code, act};
+use crate::arms::{Code, act, rarer};
 use crate::kind_table::KindTable;
 use crate::operands::{following, hold};
 use core::mem;
@@ -50,13 +50,23 @@ fn steps_of(start: Machine, kinds: &KindTable, limit: u32) -> (Machine, u32)
     'steps: for done in 0..limit {
         match quick_step(&mut machine, kinds, &mut registers, counter) {
             Some(after) => counter = after,
-            None => return (put_back(machine, registers, counter), done),
+            None => {
+                // speed: what is moved out and back may lie in the host's registers. A call with a reference to `machine`
+                // would keep it in memory during the whole loop.
+                let mut apart = machine;
+                let made = rarer_step(&mut apart, &mut registers, counter);
+                machine = apart;
+                match made {
+                    Some(after) => counter = after,
+                    None => return (put_back(machine, registers, counter), done),
+                }
+            }
         }
     }
     (put_back(machine, registers, counter), limit)
 }
 
-// One step: the program counter after it.
+// One step: the program counter after it; None also for an instruction without a kind of its own.
 #[inline(always)]
 fn quick_step(
     machine: &mut Machine,
@@ -77,6 +87,25 @@ fn quick_step(
         counter: counter.wrapping_add(2),
     };
     let after = act(machine, kinds.kind(word), code, registers)?;
+    Some(after)
+}
+
+// One step of an instruction without a kind of its own: the program counter after it.
+#[inline(never)]
+fn rarer_step(machine: &mut Machine, registers: &mut [u16; 8], counter: u16) -> Option<u16>
+    requires { QuickRuns machine.old }
+    ensures some { IfSome result (λ after.
+        step (shown counter registers.old machine.old) ≡ Comes (Next, shown after registers.new machine.new)) }
+    ensures runs { QuickRuns machine.new }
+    ensures none { result ≡ None → machine.new ≡ machine.old }
+    ensures registers { result ≡ None → registers.new ≡ registers.old }
+{
+    let word = following(machine, Size::Word, counter)?;
+    let code = Code {
+        word,
+        counter: counter.wrapping_add(2),
+    };
+    let after = rarer(machine, code, registers)?;
     Some(after)
 }
 

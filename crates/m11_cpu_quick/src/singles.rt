@@ -48,7 +48,9 @@ pub(crate) fn single(
 }
 
 // CLR, CLRB and SXT: the operand is not read.
-#[inline(always)]
+// speed: with `inline(always)` here `single` would be so large that the compiler drops the hint on it, and all operations
+// would share one call.
+#[inline]
 fn write(
     machine: &mut Machine,
     operation: SingleOp,
@@ -87,7 +89,9 @@ fn write(
 }
 
 // TST and TSTB: nothing is stored.
-#[inline(always)]
+// speed: with `inline(always)` here `single` would be so large that the compiler drops the hint on it, and all operations
+// would share one call.
+#[inline]
 fn test(
     machine: &mut Machine,
     operation: SingleOp,
@@ -111,7 +115,9 @@ fn test(
 }
 
 // An operation that changes its operand.
-#[inline(always)]
+// speed: with `inline(always)` here `single` would be so large that the compiler drops the hint on it, and all operations
+// would share one call.
+#[inline]
 fn change(
     machine: &mut Machine,
     operation: SingleOp,
