@@ -90,7 +90,8 @@ fn quick_step(
     Some(after)
 }
 
-// One step of an instruction without a kind of its own: the program counter after it.
+// One step of an instruction that has no kind of its own: the program counter after it. It is also asked where the arm of a
+// kind gave up, as at the console, and then gives up too.
 #[inline(never)]
 fn rarer_step(machine: &mut Machine, registers: &mut [u16; 8], counter: u16) -> Option<u16>
     requires { QuickRuns machine.old }

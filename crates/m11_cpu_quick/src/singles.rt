@@ -13,6 +13,8 @@ use m11_base_instructions::{Operand, SingleOp, Size};
 use m11_cpu_machine::{DestinationUse, Machine, use_by_single};
 
 /// An operation on one operand: the program counter after it; None where the operand isn't plain, and nothing changes.
+// speed: the functions called here have `inline` alone. With `inline(always)` on them this one would be so large that the
+// compiler drops its hint, and all operations would share one call.
 #[inline(always)]
 pub(crate) fn single(
     machine: &mut Machine,
@@ -48,8 +50,6 @@ pub(crate) fn single(
 }
 
 // CLR, CLRB and SXT: the operand is not read.
-// speed: with `inline(always)` here `single` would be so large that the compiler drops the hint on it, and all operations
-// would share one call.
 #[inline]
 fn write(
     machine: &mut Machine,
@@ -89,8 +89,6 @@ fn write(
 }
 
 // TST and TSTB: nothing is stored.
-// speed: with `inline(always)` here `single` would be so large that the compiler drops the hint on it, and all operations
-// would share one call.
 #[inline]
 fn test(
     machine: &mut Machine,
@@ -115,8 +113,6 @@ fn test(
 }
 
 // An operation that changes its operand.
-// speed: with `inline(always)` here `single` would be so large that the compiler drops the hint on it, and all operations
-// would share one call.
 #[inline]
 fn change(
     machine: &mut Machine,
