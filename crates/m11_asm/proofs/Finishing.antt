@@ -8,7 +8,7 @@ use Rattle.m11_asm_outputs.specs.Outputs.{Gains, Writes, assembly}
 use Rattle.m11_base_writes.specs.Outputs.{AreFlushed, Outputs, Write}
 use Rattle.m11_asm.specs.Facts.{Facts}
 use Rattle.m11_asm.specs.First.{Symbols}
-use Rattle.m11_scan_lines.specs.Line.{SourceLine}
+use Rattle.m11_scan.specs.Line.{SourceLine}
 use Rattle.m11_asm_passes.specs.Lines.{NumberedLine}
 use Rattle.m11_asm_passes.specs.States.{PassState, PassAfter}
 use Rattle.m11_asm_pass_laws.proofs.Counting.{at_most}
@@ -18,7 +18,7 @@ use Rattle.m11_asm_rules.specs.Tables.{Table, location}
 use Rattle.m11_asm_rules.specs.declared.modes.Modes.{Modes}
 use Rattle.m11_asm_lines.specs.UsedSymbols.{UsedNames}
 use Rattle.m11_asm_lines.specs.Passes.{TableState}
-use Rattle.m11_asm_table.specs.Alike.{Alike}
+use Rattle.m11_asm_rules.specs.Alike.{Alike}
 use Rattle.m11_unfold_rules.specs.Limits.{most_lines}
 use Rattle.m11_unfold_rules.specs.Stages.{start}
 use Rattle.m11_base_writes.proofs.Writing.{writes_then}

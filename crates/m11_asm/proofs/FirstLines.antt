@@ -7,11 +7,11 @@ use Rattle.m11_asm_faults.specs.declared.fault.AsmFault.TheVariants as fault
 use Rattle.m11_base.specs.Feed.{NoneFailed, Text}
 use Rattle.m11_asm.specs.First.{AreFactsOf, FirstFails, FirstAfter, FirstState, FirstReadsLine, Symbols, line_state, symbols_of}
 use Rattle.m11_asm.proofs.Counting.{one_longer}
-use Rattle.m11_scan_lines.specs.Line.{SourceLine}
-use Rattle.m11_scan_lines.specs.Lines.{most_lines}
-use Rattle.m11_scan_lines.specs.Reader.{LineReading, ReadsNext, position, unread}
-use Rattle.m11_scan_lines.specs.declared.fault.LineFault.{LineFault}
-use Rattle.m11_scan_lines.specs.declared.fault.LineFault.TheVariants.{Read, TooMuchSource, TooManyLines}
+use Rattle.m11_scan.specs.Line.{SourceLine}
+use Rattle.m11_scan.specs.Lines.{most_lines}
+use Rattle.m11_scan.specs.Reader.{LineReading, ReadsNext, position, unread}
+use Rattle.m11_scan.specs.declared.fault.LineFault.{LineFault}
+use Rattle.m11_scan.specs.declared.fault.LineFault.TheVariants.{Read, TooMuchSource, TooManyLines}
 use Rattle.m11_asm_passes.specs.Lines as lines
 use Rattle.m11_asm_passes.specs.Lines.{with_line}
 use Rattle.m11_asm_rules.specs.Meanings.{empty_map}
@@ -22,7 +22,7 @@ use Rattle.m11_asm.specs.Extents.{GivesToEnd}
 use Rattle.m11_asm.specs.FirstReading.{FirstStops, FirstTaken, GivesSymbols, ReadsLines}
 use Rattle.m11_asm.specs.Outcome as outcome
 use Rattle.m11_asm.specs.Outcome.{Unended}
-use Rattle.m11_base_pass_rules.specs.Passes.{Pass, pass_of}
+use Rattle.m11_base_writes.specs.Passes.{Pass, pass_of}
 use Rattle.m11_asm.specs.Passes.{ReadsFirst}
 use Rattle.m11_asm.proofs.LinesRead.{Begun, SoFar, begun, failed, few_read, lines_given, one_more, reader_begins, too_many, too_much}
 use Rattle.m11_asm.proofs.LinesTaken.{IsAfterSoFar, ends_by, given_to_end, given_to_fault, taken_to_end, taken_wholly, unended_so}

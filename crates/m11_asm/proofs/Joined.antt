@@ -15,7 +15,7 @@ use Rattle.m11_asm.specs.Extents.{AsmGives, GivesToEnd, SecondGives}
 use Rattle.m11_asm.specs.FirstReading.{GivesSymbols}
 use Rattle.m11_asm.specs.Outcome as outcome
 use Rattle.m11_asm.specs.Outcome.{Assembled, HasOutcome}
-use Rattle.m11_base_pass_rules.specs.Passes.{Pass}
+use Rattle.m11_base_writes.specs.Passes.{Pass}
 use Rattle.m11_asm.specs.Passes.{Reads, ReadsFirst, ReadsSecond}
 use Rattle.m11_asm.specs.Run.{AsmRuns, AsmRunsOr}
 use Rattle.m11_asm.proofs.FirstLines.{first_gives, first_reads}

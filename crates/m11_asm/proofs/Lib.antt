@@ -1,3 +1,8 @@
+mod Needed
+mod Numbering
+mod SameEntries
+pub mod LinesListed
+pub mod ListedLines
 mod Counting
 mod FactsFound
 mod Finishing

@@ -3,17 +3,17 @@ use Rattle.std.proofs.Common.{◌≡◌, ◌∙◌, ◌≤◌, ℕ, List, [], �
 use Rattle.std.proofs.lemmas.List.{length-map}
 use Rattle.std.proofs.lemmas.List.Sums.{length-filter}
 use Rattle.m11_base.specs.Feed.{Text}
-use Rattle.m11_scan_lines.specs.Line.{SourceLine, line_of}
-use Rattle.m11_scan_lines.specs.Lines.{RawLine, is_line, line_text, lines_in, most_lines}
-use Rattle.m11_scan_lines.specs.Reader.{LineReading, ReadsNext, position, unread}
-use Rattle.m11_scan_lines.specs.declared.fault.LineFault.TheVariants.{Read, TooMuchSource, TooManyLines}
+use Rattle.m11_scan.specs.Line.{SourceLine, line_of}
+use Rattle.m11_scan.specs.Lines.{RawLine, is_line, line_text, lines_in, most_lines}
+use Rattle.m11_scan.specs.Reader.{LineReading, ReadsNext, position, unread}
+use Rattle.m11_scan.specs.declared.fault.LineFault.TheVariants.{Read, TooMuchSource, TooManyLines}
 use Rattle.m11_scan_line_laws.specs.Calls.{BeginReading, HasRead, start}
 use Rattle.m11_scan_line_laws.specs.Readings.{Reading, lines_of, reading_of}
 use Rattle.m11_scan_line_laws.specs.Extents.{GaveAll, GaveLines, GavePast, GaveTill}
 use Rattle.m11_scan_line_laws.proofs.Feeds as feeds
 use Rattle.m11_scan_line_laws.proofs.HowFar as how_far
 use Rattle.m11_scan_line_laws.proofs.Reached.{begins, goes_on}
-use Rattle.m11_base_pass_rules.specs.Passes.{Pass, pass_of}
+use Rattle.m11_base_writes.specs.Passes.{Pass, pass_of}
 use Rattle.m11_asm.specs.Passes.{Reads, ReadsTill}
 
 -- the lines begin a reading of what the feeds give

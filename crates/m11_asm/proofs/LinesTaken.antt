@@ -2,10 +2,10 @@
 use Rattle.std.proofs.Common.{◌≡◌, ◌∙◌, Bool, true, false, List, [], length, Option, None, Ok, Err, ℕ, refl, sym, ap, subst}
 use Rattle.m11_asm_faults.specs.Faults.{of_lines}
 use Rattle.m11_base.specs.Feed.{Text}
-use Rattle.m11_scan_lines.specs.Line.{SourceLine}
-use Rattle.m11_scan_lines.specs.Reader.{LineReading, ReadsNext, position}
-use Rattle.m11_scan_lines.specs.declared.fault.LineFault.{LineFault}
-use Rattle.m11_scan_lines.specs.declared.fault.LineFault.TheVariants.{Read, TooMuchSource, TooManyLines}
+use Rattle.m11_scan.specs.Line.{SourceLine}
+use Rattle.m11_scan.specs.Reader.{LineReading, ReadsNext, position}
+use Rattle.m11_scan.specs.declared.fault.LineFault.{LineFault}
+use Rattle.m11_scan.specs.declared.fault.LineFault.TheVariants.{Read, TooMuchSource, TooManyLines}
 use Rattle.m11_scan_line_laws.specs.Readings.{Reading}
 use Rattle.m11_unfold_rules.specs.Stages.{Stage}
 use Rattle.m11_asm_rules.specs.Meanings.{Map}
@@ -15,7 +15,7 @@ use Rattle.m11_asm.specs.Extents as extents
 use Rattle.m11_asm.specs.Extents.{GivesToEnd, GivesToFault, HaveGiven}
 use Rattle.m11_asm.specs.Outcome as outcome
 use Rattle.m11_asm.specs.Outcome.{Ends, Unended}
-use Rattle.m11_base_pass_rules.specs.Passes.{Pass, pass_of}
+use Rattle.m11_base_writes.specs.Passes.{Pass, pass_of}
 use Rattle.m11_asm.specs.SourceRead.{AreLinesRead, SourceRead}
 use Rattle.m11_asm.specs.LinesDone.{LineState, LinesDone}
 use Rattle.m11_asm.specs.Written.{EndOfSource}

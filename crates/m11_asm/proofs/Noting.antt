@@ -28,7 +28,7 @@ use Rattle.m11_asm_lines.proofs.Alike.{alike_known, alike_location}
 use Rattle.m11_asm_lines.specs.Actions.{action_seen}
 use Rattle.m11_asm_lines.specs.declared.actions.Action as code
 use Rattle.m11_asm_lines.specs.declared.actions.Action.TheVariants as seen
-use Rattle.m11_asm_table.specs.Alike.{Alike}
+use Rattle.m11_asm_rules.specs.Alike.{Alike}
 use Rattle.m11_asm_passes.specs.Placed.{IsLive}
 use Rattle.m11_asm_passes.specs.declared.placed.LiveLine.{LiveLine}
 use Rattle.m11_asm.specs.Facts.{Facts, each_once, with_line}

@@ -8,7 +8,7 @@ use Rattle.m11_asm_directory.specs.Rows.{directory_rows}
 use Rattle.m11_asm.specs.Facts.{Facts}
 use Rattle.m11_asm.specs.First.{AreFactsOf, FirstState, symbols_of}
 use Rattle.m11_asm.specs.LinesDone.{LiveLinesDone}
-use Rattle.m11_scan_lines.specs.Line.{SourceLine}
+use Rattle.m11_scan.specs.Line.{SourceLine}
 use Rattle.m11_asm_pass_laws.proofs.MapsAlike.{maps_same}
 use Rattle.m11_asm_passes.specs.Lines.{NumberedLine, givens}
 use Rattle.m11_asm_rules.specs.Limits.{most_sections}
@@ -16,8 +16,8 @@ use Rattle.m11_asm_lines.specs.Counting.{used_names_in, none_used}
 use Rattle.m11_asm_rules.specs.Meanings.{empty_map}
 use Rattle.m11_asm_lines.specs.UsedSymbols.{UsedNames}
 use Rattle.m11_asm.specs.Program.{all_names, used_in, program_in, program_kept, program_of, directory_facts_in, directory_facts_of}
-use Rattle.m11_asm_symbol_list.specs.Sections.{section_entries}
-use Rattle.m11_asm_symbol_list.specs.Symbols.{symbol_entries}
+use Rattle.m11_asm.specs.Sections.{section_entries}
+use Rattle.m11_asm.specs.Symbols.{symbol_entries}
 use Rattle.m11_asm.proofs.ProgramsAlike.{AlikePrograms}
 
 -- the laws of first passes that say the same: they have the same rows, names and sections

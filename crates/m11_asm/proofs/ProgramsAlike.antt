@@ -10,8 +10,8 @@ use Rattle.m11_asm_outputs.specs.Object.{content_writes, head_contents, records_
 use Rattle.m11_asm_outputs.specs.Outputs.{Gains, StopsBetween, StopsIn}
 use Rattle.m11_base_writes.specs.Outputs.{Outputs, Write}
 use Rattle.m11_base.specs.Devices.{Bytes}
-use Rattle.m11_scan_lines.specs.Line.{SourceLine}
-use Rattle.m11_asm_listing_writes.specs.Listed.{all_to_listing, lines_of, listing_writes}
+use Rattle.m11_scan.specs.Line.{SourceLine}
+use Rattle.m11_asm.specs.Listed.{all_to_listing, lines_of, listing_writes}
 use Rattle.m11_asm_listing.specs.Listing.{listed_lines}
 use Rattle.m11_asm_listing.specs.declared.items.Item.{Item}
 use Rattle.m11_asm_listing.specs.declared.symbol_table.SectionEntry.{SectionEntry}
@@ -19,8 +19,8 @@ use Rattle.m11_asm_listing.specs.declared.symbol_table.SymbolEntry.{SymbolEntry}
 use Rattle.m11_asm_pass_laws.specs.Maps.{MapsAgree}
 use Rattle.m11_asm_pass_laws.proofs.LiveLines.{exceeds_same, pass_lines_same, table_at_same}
 use Rattle.m11_asm_pass_laws.proofs.MapsAlike.{after_line_same, all_flags_same, items_same, pieces_same}
-use Rattle.m11_obj_texts.specs.declared.directory.DirectoryRow.{DirectoryRow}
-use Rattle.m11_obj_texts.specs.declared.pieces.Piece.{Piece}
+use Rattle.m11_obj.specs.declared.directory.DirectoryRow.{DirectoryRow}
+use Rattle.m11_obj.specs.declared.pieces.Piece.{Piece}
 use Rattle.m11_asm_passes.specs.Lines.{NumberedLine, PassLines, givens, table_at}
 use Rattle.m11_asm_passes.specs.Placed.{all_flags}
 use Rattle.m11_asm_passes.specs.Reaching.{Exceeds}
@@ -43,7 +43,7 @@ use Rattle.m11_asm.specs.Extents.{GivesToEnd, GivesToFault, GivesToStop, SecondG
 use Rattle.m11_asm.specs.Outcome as outcome
 use Rattle.m11_asm.specs.Outcome.{Ends, Refuses, Unended}
 use Rattle.m11_asm.specs.Passes as passes
-use Rattle.m11_base_pass_rules.specs.Passes.{Pass}
+use Rattle.m11_base_writes.specs.Passes.{Pass}
 use Rattle.m11_asm.specs.Passes.{AreWrites, ReadsSecond, StopsAmongWrites}
 use Rattle.m11_asm_lines.specs.declared.counting.Counting.TheVariants.{Definitions}
 

@@ -14,15 +14,15 @@ use Rattle.m11_base.specs.Devices.{Bytes}
 use Rattle.m11_base.specs.Rad50.{Name}
 use Rattle.m11_asm_directory.specs.Rows.{directory_rows}
 use Rattle.m11_asm.specs.Facts.{Facts}
-use Rattle.m11_asm_listing_writes.specs.Listed.{all_to_listing, listing_writes}
+use Rattle.m11_asm.specs.Listed.{all_to_listing, listing_writes}
 use Rattle.m11_asm_listing.specs.Messages.{message_line}
 use Rattle.m11_asm_listing.specs.SymbolTable.{last_lines}
 use Rattle.m11_asm_listing.specs.declared.symbol_table.SectionEntry.{SectionEntry}
 use Rattle.m11_asm_listing.specs.declared.symbol_table.SymbolEntry.{SymbolEntry}
-use Rattle.m11_obj_texts.specs.Texts.{TextParts}
-use Rattle.m11_obj_texts.specs.declared.directory.DirectoryRow.{DirectoryRow}
-use Rattle.m11_obj_texts.specs.declared.pieces.Piece.{Piece}
-use Rattle.m11_obj_texts.specs.declared.pieces.PieceContent.{PieceContent}
+use Rattle.m11_obj.specs.Texts.{TextParts}
+use Rattle.m11_obj.specs.declared.directory.DirectoryRow.{DirectoryRow}
+use Rattle.m11_obj.specs.declared.pieces.Piece.{Piece}
+use Rattle.m11_obj.specs.declared.pieces.PieceContent.{PieceContent}
 use Rattle.m11_asm_passes.specs.Lines.{NumberedLine, table_at}
 use Rattle.m11_asm_passes.specs.Placed.{IsPlaced, all_flags}
 use Rattle.m11_asm_passes.specs.declared.placed.PlacedLine.{PlacedLine}
@@ -36,8 +36,8 @@ use Rattle.m11_asm_lines.specs.UsedSymbols.{UsedNames}
 use Rattle.m11_asm_lines.specs.Passes.{TableState}
 use Rattle.m11_scan.specs.ErrorFlags.{flags_text}
 use Rattle.m11_scan.specs.Views.{bits_of}
-use Rattle.m11_asm_symbol_list.specs.Sections.{section_entries}
-use Rattle.m11_asm_symbol_list.specs.Symbols.{symbol_entries}
+use Rattle.m11_asm.specs.Sections.{section_entries}
+use Rattle.m11_asm.specs.Symbols.{symbol_entries}
 use Rattle.m11_unfold_rules.specs.Taking.{Live}
 use Rattle.m11_scan_expressions.specs.Quantities.{Quantity}
 use Rattle.m11_base_writes.proofs.Writing.{gains_nothing, stops_after, stops_before, writes_then}

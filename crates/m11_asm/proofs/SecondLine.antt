@@ -6,8 +6,8 @@ use Rattle.m11_asm_faults.specs.declared.fault.AsmFault.{AsmFault}
 use Rattle.m11_asm_faults.specs.declared.fault.AsmFault.TheVariants as fault
 use Rattle.m11_base_writes.specs.Outputs.{Outputs}
 use Rattle.m11_asm.proofs.Counting.{one_longer}
-use Rattle.m11_scan_lines.specs.Line.{SourceLine}
-use Rattle.m11_scan_lines.specs.Lines.{most_lines}
+use Rattle.m11_scan.specs.Line.{SourceLine}
+use Rattle.m11_scan.specs.Lines.{most_lines}
 use Rattle.m11_asm_passes.specs.Lines as lines
 use Rattle.m11_asm_passes.specs.Lines.{NumberedLine, with_line}
 use Rattle.m11_asm_passes.specs.States.{PassState, SourcePassState, fed}

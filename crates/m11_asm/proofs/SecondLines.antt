@@ -8,11 +8,11 @@ use Rattle.m11_asm_faults.specs.declared.fault.AsmFault.TheVariants as fault
 use Rattle.m11_asm_outputs.specs.Outputs.{StopsBetween, StopsIn, Writes, assembly}
 use Rattle.m11_base_writes.specs.Outputs.{AreFlushed, Outputs, Write}
 use Rattle.m11_base.specs.Feed.{Text}
-use Rattle.m11_scan_lines.specs.Line.{SourceLine}
-use Rattle.m11_scan_lines.specs.Lines.{most_lines}
-use Rattle.m11_scan_lines.specs.Reader.{LineReading, ReadsNext, position, unread}
-use Rattle.m11_scan_lines.specs.declared.fault.LineFault.{LineFault}
-use Rattle.m11_scan_lines.specs.declared.fault.LineFault.TheVariants.{Read, TooMuchSource, TooManyLines}
+use Rattle.m11_scan.specs.Line.{SourceLine}
+use Rattle.m11_scan.specs.Lines.{most_lines}
+use Rattle.m11_scan.specs.Reader.{LineReading, ReadsNext, position, unread}
+use Rattle.m11_scan.specs.declared.fault.LineFault.{LineFault}
+use Rattle.m11_scan.specs.declared.fault.LineFault.TheVariants.{Read, TooMuchSource, TooManyLines}
 use Rattle.m11_asm_passes.specs.Lines as lines
 use Rattle.m11_scan_line_laws.specs.Extents.{GaveLines}
 use Rattle.m11_asm.specs.Program.{Program}
@@ -26,7 +26,7 @@ use Rattle.m11_asm.specs.Extents.{GivesToEnd, GivesToStop, HaveGiven}
 use Rattle.m11_asm.specs.Outcome as outcome
 use Rattle.m11_asm.specs.Outcome.{Ends, Unended}
 use Rattle.m11_asm.specs.Passes as passes
-use Rattle.m11_base_pass_rules.specs.Passes.{Pass, pass_of}
+use Rattle.m11_base_writes.specs.Passes.{Pass, pass_of}
 use Rattle.m11_asm.specs.Passes.{ReadsSecond, StopsAmongWrites}
 use Rattle.m11_asm.specs.SecondReading.{PutsAll, SecondTaken}
 use Rattle.m11_asm.proofs.LinesRead.{Begun, SoFar, begun, failed, few_read, lines_given, one_more, reader_begins, too_many, too_much}

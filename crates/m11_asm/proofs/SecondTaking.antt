@@ -4,8 +4,8 @@ use Rattle.m11_asm_faults.specs.declared.fault.AsmFault.{AsmFault}
 use Rattle.m11_asm_faults.specs.declared.fault.AsmFault.TheVariants as fault
 use Rattle.m11_asm_outputs.specs.Outputs.{Gains, Stops, StopsBetween, assembly}
 use Rattle.m11_base_writes.specs.Outputs.{Outputs, Write}
-use Rattle.m11_scan_lines.specs.Line.{SourceLine}
-use Rattle.m11_obj_texts.specs.declared.pieces.PieceContent.{PieceContent}
+use Rattle.m11_scan.specs.Line.{SourceLine}
+use Rattle.m11_obj.specs.declared.pieces.PieceContent.{PieceContent}
 use Rattle.m11_asm_passes.specs.Lines.{NumberedLine, numbered, table_at}
 use Rattle.m11_asm_passes.specs.Placed.{IsPlaced, live_in}
 use Rattle.m11_asm_passes.specs.Reaching.{PlacesLine, Reaches, Refused}

@@ -4,7 +4,7 @@ use Rattle.m11_asm_faults.specs.declared.fault.AsmFault.{AsmFault}
 use Rattle.m11_asm.specs.First.{FirstAfter, FirstState, Symbols, symbols_of}
 use Rattle.m11_asm_rules.specs.Meanings.{empty_map}
 use Rattle.m11_asm.specs.Extents.{GivesToFault}
-use Rattle.m11_base_pass_rules.specs.Passes.{Pass}
+use Rattle.m11_base_writes.specs.Passes.{Pass}
 use Rattle.m11_asm.specs.Passes.{ReadsFirst}
 use Rattle.m11_asm.specs.SourceRead.{SourceRead}
 use Rattle.m11_asm_lines.specs.Counting.{none_used}

@@ -1,3 +1,8 @@
+pub mod Sections
+pub mod Symbols
+pub mod Values
+pub mod Worked
+pub mod Listed
 pub mod Extents
 pub mod Facts
 pub mod First

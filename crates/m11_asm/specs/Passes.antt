@@ -6,8 +6,8 @@ use Rattle.m11_asm_faults.specs.declared.fault.AsmFault.TheVariants as fault
 use Rattle.m11_asm_outputs.specs.Outputs.{Gains, StopsBetween, StopsIn}
 use Rattle.m11_base_writes.specs.Outputs.{AreFlushed, Outputs, Write}
 use Rattle.m11_base.specs.Feed.{NoneFailed}
-use Rattle.m11_base_pass_rules.specs.Passes.{Pass}
-use Rattle.m11_scan_lines.specs.Line.{SourceLine}
+use Rattle.m11_base_writes.specs.Passes.{Pass}
+use Rattle.m11_scan.specs.Line.{SourceLine}
 use Rattle.m11_asm_passes.specs.Lines.{NumberedLine, PassLines}
 use Rattle.m11_asm_rules.specs.Meanings.{empty_map}
 use Rattle.m11_asm_lines.specs.Counting.{none_used}

@@ -8,7 +8,7 @@ use Rattle.m11_asm.specs.Facts.{Facts, facts_of}
 use Rattle.m11_asm.specs.First.{Symbols}
 use Rattle.m11_asm_listing.specs.declared.symbol_table.SectionEntry.{SectionEntry}
 use Rattle.m11_asm_listing.specs.declared.symbol_table.SymbolEntry.{SymbolEntry}
-use Rattle.m11_obj_texts.specs.declared.directory.DirectoryRow.{DirectoryRow}
+use Rattle.m11_obj.specs.declared.directory.DirectoryRow.{DirectoryRow}
 use Rattle.m11_asm_passes.specs.Lines.{counting_after}
 use Rattle.m11_asm_rules.specs.Meanings.{Map, empty_map, map_of}
 use Rattle.m11_asm_rules.specs.Placements.{program_map, table_after}
@@ -17,8 +17,8 @@ use Rattle.m11_asm_rules.specs.Tables.{first_table}
 use Rattle.m11_asm_lines.specs.Counting.{used_names_in, none_used}
 use Rattle.m11_asm_lines.specs.UsedSymbols.{UsedNames}
 use Rattle.m11_asm_lines.specs.Passes.{TableState}
-use Rattle.m11_asm_symbol_list.specs.Sections.{section_entries}
-use Rattle.m11_asm_symbol_list.specs.Symbols.{symbol_entries}
+use Rattle.m11_asm.specs.Sections.{section_entries}
+use Rattle.m11_asm.specs.Symbols.{symbol_entries}
 use Rattle.m11_unfold_rules.specs.Unfolding.{UnfoldedLine}
 use Rattle.m11_scan_expressions.specs.Quantities.{Quantity}
 

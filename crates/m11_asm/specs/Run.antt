@@ -5,7 +5,7 @@ use Rattle.m11_base_writes.specs.Outputs.{Outputs}
 use Rattle.m11_asm_passes.specs.Lines.{NumberedLine, givens}
 use Rattle.m11_asm.specs.Program.{program_of}
 use Rattle.m11_asm.specs.declared.done.AsmDone.{AsmDone}
-use Rattle.m11_base_pass_rules.specs.Passes.{Pass}
+use Rattle.m11_base_writes.specs.Passes.{Pass}
 use Rattle.m11_asm.specs.Passes.{ReadsFirst, ReadsSecond}
 
 -- the second pass under what the first one gives; or the fault of the first pass, and then the feeds of the second are as they were and

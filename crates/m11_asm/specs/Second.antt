@@ -3,8 +3,8 @@
 use Rattle.std.specs.Prelude.{◌≡◌, ◌⊎◌, ℕ, ◌+◌, Bool, true, false, List, [], ◌∷◌, ◌++◌, length, Option, Result, Ok, Err, IfOk, OnOk}
 use Rattle.m11_asm_faults.specs.declared.fault.AsmFault.{AsmFault}
 use Rattle.m11_asm_faults.specs.declared.fault.AsmFault.TheVariants as fault
-use Rattle.m11_scan_lines.specs.Line.{SourceLine}
-use Rattle.m11_scan_lines.specs.Lines.{most_lines}
+use Rattle.m11_scan.specs.Line.{SourceLine}
+use Rattle.m11_scan.specs.Lines.{most_lines}
 use Rattle.m11_unfold_rules.specs.Stages.{Stage}
 use Rattle.m11_asm_rules.specs.Meanings.{Map}
 use Rattle.m11_asm_passes.specs.Lines.{NumberedLine, PassLines}

@@ -5,7 +5,7 @@ use Rattle.m11_base_writes.specs.Outputs.{Outputs}
 use Rattle.m11_asm.specs.Program.{Program}
 use Rattle.m11_asm.specs.Second.{SecondAfter, SecondState}
 use Rattle.m11_asm.specs.Extents.{SecondGives}
-use Rattle.m11_base_pass_rules.specs.Passes.{Pass}
+use Rattle.m11_base_writes.specs.Passes.{Pass}
 use Rattle.m11_asm.specs.Passes.{ReadsSecond}
 use Rattle.m11_asm.specs.SourceRead.{SourceRead}
 use Rattle.m11_asm.specs.declared.done.AsmDone.{AsmDone}

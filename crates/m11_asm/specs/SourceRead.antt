@@ -1,10 +1,10 @@
 -- What a pass over feeds has taken of them where it ends without a fault. Both passes do so. (MACRO-11 Language Reference Manual, ".END
 -- directive".)
 use Rattle.std.specs.Prelude.{◌≡◌, Bool, true, false, List, ◌++◌, None}
-use Rattle.m11_scan_lines.specs.Line.{SourceLine}
+use Rattle.m11_scan.specs.Line.{SourceLine}
 use Rattle.m11_scan_line_laws.specs.Readings.{Reading}
 use Rattle.m11_asm.specs.Extents.{HaveGiven}
-use Rattle.m11_base_pass_rules.specs.Passes.{Pass}
+use Rattle.m11_base_writes.specs.Passes.{Pass}
 use Rattle.m11_asm.specs.Passes.{Reads}
 
 -- these lines of a reading were taken: up to that in which `.END` became live, or all of them

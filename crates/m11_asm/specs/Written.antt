@@ -6,13 +6,13 @@ use Rattle.std.specs.Prelude.{ℕ, ◌+◌, ◌==◌, not, Bool, if◌then◌els
 use Rattle.std.specs.Int.RustNames.{bit_or}
 use Rattle.std.specs.List.{flat_map}
 use Rattle.m11_base.specs.Devices.{Bytes}
-use Rattle.m11_asm_listing_writes.specs.Listed.{added_lines, all_to_listing, listing_writes}
+use Rattle.m11_asm.specs.Listed.{added_lines, all_to_listing, listing_writes}
 use Rattle.m11_asm_listing.specs.Messages.{count_line, message_line}
 use Rattle.m11_asm_listing.specs.SymbolTable.{last_lines}
 use Rattle.m11_asm_listing.specs.declared.symbol_table.SectionEntry.{SectionEntry}
 use Rattle.m11_asm_listing.specs.declared.symbol_table.SymbolEntry.{SymbolEntry}
 use Rattle.m11_obj.specs.Records.{EndOfModule}
-use Rattle.m11_obj_texts.specs.declared.pieces.Piece.{Piece}
+use Rattle.m11_obj.specs.declared.pieces.Piece.{Piece}
 use Rattle.m11_scan.specs.ErrorFlags.{flags_text}
 use Rattle.m11_unfold_rules.specs.Unfolding.{UnfoldedLine}
 use Rattle.m11_asm_rules.specs.Exports.{transfer_flags}

@@ -12,7 +12,7 @@ ghost use Rattle.m11_asm_rules.specs.Lines.{after_line};
 ghost use Rattle.m11_asm_rules.specs.Meanings.{empty_map};
 ghost use Rattle.m11_asm_rules.specs.Sources.{last_or};
 ghost use Rattle.m11_asm_rules.specs.Tables.{Table as LineTable};
-ghost use Rattle.m11_asm_table.specs.Alike.{Alike};
+ghost use Rattle.m11_asm_rules.specs.Alike.{Alike};
 ghost use Rattle.m11_unfold_rules.specs.Unfolding.{UnfoldedLine};
 ghost use Rattle.m11_scan_expressions.specs.Quantities.{quantity};
 
@@ -20,8 +20,7 @@ use indexmap::IndexSet;
 use m11_asm_directives::{ident, listed_names, title, transfer};
 use m11_asm_lines::Action;
 use m11_asm_passes::LiveLine;
-use m11_asm_rules::{Directive, Operator};
-use m11_asm_table::{Map, Table};
+use m11_asm_rules::{Directive, Map, Operator, Table};
 use m11_base::Name;
 use m11_scan::Line;
 use m11_scan_expressions::Value;

@@ -3,7 +3,7 @@
 
 ghost use Rattle.std.specs.Prelude.{◌≡◌, [], List, None, Some, Err, IfOk, false};
 ghost use Rattle.std.specs.Result.{result_err};
-ghost use Rattle.m11_scan_lines.specs.Line.{SourceLine};
+ghost use Rattle.m11_scan.specs.Line.{SourceLine};
 ghost use Rattle.m11_asm_passes.specs.Lines.{NumberedLine};
 ghost use Rattle.m11_asm.specs.First.{AreFactsOf, FirstAfter, FirstReadsLine, PlacesLeft, symbols_of};
 ghost use Rattle.m11_asm.specs.LinesDone.{LiveLinesDone};

@@ -2,14 +2,14 @@
 
 ghost use Rattle.std.specs.Prelude.{[]};
 ghost use Rattle.m11_asm.specs.FirstReading.{GivesSymbols, ReadsLines};
-ghost use Rattle.m11_base_pass_rules.specs.Passes.{pass_of};
+ghost use Rattle.m11_base_writes.specs.Passes.{pass_of};
 ghost use Rattle.m11_asm.specs.First.{FirstAfter};
 
 use crate::first::First;
 use crate::symbols::Symbols;
 use m11_asm_faults::AsmFault;
 use m11_base::Feed;
-use m11_scan_lines::LineReader;
+use m11_scan::LineReader;
 use std::alloc::Global;
 
 /// Reads the sources up to the line in which `.END` becomes live, or to the end of the last one.

@@ -2,7 +2,7 @@
 
 ghost use Rattle.std.specs.Prelude.{List, Ok};
 ghost use Rattle.m11_asm.specs.Outcome.{Assembled, HasOutcome};
-ghost use Rattle.m11_base_pass_rules.specs.Passes.{Pass};
+ghost use Rattle.m11_base_writes.specs.Passes.{Pass};
 ghost use Rattle.m11_asm.specs.Passes.{Reads};
 ghost use Rattle.m11_asm.specs.Run.{AsmRuns};
 ghost use Rattle.m11_asm_outputs.specs.Outputs.{Gains};

@@ -1,9 +1,27 @@
 //! The assembler of MACRO-11: sources become an object module, a listing and messages, in two passes over the sources. The first pass finds
 //! what the lines give their names, and what they say of their module beside that. Under what it found, the second one writes the object, as
-//! far as its texts are closed, line by line. (MACRO-11 Language Reference Manual, "Source program format", "Symbols and expressions",
-//! ".TITLE directive", ".IDENT directive", ".WEAK directive", "Listing control directives" and ".END directive"; RT-11 Volume and File
-//! Formats Manual, "Object file format".)
+//! far as its texts are closed, line by line, and the listing with its symbol table. (MACRO-11 Language Reference Manual, "Source program
+//! format", "Symbols and expressions", ".TITLE directive", ".IDENT directive", ".WEAK directive", "Listing control directives", "Table of
+//! contents and symbol table" and ".END directive"; RT-11 Volume and File Formats Manual, "Object file format".)
 #![tactic(auto)]
+
+// The entries of a symbol table: the names that a source uses, each with its value, and the sections.
+mod section_list;
+mod symbol_list;
+mod symbol_values;
+
+// Laws of the order of names, and of what decides the entries.
+mod symbol_laws;
+
+pub use symbol_laws::{
+    a_symbol_table_is_as_worked, each_name_stands_once_and_in_order,
+    first_passes_that_agree_have_the_same_sections, first_passes_that_agree_have_the_same_symbols,
+};
+
+// What an assembly writes to its listing: the lines of placed lines, and the symbol table.
+mod lines;
+mod placed;
+mod symbol_table;
 
 // What the first pass finds of the module, and what it hands on.
 mod facts;

@@ -2,7 +2,7 @@
 
 ghost use Rattle.std.specs.Prelude.{◌≡◌, ◌+◌, ◌<◌, IfOk, IfErr};
 ghost use Rattle.m11_asm_faults.specs.declared.fault.AsmFault.TheVariants.{TooMuchSource};
-ghost use Rattle.m11_scan_lines.specs.Lines.{most_lines};
+ghost use Rattle.m11_scan.specs.Lines.{most_lines};
 
 use m11_asm_faults::AsmFault;
 

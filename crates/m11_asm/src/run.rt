@@ -2,18 +2,18 @@
 
 ghost use Rattle.std.specs.Prelude.{◌≡◌};
 ghost use Rattle.m11_asm.specs.Extents.{AsmGives};
-ghost use Rattle.m11_base_pass_rules.specs.Passes.{pass_of};
+ghost use Rattle.m11_base_writes.specs.Passes.{pass_of};
 ghost use Rattle.m11_asm.specs.Run.{AsmRuns, AsmRunsOr};
 ghost use Rattle.m11_base_writes.specs.Outputs.{outputs_of};
 
 use crate::done::AsmDone;
 use crate::first_reading::read_first;
 use crate::second_reading::read_second;
-use m11_asm_directory::first_passes_that_agree_have_the_same_rows;
-use m11_asm_faults::AsmFault;
-use m11_asm_symbol_list::{
+use crate::symbol_laws::{
     first_passes_that_agree_have_the_same_sections, first_passes_that_agree_have_the_same_symbols,
 };
+use m11_asm_directory::first_passes_that_agree_have_the_same_rows;
+use m11_asm_faults::AsmFault;
 use m11_base::{Feed, Sink};
 use std::alloc::Global;
 

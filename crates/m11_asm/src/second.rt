@@ -4,7 +4,7 @@ ghost use Rattle.std.specs.Prelude.{◌≡◌, [], List, None, Some, Err, IfOk, 
 ghost use Rattle.std.specs.Result.{result_err};
 ghost use Rattle.m11_asm_outputs.specs.Outputs.{Gains};
 ghost use Rattle.m11_base_writes.specs.Outputs.{Outputs, outputs_of};
-ghost use Rattle.m11_scan_lines.specs.Line.{SourceLine};
+ghost use Rattle.m11_scan.specs.Line.{SourceLine};
 ghost use Rattle.m11_asm_passes.specs.Lines.{NumberedLine};
 ghost use Rattle.m11_asm.specs.Program.{Program, program_in};
 ghost use Rattle.m11_asm.specs.Second.{SecondEnds, SecondAfter, SecondReadsLine, PlacesLeft, Wrote};
@@ -18,7 +18,7 @@ use crate::writing::Writing;
 use m11_asm_faults::AsmFault;
 use m11_asm_lines::{Counting, Pass};
 use m11_asm_passes::{PlacedLine, SourcePass, Turn, the_calls_place_the_lines_of_a_source};
-use m11_asm_table::Map;
+use m11_asm_rules::Map;
 use m11_base::{Latch, Sink};
 use m11_scan::Line;
 use std::alloc::{AllocError, Global};

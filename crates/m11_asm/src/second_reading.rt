@@ -1,7 +1,7 @@
 //! The second pass: what the lines of the sources write.
 
 ghost use Rattle.std.specs.Prelude.{[]};
-ghost use Rattle.m11_base_pass_rules.specs.Passes.{pass_of};
+ghost use Rattle.m11_base_writes.specs.Passes.{pass_of};
 ghost use Rattle.m11_asm.specs.SecondReading.{PutsAll, PutsLines};
 ghost use Rattle.m11_base_writes.specs.Outputs.{Outputs, outputs_of};
 ghost use Rattle.m11_asm.specs.Program.{Program, program_in};
@@ -12,7 +12,7 @@ use crate::second::Second;
 use crate::symbols::Symbols;
 use m11_asm_faults::AsmFault;
 use m11_base::{Feed, Sink};
-use m11_scan_lines::LineReader;
+use m11_scan::LineReader;
 use std::alloc::Global;
 
 /// Reads the sources again, up to the line in which `.END` becomes live or to the end of the last one, and writes what they give.

@@ -7,7 +7,7 @@ use Rattle.m11_asm_rules.specs.Meanings.{Map, empty_map, firm_known, known_at, s
 use Rattle.m11_asm_rules.specs.declared.meanings.Context.{Context}
 use Rattle.m11_asm_rules.specs.declared.meanings.Context.TheVariants.{LocalOnly}
 use Rattle.m11_asm_rules.specs.Tables.{Table, firm_table, location}
-use Rattle.m11_asm_table.specs.Asking.{LookupContext, FirmContext, asked, firm_asked}
+use Rattle.m11_asm_rules.specs.Asking.{LookupContext, FirmContext, asked, firm_asked}
 
 pub known : (names : LookupContext) (map : Map) (context : Context) (table : Table) (here : ℕ) (line : Bytes) (start : ℕ) (value : Quantity)
     → value ≡ value_at (known_by names.table.modes.radix (λ symbol. stands_for names.map names.context names.table names.location symbol)) line start

@@ -1,3 +1,7 @@
+pub mod NextParts
+pub mod Packs
+pub mod Stepping
+pub mod TextSteps
 mod Among
 mod Asking
 mod Coding

@@ -1,3 +1,5 @@
+pub mod Packing
+pub mod Seen
 pub mod Attributes
 pub mod Changes
 pub mod Codes

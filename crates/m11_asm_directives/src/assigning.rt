@@ -11,8 +11,9 @@ ghost use Rattle.m11_asm_rules.specs.declared.meanings.Context.TheVariants.{Loca
 ghost use Rattle.m11_asm_directives.specs.Changes.{change_seen};
 
 use crate::changes::{Change, Move};
-use m11_asm_rules::{Context, Definition, Key, Standing};
-use m11_asm_table::{FirmNames, Map, NamesAt, Table, register_flags};
+use m11_asm_rules::{
+    Context, Definition, FirmNames, Key, Map, NamesAt, Standing, Table, register_flags,
+};
 use m11_base::Name;
 use m11_scan::{ErrorFlags, Line, Token, expression_end, read_name};
 use m11_scan_expressions::{Value, has_token, single_term, value_at, value_by};

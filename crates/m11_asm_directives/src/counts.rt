@@ -10,7 +10,7 @@ use crate::changes::Change;
 use m11_scan::{ErrorFlags, Line};
 use m11_scan_expressions::{bad_flags, flags_before, left_over};
 use m11_scan_statements::{Actual, Separator, next_actual, separator_at};
-use m11_unfold_arguments::{actual_flags, name_at};
+use m11_unfold_rules::{actual_flags, name_at};
 
 /// What a `.NARG` assigns its name: the number of actuals of the innermost macro. Without a macro, or a name, it changes nothing.
 pub fn narg(arguments: Option<u16>, line: &Line, start: usize) -> Change

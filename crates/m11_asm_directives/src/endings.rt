@@ -8,7 +8,7 @@ ghost use Rattle.m11_asm_rules.specs.Exports as spec;
 
 use crate::assigning::known_value;
 use bitflags::Flags;
-use m11_asm_table::{Map, Table, register_flags};
+use m11_asm_rules::{Map, Table, register_flags};
 use m11_scan::{ErrorFlags, Line, expression_end};
 use m11_scan_expressions::{Value, has_expression, left_over, skip_flags};
 

@@ -1,7 +1,30 @@
-//! Directives that put nothing at a location, and direct assignments: what each changes for the lines after it, what it says of the whole
-//! object, and its flags. (MACRO-11 Language Reference Manual, "General assembler directives", "Program section directives", "Listing
-//! control directives" and "Direct assignment statements".)
+//! Directives and direct assignments: what those of data put at their locations, with sizes and flags; and of those that put nothing there,
+//! what each changes for the lines after it, what it says of the whole object, and its flags. (MACRO-11 Language Reference Manual, "General
+//! assembler directives", "Program section directives", "Listing control directives", "Direct assignment statements" and "Relocation and
+//! linking".)
 #![tactic(auto)]
+
+// Words, bytes and room.
+mod storage;
+
+pub use storage::{
+    LIMIT_SIZE, blkb_size, blkw_size, block_flags, byte_size, emit_bytes, emit_limits, emit_words,
+    word_size,
+};
+
+// The parts of a text, and their flags.
+mod flags;
+mod parts;
+
+pub use parts::{PART_LIMIT, Parts, parts_at};
+
+// Texts as bytes, and in words of RADIX-50.
+mod ascii;
+mod packing;
+mod radix50;
+
+pub use ascii::{ascii_size, asciz_size, emit_ascii, emit_asciz};
+pub use radix50::{emit_rad50, rad50_size};
 
 // What a line changes.
 mod changes;

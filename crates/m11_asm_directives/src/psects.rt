@@ -17,14 +17,13 @@ use crate::exports::bad_flags;
 use arrayvec::ArrayVec;
 use bitflags::Flags;
 use m11_asm_operands::{ListedNames, names_at};
-use m11_asm_rules::Section;
-use m11_asm_table::Table;
+use m11_asm_rules::{Section, Table};
 use m11_base::{Name, absolute_section, blank_name};
 use m11_obj::SectionFlags;
 use m11_scan::{ErrorFlags, Line, Sort, next_token};
 use m11_scan_expressions::{column_in, flags_before, left_over, rest_flags, skip_flags};
 use m11_scan_statements::Span;
-use m11_unfold_arguments::{NameAt, after_comma, name_at};
+use m11_unfold_rules::{NameAt, after_comma, name_at};
 
 /// The name of a section that stands in a line.
 #[derive(Clone, Copy)]

@@ -6,7 +6,7 @@ use Rattle.std.proofs.lemmas.List.{take_more}
 use Rattle.std.proofs.lemmas.List.FromFn.{get_or-enumerate_from, length-enumerate_from}
 use Rattle.std.proofs.Math.Seq.{take-length}
 use Rattle.m11_base.specs.Names.{blank_name}
-use Rattle.m11_obj_texts.specs.declared.directory.DirectoryRow.{DirectoryRow}
+use Rattle.m11_obj.specs.declared.directory.DirectoryRow.{DirectoryRow}
 use Rattle.m11_asm_rules.specs.declared.sections.Section.{Section}
 use Rattle.m11_asm_rules.specs.Sections.{numbered, of_program, section}
 use Rattle.m11_asm_directory.specs.FirstPass.{DirectoryFacts}

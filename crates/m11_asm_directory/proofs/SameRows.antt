@@ -5,15 +5,15 @@ use Rattle.std.proofs.lemmas.List.Folds.{list_any-append}
 use Rattle.std.proofs.lemmas.Map.Views.{any-filter_same}
 use Rattle.m11_base.specs.Rad50.{Name, is_same_name}
 use Rattle.m11_base.proofs.SameNames.{same_name_equal}
-use Rattle.m11_obj_texts.specs.declared.directory.DirectoryRow.{DirectoryRow}
-use Rattle.m11_obj_texts.specs.declared.directory.DirectoryRow.TheVariants as row
+use Rattle.m11_obj.specs.declared.directory.DirectoryRow.{DirectoryRow}
+use Rattle.m11_obj.specs.declared.directory.DirectoryRow.TheVariants as row
 use Rattle.m11_asm_rules.specs.Assigning.{is_unknown_as}
 use Rattle.m11_asm_rules.specs.declared.definitions.Definition.{Definition}
 use Rattle.m11_asm_rules.specs.declared.definitions.Key.TheVariants.{Named}
 use Rattle.m11_asm_rules.specs.Definitions.{last_definition}
 use Rattle.m11_asm_rules.specs.declared.sections.Section.{Section}
 use Rattle.m11_asm_rules.specs.Tables.{Table}
-use Rattle.m11_asm_table.specs.Alike.{Alike}
+use Rattle.m11_asm_rules.specs.Alike.{Alike}
 use Rattle.m11_asm_directory.specs.Definitions.{definition_row, definition_rows, row_by}
 use Rattle.m11_asm_directory.specs.FirstPass.{DirectoryFacts}
 use Rattle.m11_asm_directory.specs.Laws.{FirstPassesAgree}

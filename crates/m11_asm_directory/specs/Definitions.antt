@@ -5,8 +5,8 @@ use Rattle.std.specs.Prelude.{ℕ, Bool, true, false, if◌then◌else◌, List,
 use Rattle.std.specs.List.{filter_map}
 use Rattle.m11_base.specs.Names.{absolute_name}
 use Rattle.m11_base.specs.Rad50.{Name, is_same_name}
-use Rattle.m11_obj_texts.specs.declared.directory.DirectoryRow.{DirectoryRow}
-use Rattle.m11_obj_texts.specs.declared.directory.DirectoryRow.TheVariants as row
+use Rattle.m11_obj.specs.declared.directory.DirectoryRow.{DirectoryRow}
+use Rattle.m11_obj.specs.declared.directory.DirectoryRow.TheVariants as row
 use Rattle.m11_asm_rules.specs.declared.definitions.Definition.{Definition}
 use Rattle.m11_asm_rules.specs.declared.definitions.Key.TheVariants.{Named}
 use Rattle.m11_asm_rules.specs.declared.definitions.Standing.{Standing}

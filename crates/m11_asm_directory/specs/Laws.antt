@@ -3,7 +3,7 @@
 use Rattle.std.specs.Prelude.{◌≡◌, ℕ, ◌<◌, List, length}
 use Rattle.std.specs.List.Sorted.{IsStrictlySortedBy}
 use Rattle.m11_base.specs.Rad50.{Name}
-use Rattle.m11_asm_table.specs.Alike.{Alike}
+use Rattle.m11_asm_rules.specs.Alike.{Alike}
 use Rattle.m11_asm_directory.specs.FirstPass.{DirectoryFacts}
 use Rattle.m11_asm_directory.specs.Names.{has_name, name_order}
 

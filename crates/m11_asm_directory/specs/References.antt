@@ -3,8 +3,8 @@
 -- is this project's own.)
 use Rattle.std.specs.Prelude.{◌&&◌, Bool, true, List, ◌++◌, filter, map, Option, Some, None}
 use Rattle.m11_base.specs.Rad50.{Name}
-use Rattle.m11_obj_texts.specs.declared.directory.DirectoryRow.{DirectoryRow}
-use Rattle.m11_obj_texts.specs.declared.directory.DirectoryRow.TheVariants as row
+use Rattle.m11_obj.specs.declared.directory.DirectoryRow.{DirectoryRow}
+use Rattle.m11_obj.specs.declared.directory.DirectoryRow.TheVariants as row
 use Rattle.m11_asm_rules.specs.Assigning.{is_unknown_as}
 use Rattle.m11_asm_rules.specs.declared.definitions.Definition.{Definition}
 use Rattle.m11_asm_rules.specs.declared.definitions.Key.TheVariants.{Named}

@@ -5,8 +5,8 @@ use Rattle.std.specs.List.{enumerate_from, flat_map}
 use Rattle.std.specs.Option.{option_to_list}
 use Rattle.m11_base.specs.Names.{name_in_words}
 use Rattle.m11_base.specs.Rad50.{Name}
-use Rattle.m11_obj_texts.specs.declared.directory.DirectoryRow.{DirectoryRow}
-use Rattle.m11_obj_texts.specs.declared.directory.DirectoryRow.TheVariants as row
+use Rattle.m11_obj.specs.declared.directory.DirectoryRow.{DirectoryRow}
+use Rattle.m11_obj.specs.declared.directory.DirectoryRow.TheVariants as row
 use Rattle.m11_asm_rules.specs.declared.sections.Section.{Section}
 use Rattle.m11_asm_directory.specs.Definitions.{definition_rows}
 use Rattle.m11_asm_directory.specs.FirstPass.{DirectoryFacts}

@@ -3,12 +3,11 @@
 
 ghost use Rattle.std.specs.Prelude.{◌≡◌, ◌++◌, IfOk};
 ghost use Rattle.m11_asm_directory.specs.Definitions.{definition_row, definition_rows, is_relocatable, known_row, lies_in, row_of};
-ghost use Rattle.m11_obj_texts.specs.declared.directory.DirectoryRow.TheVariants as row;
+ghost use Rattle.m11_obj.specs.declared.directory.DirectoryRow.TheVariants as row;
 
-use m11_asm_rules::{Key, Standing};
-use m11_asm_table::Table;
+use m11_asm_rules::{Key, Standing, Table};
 use m11_base::{Name, absolute_section};
-use m11_obj_texts::DirectoryRow;
+use m11_obj::DirectoryRow;
 use m11_scan_expressions::Kind;
 use std::alloc::AllocError;
 

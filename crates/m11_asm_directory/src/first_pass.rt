@@ -2,7 +2,7 @@
 //! directive", ".WEAK directive" and ".END directive".)
 
 use indexmap::IndexSet;
-use m11_asm_table::Table;
+use m11_asm_rules::Table;
 use m11_base::Name;
 use m11_scan_expressions::Value;
 

@@ -9,10 +9,9 @@ ghost use Rattle.m11_asm_directory.specs.References.{is_open, reference_row, ref
 use crate::first_pass::FirstPass;
 use crate::names::ordered_names;
 use indexmap::IndexSet;
-use m11_asm_rules::{Key, Standing};
-use m11_asm_table::Table;
+use m11_asm_rules::{Key, Standing, Table};
 use m11_base::Name;
-use m11_obj_texts::DirectoryRow;
+use m11_obj::DirectoryRow;
 use std::alloc::{AllocError, Global};
 
 fn is_unknown(standing: Standing) -> bool

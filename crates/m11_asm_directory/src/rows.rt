@@ -16,8 +16,7 @@ use crate::transfers::transfer_row;
 use bitflags::Flags;
 use m11_asm_rules::Section;
 use m11_base::{Name, blank_name};
-use m11_obj::SectionFlags;
-use m11_obj_texts::DirectoryRow;
+use m11_obj::{DirectoryRow, SectionFlags};
 use std::alloc::{AllocError, Global};
 
 fn main_name() -> Name

@@ -6,7 +6,7 @@ ghost use Rattle.m11_asm_directory.specs.Transfers.{home, transfer_row};
 ghost use Rattle.m11_scan_expressions.specs.Quantities.{quantity};
 
 use m11_base::{Name, absolute_section};
-use m11_obj_texts::DirectoryRow;
+use m11_obj::DirectoryRow;
 use m11_scan_expressions::{Kind, Value};
 
 // The section that a value counts from. What counts from none of this object is absolute.

@@ -1,8 +1,8 @@
 -- The faults of an assembly, each with its number and its name, and where writes have ended by them. (This project's own:
 -- no manual speaks of them. The printed line of a fault is made of these.)
 use Rattle.std.specs.Prelude.{ℕ, List, Option, Some, None, codes}
-use Rattle.m11_scan_lines.specs.declared.fault.LineFault.{LineFault}
-use Rattle.m11_scan_lines.specs.declared.fault.LineFault.TheVariants as line
+use Rattle.m11_scan.specs.declared.fault.LineFault.{LineFault}
+use Rattle.m11_scan.specs.declared.fault.LineFault.TheVariants as line
 use Rattle.m11_unfold_rules.specs.declared.fault.UnfoldFault.{UnfoldFault}
 use Rattle.m11_unfold_rules.specs.declared.fault.UnfoldFault.TheVariants as unfolded
 use Rattle.m11_asm_faults.specs.declared.fault.AsmFault.{AsmFault}

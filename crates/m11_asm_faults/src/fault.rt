@@ -5,7 +5,7 @@ ghost use Rattle.m11_asm_faults.specs.Faults.{of_lines, of_unfolding, stop_of};
 ghost use Rattle.m11_asm_faults.specs.declared.fault.AsmFault.TheVariants.{NoMemory};
 
 use m11_base_writes::{Output, OutputFault};
-use m11_scan_lines::LineFault;
+use m11_scan::LineFault;
 use m11_unfold_rules::UnfoldFault;
 use std::alloc::{AllocError, AllocFailed};
 use thiserror::Error;

@@ -3,7 +3,7 @@ use Rattle.std.proofs.Common.{◌≡◌, ℕ, ◌+◌, ◌-◌, ◌<◌, ◌%◌
 use Rattle.m11_obj_blocks.specs.Frames.{word_bytes}
 use Rattle.m11_link_text.specs.Findings.{Findings}
 use Rattle.m11_link_text.specs.Relocation.{following, less, modulo}
-use Rattle.m11_obj_texts.specs.declared.pieces.PieceContent.TheVariants.{Word}
+use Rattle.m11_obj.specs.declared.pieces.PieceContent.TheVariants.{Word}
 use Rattle.m11_asm_rules.specs.Relocations.{Here, InObject, InSection, Origin, Zero, is_moved, origin_of, relocation_by, row_of, stored, stored_as}
 use Rattle.m11_asm_rules.specs.Tables.{Table}
 use Rattle.m11_scan_expressions.specs.Quantities.{Quantity}

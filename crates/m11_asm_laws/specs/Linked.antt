@@ -4,11 +4,11 @@ use Rattle.m11_base.specs.Devices.{Bytes}
 use Rattle.m11_link_text.specs.Findings.{Findings}
 use Rattle.m11_link_text.specs.Relocation.{stored_bytes}
 use Rattle.m11_obj.specs.declared.relocations.Relocation.{Relocation}
-use Rattle.m11_obj_texts.specs.Pieces.{content_bytes, relocation_at}
-use Rattle.m11_obj_texts.specs.declared.pieces.PieceContent.{PieceContent}
-use Rattle.m11_obj_texts.specs.declared.pieces.PieceContent.TheVariants.{Byte, Word}
-use Rattle.m11_obj_texts.specs.declared.pieces.RelocationKind.{RelocationKind}
-use Rattle.m11_obj_texts.specs.declared.pieces.StoredConstant.{StoredConstant}
+use Rattle.m11_obj.specs.Pieces.{content_bytes, relocation_at}
+use Rattle.m11_obj.specs.declared.pieces.PieceContent.{PieceContent}
+use Rattle.m11_obj.specs.declared.pieces.PieceContent.TheVariants.{Byte, Word}
+use Rattle.m11_obj.specs.declared.pieces.RelocationKind.{RelocationKind}
+use Rattle.m11_obj.specs.declared.pieces.StoredConstant.{StoredConstant}
 
 -- the bytes that a relocation stores, or those of the text where there is none
 abbrev pub bytes_by : Findings → ℕ → ℕ → ℕ → Bytes → Option Relocation → Bytes

@@ -22,8 +22,8 @@ use Rattle.m11_asm_rules.specs.declared.meanings.Context.TheVariants.{LocalOnly}
 use Rattle.m11_asm_rules.specs.declared.sections.Section.{Section}
 use Rattle.m11_asm_rules.specs.declared.modes.Modes.{Modes}
 use Rattle.m11_scan.specs.ErrorFlags.{flag_if}
-use Rattle.m11_asm_table.specs.Alike.{Alike}
-use Rattle.m11_asm_table.proofs.Defined.{is_some_last}
+use Rattle.m11_asm_rules.specs.Alike.{Alike}
+use Rattle.m11_asm_rules.proofs.Defined.{is_some_last}
 use Rattle.m11_scan_expressions.specs.declared.kinds.Kind.{Kind}
 use Rattle.m11_scan_expressions.specs.declared.names.Symbol.{Symbol}
 use Rattle.m11_scan_expressions.specs.declared.names.Symbol.TheVariants.{Ordinary, Local, Counter}

@@ -19,8 +19,8 @@ use Rattle.m11_asm_rules.specs.declared.definitions.Definition.{Definition}
 use Rattle.m11_asm_rules.specs.declared.definitions.Key.{Key}
 use Rattle.m11_asm_rules.specs.declared.definitions.Key.TheVariants.{Named}
 use Rattle.m11_asm_rules.specs.declared.meanings.Context.TheVariants.{LocalOnly}
-use Rattle.m11_asm_table.specs.Alike as tables
-use Rattle.m11_asm_table.specs.Alike.{Alike}
+use Rattle.m11_asm_rules.specs.Alike as tables
+use Rattle.m11_asm_rules.specs.Alike.{Alike}
 use Rattle.m11_scan_expressions.specs.Quantities.{Quantity}
 use Rattle.m11_asm_lines.proofs.Alike.{alike_assigned, alike_labelled}
 use Rattle.m11_asm_lines.proofs.Passes.{counted_more}

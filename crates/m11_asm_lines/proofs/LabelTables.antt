@@ -16,7 +16,7 @@ use Rattle.m11_scan.specs.ErrorFlags.{flag_if}
 use Rattle.m11_scan_statements.specs.declared.labels.Label.{Label}
 use Rattle.m11_scan_statements.specs.declared.labels.LabelKind.{LabelKind}
 use Rattle.m11_scan_statements.specs.declared.labels.LabelKind.TheVariants as kind
-use Rattle.m11_asm_table.specs.Alike.{Alike, Follows}
+use Rattle.m11_asm_rules.specs.Alike.{Alike, Follows}
 use Rattle.m11_asm_lines.proofs.Alike.{alike_defined, alike_location, alike_section, same_labelled}
 use Rattle.m11_asm_lines.specs.Labels.{Defines}
 use Rattle.m11_asm_lines.specs.Moved.{is_at, is_in, is_location_of, flag_P, moved_key, moved_kind, moved_flags, moved_name}

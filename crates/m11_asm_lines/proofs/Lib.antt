@@ -1,3 +1,4 @@
+pub mod FirmEffects
 pub mod Alike
 mod Assigning
 mod FieldTerms

@@ -6,7 +6,7 @@ use Rattle.m11_scan_expressions.specs.Expressions.{has_expression, number_at, va
 use Rattle.m11_scan_expressions.specs.LeftOvers.{left_over, skip_flags}
 use Rattle.m11_base.specs.Devices.{Bytes}
 use Rattle.m11_base.specs.Rad50.{Name}
-use Rattle.m11_base_instructions.specs.declared.instruction.Op.{Op}
+use Rattle.m11_base.specs.declared.instruction.Op.{Op}
 use Rattle.m11_scan.specs.Ends.{expression_end}
 use Rattle.m11_scan_statements.specs.declared.parts.Part.{Part}
 use Rattle.m11_scan_statements.specs.declared.parts.PartKind.{PartKind}
@@ -45,8 +45,8 @@ use Rattle.m11_asm_rules.specs.declared.operators.Directive.TheVariants as direc
 use Rattle.m11_asm_rules.specs.declared.operators.Operator.{Operator}
 use Rattle.m11_asm_rules.specs.declared.operators.Operator.TheVariants as operators
 use Rattle.m11_asm_rules.specs.declared.modes.Modes.{Modes}
-use Rattle.m11_asm_rules.proofs.FirmNames.{firm_option, last_firm}
-use Rattle.m11_asm_table.specs.Alike.{Alike}
+use Rattle.m11_asm_rules.proofs.NamesByMaps.{firm_option, last_firm}
+use Rattle.m11_asm_rules.specs.Alike.{Alike}
 use Rattle.m11_asm_lines.proofs.Alike.{alike_known, alike_labelled, alike_location, alike_value}
 
 -- ---- as far as they are firm they are alike too

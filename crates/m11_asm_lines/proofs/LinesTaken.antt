@@ -7,7 +7,7 @@ use Rattle.m11_asm_rules.specs.Labels.{labels_flags}
 use Rattle.m11_asm_rules.specs.Lines.{after_line, action, line_change, line_emission, stands}
 use Rattle.m11_asm_rules.specs.Meanings.{Map}
 use Rattle.m11_asm_rules.specs.Tables.{Table, firm_table}
-use Rattle.m11_asm_table.specs.Alike.{Alike}
+use Rattle.m11_asm_rules.specs.Alike.{Alike}
 use Rattle.m11_asm_lines.proofs.LinesAlike.{all_uses_alike, changes_alike, firm_alike, puts_alike}
 use Rattle.m11_asm_lines.specs.Labels.{DefinesAll}
 use Rattle.m11_asm_lines.specs.Lines.{change_by, uses_by, written_by}

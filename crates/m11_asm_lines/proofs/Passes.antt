@@ -16,8 +16,8 @@ use Rattle.m11_asm_rules.specs.declared.definitions.Definition.{Definition}
 use Rattle.m11_asm_rules.specs.declared.definitions.Key.{Key}
 use Rattle.m11_asm_rules.specs.declared.definitions.Key.TheVariants.{Named, Numbered}
 use Rattle.m11_asm_rules.specs.declared.modes.Modes.{Modes}
-use Rattle.m11_asm_table.specs.Alike as tables
-use Rattle.m11_asm_table.specs.Alike.{Alike}
+use Rattle.m11_asm_rules.specs.Alike as tables
+use Rattle.m11_asm_rules.specs.Alike.{Alike}
 use Rattle.m11_asm_lines.proofs.Alike.{alike_defined, alike_itself, alike_location}
 use Rattle.m11_asm_lines.proofs.Room.{few_of_both, many_names, many_symbols}
 use Rattle.m11_asm_lines.proofs.Sizes.{size_here, size_there}

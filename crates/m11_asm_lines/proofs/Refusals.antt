@@ -6,7 +6,7 @@ use Rattle.m11_asm_rules.specs.Changes.{with_new, with_section}
 use Rattle.m11_asm_rules.specs.Sections.{number_of, section}
 use Rattle.m11_asm_rules.specs.Tables.{Table}
 use Rattle.m11_asm_rules.specs.declared.sections.Section.{Section}
-use Rattle.m11_asm_table.specs.Alike.{Alike}
+use Rattle.m11_asm_rules.specs.Alike.{Alike}
 use Rattle.m11_asm_faults.specs.declared.fault.AsmFault.{AsmFault}
 use Rattle.m11_asm_faults.specs.declared.fault.AsmFault.TheVariants.{NoMemory}
 

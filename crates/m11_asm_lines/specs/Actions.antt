@@ -5,7 +5,7 @@ use Rattle.m11_base.specs.Devices.{Bytes}
 use Rattle.m11_asm_operands.specs.ListedOperations.{has_listed_operation}
 use Rattle.m11_asm_operands.specs.Terms.{AreTerms}
 use Rattle.m11_asm_operands.specs.declared.fields.FieldTerms.{FieldTerms}
-use Rattle.m11_asm_instructions.specs.Reading.{operator_fields}
+use Rattle.m11_asm_operands.specs.Reading.{operator_fields}
 use Rattle.m11_asm_rules.specs.Fields.{Fields, no_fields}
 use Rattle.m11_asm_rules.specs.Lines as lines
 use Rattle.m11_asm_rules.specs.Tables.{Table}

@@ -4,7 +4,7 @@ use Rattle.std.specs.Prelude.{◌≡◌, ◌<◌, ℕ, max, List, get_or, replic
 use Rattle.m11_asm_rules.specs.Limits.{local_count, name_count}
 use Rattle.m11_asm_rules.specs.Locations.{size_in}
 use Rattle.m11_asm_rules.specs.Tables.{Table, location}
-use Rattle.m11_asm_table.specs.Alike.{Alike}
+use Rattle.m11_asm_rules.specs.Alike.{Alike}
 
 -- the table of the last definitions, how many names and local symbols are defined, and the sizes of sections by their numbers
 pub record TableState : Type 0 where

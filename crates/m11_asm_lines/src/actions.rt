@@ -9,10 +9,8 @@ ghost use Rattle.m11_scan_statements.specs.Labels.{labels_end};
 ghost use Rattle.m11_scan_statements.specs.Order.{BodyLies};
 ghost use Rattle.m11_scan_statements.specs.Statements.{body_of};
 
-use m11_asm_instructions::{no_fields, operator_fields, single_fields};
-use m11_asm_operands::{Fields, operator_named};
-use m11_asm_rules::{Directive, Operator};
-use m11_asm_table::Table;
+use m11_asm_operands::{Fields, no_fields, operator_fields, operator_named, single_fields};
+use m11_asm_rules::{Directive, Operator, Table};
 use m11_scan::{Line, six_characters};
 use m11_scan_expressions::single_term;
 use m11_scan_statements::{Assignment, Body, Span, labels_and_body_stand_in_order};

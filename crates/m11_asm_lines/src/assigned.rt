@@ -15,7 +15,7 @@ ghost use Rattle.m11_asm_rules.specs.declared.meanings.Context.TheVariants.{Loca
 ghost use Rattle.m11_asm_lines.specs.Faults.{Overfills};
 ghost use Rattle.m11_asm_lines.specs.Passes.{Follows, Matches};
 ghost use Rattle.m11_scan.specs.Views.{lexeme};
-ghost use Rattle.m11_asm_table.specs.Alike as tables;
+ghost use Rattle.m11_asm_rules.specs.Alike as tables;
 ghost use Rattle.m11_scan_expressions.specs.Quantities.{quantity};
 
 use crate::items::value_item;
@@ -24,8 +24,7 @@ use bitflags::Flags;
 use m11_asm_directives::{known_value_by, target};
 use m11_asm_faults::AsmFault;
 use m11_asm_listing::Item;
-use m11_asm_rules::{Definition, Key, Standing};
-use m11_asm_table::{Map, Table};
+use m11_asm_rules::{Definition, Key, Map, Standing, Table};
 use m11_base::Name;
 use m11_scan::{ErrorFlags, Line, Token};
 use m11_scan_expressions::{Remarks, Symbol, Value, read_symbols, symbol_of};

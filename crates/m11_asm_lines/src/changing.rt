@@ -6,7 +6,7 @@ ghost use Rattle.std.specs.Option.{option_to_list};
 ghost use Rattle.m11_asm_faults.specs.declared.fault.AsmFault.TheVariants.{NoMemory};
 ghost use Rattle.m11_asm_operands.specs.Reads.{fields_seen};
 ghost use Rattle.m11_asm_directives.specs.Changes.{change_seen, names_among};
-ghost use Rattle.m11_asm_instructions.specs.Reading.{operator_fields};
+ghost use Rattle.m11_asm_operands.specs.Reading.{operator_fields};
 ghost use Rattle.m11_asm_rules.specs.Assigning as assigning;
 ghost use Rattle.m11_asm_rules.specs.Changes.{changed, numbered, with_globals, with_number};
 ghost use Rattle.m11_asm_rules.specs.Effects.{operator_change};
@@ -20,20 +20,18 @@ ghost use Rattle.m11_asm_lines.specs.Actions.{AreActionTerms, IsWithin, action_f
 ghost use Rattle.m11_asm_lines.specs.Faults.{Overfills};
 ghost use Rattle.m11_asm_lines.specs.Passes.{Follows, Matches};
 ghost use Rattle.m11_scan.specs.Cutting.{tokens_from};
-ghost use Rattle.m11_asm_table.specs.Alike as tables;
+ghost use Rattle.m11_asm_rules.specs.Alike as tables;
 
 use crate::actions::Action;
+use crate::effects::{instruction_steps, operator_change};
 use crate::items::number_item;
 use crate::pass::Pass;
 use m11_asm_directives::{Change, Move, counter_change, listed_names};
 use m11_asm_faults::AsmFault;
 use m11_asm_listing::Item;
 use m11_asm_operands::Fields;
-use m11_asm_operators::{instruction_steps, operator_change};
-use m11_asm_rules::{Definition, Key, Operator, Standing};
-use m11_asm_table::Map;
-use m11_base::Name;
-use m11_base_instructions::Op;
+use m11_asm_rules::{Definition, Key, Map, Operator, Standing};
+use m11_base::{Name, Op};
 use m11_scan::Line;
 use m11_scan_expressions::Kind;
 

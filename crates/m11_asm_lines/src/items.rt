@@ -10,7 +10,7 @@ use bitflags::Flags;
 use m11_asm_directives::Change;
 use m11_asm_listing::{Item, Mark};
 use m11_asm_rules::Modes;
-use m11_obj_texts::{PieceContent, RelocationKind};
+use m11_obj::{PieceContent, RelocationKind};
 use m11_scan::ErrorFlags;
 use m11_scan_expressions::{Kind, Value};
 use std::alloc::AllocError;

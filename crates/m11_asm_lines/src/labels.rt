@@ -11,15 +11,14 @@ ghost use Rattle.m11_asm_lines.specs.Faults.{Refuses};
 ghost use Rattle.m11_asm_lines.specs.Labels.{Defines, DefinesAll, FitsUpToLabel};
 ghost use Rattle.m11_asm_lines.specs.Moved.{moved_key, moved_kind, moved_flags, moved_name};
 ghost use Rattle.m11_asm_lines.specs.Passes.{Follows, Matches};
-ghost use Rattle.m11_asm_table.specs.Alike as tables;
+ghost use Rattle.m11_asm_rules.specs.Alike as tables;
 ghost use Rattle.m11_asm_rules.specs.declared.definitions.Key.TheVariants.{Named, Numbered};
 ghost use Rattle.m11_scan.specs.Views.{bits_of};
 
 use crate::moved::moved_flag;
 use crate::pass::Pass;
 use m11_asm_faults::AsmFault;
-use m11_asm_rules::{Definition, Key, Standing};
-use m11_asm_table::{Map, Table};
+use m11_asm_rules::{Definition, Key, Map, Standing, Table};
 use m11_base::Name;
 use m11_scan::{ErrorFlags, Line, read_name};
 use m11_scan_statements::{Label, LabelKind};

@@ -1,6 +1,13 @@
-//! What the lines of a source give, one after the other: labels and changes of the table, sizes of sections, the names that lines use,
-//! and the limits of all of them. (MACRO-11 Language Reference Manual, "Source program format" and "Symbols and expressions".)
+//! What the lines of a source give, one after the other: what an operator changes and emits, chosen by its name; labels and changes of the
+//! table, sizes of sections, the names that lines use, and the limits of all of them. (MACRO-11 Language Reference Manual, "Source program
+//! format", "Operator field" and "Symbols and expressions".)
 #![tactic(auto)]
+
+// What an operator changes.
+mod effects;
+
+// What it emits, with its flags.
+mod operators;
 
 // What a pass keeps from line to line: the table, the sizes of sections, and the names that lines use.
 mod counting;

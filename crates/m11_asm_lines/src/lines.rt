@@ -11,11 +11,10 @@ ghost use Rattle.m11_asm_rules.specs.Assigning as assigning;
 ghost use Rattle.m11_scan.specs.Views.{bits_of};
 
 use crate::actions::Action;
+use crate::operators::emit_operator;
 use m11_asm_directives::{assignment_flags, counter_flags};
-use m11_asm_operands::Fields;
-use m11_asm_operators::emit_operator;
-use m11_asm_table::{Map, Table};
-use m11_asm_values::Emission;
+use m11_asm_operands::{Emission, Fields};
+use m11_asm_rules::{Map, Table};
 use m11_scan::{ErrorFlags, Line, Token};
 use m11_scan_expressions::skip_flags;
 use m11_scan_statements::{Assignment, Body};

@@ -6,8 +6,7 @@ ghost use Rattle.m11_asm_lines.specs.Moved as spec;
 ghost use Rattle.m11_scan.specs.Views.{bits_of};
 
 use bitflags::Flags;
-use m11_asm_rules::{Definition, Key, Standing};
-use m11_asm_table::{Map, Table};
+use m11_asm_rules::{Definition, Key, Map, Standing, Table};
 use m11_base::Name;
 use m11_scan::ErrorFlags;
 

@@ -10,13 +10,12 @@ ghost use Rattle.m11_asm_rules.specs.Limits.{has_too_many, most_defined_names, m
 ghost use Rattle.m11_asm_rules.specs.Tables.{Table as LineTable, first_table};
 ghost use Rattle.m11_asm_lines.specs.Faults.{Overfills, Refuses};
 ghost use Rattle.m11_asm_lines.specs.Passes.{Follows, Matches, no_sizes, size_at, with_size};
-ghost use Rattle.m11_asm_table.specs.Alike as tables;
+ghost use Rattle.m11_asm_rules.specs.Alike as tables;
 ghost use Rattle.m11_asm_rules.specs.declared.definitions.Key.TheVariants.{Named, Numbered};
 
 use m11_asm_directives::Move;
 use m11_asm_faults::AsmFault;
-use m11_asm_rules::{Definition, Key, Modes};
-use m11_asm_table::Table;
+use m11_asm_rules::{Definition, Key, Modes, Table};
 use m11_base::Name;
 use std::alloc::{AllocError, Global};
 use std::marker::Model;

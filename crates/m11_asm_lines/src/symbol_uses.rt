@@ -7,7 +7,7 @@ ghost use Rattle.m11_scan_expressions.specs.Expressions.{IsAlone, symbols_at, sy
 ghost use Rattle.m11_asm_directives.specs.Changes.{change_seen, names_among};
 ghost use Rattle.m11_asm_operands.specs.Reads.{fields_seen};
 ghost use Rattle.m11_asm_operands.specs.Terms.{AreTerms, IsFieldTerm, IsFormTerm};
-ghost use Rattle.m11_asm_instructions.specs.Reading.{operator_fields};
+ghost use Rattle.m11_asm_operands.specs.Reading.{operator_fields};
 ghost use Rattle.m11_asm_rules.specs.Assigning.{target};
 ghost use Rattle.m11_asm_rules.specs.declared.meanings.Context.TheVariants.{LocalOnly};
 ghost use Rattle.m11_asm_rules.specs.Elements.{listed_names};
@@ -23,8 +23,7 @@ ghost use Rattle.m11_scan.specs.Views.{lexeme};
 use crate::actions::Action;
 use crate::changing::within;
 use crate::used_symbols::UsedSymbols;
-use m11_asm_data::parts_at;
-use m11_asm_directives::{Change, listed_names, narg, nchr};
+use m11_asm_directives::{Change, listed_names, narg, nchr, parts_at};
 use m11_asm_faults::AsmFault;
 use m11_asm_operands::{FieldTerms, Fields, elements_at};
 use m11_asm_rules::{Context, Directive, Field, Form, Operator};

@@ -4,3 +4,6 @@ mod NamedOperations
 mod Naming
 mod OneRow
 mod Terms
+pub mod Joining
+pub mod FieldWords
+mod TwoFields

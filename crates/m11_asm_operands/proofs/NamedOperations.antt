@@ -4,10 +4,10 @@ use Rattle.std.proofs.lemmas.Bool.{and_parts}
 use Rattle.std.specs.List.{list_all}
 use Rattle.std.specs.Prelude.{if◌then◌else◌, IfSome, IsTrue}
 use Rattle.std.specs.Str.{bytes_eq}
-use Rattle.m11_base_instructions.specs.Instructions.{operation_in, other_names, rows}
-use Rattle.m11_base_instructions.specs.Mnemonics.{named_in, or_else}
-use Rattle.m11_base_instructions.specs.declared.instruction.Op.{Op}
-use Rattle.m11_base_instructions.specs.declared.instruction_list.Row.{Row}
+use Rattle.m11_base.specs.Instructions.{operation_in, other_names, rows}
+use Rattle.m11_base.specs.Mnemonics.{named_in, or_else}
+use Rattle.m11_base.specs.declared.instruction.Op.{Op}
+use Rattle.m11_base.specs.declared.instruction_list.Row.{Row}
 use Rattle.m11_asm_rules.specs.Operators.{directive_or, directive_rows, instruction_in, operator_named}
 use Rattle.m11_asm_rules.specs.declared.operators.DirectiveRow.{DirectiveRow}
 use Rattle.m11_asm_rules.specs.declared.operators.Operator.{Operator}

@@ -6,9 +6,9 @@ use Rattle.std.proofs.lemmas.Slice.Eq.{bytes_eq-Decides}
 use Rattle.std.specs.List.{list_all, position_or_len, slice_get}
 use Rattle.std.specs.Option.{option_or}
 use Rattle.std.specs.Str.{bytes_eq}
-use Rattle.m11_base_instructions.specs.Instructions.{operation_in, other_names, rows}
-use Rattle.m11_base_instructions.specs.Mnemonics.{named_in, or_else}
-use Rattle.m11_base_instructions.specs.declared.instruction_list.Row.{Row}
+use Rattle.m11_base.specs.Instructions.{operation_in, other_names, rows}
+use Rattle.m11_base.specs.Mnemonics.{named_in, or_else}
+use Rattle.m11_base.specs.declared.instruction_list.Row.{Row}
 use Rattle.m11_asm_operands.specs.Hashes.{hash_of, operation_named}
 use Rattle.m11_asm_operands.specs.declared.operations.TheConstants.{INDICES}
 

@@ -1,8 +1,8 @@
 -- The operations that the list of instructions has in their sizes. (PDP-11/40 Processor Handbook, "Instruction set".)
 use Rattle.std.specs.Prelude.{Bool, true}
-use Rattle.m11_base_instructions.specs.Encoding.{has_double, has_single}
-use Rattle.m11_base_instructions.specs.declared.instruction.Op.{Op}
-use Rattle.m11_base_instructions.specs.declared.instruction.Op.TheVariants as op
+use Rattle.m11_base.specs.Encoding.{has_double, has_single}
+use Rattle.m11_base.specs.declared.instruction.Op.{Op}
+use Rattle.m11_base.specs.declared.instruction.Op.TheVariants as op
 use Rattle.m11_asm_rules.specs.declared.operators.Operator.{Operator}
 use Rattle.m11_asm_rules.specs.declared.operators.Operator.TheVariants as operators
 

@@ -7,7 +7,7 @@ use arrayvec::ArrayVec;
 use m11_scan::{LINE_LIMIT, Line, expression_end};
 use m11_scan_expressions::column_in;
 use m11_scan_statements::{Span, listed_name};
-use m11_unfold_arguments::after_comma;
+use m11_unfold_rules::after_comma;
 
 /// The most elements of a list: a line has no more of them than characters, and one.
 pub const ELEMENT_LIMIT: usize = LINE_LIMIT + 1;

@@ -14,10 +14,10 @@ ghost use Rattle.m11_scan.specs.Views.{bits_of};
 use crate::operands::operand_at;
 use arrayvec::ArrayVec;
 use m11_asm_rules::{Field, FieldKind, Form};
-use m11_base_instructions::Op;
+use m11_base::Op;
 use m11_scan::{ErrorFlags, Line, Token};
 use m11_scan_expressions::{Names, column_in, expression_end_at, has_expression};
-use m11_unfold_arguments::after_comma;
+use m11_unfold_rules::after_comma;
 
 /// The fields of an instruction.
 #[derive(Drop)]

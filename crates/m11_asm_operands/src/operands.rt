@@ -15,7 +15,7 @@ ghost use Rattle.m11_scan.specs.Views.{lexeme};
 ghost use Rattle.m11_scan_expressions.specs.Kinds.{is_register};
 
 use m11_asm_rules::Form;
-use m11_base_instructions::Mode;
+use m11_base::Mode;
 use m11_scan::{ErrorFlags, Line, Sort, Token, next_token, skipped_between};
 use m11_scan_expressions::{
     ExpressionEnd, Names, column_in, expression_end_at, expression_end_from, value_by,

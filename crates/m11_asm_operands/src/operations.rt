@@ -1,11 +1,11 @@
 //! The operations of instructions, by their names. (MACRO-11 Language Reference Manual, "Permanent symbol table".)
 
 ghost use Rattle.std.specs.Prelude.{◌≡◌, ◌++◌, option_map, slice_get};
-ghost use Rattle.m11_base_instructions.specs.Instructions.{other_names, rows};
-ghost use Rattle.m11_base_instructions.specs.Mnemonics.{named_in, or_else};
+ghost use Rattle.m11_base.specs.Instructions.{other_names, rows};
+ghost use Rattle.m11_base.specs.Mnemonics.{named_in, or_else};
 ghost use Rattle.m11_asm_operands.specs.Hashes.{hash_of, operation_named};
 
-use m11_base_instructions::{Op, Row, other_names, rows};
+use m11_base::{Op, Row, other_names, rows};
 use m11_scan::is_same_six;
 
 // By the hash of a name, the index of the one row that may have the name: in the list, and after its end in that of the further names.

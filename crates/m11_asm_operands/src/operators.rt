@@ -2,8 +2,8 @@
 //! table".)
 
 ghost use Rattle.std.specs.Prelude.{◌≡◌, IfSome, IsTrue};
-ghost use Rattle.m11_base_instructions.specs.Instructions.{other_names, rows};
-ghost use Rattle.m11_base_instructions.specs.Mnemonics.{named_in, or_else};
+ghost use Rattle.m11_base.specs.Instructions.{other_names, rows};
+ghost use Rattle.m11_base.specs.Mnemonics.{named_in, or_else};
 ghost use Rattle.m11_asm_operands.specs.Directives.{directive_named};
 ghost use Rattle.m11_asm_operands.specs.ListedOperations.{has_listed_operation};
 ghost use Rattle.m11_asm_rules.specs.Operators as spec;

@@ -1,3 +1,8 @@
+mod Defining
+mod MoreLines
+mod Noted
+mod WholeEnds
+mod WholeSources
 mod EachPass
 mod LiveWritten
 mod MessagesCounted

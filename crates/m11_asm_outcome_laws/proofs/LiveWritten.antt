@@ -1,7 +1,7 @@
 -- A run over known sources comes to what their live lines say.
 use Rattle.std.proofs.Common.{◌≡◌, ℕ, List, Option, Result, Ok, Err, inl, inr, sym, subst}
 use Rattle.m11_asm.specs.Outcome.{Ends, Refuses}
-use Rattle.m11_base_pass_rules.specs.Passes.{AreKnown, pass_of}
+use Rattle.m11_base_writes.specs.Passes.{AreKnown, pass_of}
 use Rattle.m11_asm.specs.Passes.{ReadsFirst, ReadsSecond}
 use Rattle.m11_asm.specs.Run.{AsmRuns}
 use Rattle.m11_asm.specs.Written.{EndOfSource, pieces_in, program_writes}

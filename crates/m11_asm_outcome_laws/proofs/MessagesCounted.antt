@@ -4,7 +4,7 @@ use Rattle.std.proofs.lemmas.List.Sums.{sum_by-append, sum_by-cons}
 use Rattle.m11_asm_outputs.specs.Object.{content_write, content_writes, head_contents, last_records, records_closed_by}
 use Rattle.m11_base_writes.specs.Outputs.{Write, flushes, to_messages, to_report}
 use Rattle.m11_base.specs.Devices.{Bytes}
-use Rattle.m11_asm_listing_writes.specs.Listed.{added_lines, all_to_listing, lines_of, listing_writes}
+use Rattle.m11_asm.specs.Listed.{added_lines, all_to_listing, lines_of, listing_writes}
 use Rattle.m11_asm_listing.specs.Messages.{count_line, message_line}
 use Rattle.m11_asm_listing.specs.SymbolTable.{last_lines}
 use Rattle.m11_obj.specs.Records.{Content, EndOfModule}

@@ -11,13 +11,13 @@ use Rattle.m11_asm_outputs.specs.Object.{closed_records, content_writes, head_co
 use Rattle.m11_asm_outputs.specs.Outputs.{assembly}
 use Rattle.m11_base_writes.specs.Outputs.{Write, flushes, to_messages}
 use Rattle.m11_base.specs.Devices.{Bytes}
-use Rattle.m11_asm_listing_writes.specs.Listed.{added_lines, all_to_listing, lines_of, listing_writes}
+use Rattle.m11_asm.specs.Listed.{added_lines, all_to_listing, lines_of, listing_writes}
 use Rattle.m11_asm_listing.specs.Messages.{count_line, message_line}
 use Rattle.m11_asm_listing.specs.SymbolTable.{last_lines}
 use Rattle.m11_obj.specs.Records.{Content, EndOfModule}
-use Rattle.m11_obj_texts.specs.Fronts.{fronts_of}
-use Rattle.m11_obj_texts.specs.Texts.{text_records}
-use Rattle.m11_obj_texts.specs.declared.pieces.Piece.{Piece}
+use Rattle.m11_obj.specs.Fronts.{fronts_of}
+use Rattle.m11_obj.specs.Texts.{text_records}
+use Rattle.m11_obj.specs.declared.pieces.Piece.{Piece}
 use Rattle.m11_asm_passes.specs.Lines.{NumberedLine, table_at}
 use Rattle.m11_asm_rules.specs.Items.{is_listed}
 use Rattle.m11_asm_rules.specs.Lines.{after_line, pieces}

@@ -3,7 +3,7 @@ use Rattle.std.proofs.Common.{◌≡◌, ◌∙◌, List, ◌∷◌, ◌++◌, i
 use Rattle.m11_asm.specs.Outcome as outcome
 use Rattle.m11_asm.specs.Outcome.{Ends, HasOutcome, Outcome, Refuses}
 use Rattle.m11_asm_faults.specs.declared.fault.AsmFault.{AsmFault}
-use Rattle.m11_scan_lines.specs.Line.{SourceLine}
+use Rattle.m11_scan.specs.Line.{SourceLine}
 use Rattle.m11_asm_pass_laws.specs.Ends.{EndsAfter, ExceedsAfter}
 use Rattle.m11_asm_pass_laws.specs.Second.{map_from, moved_after}
 use Rattle.m11_asm_passes.specs.Lines.{NumberedLine, PassLines, givens}

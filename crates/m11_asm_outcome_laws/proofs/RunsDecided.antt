@@ -2,7 +2,7 @@
 use Rattle.std.proofs.Common.{◌≡◌, ◌∙◌, List, [], ◌∷◌, ◌++◌, ℕ, append_assoc, append-nil, Option, None, Result, Ok, Err, inl, inr, refl, sym, ap, ap₂, subst}
 use Rattle.m11_asm.specs.Outcome.{Assembled, Ends, Outcome, Refused, Refuses}
 use Rattle.m11_asm.specs.Passes as passes
-use Rattle.m11_base_pass_rules.specs.Passes.{AreKnown, Pass, pass_of}
+use Rattle.m11_base_writes.specs.Passes.{AreKnown, Pass, pass_of}
 use Rattle.m11_asm.specs.Passes.{AreWrites, ReadsFirst, ReadsSecond, StopsAmongWrites}
 use Rattle.m11_asm.specs.Program.{Program, program_of}
 use Rattle.m11_asm.specs.Run.{AsmRuns}
@@ -14,7 +14,7 @@ use Rattle.m11_asm_outputs.specs.Outputs.{Gains, Stops, StopsBetween, StopsIn, a
 use Rattle.m11_base_writes.specs.Outputs.{AreFlushed, Outputs, Write}
 use Rattle.m11_base.specs.Devices.{Bytes}
 use Rattle.m11_base.specs.Feed.{Text}
-use Rattle.m11_scan_lines.specs.Line.{SourceLine}
+use Rattle.m11_scan.specs.Line.{SourceLine}
 use Rattle.m11_asm_pass_laws.specs.Beginnings.{BeginWith}
 use Rattle.m11_asm_pass_laws.specs.Ends.{EndsAfter}
 use Rattle.m11_asm_passes.specs.Lines.{NumberedLine, PassLines, givens}

@@ -2,7 +2,7 @@
 use Rattle.std.proofs.Common.{◌≡◌, List, [], Ok, Err, inl, inr, refl, sym, subst}
 use Rattle.m11_asm.specs.Outcome as outcome
 use Rattle.m11_asm.specs.Outcome.{HasOutcome, Refused, Refuses}
-use Rattle.m11_base_pass_rules.specs.Passes.{Pass}
+use Rattle.m11_base_writes.specs.Passes.{Pass}
 use Rattle.m11_asm.specs.Passes.{Reads, ReadsFirst, ReadsSecond, WritesLines}
 use Rattle.m11_asm.specs.Run.{AsmRuns}
 use Rattle.m11_asm_faults.specs.declared.fault.AsmFault.{AsmFault}

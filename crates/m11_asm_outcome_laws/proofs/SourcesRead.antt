@@ -3,15 +3,15 @@ use Rattle.std.proofs.Common.{◌≡◌, ◌∙◌, ℕ, List, [], ◌∷◌, �
 use Rattle.std.proofs.lemmas.List.{map-append}
 use Rattle.m11_base.specs.Devices.{Bytes}
 use Rattle.m11_base.specs.Feed.{BeginsWith, GiveAll, HasBytes, OneFailed, Text}
-use Rattle.m11_scan_lines.specs.Line.{SourceLine}
-use Rattle.m11_scan_lines.specs.Lines.{Cut, RawLine, cut, input_of}
-use Rattle.m11_scan_lines.specs.declared.fault.LineFault.{LineFault}
-use Rattle.m11_scan_lines.proofs.Cuts.{bytes_of}
+use Rattle.m11_scan.specs.Line.{SourceLine}
+use Rattle.m11_scan.specs.Lines.{Cut, RawLine, cut, input_of}
+use Rattle.m11_scan.specs.declared.fault.LineFault.{LineFault}
+use Rattle.m11_scan.proofs.Cuts.{bytes_of}
 use Rattle.m11_scan_line_laws.specs.Calls.{FailReading, HaveReading}
 use Rattle.m11_scan_line_laws.specs.Readings.{Reading, fault_at, lines_of, reading_from, reading_of, reading_of_input, unless_fault}
 use Rattle.m11_scan_line_laws.proofs.Passing.{extends}
 use Rattle.m11_scan_line_laws.proofs.Pieces.{cut_more, following}
-use Rattle.m11_base_pass_rules.specs.Passes.{AreKnown, IsKnown}
+use Rattle.m11_base_writes.specs.Passes.{AreKnown, IsKnown}
 
 -- ---- the lines of a beginning of an input are the first lines of the whole
 

@@ -5,10 +5,10 @@ use Rattle.m11_asm.specs.Outcome.{Ends, HasOutcome, Outcome, Refuses, Unended}
 use Rattle.m11_asm.specs.Program.{Program, program_of}
 use Rattle.m11_asm.specs.Written.{EndOfSource}
 use Rattle.m11_asm_faults.specs.declared.fault.AsmFault.{AsmFault}
-use Rattle.m11_scan_lines.specs.Line.{SourceLine}
+use Rattle.m11_scan.specs.Line.{SourceLine}
 use Rattle.m11_asm_outcome_laws.specs.WholeSources.{IsOfWholeSources, IsProgramOf}
 use Rattle.m11_asm_pass_laws.specs.Ends.{EndsAfter}
-use Rattle.m11_asm_source_laws.specs.WholeSources.{AreAllLines}
+use Rattle.m11_asm_outcome_laws.specs.AllLines.{AreAllLines}
 use Rattle.m11_asm_passes.specs.Lines.{NumberedLine, PassLines, givens}
 use Rattle.m11_asm_passes.specs.Reaching as reaching
 use Rattle.m11_asm_passes.specs.Reaching.{Exceeds}

@@ -1,3 +1,4 @@
+pub mod AllLines
 pub mod Beginnings
 pub mod Live
 pub mod Messages

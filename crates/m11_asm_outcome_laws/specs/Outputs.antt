@@ -5,7 +5,7 @@ use Rattle.std.specs.Prelude.{ℕ, if◌then◌else◌, List, [], ◌∷◌, ◌
 use Rattle.std.specs.List.{cons_option}
 use Rattle.m11_base.specs.Devices.{Bytes}
 use Rattle.m11_obj_blocks.specs.Frames.{block}
-use Rattle.m11_asm_listing_writes.specs.Listed.{added_lines, lines_of}
+use Rattle.m11_asm.specs.Listed.{added_lines, lines_of}
 use Rattle.m11_asm_listing.specs.Messages.{count_line, message_line}
 use Rattle.m11_asm_listing.specs.SymbolTable.{last_lines}
 use Rattle.m11_obj.specs.Records.{Content, record_data}

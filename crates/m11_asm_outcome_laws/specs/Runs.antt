@@ -1,7 +1,7 @@
 -- How a run ends whose sources are refused. (This project's own.)
 use Rattle.std.specs.Prelude.{◌≡◌, List, [], ⊤}
 use Rattle.m11_asm.specs.Outcome.{HasOutcome, Refused}
-use Rattle.m11_base_pass_rules.specs.Passes.{Pass}
+use Rattle.m11_base_writes.specs.Passes.{Pass}
 use Rattle.m11_asm.specs.Passes.{Reads}
 use Rattle.m11_asm_faults.specs.declared.fault.AsmFault.{AsmFault}
 use Rattle.m11_asm_faults.specs.declared.fault.AsmFault.TheVariants as fault

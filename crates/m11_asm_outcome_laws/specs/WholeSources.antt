@@ -5,7 +5,7 @@ use Rattle.m11_asm.specs.Outcome.{Assembled, Outcome, Refused}
 use Rattle.m11_asm.specs.Program.{Program, program_of}
 use Rattle.m11_asm.specs.Written.{EndOfSource, flagged_count, program_writes, written}
 use Rattle.m11_base_writes.specs.Outputs.{Write}
-use Rattle.m11_asm_source_laws.specs.WholeSources.{AreAllLines}
+use Rattle.m11_asm_outcome_laws.specs.AllLines.{AreAllLines}
 use Rattle.m11_asm_passes.specs.Lines.{NumberedLine, givens}
 use Rattle.m11_asm_rules.specs.Meanings.{empty_map}
 use Rattle.m11_asm_rules.specs.Unfolded.{AreLines}

@@ -2,7 +2,7 @@
 
 ghost use Rattle.std.specs.Prelude.{◌≡◌, ◌↔◌, ◌∷◌, ◌++◌, ◌+◌, ℕ, List, [], Err, Some};
 ghost use Rattle.m11_asm.specs.Outcome.{Assembled, Ends, HasOutcome, Outcome, Refuses};
-ghost use Rattle.m11_base_pass_rules.specs.Passes.{Pass};
+ghost use Rattle.m11_base_writes.specs.Passes.{Pass};
 ghost use Rattle.m11_asm.specs.Run.{AsmRuns};
 ghost use Rattle.m11_asm_faults.specs.declared.fault.AsmFault.{AsmFault};
 ghost use Rattle.m11_base_writes.specs.declared.outputs.Output.{Output};

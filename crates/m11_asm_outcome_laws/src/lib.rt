@@ -1,8 +1,15 @@
-//! Laws of the outcome of sources: each list of sources has one outcome, every run writes it, and the object, the listing and the
-//! messages are told by it as whole texts. Each is the contract of a function that does nothing but to call the laws that its own
-//! follows from; m11_cli_chain alone calls some of them. (MACRO-11 Language Reference Manual, "Source program format" and "Listing
-//! control directives".)
+//! Laws of whole sources and of their outcome: a pass, which reads one line after the other, has the live lines of the rewriting of the whole
+//! source; each list of sources has one outcome, every run writes it, and the object, the listing and the messages are told by it as whole
+//! texts. Each is the contract of a function that does nothing but to call the laws that its own follows from. (MACRO-11 Language Reference
+//! Manual, "Source program format", "Macro directives", "Conditional assembly directives", "Symbols" and "Listing control directives".)
 #![tactic(auto)]
+
+mod source_laws;
+
+pub use source_laws::{
+    a_pass_has_the_lines_of_the_whole_source, the_lines_of_a_pass_are_those_of_the_whole_source,
+    what_lines_define_they_use,
+};
 
 // Sources have one outcome, which every run writes.
 mod laws;

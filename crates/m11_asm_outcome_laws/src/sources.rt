@@ -5,7 +5,7 @@ ghost use Rattle.m11_asm.specs.Outcome.{HasOutcome, Outcome};
 ghost use Rattle.m11_asm_outcome_laws.specs.WholeSources.{IsOfWholeSources};
 ghost use Rattle.m11_scan_line_laws.specs.Readings.{Reading};
 
-use m11_asm_source_laws::the_lines_of_a_pass_are_those_of_the_whole_source;
+use crate::source_laws::the_lines_of_a_pass_are_those_of_the_whole_source;
 
 /// What an assembly writes is what all live lines of its second reading write, under the program that all live lines of the first one
 /// give; and these are the live lines of the rewriting of all lines of each reading, in which nothing more is taken. What a refusal of

@@ -5,8 +5,8 @@ use Rattle.m11_asm_faults.specs.declared.fault.AsmFault.{AsmFault}
 use Rattle.m11_base.specs.Devices.{Bytes}
 use Rattle.m11_obj_blocks.specs.Frames.{block}
 use Rattle.m11_obj.specs.Records.{Content, EndOfGsd, record_data}
-use Rattle.m11_obj_texts.specs.Blocks.{AreRecords}
-use Rattle.m11_obj_texts.specs.declared.directory.DirectoryRow.{DirectoryRow}
+use Rattle.m11_obj.specs.Blocks.{AreRecords}
+use Rattle.m11_obj.specs.declared.directory.DirectoryRow.{DirectoryRow}
 use Rattle.m11_asm_outputs.specs.Object.{block_writes, content_writes, head_contents, records_filled_by, rest_records}
 use Rattle.m11_asm_outputs.specs.Outputs.{Gains, Stops, Writes}
 use Rattle.m11_base_writes.specs.Outputs.{Outputs, Write, to_product}

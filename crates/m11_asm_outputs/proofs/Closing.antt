@@ -6,14 +6,14 @@ use Rattle.std.proofs.lemmas.Bool.{cases_lt}
 use Rattle.std.proofs.lemmas.List.{append_cancel_left, map-append}
 use Rattle.m11_obj.specs.Records.{Content, EndOfModule, Gsd}
 use Rattle.m11_obj.specs.declared.gsd.GsdEntry.{GsdEntry}
-use Rattle.m11_obj_texts.proofs.TextCuts.{begins, closes, goes_in}
-use Rattle.m11_obj_texts.proofs.RecordCuts.{row_closes, row_goes_in}
-use Rattle.m11_obj_texts.specs.Directory as directory
-use Rattle.m11_obj_texts.specs.Fronts.{fronts_of}
-use Rattle.m11_obj_texts.specs.OpenText.{IsOpenText, last_section, records_in, takes_in, with_piece}
-use Rattle.m11_obj_texts.specs.Texts.{TextParts, records_of, text_of, text_records, texts_after}
-use Rattle.m11_obj_texts.specs.declared.directory.DirectoryRow.{DirectoryRow}
-use Rattle.m11_obj_texts.specs.declared.pieces.Piece.{Piece}
+use Rattle.m11_obj.proofs.TextCuts.{begins, closes, goes_in}
+use Rattle.m11_obj.proofs.RecordCuts.{row_closes, row_goes_in}
+use Rattle.m11_obj.specs.Directory as directory
+use Rattle.m11_obj.specs.Fronts.{fronts_of}
+use Rattle.m11_obj.specs.OpenText.{IsOpenText, last_section, records_in, takes_in, with_piece}
+use Rattle.m11_obj.specs.Texts.{TextParts, records_of, text_of, text_records, texts_after}
+use Rattle.m11_obj.specs.declared.directory.DirectoryRow.{DirectoryRow}
+use Rattle.m11_obj.specs.declared.pieces.Piece.{Piece}
 use Rattle.m11_asm_outputs.specs.Object.{closed_records, full_records, head_contents, IsOpenAfter, last_records, object_contents, records_closed_by, records_filled_by, rest_records, texts_of, WaitsAfter, without_last}
 use Rattle.m11_asm_outputs.proofs.Growing as growing
 

@@ -8,11 +8,11 @@ use Rattle.m11_obj_blocks.specs.Frames.{block}
 use Rattle.m11_obj.specs.Reading.{content_of}
 use Rattle.m11_obj.specs.Records.{Content, EndOfGsd, EndOfModule, Fits, record_data}
 use Rattle.m11_obj.specs.declared.gsd.GsdEntry.{GsdEntry}
-use Rattle.m11_obj_texts.specs.Directory as directory
-use Rattle.m11_obj_texts.specs.OpenText as text
-use Rattle.m11_obj_texts.specs.Texts.{TextParts, cutting, texts_after, records_of, text_records}
-use Rattle.m11_obj_texts.specs.declared.directory.DirectoryRow.{DirectoryRow}
-use Rattle.m11_obj_texts.specs.declared.pieces.Piece.{Piece}
+use Rattle.m11_obj.specs.Directory as directory
+use Rattle.m11_obj.specs.OpenText as text
+use Rattle.m11_obj.specs.Texts.{TextParts, cutting, texts_after, records_of, text_records}
+use Rattle.m11_obj.specs.declared.directory.DirectoryRow.{DirectoryRow}
+use Rattle.m11_obj.specs.declared.pieces.Piece.{Piece}
 use Rattle.m11_base_writes.specs.Outputs.{Write, to_product}
 
 -- ---- the whole object

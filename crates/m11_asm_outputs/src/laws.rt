@@ -2,8 +2,8 @@
 
 ghost use Rattle.std.specs.Prelude.{◌≡◌, List, [], ◌∷◌, ◌++◌};
 ghost use Rattle.m11_obj.specs.Records.{EndOfModule};
-ghost use Rattle.m11_obj_texts.specs.declared.directory.DirectoryRow.{DirectoryRow};
-ghost use Rattle.m11_obj_texts.specs.declared.pieces.Piece.{Piece};
+ghost use Rattle.m11_obj.specs.declared.directory.DirectoryRow.{DirectoryRow};
+ghost use Rattle.m11_obj.specs.declared.pieces.Piece.{Piece};
 ghost use Rattle.m11_asm_outputs.specs.Object.{closed_records, head_contents, last_records, object_contents, records_closed_by};
 
 /// Pieces leave the closed texts as they are, and close others after them: no pieces none, and pieces one part after

@@ -5,11 +5,11 @@ ghost use Rattle.std.specs.List.{AllByRecursion};
 ghost use Rattle.std.specs.Option.{option_to_list};
 ghost use Rattle.m11_obj_blocks.specs.Frames.{block};
 ghost use Rattle.m11_obj.specs.Records.{Content, EndOfGsd, EndOfModule};
-ghost use Rattle.m11_obj_texts.specs.Blocks.{AreRecords};
-ghost use Rattle.m11_obj_texts.specs.OpenText.{records_in};
-ghost use Rattle.m11_obj_texts.specs.Texts.{records_of};
-ghost use Rattle.m11_obj_texts.specs.declared.directory.DirectoryRow.{DirectoryRow};
-ghost use Rattle.m11_obj_texts.specs.declared.pieces.Piece.{Piece};
+ghost use Rattle.m11_obj.specs.Blocks.{AreRecords};
+ghost use Rattle.m11_obj.specs.OpenText.{records_in};
+ghost use Rattle.m11_obj.specs.Texts.{records_of};
+ghost use Rattle.m11_obj.specs.declared.directory.DirectoryRow.{DirectoryRow};
+ghost use Rattle.m11_obj.specs.declared.pieces.Piece.{Piece};
 ghost use Rattle.m11_asm_rules.specs.Contents.{content_size, further, pieces_from};
 ghost use Rattle.m11_base_writes.specs.States.{OutputState, output_of};
 ghost use Rattle.m11_asm_outputs.specs.Object.{AllFit, BlockFits, IsOpenAfter, WaitsAfter, block_writes, content_writes, head_contents, last_records, records_closed_by, records_filled_by, rest_records};
@@ -19,8 +19,9 @@ ghost use Rattle.m11_base_writes.specs.Outputs.{outputs, to_product};
 use m11_asm_faults::AsmFault;
 use m11_base::{Name, Sink};
 use m11_base_writes::put_product;
-use m11_obj::{Block, Record, block_bytes};
-use m11_obj_texts::{DirectoryRow, OpenDirectory, OpenText, Piece, PieceContent, Text};
+use m11_obj::{
+    Block, DirectoryRow, OpenDirectory, OpenText, Piece, PieceContent, Record, Text, block_bytes,
+};
 use std::alloc::Global;
 
 /// What stands before the texts: the records of a directory of these rows, and its end.

@@ -2,7 +2,7 @@
 use Rattle.std.proofs.Common.{◌≡◌, ◌∙◌, List, ◌++◌, Some, None, inl, inr, sym, ap, subst}
 use Rattle.m11_asm_faults.specs.Faults.{of_unfolding}
 use Rattle.m11_asm_faults.specs.declared.fault.AsmFault.{AsmFault}
-use Rattle.m11_scan_lines.specs.Line.{SourceLine}
+use Rattle.m11_scan.specs.Line.{SourceLine}
 use Rattle.m11_asm_lines.specs.declared.counting.Counting.{Counting}
 use Rattle.m11_asm_passes.specs.Lines.{NumberedLine, counting_at, table_at}
 use Rattle.m11_asm_passes.specs.Reaching.{Exceeds}

@@ -3,12 +3,12 @@
 use Rattle.std.proofs.Common.{◌≡◌, ◌≤◌, ◌<◌, ℕ, ◌+◌, ◌-◌, ◌*◌, Bool, true, false, List, [], ◌∷◌, length, map, Option, Some, None, refl, ap, subst, arith}
 use Rattle.std.specs.Prelude.{if◌then◌else◌, nat_le}
 use Rattle.std.proofs.lemmas.Bool.Decides.{nat_tests}
-use Rattle.m11_unfold_arguments.specs.Actuals.{actuals_from}
+use Rattle.m11_unfold_rules.specs.Actuals.{actuals_from}
 use Rattle.m11_scan_expressions.specs.Expressions.{KnownSymbols}
-use Rattle.m11_unfold_arguments.specs.Filling.{filled}
-use Rattle.m11_unfold_arguments.specs.Immediate as immediate
-use Rattle.m11_unfold_arguments.specs.declared.directives.Directive.{Directive}
-use Rattle.m11_unfold_arguments.specs.declared.directives.Directive.TheVariants as word
+use Rattle.m11_unfold_rules.specs.Filling.{filled}
+use Rattle.m11_unfold_rules.specs.Immediate as immediate
+use Rattle.m11_unfold_rules.specs.declared.directives.Directive.{Directive}
+use Rattle.m11_unfold_rules.specs.declared.directives.Directive.TheVariants as word
 use Rattle.m11_base.specs.Devices.{Bytes}
 use Rattle.m11_base.specs.Rad50.{Name}
 use Rattle.m11_unfold_bodies.proofs.Stacks.{marks-rounds}
@@ -16,7 +16,7 @@ use Rattle.m11_unfold_bodies.specs.Bodies.{PartialBody, depth_after, size_of}
 use Rattle.m11_unfold_bodies.specs.Conditions.{OpenConditions, has_none}
 use Rattle.m11_unfold_bodies.specs.Left.{RemainingItem, Line, End, after_mark, depth, expanded, is_expanding, marks}
 use Rattle.m11_unfold_bodies.specs.declared.mark.Mark.{Mark}
-use Rattle.m11_scan_lines.specs.Line.{SourceLine}
+use Rattle.m11_scan.specs.Line.{SourceLine}
 use Rattle.m11_asm_passes.proofs.Counting.{act_takes, used_takes}
 use Rattle.m11_unfold_rules.specs.Acting.{Acted, Operation, Calls, OwnDirective, Foreign, act, acted_by, formal_name, operation, with_statement}
 use Rattle.m11_unfold_rules.specs.Limits.{fault_from, has_room, most_lines, next_fault, taking_fault}

@@ -3,7 +3,7 @@
 use Rattle.std.proofs.Common.{◌≡◌, ◌∙◌, Bool, false, List, [], ◌∷◌, ◌++◌, length, append-nil, Option, Some, None, inl, inr, refl, sym, ap}
 use Rattle.std.specs.Prelude.{◌⊎◌}
 use Rattle.m11_asm_faults.specs.declared.fault.AsmFault.{AsmFault}
-use Rattle.m11_scan_lines.specs.Line.{SourceLine}
+use Rattle.m11_scan.specs.Line.{SourceLine}
 use Rattle.m11_asm_lines.specs.declared.counting.Counting.{Counting}
 use Rattle.m11_asm_passes.specs.Lines.{NumberedLine, PassLines, acted, counting_at, numbered, table_at}
 use Rattle.m11_asm_passes.specs.Refusals.{given_by, line_fault}

@@ -21,7 +21,7 @@ use Rattle.m11_scan_statements.specs.Labels.{labels_at}
 use Rattle.m11_scan_statements.specs.declared.labels.Label.{Label}
 use Rattle.m11_scan_statements.specs.declared.labels.LabelKind.{LabelKind}
 use Rattle.m11_scan_statements.specs.declared.labels.LabelKind.TheVariants as kind
-use Rattle.m11_asm_table.proofs.Defined.{is_some_last}
+use Rattle.m11_asm_rules.proofs.Defined.{is_some_last}
 use Rattle.m11_unfold_rules.specs.Unfolding.{UnfoldedLine}
 
 -- ---- keys

@@ -4,7 +4,7 @@ use Rattle.std.proofs.Math.Path.{fun_ext}
 use Rattle.std.specs.Int.RustNames.{bit_or}
 use Rattle.std.specs.Prelude.{false, not, ◌&&◌}
 use Rattle.std.specs.Option.{option_or}
-use Rattle.m11_unfold_arguments.specs.Definedness.{flag_U}
+use Rattle.m11_unfold_rules.specs.Definedness.{flag_U}
 use Rattle.m11_scan_expressions.specs.Expressions as expressions
 use Rattle.m11_scan_expressions.specs.Expressions.{has_expression, known_by, symbols_at, value_at}
 use Rattle.m11_scan_expressions.specs.LeftOvers.{left_over, skip_flags}
@@ -60,7 +60,7 @@ use Rattle.m11_asm_rules.specs.declared.operators.Directive.{Directive}
 use Rattle.m11_asm_rules.specs.declared.operators.Directive.TheVariants as directive
 use Rattle.m11_asm_rules.specs.declared.operators.Operator.{Operator}
 use Rattle.m11_asm_rules.specs.declared.operators.Operator.TheVariants as operators
-use Rattle.m11_asm_table.specs.Alike.{Alike}
+use Rattle.m11_asm_rules.specs.Alike.{Alike}
 use Rattle.m11_asm_lines.specs.Moved.{is_location_of, flag_P, moved_key, moved_kind, moved_flags, moved_name}
 use Rattle.m11_asm_passes.specs.Placed.{all_flags}
 use Rattle.m11_asm_lines.specs.Counting.{names_counted, with_counted}

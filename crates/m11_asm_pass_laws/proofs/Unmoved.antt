@@ -8,7 +8,7 @@ use Rattle.std.specs.Prelude.{if◌then◌else◌, ◌==◌}
 use Rattle.m11_base.specs.Devices.{Bytes}
 use Rattle.m11_base.proofs.SameNames.{same_name_itself}
 use Rattle.m11_base.specs.Rad50.{Name, is_same_name}
-use Rattle.m11_scan_lines.specs.Line.{SourceLine}
+use Rattle.m11_scan.specs.Line.{SourceLine}
 use Rattle.m11_asm_lines.specs.declared.counting.Counting.{Counting}
 use Rattle.m11_asm_passes.specs.Lines.{NumberedLine, PassLines, givens}
 use Rattle.m11_asm_passes.specs.Lines as lines

@@ -2,7 +2,7 @@
 
 ghost use Rattle.std.specs.Prelude.{◌≡◌, ◌⊎◌, ◌≤◌, ◌++◌, List, length};
 ghost use Rattle.m11_asm_faults.specs.declared.fault.AsmFault.{AsmFault};
-ghost use Rattle.m11_scan_lines.specs.Line.{SourceLine};
+ghost use Rattle.m11_scan.specs.Line.{SourceLine};
 ghost use Rattle.m11_asm_pass_laws.specs.Beginnings.{BeginWith};
 ghost use Rattle.m11_asm_pass_laws.specs.Ends.{EndsAfter, ExceedsAfter, HasEnd};
 ghost use Rattle.m11_asm_lines.specs.declared.counting.Counting.{Counting};

@@ -3,7 +3,7 @@
 ghost use Rattle.std.specs.Prelude.{◌≡◌, List};
 ghost use Rattle.m11_asm_faults.specs.declared.fault.AsmFault.{AsmFault};
 ghost use Rattle.m11_base.specs.Devices.{Bytes};
-ghost use Rattle.m11_scan_lines.specs.Line.{SourceLine};
+ghost use Rattle.m11_scan.specs.Line.{SourceLine};
 ghost use Rattle.m11_scan_statements.specs.declared.labels.Label.{Label};
 ghost use Rattle.m11_unfold_rules.specs.Stages.{Stage};
 ghost use Rattle.m11_unfold_rules.specs.Taking.{Live};
@@ -11,7 +11,7 @@ ghost use Rattle.m11_unfold_rules.specs.Unfolding.{UnfoldedLine};
 ghost use Rattle.m11_asm_rules.specs.Lines.{after_line, flags, line_emission, pieces};
 ghost use Rattle.m11_asm_rules.specs.Meanings.{Map, map_of};
 ghost use Rattle.m11_asm_rules.specs.Tables.{Table};
-ghost use Rattle.m11_asm_table.specs.Alike.{Alike};
+ghost use Rattle.m11_asm_rules.specs.Alike.{Alike};
 ghost use Rattle.m11_asm_lines.specs.Moved.{moved_flags};
 ghost use Rattle.m11_asm_lines.specs.declared.counting.Counting.{Counting};
 ghost use Rattle.m11_asm_passes.specs.Lines.{NumberedLine, PassLines, counting_at, table_at};

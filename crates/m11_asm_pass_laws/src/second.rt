@@ -4,7 +4,7 @@
 ghost use Rattle.std.specs.Prelude.{◌≡◌, ◌⊎◌, ◌++◌, ◌∷◌, List};
 ghost use Rattle.m11_asm_faults.specs.declared.fault.AsmFault.{AsmFault};
 ghost use Rattle.m11_base.specs.Rad50.{Name};
-ghost use Rattle.m11_scan_lines.specs.Line.{SourceLine};
+ghost use Rattle.m11_scan.specs.Line.{SourceLine};
 ghost use Rattle.m11_asm_pass_laws.specs.Beginnings.{BeginWith};
 ghost use Rattle.m11_asm_pass_laws.specs.Ends.{EndsAfter, ExceedsAfter};
 ghost use Rattle.m11_asm_pass_laws.specs.Second.{map_from, moved_after};

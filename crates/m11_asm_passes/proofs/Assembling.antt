@@ -41,9 +41,9 @@ use Rattle.m11_asm_lines.specs.declared.counting.Counting.{Counting}
 use Rattle.m11_asm_lines.specs.Moved.{moved_flags}
 use Rattle.m11_asm_lines.specs.Passes.{Follows, TableState, Matches}
 use Rattle.m11_asm_lines.specs.declared.actions.Action as code
-use Rattle.m11_asm_table.specs.Alike as tables
-use Rattle.m11_asm_table.specs.Alike.{Alike}
-use Rattle.m11_asm_table.specs.Asking.{FirmContext, firm_asked}
+use Rattle.m11_asm_rules.specs.Alike as tables
+use Rattle.m11_asm_rules.specs.Alike.{Alike}
+use Rattle.m11_asm_rules.specs.Asking.{FirmContext, firm_asked}
 use Rattle.m11_asm_passes.proofs.Placing.{Act, IsActOf, all_so, change_is, action_so, defined_refused, line_fits, matches_so, uses_refused, remarks_so, puts, sections_refused, stage_so}
 use Rattle.m11_asm_passes.proofs.Settling.{change_modest, changed_moves, labels_blocks}
 use Rattle.m11_asm_passes.proofs.Turning.{first_sound}

@@ -5,7 +5,7 @@ use Rattle.std.specs.Int.Bits.{or_zero_r}
 use Rattle.std.specs.Int.RustNames.{bit_or}
 use Rattle.std.specs.List.{flat_map}
 use Rattle.std.specs.Option.{option_to_list}
-use Rattle.m11_unfold_arguments.specs.Directives.{operator_in}
+use Rattle.m11_unfold_rules.specs.Directives.{operator_in}
 use Rattle.m11_scan_expressions.specs.LeftOvers.{rest_flags, skip_flags}
 use Rattle.m11_asm_faults.specs.declared.fault.AsmFault.TheVariants.{TooManySymbols}
 use Rattle.m11_base.specs.Devices.{Bytes}

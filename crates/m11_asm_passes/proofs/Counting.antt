@@ -1,15 +1,15 @@
 -- How many lines are taken: a line that becomes live is one more, and what its operator does takes none.
 use Rattle.std.proofs.Common.{◌≡◌, ◌≤◌, ℕ, ◌+◌, Bool, true, false, if◌then◌else◌, List, [], ◌∷◌, Option, Some, None, refl, subst, arith}
-use Rattle.m11_scan_lines.specs.Line.{SourceLine}
+use Rattle.m11_scan.specs.Line.{SourceLine}
 use Rattle.m11_scan_expressions.specs.Expressions.{KnownSymbols}
-use Rattle.m11_unfold_arguments.specs.declared.directives.Directive.{Directive}
-use Rattle.m11_unfold_arguments.specs.declared.directives.Directive.TheVariants as word
+use Rattle.m11_unfold_rules.specs.declared.directives.Directive.{Directive}
+use Rattle.m11_unfold_rules.specs.declared.directives.Directive.TheVariants as word
 use Rattle.m11_base.specs.Devices.{Bytes}
 use Rattle.m11_unfold_bodies.specs.Bodies.{PartialBody, depth_after}
 use Rattle.m11_unfold_bodies.specs.Conditions.{OpenConditions, has_none}
 use Rattle.m11_unfold_bodies.specs.Left.{RemainingItem, Line, End, is_expanding}
 use Rattle.m11_unfold.specs.Unfolder.{Comes}
-use Rattle.m11_unfold_arguments.specs.Immediate as immediate
+use Rattle.m11_unfold_rules.specs.Immediate as immediate
 use Rattle.m11_unfold_rules.specs.Acting.{Acted, Operation, Calls, OwnDirective, Foreign, act, acted_by, operation, with_statement}
 use Rattle.m11_unfold_rules.specs.Limits.{has_room}
 use Rattle.m11_unfold_rules.specs.Stages.{Opening, Purpose, Defines, Repeats, Drops, Stage}

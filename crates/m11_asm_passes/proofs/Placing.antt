@@ -39,7 +39,7 @@ use Rattle.m11_asm_lines.specs.Counting.{names_counted, with_counted}
 use Rattle.m11_asm_lines.specs.declared.counting.Counting.{Counting}
 use Rattle.m11_asm_lines.specs.declared.counting.Counting.TheVariants.{SymbolUses, Definitions}
 use Rattle.m11_asm_lines.specs.Passes.{Follows, TableState, Matches}
-use Rattle.m11_asm_table.specs.Alike.{Alike}
+use Rattle.m11_asm_rules.specs.Alike.{Alike}
 use Rattle.m11_asm_passes.specs.Lines.{acted}
 use Rattle.m11_asm_passes.specs.Operated.{change_after, uses_after}
 use Rattle.m11_asm_passes.specs.Refusals.{given_by, labels_fault, line_fault, uses_of_labels, of_limit}

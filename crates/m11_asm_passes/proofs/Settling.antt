@@ -5,7 +5,7 @@ use Rattle.std.proofs.lemmas.List.Quantifiers.{position-Some}
 use Rattle.m11_base.specs.Devices.{Bytes}
 use Rattle.m11_base.specs.Rad50.{Name, is_same_name}
 use Rattle.m11_scan_expressions.specs.LeftOvers.{has_token}
-use Rattle.m11_unfold_arguments.specs.declared.macros.NameAt.{NameAt}
+use Rattle.m11_unfold_rules.specs.declared.macros.NameAt.{NameAt}
 use Rattle.m11_scan.specs.Cutting.{Lexeme, tokens_from}
 use Rattle.m11_scan.specs.declared.radix.Radix.{Radix}
 use Rattle.m11_scan_statements.specs.declared.labels.Label.{Label}

@@ -1,7 +1,7 @@
 -- What a pass keeps between two calls, and after which lines it stands. (This project's own.)
 use Rattle.std.specs.Prelude.{◌≡◌, false, List, Option, Some, None}
 use Rattle.m11_asm_faults.specs.declared.fault.AsmFault.{AsmFault}
-use Rattle.m11_scan_lines.specs.Line.{SourceLine}
+use Rattle.m11_scan.specs.Line.{SourceLine}
 use Rattle.m11_unfold.specs.Unfolder.{UnfolderState}
 use Rattle.m11_unfold_rules.specs.declared.fault.UnfoldFault.{UnfoldFault}
 use Rattle.m11_asm_rules.specs.Contents.{Emission}

@@ -2,7 +2,7 @@
 //! "Operator field".)
 
 ghost use Rattle.std.specs.Prelude.{◌≡◌, ◌≤◌, ◌∷◌, [], IfOk, IfErr, IfSome, IsTrue, false, None, length};
-ghost use Rattle.m11_unfold_arguments.specs.Directives.{operator as line_operator};
+ghost use Rattle.m11_unfold_rules.specs.Directives.{operator as line_operator};
 ghost use Rattle.m11_asm_rules.specs.Tables.{Table as LineTable};
 ghost use Rattle.m11_asm_rules.specs.Unfolded.{known_after_labels};
 ghost use Rattle.m11_asm_lines.specs.Actions.{AreActionTerms, IsWithin, is_listed};
@@ -22,12 +22,11 @@ use crate::state::State;
 use m11_asm_faults::AsmFault;
 use m11_asm_lines::{LabelFlags, Pass, action_after_labels, action_fields};
 use m11_asm_operands::Fields;
-use m11_asm_table::{FirmNames, Map, Table};
+use m11_asm_rules::{FirmNames, Map, Table};
 use m11_scan::Line;
 use m11_scan_statements::{Span, Statement};
 use m11_unfold::{Act, Unfolder};
-use m11_unfold_arguments::operator_in;
-use m11_unfold_rules::UnfoldFault;
+use m11_unfold_rules::{UnfoldFault, operator_in};
 
 // What was found of a line whose labels are defined, and whose operator unfolding has done.
 #[derive(Drop)]

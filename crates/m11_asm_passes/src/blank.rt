@@ -15,7 +15,7 @@ ghost use Rattle.m11_asm_passes.specs.Refusals.{given_by};
 use crate::operating::{counter, is_shown, section_name};
 use crate::placed::PlacedLine;
 use m11_asm_lines::{Action, Pass};
-use m11_asm_values::Emission;
+use m11_asm_operands::Emission;
 use m11_scan_expressions::rest_flags;
 use m11_scan_statements::{Body, Statement};
 

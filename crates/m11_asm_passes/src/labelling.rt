@@ -6,7 +6,7 @@ ghost use Rattle.m11_asm_rules.specs.Tables.{Table as LineTable};
 ghost use Rattle.m11_asm_lines.specs.Counting.{with_counted};
 ghost use Rattle.m11_asm_lines.specs.Passes.{Matches};
 ghost use Rattle.m11_scan_statements.specs.Labels.{labels_at};
-ghost use Rattle.m11_asm_table.specs.Alike as tables;
+ghost use Rattle.m11_asm_rules.specs.Alike as tables;
 ghost use Rattle.m11_asm_passes.specs.Faults.{Fails};
 ghost use Rattle.m11_asm_passes.specs.Labelled.{FitUpToOne, Labels};
 ghost use Rattle.m11_asm_passes.specs.Refusals.{labels_fault, uses_of_labels};
@@ -14,7 +14,7 @@ ghost use Rattle.m11_asm_faults.specs.declared.fault.AsmFault.TheVariants.{NoMem
 
 use m11_asm_faults::AsmFault;
 use m11_asm_lines::{Counting, LabelFlags, Pass};
-use m11_asm_table::Map;
+use m11_asm_rules::Map;
 use m11_scan::Line;
 use m11_scan_statements::{Label, labels_of};
 

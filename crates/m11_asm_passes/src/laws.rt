@@ -2,7 +2,7 @@
 
 ghost use Rattle.std.specs.Prelude.{◌≡◌, ◌++◌, ◌∷◌, List, [], Result, false};
 ghost use Rattle.m11_asm_faults.specs.declared.fault.AsmFault.{AsmFault};
-ghost use Rattle.m11_scan_lines.specs.Line.{SourceLine};
+ghost use Rattle.m11_scan.specs.Line.{SourceLine};
 ghost use Rattle.m11_asm_rules.specs.Meanings.{Map, empty_map};
 ghost use Rattle.m11_asm_lines.specs.declared.counting.Counting.{Counting};
 ghost use Rattle.m11_asm_passes.specs.Lines.{NumberedLine};

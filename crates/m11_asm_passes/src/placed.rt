@@ -1,7 +1,7 @@
 //! A live line as a pass places it. (MACRO-11 Language Reference Manual, "Source program format".)
 
 ghost use Rattle.std.specs.Prelude.{◌≡◌};
-ghost use Rattle.m11_scan_lines.specs.Line.{no_line};
+ghost use Rattle.m11_scan.specs.Line.{no_line};
 
 use m11_asm_lines::Action;
 use m11_asm_listing::Item;

@@ -2,7 +2,7 @@
 
 ghost use Rattle.std.specs.Prelude.{◌≡◌, ◌<◌, [], None, Some, Err, IfOk};
 ghost use Rattle.std.specs.Result.{result_err};
-ghost use Rattle.m11_scan_lines.specs.Line.{no_line};
+ghost use Rattle.m11_scan.specs.Line.{no_line};
 ghost use Rattle.m11_asm_lines.specs.Counting.{used_names_in};
 ghost use Rattle.m11_asm_lines.specs.Passes.{size_at};
 ghost use Rattle.m11_unfold.specs.Unfolder.{needs_line};
@@ -18,9 +18,9 @@ use crate::state::State;
 use crate::turns::Turn;
 use m11_asm_faults::AsmFault;
 use m11_asm_lines::{Counting, Pass, UsedSymbols};
-use m11_asm_table::{Map, Table};
+use m11_asm_rules::{Map, Table};
 use m11_base::Latch;
-use m11_obj_texts::PieceContent;
+use m11_obj::PieceContent;
 use m11_scan::Line;
 use std::alloc::{AllocError, Global};
 use std::marker::Model;

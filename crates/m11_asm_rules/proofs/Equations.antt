@@ -3,7 +3,7 @@ use Rattle.std.proofs.Common.{◌≡◌, ◌∙◌, Bool, true, false, List, Opt
 use Rattle.std.specs.Prelude.{if◌then◌else◌}
 use Rattle.m11_unfold_rules.specs.Unfolding.{UnfoldedLine}
 use Rattle.m11_asm_rules.proofs.FirmLines.{tables_alike}
-use Rattle.m11_asm_rules.proofs.FirmNames.{firm_option, last_firm}
+use Rattle.m11_asm_rules.proofs.NamesByMaps.{firm_option, last_firm}
 use Rattle.m11_asm_rules.specs.Definitions.{Definition, Key, Standing, firm_parts, firm_standing, last_definition}
 use Rattle.m11_asm_rules.specs.Equation.{AreAlike, Solves, is_label_or_firm, label_or_value, label_or_value_of}
 use Rattle.m11_asm_rules.specs.Meanings.{Map, empty_map}

@@ -5,7 +5,7 @@ use Rattle.m11_scan_expressions.specs.Expressions.{symbols_at, value_at}
 use Rattle.m11_scan_expressions.specs.declared.names.Symbol.{Symbol}
 use Rattle.m11_scan_expressions.specs.declared.names.Symbol.TheVariants.{Ordinary, Local, Counter}
 use Rattle.m11_scan_expressions.specs.Quantities.{Quantity}
-use Rattle.m11_asm_rules.proofs.FirmNames.{firm_option, last_firm, value_alike}
+use Rattle.m11_asm_rules.proofs.NamesByMaps.{firm_option, last_firm, value_alike}
 use Rattle.m11_asm_rules.specs.Assignments.{all_firm, assigned, standing_of}
 use Rattle.m11_asm_rules.specs.Definitions.{Definition, Key, Named, Numbered, Standing, Unknown, firm_part, firm_standing, last_definition}
 use Rattle.m11_asm_rules.specs.Meanings.{AreFirm, LocalOnly, Map, empty_map, firm_known, is_firm, is_firm_in, known_at}

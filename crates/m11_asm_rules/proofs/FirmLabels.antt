@@ -7,7 +7,7 @@ use Rattle.m11_scan_statements.specs.Labels.{labels_at}
 use Rattle.m11_scan_statements.specs.declared.labels.Label.{Label}
 use Rattle.m11_scan_statements.specs.declared.labels.LabelKind.{LabelKind}
 use Rattle.m11_scan_statements.specs.declared.labels.LabelKind.TheVariants as label
-use Rattle.m11_asm_rules.proofs.FirmNames.{firm_option, last_firm}
+use Rattle.m11_asm_rules.proofs.NamesByMaps.{firm_option, last_firm}
 use Rattle.m11_asm_rules.specs.Definitions.{Definition, Key, Named, Numbered, firm_part, firm_parts, is_defined, is_labelled, is_of_label, is_same, last_definition}
 use Rattle.m11_asm_rules.specs.Labels.{global_if, label_name, labelled, labels_stand, with_block, with_definition, with_doubly_defined, with_global, with_key, with_kind, with_label, with_labels, with_name}
 use Rattle.m11_asm_rules.specs.Tables.{Table, firm_table}

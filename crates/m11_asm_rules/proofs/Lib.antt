@@ -5,7 +5,7 @@ mod FirmAssignments
 mod FirmChanges
 mod FirmLabels
 mod FirmLines
-pub mod FirmNames
+pub mod NamesByMaps
 mod Forms
 mod LabelLocations
 mod LinesFill
@@ -14,3 +14,15 @@ mod PieceSizes
 mod PiecesInOrder
 mod SameLines
 mod TextParts
+mod Counting
+mod Doubling
+mod FirmMeanings
+mod Following
+mod Found
+mod Inserting
+mod Moving
+mod NewKeys
+mod Parts
+mod Selecting
+mod Starting
+pub mod Defined

@@ -2,7 +2,7 @@
 use Rattle.std.proofs.Common.{◌≡◌, ◌∙◌, ℕ, ◌+◌, ◌*◌, ◌/◌, [], ◌∷◌, length, Option, refl, sym, ap, inl, inr}
 use Rattle.m11_scan_expressions.specs.Expressions.{KnownSymbols}
 use Rattle.m11_base.specs.Devices.{Bytes}
-use Rattle.m11_base_instructions.specs.declared.instruction.Op.{Op}
+use Rattle.m11_base.specs.declared.instruction.Op.{Op}
 use Rattle.m11_unfold_rules.specs.Unfolding.{UnfoldedLine}
 use Rattle.m11_asm_rules.proofs.FilledSizes.{bytes_fill, forms_fill, packed_fill, parts_count, parts_fill, sizes_add, table_twice, words_fill}
 use Rattle.m11_asm_rules.specs.Alignment.{gap, location_for}

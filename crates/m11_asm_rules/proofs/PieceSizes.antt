@@ -4,7 +4,7 @@ use Rattle.std.proofs.lemmas.List.{map-append}
 use Rattle.m11_scan_expressions.specs.Expressions.{KnownSymbols}
 use Rattle.m11_base.specs.Devices.{Bytes}
 use Rattle.m11_base.specs.Rad50.{Name}
-use Rattle.m11_obj_texts.specs.declared.pieces.PieceContent.{PieceContent}
+use Rattle.m11_obj.specs.declared.pieces.PieceContent.{PieceContent}
 use Rattle.m11_scan_statements.specs.declared.parts.Part.{Part}
 use Rattle.m11_scan_statements.specs.declared.parts.PartKind.{PartKind}
 use Rattle.m11_scan_statements.specs.declared.parts.PartKind.TheVariants.{Text, Expression}

@@ -3,7 +3,7 @@
 use Rattle.std.specs.Prelude.{ℕ, ◌&&◌, Bool, true, false, if◌then◌else◌, Option, Some, None}
 use Rattle.std.specs.List.{list_any}
 use Rattle.std.specs.Int.RustNames.{bit_or}
-use Rattle.m11_unfold_arguments.specs.Definedness.{flag_U}
+use Rattle.m11_unfold_rules.specs.Definedness.{flag_U}
 use Rattle.m11_scan_expressions.specs.Expressions.{value_at}
 use Rattle.m11_scan_expressions.specs.LeftOvers.{has_token}
 use Rattle.m11_base.specs.Devices.{Bytes}

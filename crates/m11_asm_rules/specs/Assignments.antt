@@ -1,7 +1,7 @@
 -- What an assignment defines. (MACRO-11 Language Reference Manual, "Direct assignment statements". That a label's name can't be assigned,
 -- and that an assignment is firm where all its names are, is this project's own.)
 use Rattle.std.specs.Prelude.{ℕ, Bool, true, false, ◌&&◌, if◌then◌else◌, List, [], ◌∷◌, None}
-use Rattle.m11_unfold_arguments.specs.Definedness.{is_defined}
+use Rattle.m11_unfold_rules.specs.Definedness.{is_defined}
 use Rattle.m11_scan_expressions.specs.Expressions.{symbols_at, value_at}
 use Rattle.m11_base.specs.Devices.{Bytes}
 use Rattle.m11_scan_expressions.specs.declared.names.Symbol.{Symbol}

@@ -5,10 +5,10 @@ use Rattle.std.specs.Int.RustNames.{bit_or}
 use Rattle.m11_scan_expressions.specs.Expressions.{KnownSymbols, has_expression, value_at}
 use Rattle.m11_base.specs.Devices.{Bytes}
 use Rattle.m11_base.specs.Rad50.{Name}
-use Rattle.m11_obj_texts.specs.declared.pieces.Piece.{Piece}
-use Rattle.m11_obj_texts.specs.declared.pieces.PieceContent.{PieceContent}
-use Rattle.m11_obj_texts.specs.declared.pieces.PieceContent.TheVariants.{Byte, Word}
-use Rattle.m11_obj_texts.specs.Pieces.{content_bytes}
+use Rattle.m11_obj.specs.declared.pieces.Piece.{Piece}
+use Rattle.m11_obj.specs.declared.pieces.PieceContent.{PieceContent}
+use Rattle.m11_obj.specs.declared.pieces.PieceContent.TheVariants.{Byte, Word}
+use Rattle.m11_obj.specs.Pieces.{content_bytes}
 use Rattle.m11_scan.specs.ErrorFlags.{flag_T, flag_if}
 use Rattle.m11_scan_expressions.specs.declared.kinds.Kind.{Kind}
 use Rattle.m11_scan_expressions.specs.Kinds.{is_register, flag_R}

@@ -2,10 +2,10 @@
 -- A, and that `.NARG` without a macro assigns nothing, with O, is this project's own.)
 use Rattle.std.specs.Prelude.{ℕ, false, if◌then◌else◌, length, Option, Some, None}
 use Rattle.std.specs.Int.RustNames.{bit_or}
-use Rattle.m11_unfold_arguments.specs.Conditions.{actual_flags, text_of}
+use Rattle.m11_unfold_rules.specs.Conditions.{actual_flags, text_of}
 use Rattle.m11_scan_expressions.specs.LeftOvers.{bad_flags, left_over, flags_before}
-use Rattle.m11_unfold_arguments.specs.Macros.{name_at}
-use Rattle.m11_unfold_arguments.specs.declared.macros.NameAt.{NameAt}
+use Rattle.m11_unfold_rules.specs.Headers.{name_at}
+use Rattle.m11_unfold_rules.specs.declared.macros.NameAt.{NameAt}
 use Rattle.m11_base.specs.Devices.{Bytes}
 use Rattle.m11_scan.specs.Cutting.{tokens_from}
 use Rattle.m11_scan.specs.ErrorFlags.{flag_A}

@@ -1,7 +1,7 @@
 -- Lists of expressions and of names. (MACRO-11 Language Reference Manual, ".WORD directive", ".BYTE directive" and ".GLOBL directive". That
 -- a list ends where no comma stands next, and that an element which is no name is passed over with A, is this project's own.)
 use Rattle.std.specs.Prelude.{ℕ, zero, suc, if◌then◌else◌, List, [], ◌∷◌, length, Option, Some, None}
-use Rattle.m11_unfold_arguments.specs.Immediate.{after_comma}
+use Rattle.m11_unfold_rules.specs.Immediate.{after_comma}
 use Rattle.m11_base.specs.Devices.{Bytes}
 use Rattle.m11_base.specs.NameCharacters.{six_of}
 use Rattle.m11_base.specs.Rad50.{Name, name_of}

@@ -5,8 +5,8 @@ use Rattle.std.specs.Prelude.{ℕ, if◌then◌else◌, List, [], ◌∷◌, Opt
 use Rattle.std.specs.Int.RustNames.{bit_or}
 use Rattle.m11_scan_expressions.specs.Expressions.{KnownSymbols, has_expression}
 use Rattle.m11_base.specs.Devices.{Bytes}
-use Rattle.m11_base_instructions.specs.declared.instruction.Op.{Op}
-use Rattle.m11_base_instructions.specs.declared.instruction.Op.TheVariants as op
+use Rattle.m11_base.specs.declared.instruction.Op.{Op}
+use Rattle.m11_base.specs.declared.instruction.Op.TheVariants as op
 use Rattle.m11_scan.specs.Ends.{expression_end}
 use Rattle.m11_scan.specs.ErrorFlags.{flag_A}
 use Rattle.m11_asm_rules.specs.Elements.{next_element}

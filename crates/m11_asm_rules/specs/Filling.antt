@@ -1,6 +1,6 @@
 -- What a line emits fills what its counter goes on by. (MACRO-11 Language Reference Manual, "Current location counter".)
 use Rattle.std.specs.Prelude.{◌≡◌, ◌⊎◌, ℕ, ◌+◌, List, []}
-use Rattle.m11_obj_texts.specs.declared.pieces.PieceContent.{PieceContent}
+use Rattle.m11_obj.specs.declared.pieces.PieceContent.{PieceContent}
 use Rattle.m11_asm_rules.specs.Alignment.{gap}
 use Rattle.m11_asm_rules.specs.Changes.{Change, Counts}
 use Rattle.m11_asm_rules.specs.Contents.{contents_size}

@@ -4,7 +4,7 @@ use Rattle.std.specs.Prelude.{ℕ}
 use Rattle.std.specs.Int.RustNames.{bit_or}
 use Rattle.m11_scan_expressions.specs.LeftOvers.{left_over, skip_flags}
 use Rattle.m11_base.specs.Devices.{Bytes}
-use Rattle.m11_base_instructions.specs.declared.instruction.Op.{Op}
+use Rattle.m11_base.specs.declared.instruction.Op.{Op}
 use Rattle.m11_asm_rules.specs.Codes.{LineContext, code, words_from}
 use Rattle.m11_asm_rules.specs.Contents.{Emission, followed_by, further, with_flags}
 use Rattle.m11_asm_rules.specs.Fields.{Fields, fields_at, forms_of}

@@ -3,7 +3,7 @@
 use Rattle.std.specs.Prelude.{◌≡◌, ℕ, Bool, true, false, List, [], ◌∷◌, Option, Some, None, ⊤}
 use Rattle.std.specs.Int.RustNames.{bit_or}
 use Rattle.m11_base.specs.Rad50.{Name}
-use Rattle.m11_unfold_arguments.specs.Definedness.{flag_U}
+use Rattle.m11_unfold_rules.specs.Definedness.{flag_U}
 use Rattle.m11_scan_expressions.specs.Expressions as expressions
 use Rattle.m11_scan.specs.ErrorFlags.{flag_if}
 use Rattle.m11_scan_expressions.specs.declared.kinds.Kind.TheVariants.{Reference}

@@ -3,9 +3,9 @@
 use Rattle.std.specs.Prelude.{Bool, true, false, List, [], ◌∷◌, codes, find, Option, Some, None}
 use Rattle.std.specs.Str.{bytes_eq}
 use Rattle.m11_base.specs.Devices.{Bytes}
-use Rattle.m11_base_instructions.specs.Instructions.{other_names, rows}
-use Rattle.m11_base_instructions.specs.Mnemonics.{named_in, or_else}
-use Rattle.m11_base_instructions.specs.declared.instruction.Op.{Op}
+use Rattle.m11_base.specs.Instructions.{other_names, rows}
+use Rattle.m11_base.specs.Mnemonics.{named_in, or_else}
+use Rattle.m11_base.specs.declared.instruction.Op.{Op}
 use Rattle.m11_asm_rules.specs.declared.operators.Directive.{Directive}
 use Rattle.m11_asm_rules.specs.declared.operators.Directive.TheVariants as word
 use Rattle.m11_asm_rules.specs.declared.operators.DirectiveRow.{DirectiveRow}

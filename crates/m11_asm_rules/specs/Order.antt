@@ -1,6 +1,6 @@
 -- Pieces that lie one after the other. (MACRO-11 Language Reference Manual, "Current location counter".)
 use Rattle.std.specs.Prelude.{ℕ, ◌+◌, ◌≤◌, ◌==◌, Bool, true, false, List, [], ◌∷◌, ◌++◌, ⊤}
-use Rattle.m11_obj_texts.specs.declared.pieces.Piece.{Piece}
+use Rattle.m11_obj.specs.declared.pieces.Piece.{Piece}
 use Rattle.m11_unfold_rules.specs.Unfolding.{UnfoldedLine}
 use Rattle.m11_asm_rules.specs.Contents.{content_size}
 use Rattle.m11_asm_rules.specs.Lines.{after_line, pieces, stands}

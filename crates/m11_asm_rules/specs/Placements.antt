@@ -2,7 +2,7 @@
 -- expressions" and "Assembler directives". That a source is read twice, and that the second pass has what the first gave each name in
 -- the end, is this project's own.)
 use Rattle.std.specs.Prelude.{ℕ, List, [], ◌∷◌}
-use Rattle.m11_obj_texts.specs.declared.pieces.Piece.{Piece}
+use Rattle.m11_obj.specs.declared.pieces.Piece.{Piece}
 use Rattle.m11_unfold_rules.specs.Unfolding.{UnfoldedLine}
 use Rattle.m11_asm_rules.specs.Lines.{after_line, flags, pieces}
 use Rattle.m11_asm_rules.specs.Meanings.{Map, empty_map, map_of}

@@ -3,8 +3,8 @@
 use Rattle.std.specs.Prelude.{ℕ, not, if◌then◌else◌, List, [], ◌∷◌, Option, Some, None}
 use Rattle.std.specs.Int.RustNames.{bit_or}
 use Rattle.m11_scan_expressions.specs.LeftOvers.{left_over, flags_before, rest_flags, skip_flags}
-use Rattle.m11_unfold_arguments.specs.Macros.{name_at}
-use Rattle.m11_unfold_arguments.specs.declared.macros.NameAt.{NameAt}
+use Rattle.m11_unfold_rules.specs.Headers.{name_at}
+use Rattle.m11_unfold_rules.specs.declared.macros.NameAt.{NameAt}
 use Rattle.m11_base.specs.Devices.{Bytes}
 use Rattle.m11_base.specs.Names.{absolute_name, blank_name}
 use Rattle.m11_base.specs.Rad50.{Name}

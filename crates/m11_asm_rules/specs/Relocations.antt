@@ -2,9 +2,9 @@
 -- Volume and File Formats Manual, "Object file format", RLD block. Which command stands for which value is this project's own.)
 use Rattle.std.specs.Prelude.{ℕ, ◌+◌, ◌-◌, ◌%◌, not, Bool, true, false, if◌then◌else◌}
 use Rattle.m11_base.specs.Rad50.{Name, is_same_name}
-use Rattle.m11_obj_texts.specs.declared.pieces.RelocationKind.{RelocationKind}
-use Rattle.m11_obj_texts.specs.declared.pieces.RelocationKind.TheVariants as relocation
-use Rattle.m11_obj_texts.specs.declared.pieces.StoredConstant.{StoredConstant}
+use Rattle.m11_obj.specs.declared.pieces.RelocationKind.{RelocationKind}
+use Rattle.m11_obj.specs.declared.pieces.RelocationKind.TheVariants as relocation
+use Rattle.m11_obj.specs.declared.pieces.StoredConstant.{StoredConstant}
 use Rattle.m11_scan_expressions.specs.declared.kinds.Kind.{Kind}
 use Rattle.m11_scan_expressions.specs.declared.kinds.Kind.TheVariants as kind
 use Rattle.m11_scan_expressions.specs.Quantities.{Quantity}

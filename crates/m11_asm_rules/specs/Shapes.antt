@@ -1,7 +1,7 @@
 -- Where pieces lie, whatever they hold. (MACRO-11 Language Reference Manual, "Current location counter".)
 use Rattle.std.specs.Prelude.{ℕ, List, map}
 use Rattle.m11_base.specs.Rad50.{Name}
-use Rattle.m11_obj_texts.specs.declared.pieces.Piece.{Piece}
+use Rattle.m11_obj.specs.declared.pieces.Piece.{Piece}
 use Rattle.m11_asm_rules.specs.Contents.{content_size}
 use Rattle.m11_asm_rules.specs.Placements.{LinePlacement}
 

@@ -6,7 +6,7 @@ use Rattle.std.specs.Int.RustNames.{bit_or}
 use Rattle.m11_scan_expressions.specs.Expressions.{has_expression, number_at, number_flags}
 use Rattle.m11_scan_expressions.specs.LeftOvers.{left_over, skip_flags}
 use Rattle.m11_base.specs.Devices.{Bytes}
-use Rattle.m11_obj_texts.specs.declared.pieces.PieceContent.TheVariants.{Limits}
+use Rattle.m11_obj.specs.declared.pieces.PieceContent.TheVariants.{Limits}
 use Rattle.m11_scan.specs.Ends.{expression_end}
 use Rattle.m11_asm_rules.specs.Contents.{Emission, byte, element_value, followed_by, further, nothing, emission, with_flags, word}
 use Rattle.m11_asm_rules.specs.Elements.{Elements, elements_at}

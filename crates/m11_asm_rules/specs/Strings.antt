@@ -8,7 +8,7 @@ use Rattle.m11_scan_expressions.specs.Expressions.{KnownSymbols, value_at}
 use Rattle.m11_scan_expressions.specs.LeftOvers.{left_over, skip_flags}
 use Rattle.m11_base.specs.Devices.{Bytes}
 use Rattle.m11_base.specs.Rad50.{code_of}
-use Rattle.m11_obj_texts.specs.declared.pieces.PieceContent.{PieceContent}
+use Rattle.m11_obj.specs.declared.pieces.PieceContent.{PieceContent}
 use Rattle.m11_scan.specs.Cutting.{text_between}
 use Rattle.m11_scan.specs.ErrorFlags.{flag_A, flag_T, flag_if}
 use Rattle.m11_scan_statements.specs.Parts.{next_part, part_flags}

@@ -3,7 +3,7 @@
 ghost use Rattle.std.specs.Prelude.{◌≡◌, ◌≢◌, ◌+◌, ◌≤◌, ◌%◌, ℕ, true, false, List, [], ◌∷◌, ◌++◌, map};
 ghost use Rattle.m11_scan_expressions.specs.Expressions.{symbols_at, value_at};
 ghost use Rattle.m11_base.specs.Devices.{Bytes};
-ghost use Rattle.m11_scan_lines.specs.Line.{SourceLine};
+ghost use Rattle.m11_scan.specs.Line.{SourceLine};
 ghost use Rattle.m11_asm_rules.specs.Assignments.{assigned};
 ghost use Rattle.m11_asm_rules.specs.Definitions.{Key, firm_part};
 ghost use Rattle.m11_asm_rules.specs.Equation.{AreAlike, Solves};

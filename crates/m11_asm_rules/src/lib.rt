@@ -1,6 +1,7 @@
 //! Where lines of a source lie, what they define, what symbols stand for there, and what each instruction and directive emits at its
-//! locations. Here stand definitions with their laws, and the types that they speak of. (MACRO-11 Language Reference Manual, "Symbols and
-//! expressions", "Addressing modes" and "General assembler directives".)
+//! locations: the definitions with their laws, the types that they speak of, and the table of names, local symbols and sections that lines
+//! fill. (MACRO-11 Language Reference Manual, "Symbols and expressions", "Addressing modes", "Program section directives" and "General
+//! assembler directives".)
 #![tactic(auto)]
 
 // Where a line stands: its section, and what holds from a line on.
@@ -38,3 +39,19 @@ pub use laws::{
     sources_have_the_same_lines_under_every_map, the_map_of_a_source_solves_it,
     the_parts_of_a_text_stand_one_after_the_other,
 };
+
+// The table of names, local symbols and sections that lines fill.
+mod entries;
+mod table;
+
+pub use table::Table;
+
+// What a whole source gave its names in the end.
+mod map;
+
+pub use map::Map;
+
+// What symbols stand for at a line, by either.
+mod names;
+
+pub use names::{FirmNames, NamesAt, register_flags};

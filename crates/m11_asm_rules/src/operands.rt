@@ -1,6 +1,6 @@
 //! The forms of operands. (MACRO-11 Language Reference Manual, "Addressing modes"; PDP-11/40 Processor Handbook, "Addressing modes".)
 
-use m11_base_instructions::Mode;
+use m11_base::Mode;
 
 /// A form of an operand, with the columns of its line where its expressions begin.
 #[derive(Clone, Copy)]

@@ -1,6 +1,6 @@
 //! The operators that place something or change what is kept. (MACRO-11 Language Reference Manual, "Permanent symbol table".)
 
-use m11_base_instructions::Op;
+use m11_base::Op;
 
 /// A directive that places something or changes what is kept.
 #[derive(Clone, Copy)]

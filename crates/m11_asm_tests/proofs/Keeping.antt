@@ -4,7 +4,7 @@ use Rattle.m11_base.specs.Rad50.{Name}
 use Rattle.m11_asm_rules.specs.declared.definitions.Definition.{Definition}
 use Rattle.m11_asm_rules.specs.Labels.{with_definition, with_global}
 use Rattle.m11_asm_rules.specs.Tables.{Table}
-use Rattle.m11_asm_table.specs.Alike.{Alike, Follows}
+use Rattle.m11_asm_rules.specs.Alike.{Alike, Follows}
 
 itself : (table : Table) → Alike table table
 itself table = record {

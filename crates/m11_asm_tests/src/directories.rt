@@ -5,11 +5,9 @@ ghost use Rattle.std.specs.Prelude.{◌≡◌, IfOk, length};
 
 use indexmap::IndexSet;
 use m11_asm_directory::{FirstPass, directory_rows};
-use m11_asm_rules::{Definition, Key, Standing};
-use m11_asm_table::Table;
+use m11_asm_rules::{Definition, Key, Standing, Table};
 use m11_base::{Name, absolute_section, blank_name};
-use m11_obj::SectionFlags;
-use m11_obj_texts::DirectoryRow;
+use m11_obj::{DirectoryRow, SectionFlags};
 use m11_scan::ErrorFlags;
 use m11_scan_expressions::{Kind, Value};
 use std::alloc::{AllocError, Global};

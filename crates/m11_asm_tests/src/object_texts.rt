@@ -6,8 +6,7 @@ mod relocations;
 mod texts;
 
 use m11_base::Name;
-use m11_obj::Block;
-use m11_obj_texts::{OpenText, Piece, PieceContent, RelocationKind, StoredConstant, Text};
+use m11_obj::{Block, OpenText, Piece, PieceContent, RelocationKind, StoredConstant, Text};
 use std::alloc::{AllocError, Global};
 use std::process::Abort;
 use std::test::Fail;

@@ -16,7 +16,7 @@ use crate::tests::texts::{put_line, put_number};
 use m11_asm_faults::AsmFault;
 use m11_asm_lines::{Counting, UsedSymbols};
 use m11_asm_passes::{SourcePass, Turn};
-use m11_asm_table::Map;
+use m11_asm_rules::Map;
 use m11_scan::Line;
 use std::alloc::Global;
 use std::process::Abort;

@@ -8,3 +8,7 @@ pub mod Known
 pub mod LastBlanks
 pub mod NameWords
 pub mod SameNames
+pub mod OneRow
+pub mod EachWord
+pub mod Codes
+pub mod Words

@@ -7,3 +7,8 @@ pub mod Names
 pub mod Octal
 pub mod Rad50
 pub mod Sink
+pub mod Operand
+pub mod Instructions
+pub mod OperationTables
+pub mod Encoding
+pub mod Mnemonics

@@ -5,19 +5,19 @@ use Rattle.std.specs.Int.{cast_signed, w8}
 use Rattle.std.proofs.Math.Facts.{Fits-of_lt, sfits_to_z}
 use Rattle.std.proofs.lemmas.Bool.{and_parts, eqb-true, false≢true, leb-true, or_cases}
 use Rattle.std.proofs.lemmas.Nat.{and_le_l}
-use Rattle.m11_base_instructions.proofs.Words.{code_again}
-use Rattle.m11_base_instructions.specs.Encoding.{code_of, number_limit}
-use Rattle.m11_base_instructions.specs.Instructions.{instruction_of, is_of, meaning, number_in, operation_in, other_names, row_of, rows, with_fields}
-use Rattle.m11_base_instructions.specs.Mnemonics.{operation_named}
-use Rattle.m11_base_instructions.specs.Operand.{operand_of, register_of}
-use Rattle.m11_base_instructions.specs.declared.instruction.Insn.{Insn}
-use Rattle.m11_base_instructions.specs.declared.instruction.Insn.TheVariants as insn
-use Rattle.m11_base_instructions.specs.declared.instruction.NumberOp.{NumberOp}
-use Rattle.m11_base_instructions.specs.declared.instruction.NumberOp.TheVariants.{Mark, Emt, Trap}
-use Rattle.m11_base_instructions.specs.declared.instruction.Op.{Op}
-use Rattle.m11_base_instructions.specs.declared.instruction.Op.TheVariants as op
-use Rattle.m11_base_instructions.specs.declared.instruction_list.Row.{Row}
-use Rattle.m11_base_instructions.specs.declared.operand.Operand.{Operand}
+use Rattle.m11_base.proofs.Words.{code_again}
+use Rattle.m11_base.specs.Encoding.{code_of, number_limit}
+use Rattle.m11_base.specs.Instructions.{instruction_of, is_of, meaning, number_in, operation_in, other_names, row_of, rows, with_fields}
+use Rattle.m11_base.specs.Mnemonics.{operation_named}
+use Rattle.m11_base.specs.Operand.{operand_of, register_of}
+use Rattle.m11_base.specs.declared.instruction.Insn.{Insn}
+use Rattle.m11_base.specs.declared.instruction.Insn.TheVariants as insn
+use Rattle.m11_base.specs.declared.instruction.NumberOp.{NumberOp}
+use Rattle.m11_base.specs.declared.instruction.NumberOp.TheVariants.{Mark, Emt, Trap}
+use Rattle.m11_base.specs.declared.instruction.Op.{Op}
+use Rattle.m11_base.specs.declared.instruction.Op.TheVariants as op
+use Rattle.m11_base.specs.declared.instruction_list.Row.{Row}
+use Rattle.m11_base.specs.declared.operand.Operand.{Operand}
 use Rattle.m11_base_disassembly.proofs.NamedRows.{IsNamed, found_of, is_blank, is_coded, is_condition, is_other, is_own, is_sound, others_coded, others_named, rows_named, rows_sound, word_near, word_same}
 use Rattle.m11_base_disassembly.proofs.Written.{both_are, first_are, operand_again}
 use Rattle.m11_base_disassembly.specs.Arguments.{operand_meant, words_of}

@@ -5,13 +5,13 @@ use Rattle.std.specs.List.{AllByRecursion, list_all}
 use Rattle.std.specs.Int.Bits.{or_add_and}
 use Rattle.std.proofs.lemmas.Bool.{and_parts}
 use Rattle.std.proofs.lemmas.Nat.{and_le_l, or_lt}
-use Rattle.m11_base_instructions.specs.Encoding.{code_of}
-use Rattle.m11_base_instructions.specs.declared.instruction.Insn.TheVariants as insn
-use Rattle.m11_base_instructions.specs.Instructions.{other_names, rows}
-use Rattle.m11_base_instructions.specs.Mnemonics.{operation_named}
-use Rattle.m11_base_instructions.specs.declared.instruction.Op.{Op}
-use Rattle.m11_base_instructions.specs.declared.instruction.Op.TheVariants as op
-use Rattle.m11_base_instructions.specs.declared.instruction_list.Row.{Row}
+use Rattle.m11_base.specs.Encoding.{code_of}
+use Rattle.m11_base.specs.declared.instruction.Insn.TheVariants as insn
+use Rattle.m11_base.specs.Instructions.{other_names, rows}
+use Rattle.m11_base.specs.Mnemonics.{operation_named}
+use Rattle.m11_base.specs.declared.instruction.Op.{Op}
+use Rattle.m11_base.specs.declared.instruction.Op.TheVariants as op
+use Rattle.m11_base.specs.declared.instruction_list.Row.{Row}
 use Rattle.m11_base_disassembly.specs.Texts.{bare_name}
 
 abbrev pub is_blank : Row → Bool

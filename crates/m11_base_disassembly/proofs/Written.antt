@@ -1,11 +1,11 @@
 -- Operands, as they are written, mean the operands that they were written of, and their words.
 use Rattle.std.proofs.Common.{◌≡◌, ◌∙◌, ℕ, zero, suc, ◌+◌, ◌*◌, ◌%◌, ◌≤◌, ◌<◌, List, [], ◌∷◌, ◌++◌, drop, length, slice_index, take, refl, sym, ap, ap₂, subst, take-add, arith}
 use Rattle.std.proofs.lemmas.List.{length-take-le}
-use Rattle.m11_base_instructions.specs.declared.operand.Mode.{Mode}
-use Rattle.m11_base_instructions.specs.declared.operand.Mode.TheVariants as mode
-use Rattle.m11_base_instructions.specs.declared.operand.Operand.{Operand}
-use Rattle.m11_base_instructions.specs.declared.operand.Register.{Register}
-use Rattle.m11_base_instructions.specs.declared.operand.Register.TheVariants.{R0, R1, R2, R3, R4, R5, Sp, Pc}
+use Rattle.m11_base.specs.declared.operand.Mode.{Mode}
+use Rattle.m11_base.specs.declared.operand.Mode.TheVariants as mode
+use Rattle.m11_base.specs.declared.operand.Operand.{Operand}
+use Rattle.m11_base.specs.declared.operand.Register.{Register}
+use Rattle.m11_base.specs.declared.operand.Register.TheVariants.{R0, R1, R2, R3, R4, R5, Sp, Pc}
 use Rattle.m11_base_disassembly.specs.Arguments.{argument, argument_by, by_counter, by_register, coded, distance, operand_meant, words_by, words_meant, words_of}
 use Rattle.m11_base_disassembly.specs.Instructions.{first_argument, location_after, second_argument}
 use Rattle.m11_base_disassembly.specs.Meaning.{AreWords, first_words, second_words}

@@ -1,11 +1,11 @@
 -- Operands as a source writes them, and what each of the eight modes is written as. (MACRO-11 Language Reference Manual, "Addressing
 -- modes"; PDP-11/40 Processor Handbook, "Addressing modes".)
 use Rattle.std.specs.Prelude.{ℕ, ◌+◌, ◌-◌, ◌%◌, List, [], ◌∷◌}
-use Rattle.m11_base_instructions.specs.declared.operand.Mode.{Mode}
-use Rattle.m11_base_instructions.specs.declared.operand.Mode.TheVariants as mode
-use Rattle.m11_base_instructions.specs.declared.operand.Operand.{Operand}
-use Rattle.m11_base_instructions.specs.declared.operand.Register.{Register}
-use Rattle.m11_base_instructions.specs.declared.operand.Register.TheVariants.{R0, R1, R2, R3, R4, R5, Sp, Pc}
+use Rattle.m11_base.specs.declared.operand.Mode.{Mode}
+use Rattle.m11_base.specs.declared.operand.Mode.TheVariants as mode
+use Rattle.m11_base.specs.declared.operand.Operand.{Operand}
+use Rattle.m11_base.specs.declared.operand.Register.{Register}
+use Rattle.m11_base.specs.declared.operand.Register.TheVariants.{R0, R1, R2, R3, R4, R5, Sp, Pc}
 
 -- an operand: `R`, `(R)`, `(R)+`, `@(R)+`, `-(R)`, `@-(R)`, `X(R)`, `@X(R)`, `#X`, `@#X`, an address, and `@` before one
 pub data Argument : Type 0 where

@@ -2,11 +2,11 @@
 -- Codes that no name of a source stands for, and instructions of which not all words are there, are words of data.
 use Rattle.std.specs.Prelude.{ℕ, ℤ, pos, ◌+◌, ◌-◌, ◌*◌, ◌%◌, ◌==◌, nat_le, if◌then◌else◌, List, length, find, slice_index, Option, Some, None}
 use Rattle.std.specs.Int.{cast_unsigned, w16}
-use Rattle.m11_base_instructions.specs.Instructions.{instruction_of, is_of, other_names, row_of}
-use Rattle.m11_base_instructions.specs.declared.instruction.Insn.{Insn}
-use Rattle.m11_base_instructions.specs.declared.instruction.Insn.TheVariants as insn
-use Rattle.m11_base_instructions.specs.declared.instruction_list.Row.{Row}
-use Rattle.m11_base_instructions.specs.declared.operand.Operand.{Operand}
+use Rattle.m11_base.specs.Instructions.{instruction_of, is_of, other_names, row_of}
+use Rattle.m11_base.specs.declared.instruction.Insn.{Insn}
+use Rattle.m11_base.specs.declared.instruction.Insn.TheVariants as insn
+use Rattle.m11_base.specs.declared.instruction_list.Row.{Row}
+use Rattle.m11_base.specs.declared.operand.Operand.{Operand}
 use Rattle.m11_base_disassembly.specs.Arguments.{Argument, Plain, argument, words_of}
 use Rattle.m11_base_disassembly.specs.Statements.{Operands, Nothing, One, Two, Target, Loop, Number, Statement, Named, DataWord}
 

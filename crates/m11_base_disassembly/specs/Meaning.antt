@@ -3,11 +3,11 @@
 use Rattle.std.specs.Prelude.{◌≡◌, ℕ, ℤ, ◌+◌, ◌*◌, ◌<◌, List, [], ◌∷◌, ◌++◌, FitsSigned, length, Some}
 use Rattle.std.specs.Int.{w8}
 use Rattle.std.specs.List.{AllByRecursion}
-use Rattle.m11_base_instructions.specs.Encoding.{code_of, number_limit}
-use Rattle.m11_base_instructions.specs.Mnemonics.{operation_named}
-use Rattle.m11_base_instructions.specs.declared.instruction.Insn.TheVariants as insn
-use Rattle.m11_base_instructions.specs.declared.instruction.Op.{Op}
-use Rattle.m11_base_instructions.specs.declared.instruction.Op.TheVariants as op
+use Rattle.m11_base.specs.Encoding.{code_of, number_limit}
+use Rattle.m11_base.specs.Mnemonics.{operation_named}
+use Rattle.m11_base.specs.declared.instruction.Insn.TheVariants as insn
+use Rattle.m11_base.specs.declared.instruction.Op.{Op}
+use Rattle.m11_base.specs.declared.instruction.Op.TheVariants as op
 use Rattle.m11_base_disassembly.specs.Arguments.{Argument, Plain, operand_meant, words_meant}
 use Rattle.m11_base_disassembly.specs.Instructions.{branch_target, location_after, loop_target}
 use Rattle.m11_base_disassembly.specs.Statements.{Operands, Nothing, One, Two, Target, Loop, Number, Statement, Named, DataWord, DataByte}

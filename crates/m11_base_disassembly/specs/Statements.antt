@@ -2,7 +2,7 @@
 -- addressing", ".WORD directive", ".BYTE directive".)
 use Rattle.std.specs.Prelude.{ℕ}
 use Rattle.m11_base.specs.Devices.{Bytes}
-use Rattle.m11_base_instructions.specs.declared.operand.Register.{Register}
+use Rattle.m11_base.specs.declared.operand.Register.{Register}
 use Rattle.m11_base_disassembly.specs.Arguments.{Argument}
 
 -- what follows the name of an operation: nothing; one operand, or two; the address to which a branch leads; a register and the

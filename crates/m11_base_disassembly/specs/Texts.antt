@@ -2,8 +2,8 @@
 -- begin in the eighth column is this project's own.)
 use Rattle.std.specs.Prelude.{ℕ, ◌==◌, if◌then◌else◌, [], ◌∷◌, ◌++◌, codes}
 use Rattle.m11_base.specs.Devices.{Bytes}
-use Rattle.m11_base_instructions.specs.declared.operand.Register.{Register}
-use Rattle.m11_base_instructions.specs.declared.operand.Register.TheVariants.{R0, R1, R2, R3, R4, R5, Sp, Pc}
+use Rattle.m11_base.specs.declared.operand.Register.{Register}
+use Rattle.m11_base.specs.declared.operand.Register.TheVariants.{R0, R1, R2, R3, R4, R5, Sp, Pc}
 use Rattle.m11_base_disassembly.specs.Numbers.{number_text}
 use Rattle.m11_base_disassembly.specs.Arguments.{Argument, Plain, Deferred, Forward, DeferredForward, Backward, DeferredBackward, Indexed, DeferredIndexed, Immediate, Absolute, Relative, DeferredRelative}
 use Rattle.m11_base_disassembly.specs.Statements.{Operands, Nothing, One, Two, Target, Loop, Number, Statement, Named, DataWord, DataByte}

@@ -2,13 +2,13 @@
 
 ghost use Rattle.std.specs.Prelude.{◌≡◌, ◌≤◌, ◌+◌, ◌++◌, length};
 ghost use Rattle.arrayvec.specs.ArrayVec.{array_vec_len};
-ghost use Rattle.m11_base_instructions.specs.declared.operand.Mode.{Mode};
+ghost use Rattle.m11_base.specs.declared.operand.Mode.{Mode};
 ghost use Rattle.m11_base_disassembly.specs.Arguments.{argument, by_counter, by_register, words_of};
 ghost use Rattle.m11_base_disassembly.specs.Texts as spec;
 
 use crate::numbers::put_number;
 use crate::source::{Source, put};
-use m11_base_instructions::{Mode, Operand, Register};
+use m11_base::{Mode, Operand, Register};
 
 /// The name of a register.
 pub(crate) fn register_text(register: Register) -> &'static [u8]

@@ -2,7 +2,7 @@
 
 ghost use Rattle.std.specs.Prelude.{◌≡◌, ◌≤◌, ◌<◌, ◌+◌, ◌++◌, ◌∷◌, length, slice_index};
 ghost use Rattle.arrayvec.specs.ArrayVec.{array_vec_len};
-ghost use Rattle.m11_base_instructions.specs.Instructions.{instruction_of};
+ghost use Rattle.m11_base.specs.Instructions.{instruction_of};
 ghost use Rattle.m11_base_disassembly.specs.Instructions as spec;
 ghost use Rattle.m11_base_disassembly.specs.Statements.{DataByte, DataWord, Named};
 ghost use Rattle.m11_base_disassembly.specs.Numbers.{number_text};
@@ -12,7 +12,7 @@ use crate::arguments::{put_argument, put_prefixed, register_text, words_of};
 use crate::names::{put_bare_name, put_name, row_named};
 use crate::numbers::put_number;
 use crate::source::{Source, put};
-use m11_base_instructions::{Insn, Operand, Register, Row, decode};
+use m11_base::{Insn, Operand, Register, Row, decode};
 
 /// What words at a location are in a source.
 #[derive(Clone, Debug, Drop)]

@@ -2,12 +2,12 @@
 
 ghost use Rattle.std.specs.Prelude.{◌≡◌, ◌≤◌, ◌+◌, ◌++◌, find, length};
 ghost use Rattle.arrayvec.specs.ArrayVec.{array_vec_len};
-ghost use Rattle.m11_base_instructions.specs.Instructions.{is_of, other_names, row_of};
+ghost use Rattle.m11_base.specs.Instructions.{is_of, other_names, row_of};
 ghost use Rattle.m11_base_disassembly.specs.Instructions.{named_row, row_named};
 ghost use Rattle.m11_base_disassembly.specs.Texts as spec;
 
 use crate::source::{Source, put};
-use m11_base_instructions::{Row, other_names, rows};
+use m11_base::{Row, other_names, rows};
 
 // The row that a word is of.
 fn row(word: u16) -> Option<Row>

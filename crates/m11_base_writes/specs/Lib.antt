@@ -1,3 +1,4 @@
+pub mod Passes
 pub mod Outputs
 pub mod States
 pub mod Writes

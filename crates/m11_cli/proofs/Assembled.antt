@@ -1,6 +1,6 @@
 -- What an assembly says of its feeds it says of their texts and counts of failures.
 use Rattle.std.proofs.Common.{ℕ, List, inl, inr, ap, Option, Result, Ok, Err}
-use Rattle.m11_base_pass_rules.specs.Passes.{pass_of}
+use Rattle.m11_base_writes.specs.Passes.{pass_of}
 use Rattle.m11_asm.specs.Passes.{ReadsFirst, ReadsSecond}
 use Rattle.m11_asm.specs.Run.{AsmRuns}
 use Rattle.m11_asm_faults.specs.declared.fault.AsmFault.{AsmFault}

@@ -9,7 +9,7 @@ use Rattle.m11_base_files.specs.Opens.{Files, IsEmptiedSome, keeping_some}
 use Rattle.m11_link_layout.specs.Plan.{PlanTables}
 use Rattle.m11_link_layout.specs.declared.fault.LinkFault.{LinkFault}
 use Rattle.m11_link_layout.specs.declared.fault.LinkFault.TheVariants as fault
-use Rattle.m11_base_pass_rules.specs.Passes.{pass_of}
+use Rattle.m11_base_writes.specs.Passes.{pass_of}
 use Rattle.m11_link.specs.FirstPass.{ReadsFirst}
 use Rattle.m11_link.specs.Objects.{Item, GiveItems, FailAfter}
 use Rattle.m11_link.specs.SecondPass.{ReadsSecond, LinkRuns}

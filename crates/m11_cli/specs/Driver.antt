@@ -33,7 +33,7 @@ use Rattle.m11_cli_tasks.specs.declared.tasks.LinkTask.{LinkTask}
 use Rattle.m11_cli_tasks.specs.declared.tasks.SimTask.{SimTask}
 use Rattle.m11_cli_tasks.specs.declared.tasks.Task.{Task}
 use Rattle.m11_cli_tasks.specs.declared.tasks.Task.TheVariants as task
-use Rattle.m11_base_pass_rules.specs.Passes.{pass_of}
+use Rattle.m11_base_writes.specs.Passes.{pass_of}
 
 -- ---- files that are not all open
 

@@ -2,7 +2,7 @@
 use Rattle.std.proofs.Common.{◌≡◌, List, [], ◌∷◌, map, Option, Some, None, ap, subst, sym}
 use Rattle.m11_base.specs.Devices.{Bytes}
 use Rattle.m11_base.specs.Feed.{Ends, Text}
-use Rattle.m11_base_pass_rules.specs.Passes.{AreKnown, IsKnown}
+use Rattle.m11_base_writes.specs.Passes.{AreKnown, IsKnown}
 use Rattle.m11_cli_chain.specs.Steps.{whole_text}
 
 same_text : (one other : Text) → ◌≡◌ {A = Option Text} (Some one) (Some other) → one ≡ other

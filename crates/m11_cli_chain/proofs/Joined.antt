@@ -24,8 +24,8 @@ use Rattle.m11_link.specs.Written.{link_writes}
 use Rattle.m11_link_text.specs.Findings.{findings_of}
 use Rattle.m11_link_modules.specs.Parts.{Part}
 use Rattle.m11_link_modules.specs.Rules.{first_fault}
-use Rattle.m11_cpu_tape_laws.specs.Image.{Image}
-use Rattle.m11_cpu_tape_laws.specs.Loaded.{HoldsImage, LiesInside, LiesPast, LoadYields}
+use Rattle.m11_cpu_laws.specs.Image.{Image}
+use Rattle.m11_cpu_laws.specs.Loaded.{HoldsImage, LiesInside, LiesPast, LoadYields}
 use Rattle.m11_base_writes.specs.Writes.{gained}
 use Rattle.m11_cli_chain.specs.Chain.{Chains, HasImage, Linked, LinkTakes, StopsLoad, tape_of}
 use Rattle.m11_cli_chain.specs.Sources.{sources_of}

@@ -7,3 +7,4 @@ mod Loading
 mod ObjectOfTexts
 mod Outputs
 mod Unfailing
+pub mod SourcesGiven

@@ -4,8 +4,8 @@ use Rattle.std.specs.List.{AllByRecursion, flat_map}
 use Rattle.m11_asm.specs.Written.{pieces_in, pieces_of}
 use Rattle.m11_base.specs.Rad50.{Name}
 use Rattle.m11_cli_image.specs.Objects.{LiesAtWord}
-use Rattle.m11_obj_texts.specs.declared.pieces.Piece.{Piece}
-use Rattle.m11_obj_texts.specs.declared.pieces.PieceContent.{PieceContent}
+use Rattle.m11_obj.specs.declared.pieces.Piece.{Piece}
+use Rattle.m11_obj.specs.declared.pieces.PieceContent.{PieceContent}
 use Rattle.m11_asm_passes.specs.Lines.{NumberedLine, givens}
 use Rattle.m11_asm_rules.specs.Alignment.{gap}
 use Rattle.m11_asm_rules.specs.Contents.{content_size, further, pieces_from}

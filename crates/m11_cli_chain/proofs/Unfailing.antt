@@ -9,7 +9,7 @@ use Rattle.m11_asm_faults.specs.declared.fault.AsmFault.TheVariants as assembly
 use Rattle.m11_base_writes.specs.Outputs.{Outputs}
 use Rattle.m11_base.specs.Devices.{Bytes, Rises}
 use Rattle.m11_base.specs.Feed.{OneFailed, Text}
-use Rattle.m11_base_pass_rules.specs.Passes.{pass_of}
+use Rattle.m11_base_writes.specs.Passes.{pass_of}
 use Rattle.m11_link_layout.specs.Plan.{PlanTables}
 use Rattle.m11_link_layout.specs.declared.fault.LinkFault.{LinkFault}
 use Rattle.m11_link_layout.specs.declared.fault.LinkFault.TheVariants as linking

@@ -21,9 +21,9 @@ use Rattle.m11_link.specs.Written.{link_writes}
 use Rattle.m11_link_text.specs.Findings.{findings_of}
 use Rattle.m11_link_modules.specs.Rules.{first_fault}
 use Rattle.m11_asm_passes.specs.Lines.{NumberedLine}
-use Rattle.m11_cpu_tape_laws.specs.Image.{Image}
-use Rattle.m11_cpu_tape_laws.specs.Loaded.{LiesInside, LiesPast}
-use Rattle.m11_cpu_tape_laws.specs.Tapes.{transfer_address}
+use Rattle.m11_cpu_laws.specs.Image.{Image}
+use Rattle.m11_cpu_laws.specs.Loaded.{LiesInside, LiesPast}
+use Rattle.m11_cpu_laws.specs.Tapes.{transfer_address}
 use Rattle.m11_base_writes.specs.Writes.{gained}
 use Rattle.m11_cli_chain.specs.Refusals.{IsOfObjects, IsOfTexts}
 use Rattle.m11_cli_chain.specs.Sources.{AllLive, IsFirstRefused, sources_of}

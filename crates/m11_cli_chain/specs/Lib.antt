@@ -3,3 +3,4 @@ pub mod Chain
 pub mod Refusals
 pub mod Sources
 pub mod Steps
+pub mod Stating

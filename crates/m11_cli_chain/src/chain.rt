@@ -9,7 +9,7 @@ ghost use Rattle.m11_cpu_machine.specs.Memory.{least_words, most_words};
 ghost use Rattle.m11_link_layout.specs.declared.fault.LinkFault.TheVariants as linking;
 ghost use Rattle.m11_link.specs.Objects.{AreItems, Item, outcome};
 ghost use Rattle.m11_link_laws.specs.Runs as links;
-ghost use Rattle.m11_base_pass_rules.specs.Passes.{AreKnown};
+ghost use Rattle.m11_base_writes.specs.Passes.{AreKnown};
 ghost use Rattle.m11_cli_chain.specs.Assemblies.{AssemblyYields};
 ghost use Rattle.m11_cli_chain.specs.Chain.{Chains};
 ghost use Rattle.m11_cli_chain.specs.Steps.{AreObjectsOf, AssembliesFail, AssemblyFails, IsObjectOf, IsTapeOfObjects, LinkFails, LoadFails, LoadsNew, NeverFail, of_assembly, of_link, whole_text};

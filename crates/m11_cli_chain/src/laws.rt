@@ -3,7 +3,7 @@
 
 ghost use Rattle.std.specs.Prelude.{◌≡◌, ◌∷◌, List, Result};
 ghost use Rattle.std.specs.List.{AllByRecursion};
-ghost use Rattle.m11_base_pass_rules.specs.Passes.{AreKnown, pass_of};
+ghost use Rattle.m11_base_writes.specs.Passes.{AreKnown, pass_of};
 ghost use Rattle.m11_asm.specs.Run.{AsmRuns};
 ghost use Rattle.m11_asm.specs.declared.done.AsmDone.{AsmDone};
 ghost use Rattle.m11_asm_faults.specs.declared.fault.AsmFault.{AsmFault};

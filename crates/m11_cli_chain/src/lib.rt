@@ -1,5 +1,5 @@
 //! The chain: sources are assembled, their objects linked, and the tape loaded, all over memory. What a machine then holds is told by the
-//! sources alone.
+//! sources alone, and in the words of their lines.
 #![tactic(auto)]
 
 mod chain;
@@ -9,3 +9,7 @@ mod laws;
 pub use chain::{Chained, run_chain};
 pub use fault::ChainFault;
 pub use laws::{known_sources_decide_the_assembly, live_lines_begin_with_the_absolute_section};
+
+mod stated;
+
+pub use stated::{chains_hold_what_their_lines_state, live_lines_give_their_sources};

@@ -11,11 +11,11 @@ use Rattle.m11_link_laws.specs.LinkedTexts.{ObjectText, has_data, linked_text}
 use Rattle.m11_link_text.specs.Findings.{Findings}
 use Rattle.m11_link_text.specs.Relocation.{modulo}
 use Rattle.m11_obj.specs.declared.relocations.Relocation.{Relocation}
-use Rattle.m11_obj_texts.specs.declared.pieces.Piece.{Piece}
-use Rattle.m11_obj_texts.specs.Fronts.{joined}
-use Rattle.m11_obj_texts.specs.Pieces.{content_bytes, relocations_of, text_bytes}
-use Rattle.m11_obj_texts.specs.Texts.{are_contiguous, cutting, text_of, texts_after}
-use Rattle.m11_cpu_tape_laws.specs.Image.{byte_of, byte_within}
+use Rattle.m11_obj.specs.declared.pieces.Piece.{Piece}
+use Rattle.m11_obj.specs.Fronts.{joined}
+use Rattle.m11_obj.specs.Pieces.{content_bytes, relocations_of, text_bytes}
+use Rattle.m11_obj.specs.Texts.{are_contiguous, cutting, text_of, texts_after}
+use Rattle.m11_cpu_laws.specs.Image.{byte_of, byte_within}
 use Rattle.m11_cli_image.specs.Addresses.{Addresses}
 use Rattle.m11_cli_image.specs.Found.{AreFound}
 use Rattle.m11_cli_image.specs.Image.{placed_pieces}

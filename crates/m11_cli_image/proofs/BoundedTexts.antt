@@ -21,14 +21,14 @@ use Rattle.m11_obj.specs.declared.gsd.GsdEntry.{GsdEntry}
 use Rattle.m11_obj.specs.declared.relocations.Relocation.{Relocation}
 use Rattle.m11_obj.specs.Records.{Content}
 use Rattle.m11_obj.specs.Records as records
-use Rattle.m11_obj_texts.specs.Directory.{entry_of, record_cutting}
-use Rattle.m11_obj_texts.specs.Fronts.{joined}
-use Rattle.m11_obj_texts.specs.Reading.{ReadText, as_read, texts_read}
-use Rattle.m11_obj_texts.specs.Reading as read
-use Rattle.m11_obj_texts.specs.Texts.{TextParts, text_records}
-use Rattle.m11_obj_texts.specs.declared.directory.DirectoryRow.{DirectoryRow}
-use Rattle.m11_obj_texts.proofs.InReading.{are_read_again}
-use Rattle.m11_obj_texts.proofs.InRecords.{holds_rows}
+use Rattle.m11_obj.specs.Directory.{entry_of, record_cutting}
+use Rattle.m11_obj.specs.Fronts.{joined}
+use Rattle.m11_obj.specs.TextsRead.{ReadText, as_read, texts_read}
+use Rattle.m11_obj.specs.TextsRead as read
+use Rattle.m11_obj.specs.Texts.{TextParts, text_records}
+use Rattle.m11_obj.specs.declared.directory.DirectoryRow.{DirectoryRow}
+use Rattle.m11_obj.proofs.InReading.{are_read_again}
+use Rattle.m11_obj.proofs.InRecords.{holds_rows}
 use Rattle.m11_cli_image.specs.Objects.{source_parts}
 use Rattle.m11_cli_image.specs.Sections.{sections_of, size_entered}
 use Rattle.m11_cli_image.specs.Sources.{Source}

@@ -9,13 +9,13 @@ use Rattle.m11_base.specs.Devices.{Bytes}
 use Rattle.m11_base.specs.Rad50.{Name, is_same_name}
 use Rattle.m11_base.proofs.SameNames.{same_name_equal}
 use Rattle.m11_link_text.specs.Relocation.{modulo}
-use Rattle.m11_obj_texts.specs.declared.pieces.Piece.{Piece}
-use Rattle.m11_obj_texts.specs.declared.pieces.PieceContent.{PieceContent}
-use Rattle.m11_obj_texts.specs.declared.pieces.PieceContent.TheVariants.{Byte, Word, Limits}
-use Rattle.m11_obj_texts.specs.Fronts.{fronts_by, fronts_of, longest_front}
-use Rattle.m11_obj_texts.specs.Pieces.{content_bytes, last_location, size_of, text_bytes}
-use Rattle.m11_obj_texts.specs.Texts.{are_contiguous, cutting, follows, is_one_text}
-use Rattle.m11_cpu_tape_laws.specs.Image.{byte_of, byte_within}
+use Rattle.m11_obj.specs.declared.pieces.Piece.{Piece}
+use Rattle.m11_obj.specs.declared.pieces.PieceContent.{PieceContent}
+use Rattle.m11_obj.specs.declared.pieces.PieceContent.TheVariants.{Byte, Word, Limits}
+use Rattle.m11_obj.specs.Fronts.{fronts_by, fronts_of, longest_front}
+use Rattle.m11_obj.specs.Pieces.{content_bytes, last_location, size_of, text_bytes}
+use Rattle.m11_obj.specs.Texts.{are_contiguous, cutting, follows, is_one_text}
+use Rattle.m11_cpu_laws.specs.Image.{byte_of, byte_within}
 use Rattle.m11_cli_image.specs.Addresses.{Addresses}
 use Rattle.m11_cli_image.specs.Pieces.{Spot, bytes_at, bytes_from, laid, placed, spot}
 

@@ -20,3 +20,15 @@ pub mod BytesPlaced
 pub mod BlocksGiven
 pub mod StartsFound
 pub mod TapesHold
+pub mod OneThing
+pub mod ManyThings
+pub mod LineLies
+pub mod Absolutes
+pub mod SourcesLie
+pub mod LabelTurns
+pub mod LabelsFound
+pub mod LabelsLie
+pub mod GlobalsLie
+pub mod NoMessages
+pub mod WorkedOut
+pub mod BranchesLead

@@ -19,8 +19,8 @@ use Rattle.m11_link_text.specs.Relocation.{modulo, symbol}
 use Rattle.m11_link_modules.specs.Parts.{Part, Directory, Entry, EndOfDirectory, Text, Relocations, Relocated, EndOfModule, EndOfFile}
 use Rattle.m11_link_modules.specs.Positions.{distinct, section_by, section_in, section_names, sections_in}
 use Rattle.m11_obj.specs.declared.gsd.GsdEntry.{GsdEntry}
-use Rattle.m11_obj_texts.specs.declared.directory.DirectoryRow.{DirectoryRow}
-use Rattle.m11_obj_texts.specs.Directory.{entry_of}
+use Rattle.m11_obj.specs.declared.directory.DirectoryRow.{DirectoryRow}
+use Rattle.m11_obj.specs.Directory.{entry_of}
 use Rattle.m11_cli_image.specs.Globals as image
 use Rattle.m11_cli_image.specs.Globals.{all_globals, global}
 use Rattle.m11_cli_image.specs.Links.{LiesBySources}

@@ -16,8 +16,8 @@ use Rattle.m11_obj.specs.declared.gsd.GsdEntry.{GsdEntry}
 use Rattle.m11_obj.specs.declared.relocations.Relocation.{Relocation}
 use Rattle.m11_obj.specs.Records.{Content}
 use Rattle.m11_obj.specs.Records as records
-use Rattle.m11_obj_texts.specs.Directory.{entry_of, record_cutting}
-use Rattle.m11_obj_texts.specs.Texts.{text_records}
+use Rattle.m11_obj.specs.Directory.{entry_of, record_cutting}
+use Rattle.m11_obj.specs.Texts.{text_records}
 use Rattle.m11_cli_image.specs.Globals.{all_globals, globals_of, in_source}
 use Rattle.m11_cli_image.specs.Links.{HasSources, all_texts, all_transfers, texts_at, transfer_of}
 use Rattle.m11_cli_image.specs.Objects.{link_parts, object_parts, source_parts, stored_alone}

@@ -8,7 +8,7 @@ use Rattle.m11_link_text.specs.Findings.{Findings}
 use Rattle.m11_obj.specs.declared.relocations.Relocation.{Relocation}
 use Rattle.m11_obj.specs.declared.relocations.Target.{Target}
 use Rattle.m11_obj.specs.declared.relocations.Target.TheVariants.{LocationCounterDefinition, LocationCounterModification}
-use Rattle.m11_obj_texts.specs.Reading.{is_stored, stores}
+use Rattle.m11_obj.specs.TextsRead.{is_stored, stores}
 use Rattle.m11_cli_image.specs.Links.{all_texts}
 use Rattle.m11_cli_image.specs.Objects.{link_parts, stored_alone}
 use Rattle.m11_cli_image.specs.Sources.{Source}

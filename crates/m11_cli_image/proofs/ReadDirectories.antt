@@ -10,9 +10,9 @@ use Rattle.m11_link_layout.specs.Transfers.{transfer_in, transfers_of}
 use Rattle.m11_link_laws.specs.LinkedTexts.{object_texts}
 use Rattle.m11_link_modules.specs.Positions.{current_section, modules_in, sections_in, this_module}
 use Rattle.m11_obj.specs.declared.gsd.GsdEntry.{GsdEntry}
-use Rattle.m11_obj_texts.specs.Directory.{entry_of}
-use Rattle.m11_obj_texts.proofs.InRecords.{holds_rows}
-use Rattle.m11_obj_texts.proofs.InTexts.{holds_pieces}
+use Rattle.m11_obj.specs.Directory.{entry_of}
+use Rattle.m11_obj.proofs.InRecords.{holds_rows}
+use Rattle.m11_obj.proofs.InTexts.{holds_pieces}
 use Rattle.m11_cli_image.specs.Globals.{globals_of, in_source}
 use Rattle.m11_cli_image.specs.Objects.{HasDirectory, HasTexts, source_parts, stored_alone, text_in, transfer_at}
 use Rattle.m11_cli_image.specs.Sections.{attributes_entered, sections_of, size_entered}

@@ -12,7 +12,7 @@ use Rattle.m11_link_modules.specs.Parts.{Part, Entry, EndOfDirectory, Relocated,
 use Rattle.m11_link_modules.specs.Positions.{section_by, section_in}
 use Rattle.m11_obj.specs.declared.gsd.GsdEntry.{GsdEntry}
 use Rattle.m11_obj.specs.declared.relocations.Relocation.{Relocation}
-use Rattle.m11_obj_texts.specs.Fronts.{joined}
+use Rattle.m11_obj.specs.Fronts.{joined}
 use Rattle.m11_cli_image.proofs.ReadParts.{Seen, reported_by, seen_after, seen_of}
 
 -- ---- parts that say something by their entries alone

@@ -15,9 +15,9 @@ use Rattle.m11_link_layout.specs.declared.definition.Definition as layout
 use Rattle.m11_link_layout.specs.declared.definition.GlobalLocation.{GlobalLocation}
 use Rattle.m11_link_layout.specs.declared.definition.GlobalLocation.TheVariants.{Absolute, In}
 use Rattle.m11_link_modules.specs.Parts.{Entry}
-use Rattle.m11_obj_texts.specs.declared.directory.DirectoryRow.{DirectoryRow}
-use Rattle.m11_obj_texts.specs.declared.directory.DirectoryRow.TheVariants as row
-use Rattle.m11_obj_texts.specs.Directory.{entry_of}
+use Rattle.m11_obj.specs.declared.directory.DirectoryRow.{DirectoryRow}
+use Rattle.m11_obj.specs.declared.directory.DirectoryRow.TheVariants as row
+use Rattle.m11_obj.specs.Directory.{entry_of}
 use Rattle.m11_asm_rules.specs.declared.definitions.Definition.{Definition}
 use Rattle.m11_asm_rules.specs.declared.definitions.Key.TheVariants.{Named}
 use Rattle.m11_asm_rules.specs.declared.definitions.Standing.{Standing}

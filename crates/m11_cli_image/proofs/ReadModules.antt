@@ -12,8 +12,8 @@ use Rattle.m11_obj.specs.declared.gsd.GsdEntry.{GsdEntry}
 use Rattle.m11_obj.specs.declared.relocations.Relocation.{Relocation}
 use Rattle.m11_obj.specs.Records.{Content, EndOfGsd, Gsd, InternalSymbols, Relocations, Text}
 use Rattle.m11_obj.specs.Records as records
-use Rattle.m11_obj_texts.specs.Directory.{record_cutting}
-use Rattle.m11_obj_texts.specs.Texts.{TextParts, is_in_section, records_of, relocation_records, selection, text_records}
+use Rattle.m11_obj.specs.Directory.{record_cutting}
+use Rattle.m11_obj.specs.Texts.{TextParts, is_in_section, records_of, relocation_records, selection, text_records}
 use Rattle.m11_cli_image.specs.Objects.{source_parts}
 use Rattle.m11_cli_image.specs.Sources.{Source}
 

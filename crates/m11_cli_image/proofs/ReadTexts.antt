@@ -17,11 +17,11 @@ use Rattle.m11_obj.specs.declared.relocations.Target.{Target}
 use Rattle.m11_obj.specs.declared.relocations.Target.TheVariants.{LocationCounterDefinition}
 use Rattle.m11_obj.specs.Records.{Content}
 use Rattle.m11_obj.specs.Records as records
-use Rattle.m11_obj_texts.specs.Directory.{record_cutting}
-use Rattle.m11_obj_texts.specs.Reading.{ReadText, as_read, is_stored, section_after, selected, texts_read}
-use Rattle.m11_obj_texts.specs.Reading as read
-use Rattle.m11_obj_texts.specs.Texts.{TextParts, text_records}
-use Rattle.m11_obj_texts.proofs.InReading.{are_read_again}
+use Rattle.m11_obj.specs.Directory.{record_cutting}
+use Rattle.m11_obj.specs.TextsRead.{ReadText, as_read, is_stored, section_after, selected, texts_read}
+use Rattle.m11_obj.specs.TextsRead as read
+use Rattle.m11_obj.specs.Texts.{TextParts, text_records}
+use Rattle.m11_obj.proofs.InReading.{are_read_again}
 use Rattle.m11_cli_image.specs.Objects.{source_parts, stored_alone, text_in}
 use Rattle.m11_cli_image.specs.Sources.{Source}
 use Rattle.m11_cli_image.proofs.ReadModules.{IsBody, are_body, split}

@@ -15,10 +15,10 @@ use Rattle.m11_link.specs.Outputs.{link}
 use Rattle.m11_link.specs.Written.{link_writes}
 use Rattle.m11_link_text.specs.Findings.{findings_of}
 use Rattle.m11_link_laws.specs.LinkedTexts.{linked_text}
-use Rattle.m11_cpu_tape_laws.specs.Image.{byte_of}
-use Rattle.m11_cpu_tape_laws.specs.Loaded.{LoadYields}
-use Rattle.m11_cpu_tape_laws.specs.Tapes.{IsTapeOf, transfer_address}
-use Rattle.m11_cpu_tape_laws.proofs.LoadsYield.{yields}
+use Rattle.m11_cpu_laws.specs.Image.{byte_of}
+use Rattle.m11_cpu_laws.specs.Loaded.{LoadYields}
+use Rattle.m11_cpu_laws.specs.Tapes.{IsTapeOf, transfer_address}
+use Rattle.m11_cpu_laws.proofs.LoadsYield.{yields}
 use Rattle.m11_base_writes.specs.Writes.{gained}
 use Rattle.m11_cli_image.specs.Found.{AreFound}
 use Rattle.m11_cli_image.specs.Image.{addresses_of, image_of}

@@ -13,12 +13,12 @@ use Rattle.m11_link_modules.specs.Rules.{width_of}
 use Rattle.m11_obj.specs.declared.relocations.Relocation.{Relocation}
 use Rattle.m11_obj.specs.declared.relocations.Target.{Target}
 use Rattle.m11_obj.specs.declared.relocations.Target.TheVariants as target
-use Rattle.m11_obj_texts.specs.declared.pieces.Piece.{Piece}
-use Rattle.m11_obj_texts.specs.declared.pieces.PieceContent.{PieceContent}
-use Rattle.m11_obj_texts.specs.declared.pieces.PieceContent.TheVariants.{Byte, Word, Limits}
-use Rattle.m11_obj_texts.specs.declared.pieces.RelocationKind.{RelocationKind}
-use Rattle.m11_obj_texts.specs.declared.pieces.RelocationKind.TheVariants as kind
-use Rattle.m11_obj_texts.specs.Pieces.{content_bytes, relocation, relocation_at, relocations_from, relocations_of, size_of, standing, target_of, text_bytes}
+use Rattle.m11_obj.specs.declared.pieces.Piece.{Piece}
+use Rattle.m11_obj.specs.declared.pieces.PieceContent.{PieceContent}
+use Rattle.m11_obj.specs.declared.pieces.PieceContent.TheVariants.{Byte, Word, Limits}
+use Rattle.m11_obj.specs.declared.pieces.RelocationKind.{RelocationKind}
+use Rattle.m11_obj.specs.declared.pieces.RelocationKind.TheVariants as kind
+use Rattle.m11_obj.specs.Pieces.{content_bytes, relocation, relocation_at, relocations_from, relocations_of, size_of, standing, target_of, text_bytes}
 use Rattle.m11_asm_laws.specs.Targets.{AreWords}
 use Rattle.m11_asm_laws.proofs.Rows.{displaced_global_row, displaced_section_row, global_row, section_row}
 use Rattle.m11_cli_image.specs.Addresses.{Addresses}

@@ -22,11 +22,11 @@ use Rattle.m11_obj.specs.declared.gsd.GsdKind.{GsdKind}
 use Rattle.m11_obj.specs.declared.gsd.GsdKind.TheVariants.{ControlSection, ProgramSection}
 use Rattle.m11_obj.specs.Gsd.{EntryFits}
 use Rattle.m11_obj.specs.Records.{Content, EndOfGsd, EndOfModule, Fits, Gsd}
-use Rattle.m11_obj_texts.specs.declared.directory.DirectoryRow.{DirectoryRow}
-use Rattle.m11_obj_texts.specs.Directory.{entry_of, record_cutting}
-use Rattle.m11_obj_texts.specs.Fronts.{joined}
-use Rattle.m11_obj_texts.specs.Texts.{TextParts, text_records}
-use Rattle.m11_obj_texts.proofs.InRecords.{holds_rows}
+use Rattle.m11_obj.specs.declared.directory.DirectoryRow.{DirectoryRow}
+use Rattle.m11_obj.specs.Directory.{entry_of, record_cutting}
+use Rattle.m11_obj.specs.Fronts.{joined}
+use Rattle.m11_obj.specs.Texts.{TextParts, text_records}
+use Rattle.m11_obj.proofs.InRecords.{holds_rows}
 use Rattle.m11_cli_image.specs.Links.{EndsInside, all_texts, texts_at}
 use Rattle.m11_cli_image.specs.Objects.{SourceFits, link_parts, source_parts, text_in}
 use Rattle.m11_cli_image.specs.Sections.{all_sections, attributes_of, base_of, contribution, sections_of, size_entered, sizes_of as own_sizes, source_at}

@@ -7,7 +7,7 @@ use Rattle.std.specs.Option.{option_to_list}
 use Rattle.m11_base.specs.Devices.{Bytes}
 use Rattle.m11_link_layout.specs.Transfers.{is_even}
 use Rattle.m11_link_text.specs.Relocation.{modulo}
-use Rattle.m11_cpu_tape_laws.specs.Image.{Image, byte_of}
+use Rattle.m11_cpu_laws.specs.Image.{Image, byte_of}
 use Rattle.m11_scan_expressions.specs.declared.kinds.Kind.{Kind}
 use Rattle.m11_scan_expressions.specs.declared.kinds.Kind.TheVariants as kind
 use Rattle.m11_scan_expressions.specs.Quantities.{Quantity}

@@ -7,3 +7,10 @@ pub mod Addresses
 pub mod Pieces
 pub mod Found
 pub mod Image
+pub mod Stated
+pub mod Targets
+pub mod Lines
+pub mod Agreement
+pub mod Labels
+pub mod Worked
+pub mod Branching

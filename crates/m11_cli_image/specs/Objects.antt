@@ -17,10 +17,10 @@ use Rattle.m11_link_modules.specs.Parts.{Part, EndOfFile, parts_of}
 use Rattle.m11_link_modules.specs.Positions.{sections_in}
 use Rattle.m11_obj.specs.Reading.{content_of}
 use Rattle.m11_obj.specs.Records.{Content, Fits, record_data}
-use Rattle.m11_obj_texts.specs.declared.pieces.Piece.{Piece}
-use Rattle.m11_obj_texts.specs.Fronts.{joined}
-use Rattle.m11_obj_texts.specs.Reading.{is_stored}
-use Rattle.m11_obj_texts.specs.Texts.{TextParts, cutting}
+use Rattle.m11_obj.specs.declared.pieces.Piece.{Piece}
+use Rattle.m11_obj.specs.Fronts.{joined}
+use Rattle.m11_obj.specs.TextsRead.{is_stored}
+use Rattle.m11_obj.specs.Texts.{TextParts, cutting}
 use Rattle.m11_asm_rules.specs.declared.sections.Section.{Section}
 use Rattle.m11_asm_rules.specs.Sections.{of_absolute, section}
 use Rattle.m11_scan_expressions.specs.Quantities.{Quantity}

@@ -5,12 +5,12 @@ use Rattle.std.specs.Prelude.{ℕ, ◌+◌, true, false, List, [], ◌∷◌, �
 use Rattle.m11_base.specs.Devices.{Bytes}
 use Rattle.m11_obj_blocks.specs.Frames.{word_bytes}
 use Rattle.m11_link_text.specs.Relocation.{following, less, modulo, value_bytes}
-use Rattle.m11_obj_texts.specs.declared.pieces.Piece.{Piece}
-use Rattle.m11_obj_texts.specs.declared.pieces.PieceContent.{PieceContent}
-use Rattle.m11_obj_texts.specs.declared.pieces.PieceContent.TheVariants.{Byte, Word, Limits}
-use Rattle.m11_obj_texts.specs.declared.pieces.RelocationKind.{RelocationKind}
-use Rattle.m11_obj_texts.specs.declared.pieces.RelocationKind.TheVariants as kind
-use Rattle.m11_obj_texts.specs.Pieces.{size_of}
+use Rattle.m11_obj.specs.declared.pieces.Piece.{Piece}
+use Rattle.m11_obj.specs.declared.pieces.PieceContent.{PieceContent}
+use Rattle.m11_obj.specs.declared.pieces.PieceContent.TheVariants.{Byte, Word, Limits}
+use Rattle.m11_obj.specs.declared.pieces.RelocationKind.{RelocationKind}
+use Rattle.m11_obj.specs.declared.pieces.RelocationKind.TheVariants as kind
+use Rattle.m11_obj.specs.Pieces.{size_of}
 use Rattle.m11_cli_image.specs.Addresses.{Addresses}
 
 -- where something stands: the index of its source, where that source's contribution to its section begins, and its own address

@@ -1,6 +1,6 @@
 //! The image of sources: which bytes a linked program has at which addresses, told by its sources alone; and laws above the definitions of
-//! the assembler and the linker: what a linker reads of the object of a source, and that the tape of a link holds the image. Each law is
-//! the contract of a function that does nothing.
+//! the assembler and the linker: what a linker reads of the object of a source, that the tape of a link holds the image, and that each value
+//! lies where its target lies. Each law is the contract of a function that does nothing but to call the laws that its own follows from.
 #![tactic(auto)]
 
 // The texts of one object, with what relocations store in them.
@@ -26,3 +26,29 @@ pub use links::{
 mod tapes;
 
 pub use tapes::{links_give_the_image, loads_of_links_yield_the_image};
+
+// Links that report nothing.
+mod unreported;
+
+pub use unreported::links_without_messages_agree;
+
+// Where labels and globals lie.
+mod labels;
+
+pub use labels::{
+    globals_lie_where_they_are_defined, globals_of_labels_lie_where_their_lines_do,
+    labels_lie_where_their_lines_do,
+};
+
+// What the words of the program hold, and where its branches lead.
+mod values;
+
+pub use values::{
+    branches_lead_to_their_targets, images_hold_what_their_lines_state,
+    relative_words_lead_to_their_targets,
+};
+
+// A program worked by hand, for which these laws hold.
+mod worked;
+
+pub use worked::the_worked_program_states_four_words;

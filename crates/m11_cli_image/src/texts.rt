@@ -3,8 +3,8 @@
 ghost use Rattle.std.specs.Prelude.{◌≡◌, List};
 ghost use Rattle.m11_link.specs.Written.{PlacedText, with_relocations};
 ghost use Rattle.m11_link_text.specs.Findings.{Findings};
-ghost use Rattle.m11_obj_texts.specs.declared.pieces.Piece.{Piece};
-ghost use Rattle.m11_obj_texts.specs.Pieces.{relocations_of, text_bytes};
+ghost use Rattle.m11_obj.specs.declared.pieces.Piece.{Piece};
+ghost use Rattle.m11_obj.specs.Pieces.{relocations_of, text_bytes};
 ghost use Rattle.m11_cli_image.specs.Addresses.{Addresses};
 ghost use Rattle.m11_cli_image.specs.Found.{AreFound};
 ghost use Rattle.m11_cli_image.specs.Pieces.{bytes_from};

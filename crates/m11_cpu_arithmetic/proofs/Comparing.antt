@@ -4,10 +4,10 @@ use Rattle.std.specs.Prelude.{int_lt, nat_lt, not, ◌||◌, ◌==◌, IsTrue, �
 use Rattle.std.proofs.lemmas.Bool.{eqb-true, eq-eqb}
 use Rattle.std.proofs.lemmas.Bool.Decides.{nat_tests}
 use Rattle.std.proofs.lemmas.Int.{ints, of_z-to_z}
-use Rattle.m11_base_instructions.specs.declared.instruction.ConditionCodes.{ConditionCodes}
-use Rattle.m11_base_instructions.specs.declared.instruction.DoubleOp.TheVariants.{Cmp}
-use Rattle.m11_base_instructions.specs.declared.operand.Size.{Size}
-use Rattle.m11_base_instructions.specs.declared.operand.Size.TheVariants.{Word, Byte}
+use Rattle.m11_base.specs.declared.instruction.ConditionCodes.{ConditionCodes}
+use Rattle.m11_base.specs.declared.instruction.DoubleOp.TheVariants.{Cmp}
+use Rattle.m11_base.specs.declared.operand.Size.{Size}
+use Rattle.m11_base.specs.declared.operand.Size.TheVariants.{Word, Byte}
 use Rattle.m11_cpu_arithmetic.specs.Sizes.{size_limit, signed, modulo, overflows, is_outside}
 use Rattle.m11_cpu_arithmetic.specs.Results.{differ}
 use Rattle.m11_cpu_arithmetic.specs.Doubles.{double_result}

@@ -5,7 +5,7 @@ use Rattle.std.proofs.lemmas.Bool.{cases_Bool, eqb-true, eqb-false, le-ltb, true
 use Rattle.std.proofs.lemmas.Bool.Decides.{nat_tests}
 use Rattle.std.proofs.lemmas.Nat.{div-mul-add}
 use Rattle.std.proofs.lemmas.Int.{ints, to_z-of_z, quot-rem, rem_below, fits_signed_from_abs}
-use Rattle.m11_base_instructions.specs.declared.operand.Size.TheVariants.{Word}
+use Rattle.m11_base.specs.declared.operand.Size.TheVariants.{Word}
 use Rattle.m11_cpu_arithmetic.specs.Sizes.{signed, modulo, overflows}
 use Rattle.m11_cpu_arithmetic.specs.Extended.{joined, product_of, division_of, divided, done, refused_by_zero, refused_quotient}
 use Rattle.m11_cpu_arithmetic.specs.Laws.{IsProduct, IsDivided, IsQuotient, HasNoQuotient}

@@ -2,7 +2,7 @@
 use Rattle.std.proofs.Common.{ℕ, ◌<◌, arith}
 use Rattle.std.proofs.lemmas.Bool.Decides.{nat_tests}
 use Rattle.std.proofs.lemmas.Int.{ints}
-use Rattle.m11_base_instructions.specs.declared.instruction.ConditionCodes.{ConditionCodes}
+use Rattle.m11_base.specs.declared.instruction.ConditionCodes.{ConditionCodes}
 use Rattle.m11_cpu_arithmetic.specs.Doubles.{double_result}
 use Rattle.m11_cpu_arithmetic.specs.Singles.{single_result}
 use Rattle.m11_cpu_arithmetic.specs.Laws.{Adds, Subtracts}

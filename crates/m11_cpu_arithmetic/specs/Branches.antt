@@ -1,8 +1,8 @@
 -- When branches are taken. (PDP-11/40 Processor Handbook, "Instruction set": branches.)
 use Rattle.std.specs.Prelude.{Bool, true, not, ◌||◌}
-use Rattle.m11_base_instructions.specs.declared.instruction.ConditionCodes.{ConditionCodes}
-use Rattle.m11_base_instructions.specs.declared.instruction.BranchOp.{BranchOp}
-use Rattle.m11_base_instructions.specs.declared.instruction.BranchOp.TheVariants.{Br, Bne, Beq, Bge, Blt, Bgt, Ble, Bpl, Bmi, Bhi, Blos, Bvc, Bvs, Bcc, Bcs}
+use Rattle.m11_base.specs.declared.instruction.ConditionCodes.{ConditionCodes}
+use Rattle.m11_base.specs.declared.instruction.BranchOp.{BranchOp}
+use Rattle.m11_base.specs.declared.instruction.BranchOp.TheVariants.{Br, Bne, Beq, Bge, Blt, Bgt, Ble, Bpl, Bmi, Bhi, Blos, Bvc, Bvs, Bcc, Bcs}
 use Rattle.m11_cpu_arithmetic.specs.Results.{differ}
 
 unfoldable pub is_taken : BranchOp → ConditionCodes → Bool

@@ -2,7 +2,7 @@
 use Rattle.std.specs.Prelude.{ℕ, ◌+◌, ◌*◌, true, false, if◌then◌else◌, ◌==◌, ℤ, pos, ◌*ℤ◌, int_lt, int_div, int_rem}
 use Rattle.std.specs.Int.{cast_signed, w32}
 use Rattle.std.specs.Ordering.{int_eq}
-use Rattle.m11_base_instructions.specs.declared.operand.Size.TheVariants.{Word}
+use Rattle.m11_base.specs.declared.operand.Size.TheVariants.{Word}
 use Rattle.m11_cpu_arithmetic.specs.declared.results.Pair.{Pair}
 use Rattle.m11_cpu_arithmetic.specs.declared.results.Division.{Division}
 use Rattle.m11_cpu_arithmetic.specs.declared.results.Division.TheVariants.{Done, Refused}

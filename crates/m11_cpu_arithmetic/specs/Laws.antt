@@ -2,12 +2,12 @@
 -- Handbook, "Instruction set": branches, double precision; "Extended instruction set".)
 use Rattle.std.specs.Prelude.{ℕ, zero, suc, ◌+◌, ◌*◌, ◌%◌, ◌^◌, ◌<◌, ◌≤◌, ◌≡◌, ◌≢◌, ◌↔◌, ◌⊎◌, nat_lt, nat_le, Bool, true, false, ◌||◌, IsTrue, ℤ, pos, ◌+ℤ◌, ◌-ℤ◌, ◌*ℤ◌, ◌<ℤ◌, ◌≤ℤ◌, unsigned_abs, int_lt, ◌==◌}
 use Rattle.std.specs.Int.{cast_signed, int_div_euclid, w32}
-use Rattle.m11_base_instructions.specs.declared.instruction.ConditionCodes.{ConditionCodes}
-use Rattle.m11_base_instructions.specs.declared.instruction.DoubleOp.TheVariants.{Add, Sub, Cmp}
-use Rattle.m11_base_instructions.specs.declared.instruction.SingleOp.TheVariants.{Adc, Sbc}
-use Rattle.m11_base_instructions.specs.declared.instruction.BranchOp.TheVariants.{Bne, Beq, Bge, Blt, Bgt, Ble, Bhi, Blos, Bcc, Bcs}
-use Rattle.m11_base_instructions.specs.declared.operand.Size.{Size}
-use Rattle.m11_base_instructions.specs.declared.operand.Size.TheVariants.{Word}
+use Rattle.m11_base.specs.declared.instruction.ConditionCodes.{ConditionCodes}
+use Rattle.m11_base.specs.declared.instruction.DoubleOp.TheVariants.{Add, Sub, Cmp}
+use Rattle.m11_base.specs.declared.instruction.SingleOp.TheVariants.{Adc, Sbc}
+use Rattle.m11_base.specs.declared.instruction.BranchOp.TheVariants.{Bne, Beq, Bge, Blt, Bgt, Ble, Bhi, Blos, Bcc, Bcs}
+use Rattle.m11_base.specs.declared.operand.Size.{Size}
+use Rattle.m11_base.specs.declared.operand.Size.TheVariants.{Word}
 use Rattle.m11_cpu_arithmetic.specs.declared.results.Computed.{Computed}
 use Rattle.m11_cpu_arithmetic.specs.declared.results.Division.{Division}
 use Rattle.m11_cpu_arithmetic.specs.declared.results.Division.TheVariants.{Done, Refused}

@@ -2,7 +2,7 @@
 use Rattle.std.specs.Prelude.{ℕ, ◌/◌, ◌%◌, ◌==◌, Bool, not, ℤ, pos, int_lt}
 use Rattle.std.specs.Bool.{beq}
 use Rattle.std.specs.Int.{cast_signed, w32}
-use Rattle.m11_base_instructions.specs.declared.operand.Size.{Size}
+use Rattle.m11_base.specs.declared.operand.Size.{Size}
 use Rattle.m11_cpu_arithmetic.specs.declared.results.Computed.{Computed}
 use Rattle.m11_cpu_arithmetic.specs.declared.results.Pair.{Pair}
 use Rattle.m11_cpu_arithmetic.specs.Sizes.{size_limit, signed, modulo, overflows, is_outside}

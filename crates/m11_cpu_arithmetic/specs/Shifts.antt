@@ -1,7 +1,7 @@
 -- Shifts by several places. (PDP-11/40 Processor Handbook, "Extended instruction set".)
 use Rattle.std.specs.Prelude.{ℕ, zero, suc, ◌-◌, ◌%◌, ◌^◌, ◌==◌, nat_lt, Bool, false, if◌then◌else◌, ℤ, pos, negsuc, ◌*ℤ◌}
 use Rattle.std.specs.Int.{int_div_euclid}
-use Rattle.m11_base_instructions.specs.declared.operand.Size.TheVariants.{Word}
+use Rattle.m11_base.specs.declared.operand.Size.TheVariants.{Word}
 use Rattle.m11_cpu_arithmetic.specs.declared.results.Computed.{Computed}
 use Rattle.m11_cpu_arithmetic.specs.declared.results.Pair.{Pair}
 use Rattle.m11_cpu_arithmetic.specs.Sizes.{size_limit, pair_limit, signed, modulo, overflows, overflows_pair}

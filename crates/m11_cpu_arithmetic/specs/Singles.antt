@@ -2,11 +2,11 @@
 -- instructions.)
 use Rattle.std.specs.Prelude.{ℕ, ◌+◌, ◌-◌, ◌*◌, ◌/◌, ◌%◌, ◌==◌, nat_le, Bool, true, false, not, ◌&&◌, if◌then◌else◌, pos, neg_ℤ, ◌-ℤ◌, int_lt}
 use Rattle.std.specs.Int.{from_bool, int_div_euclid}
-use Rattle.m11_base_instructions.specs.declared.instruction.ConditionCodes.{ConditionCodes}
-use Rattle.m11_base_instructions.specs.declared.instruction.SingleOp.{SingleOp}
-use Rattle.m11_base_instructions.specs.declared.instruction.SingleOp.TheVariants.{Jmp, Swab, Clr, Com, Inc, Dec, Neg, Adc, Sbc, Tst, Ror, Rol, Asr, Asl, Sxt}
-use Rattle.m11_base_instructions.specs.declared.operand.Size.{Size}
-use Rattle.m11_base_instructions.specs.declared.operand.Size.TheVariants.{Word, Byte}
+use Rattle.m11_base.specs.declared.instruction.ConditionCodes.{ConditionCodes}
+use Rattle.m11_base.specs.declared.instruction.SingleOp.{SingleOp}
+use Rattle.m11_base.specs.declared.instruction.SingleOp.TheVariants.{Jmp, Swab, Clr, Com, Inc, Dec, Neg, Adc, Sbc, Tst, Ror, Rol, Asr, Asl, Sxt}
+use Rattle.m11_base.specs.declared.operand.Size.{Size}
+use Rattle.m11_base.specs.declared.operand.Size.TheVariants.{Word, Byte}
 use Rattle.m11_cpu_arithmetic.specs.declared.results.Computed.{Computed}
 use Rattle.m11_cpu_arithmetic.specs.Sizes.{size_limit, sign_bit, signed, modulo, overflows, complement}
 use Rattle.m11_cpu_arithmetic.specs.Results.{differ, with_codes}

@@ -2,8 +2,8 @@
 -- set": condition codes, and two's complement numbers.)
 use Rattle.std.specs.Prelude.{ℕ, ◌-◌, ◌%◌, Bool, ◌||◌, ℤ, pos, negsuc, neg_ℤ, int_lt, int_le}
 use Rattle.std.specs.Int.{cast_signed, w8, w16}
-use Rattle.m11_base_instructions.specs.declared.operand.Size.{Size}
-use Rattle.m11_base_instructions.specs.declared.operand.Size.TheVariants.{Word, Byte}
+use Rattle.m11_base.specs.declared.operand.Size.{Size}
+use Rattle.m11_base.specs.declared.operand.Size.TheVariants.{Word, Byte}
 
 -- each value of a size lies below it
 abbrev pub size_limit : Size → ℕ

@@ -3,7 +3,7 @@
 ghost use Rattle.std.specs.Prelude.{◌≡◌};
 ghost use Rattle.m11_cpu_arithmetic.specs.Branches.{is_taken};
 
-use m11_base_instructions::{BranchOp, ConditionCodes};
+use m11_base::{BranchOp, ConditionCodes};
 
 /// Whether a branch is taken, the condition codes being these. (PDP-11/40 Processor Handbook, "Instruction
 /// set": branches.)

@@ -6,7 +6,7 @@ ghost use Rattle.m11_cpu_arithmetic.specs.Doubles.{sum, difference, double_resul
 
 use crate::results::{Computed, exact_result, with_codes};
 use crate::sizes::{complement, signed};
-use m11_base_instructions::{ConditionCodes, DoubleOp, Size};
+use m11_base::{ConditionCodes, DoubleOp, Size};
 
 /// What an operation computes of its source and its destination, `codes` being the condition codes before
 /// it. Operands of bytes are below octal 400, and so is the result. CMP and BIT store theirs nowhere.

@@ -5,7 +5,7 @@ ghost use Rattle.m11_cpu_arithmetic.specs.Extended.{joined, product_of, divided,
 
 use crate::results::{Division, Pair, pair_of};
 use crate::sizes::{kept, overflows, signed};
-use m11_base_instructions::{ConditionCodes, Size};
+use m11_base::{ConditionCodes, Size};
 
 /// What MUL computes of its register and its source: the product's 32 bits, N and Z by them, and C where no
 /// word holds it. (PDP-11/40 Processor Handbook, "Extended instruction set": MUL.)

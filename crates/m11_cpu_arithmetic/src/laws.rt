@@ -2,8 +2,8 @@
 //! the operations meet. (PDP-11/40 Processor Handbook, "Instruction set" and "Extended instruction set".)
 
 ghost use Rattle.std.specs.Prelude.{◌≡◌, ◌<◌, ℕ, pos, neg_ℤ};
-ghost use Rattle.m11_base_instructions.specs.declared.instruction.ConditionCodes.{ConditionCodes};
-ghost use Rattle.m11_base_instructions.specs.declared.operand.Size.TheVariants.{Word, Byte};
+ghost use Rattle.m11_base.specs.declared.instruction.ConditionCodes.{ConditionCodes};
+ghost use Rattle.m11_base.specs.declared.operand.Size.TheVariants.{Word, Byte};
 ghost use Rattle.m11_cpu_arithmetic.specs.Sizes.{signed};
 ghost use Rattle.m11_cpu_arithmetic.specs.Extended.{joined, division_of};
 ghost use Rattle.m11_cpu_arithmetic.specs.Shifts.{places, shift_pair_result, shift_result};

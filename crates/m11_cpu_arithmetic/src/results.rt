@@ -5,7 +5,7 @@ ghost use Rattle.m11_cpu_arithmetic.specs.Sizes.{size_limit};
 ghost use Rattle.m11_cpu_arithmetic.specs.Results.{with_codes, exact_result, pair_of};
 
 use crate::sizes::{is_outside, kept, overflows, signed};
-use m11_base_instructions::{ConditionCodes, Size};
+use m11_base::{ConditionCodes, Size};
 
 /// A result and the condition codes that it sets.
 #[derive(Clone, Copy, Debug, PartialEq, Eq)]

@@ -6,7 +6,7 @@ ghost use Rattle.m11_cpu_arithmetic.specs.Shifts.{places, shifted, last_bit, dig
 
 use crate::extended::joined;
 use crate::results::{Computed, Pair, pair_of, with_codes};
-use m11_base_instructions::Size;
+use m11_base::Size;
 
 /// What ASH computes of its register. Of `count` the six lowest bits count, as a number with a sign: that many
 /// places to the left, or to the right where it is negative. C is the last bit that left, and V is set

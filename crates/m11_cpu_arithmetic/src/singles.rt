@@ -7,7 +7,7 @@ ghost use Rattle.m11_cpu_arithmetic.specs.Singles.{swapped, keeping_carry, negat
 use crate::doubles::{difference, sum};
 use crate::results::{Computed, with_codes};
 use crate::sizes::{complement, kept, overflows, sign_bit, signed};
-use m11_base_instructions::{ConditionCodes, SingleOp, Size};
+use m11_base::{ConditionCodes, SingleOp, Size};
 
 /// What an operation computes of its operand, `codes` being the condition codes before it. Operands of
 /// bytes are below octal 400, and so is the result. JMP computes nothing: value and codes stay as they

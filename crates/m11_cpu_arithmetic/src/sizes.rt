@@ -3,7 +3,7 @@
 ghost use Rattle.std.specs.Prelude.{◌≡◌, ◌<◌};
 ghost use Rattle.m11_cpu_arithmetic.specs.Sizes.{size_limit, sign_bit, signed, modulo, overflows, is_outside, complement};
 
-use m11_base_instructions::Size;
+use m11_base::Size;
 
 // The number that a value is when its highest bit is a sign.
 #[inline(always)]

@@ -1,22 +1,22 @@
 -- An instruction that is aborted has changed only registers and the console.
 use Rattle.std.proofs.Common.{ℕ, ◌+◌, ◌*◌, ◌%◌, Bool, true, false, Option, Some, None, Result, Ok, Err, refl}
 use Rattle.std.specs.Prelude.{⊤}
-use Rattle.m11_base_instructions.specs.Instructions.{instruction_of}
-use Rattle.m11_base_instructions.specs.declared.instruction.BareOp.{BareOp}
-use Rattle.m11_base_instructions.specs.declared.instruction.BareOp.TheVariants.{Halt, Wait, Rti, Bpt, Iot, Reset, Rtt}
-use Rattle.m11_base_instructions.specs.declared.instruction.DoubleOp.{DoubleOp}
-use Rattle.m11_base_instructions.specs.declared.instruction.ExtendedOp.{ExtendedOp}
-use Rattle.m11_base_instructions.specs.declared.instruction.Insn.{Insn}
-use Rattle.m11_base_instructions.specs.declared.instruction.Insn.TheVariants as insn
-use Rattle.m11_base_instructions.specs.declared.instruction.NumberOp.{NumberOp}
-use Rattle.m11_base_instructions.specs.declared.instruction.NumberOp.TheVariants.{Mark, Emt, Trap}
-use Rattle.m11_base_instructions.specs.declared.instruction.RegisterOp.TheVariants.{Jsr, Xor}
-use Rattle.m11_base_instructions.specs.declared.instruction.SingleOp.{SingleOp}
-use Rattle.m11_base_instructions.specs.declared.operand.Operand.{Operand}
-use Rattle.m11_base_instructions.specs.declared.operand.Register.{Register}
-use Rattle.m11_base_instructions.specs.declared.operand.Register.TheVariants.{Pc, R5, Sp}
-use Rattle.m11_base_instructions.specs.declared.operand.Size.{Size}
-use Rattle.m11_base_instructions.specs.declared.operand.Size.TheVariants.{Word, Byte}
+use Rattle.m11_base.specs.Instructions.{instruction_of}
+use Rattle.m11_base.specs.declared.instruction.BareOp.{BareOp}
+use Rattle.m11_base.specs.declared.instruction.BareOp.TheVariants.{Halt, Wait, Rti, Bpt, Iot, Reset, Rtt}
+use Rattle.m11_base.specs.declared.instruction.DoubleOp.{DoubleOp}
+use Rattle.m11_base.specs.declared.instruction.ExtendedOp.{ExtendedOp}
+use Rattle.m11_base.specs.declared.instruction.Insn.{Insn}
+use Rattle.m11_base.specs.declared.instruction.Insn.TheVariants as insn
+use Rattle.m11_base.specs.declared.instruction.NumberOp.{NumberOp}
+use Rattle.m11_base.specs.declared.instruction.NumberOp.TheVariants.{Mark, Emt, Trap}
+use Rattle.m11_base.specs.declared.instruction.RegisterOp.TheVariants.{Jsr, Xor}
+use Rattle.m11_base.specs.declared.instruction.SingleOp.{SingleOp}
+use Rattle.m11_base.specs.declared.operand.Operand.{Operand}
+use Rattle.m11_base.specs.declared.operand.Register.{Register}
+use Rattle.m11_base.specs.declared.operand.Register.TheVariants.{Pc, R5, Sp}
+use Rattle.m11_base.specs.declared.operand.Size.{Size}
+use Rattle.m11_base.specs.declared.operand.Size.TheVariants.{Word, Byte}
 use Rattle.m11_cpu_arithmetic.specs.declared.results.Computed.{Computed}
 use Rattle.m11_cpu_machine.specs.Access.{is_inside, is_odd, send, sent, store_byte, store_device, store_odd, store_register, store_word}
 use Rattle.m11_cpu_machine.specs.Acts.{Act, ◌>>=◌}
@@ -40,7 +40,7 @@ use Rattle.m11_cpu_machine.specs.declared.destination_use.DestinationUse.TheVari
 use Rattle.m11_cpu_machine.specs.declared.machine.Machine.{Machine}
 use Rattle.m11_cpu_machine.specs.declared.addressing.OperandLocation.{OperandLocation}
 use Rattle.m11_cpu_machine.specs.declared.addressing.OperandLocation.TheVariants.{InRegister, InMemory}
-use Rattle.m11_cpu_laws.proofs.Loads.{code_keeps, fetch_keeps, jump_target_keeps, operand_keeps, pop_keeps, source_keeps}
+use Rattle.m11_cpu_laws.proofs.AddressesLeave.{code_keeps, fetch_keeps, jump_target_keeps, operand_keeps, pop_keeps, source_keeps}
 use Rattle.m11_cpu_laws.proofs.Parts.{Always, at_bind, at_comes, at_cond, at_map, at_sends, Keeps}
 
 abbrev LeftBy : {A : Type 0} → (Machine → Type 0) → Result A Abort → Machine → Type 0

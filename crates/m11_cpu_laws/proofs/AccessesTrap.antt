@@ -1,7 +1,7 @@
 -- At which accesses an instruction traps through 4.
 use Rattle.std.proofs.Common.{◌≡◌, ℕ, Bool, true, false, List, [], ◌∷◌, ◌++◌, append-nil, Result, Ok, Err, refl, sym, ◌∙◌, subst, ap, inl, inr, true≢false}
 use Rattle.std.specs.Prelude.{is_ok, ◌⊎◌}
-use Rattle.m11_base_instructions.specs.declared.operand.Size.{Size}
+use Rattle.m11_base.specs.declared.operand.Size.{Size}
 use Rattle.m11_cpu_machine.specs.Access.{load_byte, load_word, store_byte, store_word}
 use Rattle.m11_cpu_machine.specs.Acts.{Act, unless_aborted, ◌>>=◌}
 use Rattle.m11_cpu_machine.specs.Dialogue.{Comes, Dialogue, Exchange, Leads}

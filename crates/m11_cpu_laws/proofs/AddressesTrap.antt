@@ -2,15 +2,15 @@
 use Rattle.std.proofs.Common.{◌≡◌, ℕ, ◌+◌, ◌-◌, ◌%◌, ◌==◌, Bool, true, false, cond, List, length, Option, Some, None, Result, Ok, Err, refl, sym, ◌∙◌, subst, ap, ap₂, arith}
 use Rattle.std.specs.Prelude.{not, ◌&&◌, ◌||◌, is_some, nat_lt, slice_index, ⊤}
 use Rattle.std.proofs.lemmas.Bool.{eqb-false}
-use Rattle.m11_base_instructions.specs.declared.instruction.Insn.TheVariants as insn
-use Rattle.m11_base_instructions.specs.declared.instruction.RegisterOp.TheVariants.{Jsr}
-use Rattle.m11_base_instructions.specs.declared.instruction.SingleOp.TheVariants.{Jmp}
-use Rattle.m11_base_instructions.specs.declared.operand.Mode.{Mode}
-use Rattle.m11_base_instructions.specs.declared.operand.Operand.{Operand}
-use Rattle.m11_base_instructions.specs.declared.operand.Register.{Register}
-use Rattle.m11_base_instructions.specs.declared.operand.Register.TheVariants.{Pc}
-use Rattle.m11_base_instructions.specs.declared.operand.Size.{Size}
-use Rattle.m11_base_instructions.specs.declared.operand.Size.TheVariants.{Word}
+use Rattle.m11_base.specs.declared.instruction.Insn.TheVariants as insn
+use Rattle.m11_base.specs.declared.instruction.RegisterOp.TheVariants.{Jsr}
+use Rattle.m11_base.specs.declared.instruction.SingleOp.TheVariants.{Jmp}
+use Rattle.m11_base.specs.declared.operand.Mode.{Mode}
+use Rattle.m11_base.specs.declared.operand.Operand.{Operand}
+use Rattle.m11_base.specs.declared.operand.Register.{Register}
+use Rattle.m11_base.specs.declared.operand.Register.TheVariants.{Pc}
+use Rattle.m11_base.specs.declared.operand.Size.{Size}
+use Rattle.m11_base.specs.declared.operand.Size.TheVariants.{Word}
 use Rattle.m11_cpu_machine.specs.Access.{high_byte_of, is_inside, is_odd, load_byte, load_device, load_register, load_word, nothing_taken, receive, received, receiver_status, send, sent, store_byte, store_device, store_register, store_word}
 use Rattle.m11_cpu_machine.specs.Acts.{value, ◌>>=◌}
 use Rattle.m11_cpu_machine.specs.Console.{device_at, is_waiting}

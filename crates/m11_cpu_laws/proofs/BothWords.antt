@@ -4,8 +4,8 @@ use Rattle.m11_cpu_arithmetic.specs.Extended.{division_of, product_of}
 use Rattle.m11_cpu_arithmetic.specs.Shifts.{shift_pair_result}
 use Rattle.m11_cpu_arithmetic.specs.declared.results.Division.{Division}
 use Rattle.m11_cpu_arithmetic.specs.declared.results.Division.TheVariants.{Done, Refused}
-use Rattle.m11_base_instructions.specs.declared.operand.Register.{Register}
-use Rattle.m11_base_instructions.specs.declared.operand.Register.TheVariants.{R0, R1, R2, R3, R4, R5, Sp, Pc}
+use Rattle.m11_base.specs.declared.operand.Register.{Register}
+use Rattle.m11_base.specs.declared.operand.Register.TheVariants.{R0, R1, R2, R3, R4, R5, Sp, Pc}
 use Rattle.m11_cpu_machine.specs.Extended.{after_division, low_word_of}
 use Rattle.m11_cpu_machine.specs.Machine.{register_of, with_register}
 use Rattle.m11_cpu_machine.specs.declared.machine.Machine.{Machine}

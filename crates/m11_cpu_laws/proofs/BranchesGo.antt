@@ -4,12 +4,12 @@ use Rattle.std.specs.Prelude.{ℤ, pos, negsuc, nat_lt, ◌≤◌}
 use Rattle.std.proofs.lemmas.Bool.{ltb-false, ltb-true, ne_eqb}
 use Rattle.m11_cpu_arithmetic.specs.Branches.{is_taken}
 use Rattle.m11_cpu_arithmetic.specs.Sizes.{modulo}
-use Rattle.m11_base_instructions.specs.Operand.{register_number}
-use Rattle.m11_base_instructions.specs.declared.instruction.BranchOp.{BranchOp}
-use Rattle.m11_base_instructions.specs.declared.instruction.Insn.TheVariants as insn
-use Rattle.m11_base_instructions.specs.declared.instruction.NumberOp.TheVariants.{Mark}
-use Rattle.m11_base_instructions.specs.declared.operand.Register.{Register}
-use Rattle.m11_base_instructions.specs.declared.operand.Register.TheVariants.{R5, Sp, Pc}
+use Rattle.m11_base.specs.Operand.{register_number}
+use Rattle.m11_base.specs.declared.instruction.BranchOp.{BranchOp}
+use Rattle.m11_base.specs.declared.instruction.Insn.TheVariants as insn
+use Rattle.m11_base.specs.declared.instruction.NumberOp.TheVariants.{Mark}
+use Rattle.m11_base.specs.declared.operand.Register.{Register}
+use Rattle.m11_base.specs.declared.operand.Register.TheVariants.{R5, Sp, Pc}
 use Rattle.m11_cpu_machine.specs.Dialogue.{Comes, Dialogue}
 use Rattle.m11_cpu_machine.specs.Execution.{execute, numbered}
 use Rattle.m11_cpu_machine.specs.Jumps.{mark, pop, words_on}

@@ -1,9 +1,9 @@
 -- One machine that makes each call: JSR R5,(R1) or JSR PC,(R1) stands at address 0, R1 is 6, and the stack pointer is 4.
 use Rattle.std.proofs.Common.{ℕ, ◌<◌, false, [], ◌∷◌, None, refl, arith}
-use Rattle.m11_base_instructions.specs.Instructions.{row_of, rows}
-use Rattle.m11_base_instructions.specs.declared.operand.Mode.TheVariants as mode
-use Rattle.m11_base_instructions.specs.declared.operand.Register.{Register}
-use Rattle.m11_base_instructions.specs.declared.operand.Register.TheVariants.{R0, R1, R2, R3, R4, R5, Sp, Pc}
+use Rattle.m11_base.specs.Instructions.{row_of, rows}
+use Rattle.m11_base.specs.declared.operand.Mode.TheVariants as mode
+use Rattle.m11_base.specs.declared.operand.Register.{Register}
+use Rattle.m11_base.specs.declared.operand.Register.TheVariants.{R0, R1, R2, R3, R4, R5, Sp, Pc}
 use Rattle.m11_cpu_machine.specs.Acts.{◌>>=◌}
 use Rattle.m11_cpu_machine.specs.Jumps.{target}
 use Rattle.m11_cpu_machine.specs.Machine.{advanced, register_of}

@@ -1,11 +1,11 @@
 -- A call comes back after itself.
 use Rattle.std.proofs.Common.{◌≡◌, ◌≢◌, ℕ, ◌+◌, ◌%◌, ◌<◌, false, List, length, None, Ok, refl, sym, ◌∙◌, ap, subst, arith}
-use Rattle.m11_base_instructions.specs.Operand.{register_number}
-use Rattle.m11_base_instructions.specs.declared.instruction.Insn.TheVariants as insn
-use Rattle.m11_base_instructions.specs.declared.instruction.RegisterOp.TheVariants.{Jsr}
-use Rattle.m11_base_instructions.specs.declared.operand.Operand.{Operand}
-use Rattle.m11_base_instructions.specs.declared.operand.Register.{Register}
-use Rattle.m11_base_instructions.specs.declared.operand.Register.TheVariants.{Sp, Pc}
+use Rattle.m11_base.specs.Operand.{register_number}
+use Rattle.m11_base.specs.declared.instruction.Insn.TheVariants as insn
+use Rattle.m11_base.specs.declared.instruction.RegisterOp.TheVariants.{Jsr}
+use Rattle.m11_base.specs.declared.operand.Operand.{Operand}
+use Rattle.m11_base.specs.declared.operand.Register.{Register}
+use Rattle.m11_base.specs.declared.operand.Register.TheVariants.{Sp, Pc}
 use Rattle.m11_cpu_machine.specs.Dialogue.{Comes, Dialogue, Exchange, Leads}
 use Rattle.m11_cpu_machine.specs.Execution.{execute, on_register}
 use Rattle.m11_cpu_machine.specs.Jumps.{call, enter, pop, push, return_by, target}

@@ -10,7 +10,7 @@ pub mod DestinationsWritten
 pub mod Exchanging
 pub mod Following
 pub mod InstructionsTrap
-pub mod Loads
+pub mod AddressesLeave
 pub mod LoadsHear
 pub mod MemoryKept
 pub mod Parts
@@ -33,3 +33,10 @@ pub mod TargetsFormed
 pub mod TracesFollow
 pub mod TrapsBack
 pub mod WordsPut
+pub mod BytesPlaced
+pub mod Fronts
+pub mod KnownTexts
+pub mod LoadsYield
+pub mod OneByteTwice
+pub mod Readings
+pub mod TwoSizes

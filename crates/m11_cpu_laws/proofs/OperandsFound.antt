@@ -1,10 +1,10 @@
 -- Where each mode finds its operand.
 use Rattle.std.proofs.Common.{◌≡◌, ℕ, ◌+◌, ◌%◌, length, Ok, refl, sym, ◌∙◌, subst, arith}
-use Rattle.m11_base_instructions.specs.declared.operand.Mode.TheVariants as mode
-use Rattle.m11_base_instructions.specs.declared.operand.Register.{Register}
-use Rattle.m11_base_instructions.specs.declared.operand.Register.TheVariants.{Pc}
-use Rattle.m11_base_instructions.specs.declared.operand.Size.{Size}
-use Rattle.m11_base_instructions.specs.declared.operand.Size.TheVariants.{Word, Byte}
+use Rattle.m11_base.specs.declared.operand.Mode.TheVariants as mode
+use Rattle.m11_base.specs.declared.operand.Register.{Register}
+use Rattle.m11_base.specs.declared.operand.Register.TheVariants.{Pc}
+use Rattle.m11_base.specs.declared.operand.Size.{Size}
+use Rattle.m11_base.specs.declared.operand.Size.TheVariants.{Word, Byte}
 use Rattle.m11_cpu_machine.specs.Access.{load_word}
 use Rattle.m11_cpu_machine.specs.Addressing.{deferred, fetch, fetch_operand, indexed, location_of, next_word}
 use Rattle.m11_cpu_machine.specs.Dialogue.{Comes}

@@ -1,9 +1,9 @@
 -- A call that keeps no register comes back after itself.
 use Rattle.std.proofs.Common.{◌≡◌, ◌≢◌, ℕ, ◌+◌, ◌%◌, ◌<◌, false, List, length, None, Ok, sym, ◌∙◌, ap, subst, arith}
-use Rattle.m11_base_instructions.specs.Operand.{register_number}
-use Rattle.m11_base_instructions.specs.declared.instruction.Insn.TheVariants as insn
-use Rattle.m11_base_instructions.specs.declared.operand.Operand.{Operand}
-use Rattle.m11_base_instructions.specs.declared.operand.Register.TheVariants.{Sp, Pc}
+use Rattle.m11_base.specs.Operand.{register_number}
+use Rattle.m11_base.specs.declared.instruction.Insn.TheVariants as insn
+use Rattle.m11_base.specs.declared.operand.Operand.{Operand}
+use Rattle.m11_base.specs.declared.operand.Register.TheVariants.{Sp, Pc}
 use Rattle.m11_cpu_machine.specs.Dialogue.{Comes, Exchange, Leads}
 use Rattle.m11_cpu_machine.specs.Execution.{execute}
 use Rattle.m11_cpu_machine.specs.Jumps.{pop, return_by, target}

@@ -1,9 +1,9 @@
 -- Machines of a few bytes that meet the premises of laws.
 use Rattle.std.proofs.Common.{ℕ, ◌<◌, false, List, [], ◌∷◌, Some, None, refl, arith}
-use Rattle.m11_base_instructions.specs.Instructions.{row_of, rows}
-use Rattle.m11_base_instructions.specs.declared.operand.Mode.TheVariants as mode
-use Rattle.m11_base_instructions.specs.declared.operand.Register.{Register}
-use Rattle.m11_base_instructions.specs.declared.operand.Register.TheVariants.{R0, R1, R2, R3, R4, R5, Sp, Pc}
+use Rattle.m11_base.specs.Instructions.{row_of, rows}
+use Rattle.m11_base.specs.declared.operand.Mode.TheVariants as mode
+use Rattle.m11_base.specs.declared.operand.Register.{Register}
+use Rattle.m11_base.specs.declared.operand.Register.TheVariants.{R0, R1, R2, R3, R4, R5, Sp, Pc}
 use Rattle.m11_cpu_machine.specs.Access.{load_device, load_word, receive, receiver_status, send, store_byte, store_device, store_word}
 use Rattle.m11_cpu_machine.specs.Acts.{value, ◌>>=◌}
 use Rattle.m11_cpu_machine.specs.Addressing.{deferred, fetch, fetch_operand, location_of, next_word, store}

@@ -1,25 +1,25 @@
 -- Which instructions leave T, and what traps load.
 use Rattle.std.proofs.Common.{◌≡◌, ℕ, ◌+◌, ◌%◌, ◌==◌, Bool, true, false, cond, Option, Some, None, Result, Ok, Err, refl, ◌∙◌}
 use Rattle.std.specs.Prelude.{ℤ, List, ⊤}
-use Rattle.m11_base_instructions.specs.declared.instruction.BareOp.{BareOp}
-use Rattle.m11_base_instructions.specs.declared.instruction.BareOp.TheVariants.{Halt, Wait, Rti, Bpt, Iot, Reset, Rtt}
-use Rattle.m11_base_instructions.specs.declared.instruction.BranchOp.{BranchOp}
-use Rattle.m11_base_instructions.specs.declared.instruction.ConditionCodes.{ConditionCodes}
-use Rattle.m11_base_instructions.specs.declared.instruction.DoubleOp.{DoubleOp}
-use Rattle.m11_base_instructions.specs.declared.instruction.DoubleOp.TheVariants.{Mov, Cmp, Bit, Bic, Bis, Add, Sub}
-use Rattle.m11_base_instructions.specs.declared.instruction.ExtendedOp.{ExtendedOp}
-use Rattle.m11_base_instructions.specs.declared.instruction.ExtendedOp.TheVariants.{Mul, Div, Ash, Ashc}
-use Rattle.m11_base_instructions.specs.declared.instruction.Insn.{Insn}
-use Rattle.m11_base_instructions.specs.declared.instruction.Insn.TheVariants as insn
-use Rattle.m11_base_instructions.specs.declared.instruction.NumberOp.TheVariants.{Mark, Emt, Trap}
-use Rattle.m11_base_instructions.specs.declared.instruction.RegisterOp.TheVariants.{Jsr, Xor}
-use Rattle.m11_base_instructions.specs.declared.instruction.SingleOp.{SingleOp}
-use Rattle.m11_base_instructions.specs.declared.instruction.SingleOp.TheVariants.{Jmp, Swab, Clr, Com, Inc, Dec, Neg, Adc, Sbc, Tst, Ror, Rol, Asr, Asl, Sxt}
-use Rattle.m11_base_instructions.specs.declared.operand.Operand.{Operand}
-use Rattle.m11_base_instructions.specs.declared.operand.Register.{Register}
-use Rattle.m11_base_instructions.specs.declared.operand.Register.TheVariants.{Sp}
-use Rattle.m11_base_instructions.specs.declared.operand.Size.{Size}
-use Rattle.m11_base_instructions.specs.declared.operand.Size.TheVariants.{Word, Byte}
+use Rattle.m11_base.specs.declared.instruction.BareOp.{BareOp}
+use Rattle.m11_base.specs.declared.instruction.BareOp.TheVariants.{Halt, Wait, Rti, Bpt, Iot, Reset, Rtt}
+use Rattle.m11_base.specs.declared.instruction.BranchOp.{BranchOp}
+use Rattle.m11_base.specs.declared.instruction.ConditionCodes.{ConditionCodes}
+use Rattle.m11_base.specs.declared.instruction.DoubleOp.{DoubleOp}
+use Rattle.m11_base.specs.declared.instruction.DoubleOp.TheVariants.{Mov, Cmp, Bit, Bic, Bis, Add, Sub}
+use Rattle.m11_base.specs.declared.instruction.ExtendedOp.{ExtendedOp}
+use Rattle.m11_base.specs.declared.instruction.ExtendedOp.TheVariants.{Mul, Div, Ash, Ashc}
+use Rattle.m11_base.specs.declared.instruction.Insn.{Insn}
+use Rattle.m11_base.specs.declared.instruction.Insn.TheVariants as insn
+use Rattle.m11_base.specs.declared.instruction.NumberOp.TheVariants.{Mark, Emt, Trap}
+use Rattle.m11_base.specs.declared.instruction.RegisterOp.TheVariants.{Jsr, Xor}
+use Rattle.m11_base.specs.declared.instruction.SingleOp.{SingleOp}
+use Rattle.m11_base.specs.declared.instruction.SingleOp.TheVariants.{Jmp, Swab, Clr, Com, Inc, Dec, Neg, Adc, Sbc, Tst, Ror, Rol, Asr, Asl, Sxt}
+use Rattle.m11_base.specs.declared.operand.Operand.{Operand}
+use Rattle.m11_base.specs.declared.operand.Register.{Register}
+use Rattle.m11_base.specs.declared.operand.Register.TheVariants.{Sp}
+use Rattle.m11_base.specs.declared.operand.Size.{Size}
+use Rattle.m11_base.specs.declared.operand.Size.TheVariants.{Word, Byte}
 use Rattle.m11_cpu_arithmetic.specs.Branches.{is_taken}
 use Rattle.m11_cpu_arithmetic.specs.Extended.{division_of}
 use Rattle.m11_cpu_arithmetic.specs.declared.results.Computed.{Computed}
@@ -52,7 +52,7 @@ use Rattle.m11_cpu_machine.specs.declared.stop.LastingStop.TheVariants.{StackFau
 use Rattle.m11_cpu_machine.specs.declared.stop.Turn.{Turn}
 use Rattle.m11_cpu_machine.specs.declared.stop.Turn.TheVariants.{Next}
 use Rattle.m11_cpu_laws.specs.StatusWord.{loads_trace, TrapsLoad}
-use Rattle.m11_cpu_laws.proofs.Loads.{fetch_keeps, jump_target_keeps, operand_keeps, pop_keeps, source_keeps}
+use Rattle.m11_cpu_laws.proofs.AddressesLeave.{fetch_keeps, jump_target_keeps, operand_keeps, pop_keeps, source_keeps}
 use Rattle.m11_cpu_laws.proofs.Parts.{Always, at_after, at_comes, at_cond, at_sends, Keeps, keeps_bind}
 use Rattle.m11_cpu_laws.proofs.TracesFollow.{whatever}
 

@@ -1,10 +1,10 @@
 -- Which registers a trap and a step leave.
 use Rattle.std.proofs.Common.{◌≡◌, ◌≢◌, ℕ, Bool, true, false, cond, List, [], ◌∷◌, ◌++◌, Option, None, Result, Ok, Err, refl, ◌∙◌, subst}
-use Rattle.m11_base_instructions.specs.Instructions.{instruction_of}
-use Rattle.m11_base_instructions.specs.Operand.{register_number}
-use Rattle.m11_base_instructions.specs.declared.instruction.Insn.{Insn}
-use Rattle.m11_base_instructions.specs.declared.operand.Register.{Register}
-use Rattle.m11_base_instructions.specs.declared.operand.Register.TheVariants.{Pc, Sp}
+use Rattle.m11_base.specs.Instructions.{instruction_of}
+use Rattle.m11_base.specs.Operand.{register_number}
+use Rattle.m11_base.specs.declared.instruction.Insn.{Insn}
+use Rattle.m11_base.specs.declared.operand.Register.{Register}
+use Rattle.m11_base.specs.declared.operand.Register.TheVariants.{Pc, Sp}
 use Rattle.m11_cpu_machine.specs.Acts.{unless_aborted, ◌>>=◌}
 use Rattle.m11_cpu_machine.specs.Dialogue.{Comes, Exchange, Leads}
 use Rattle.m11_cpu_machine.specs.Execution.{execute}

@@ -1,6 +1,6 @@
 -- What a step asks and sends, and which stop it yields.
 use Rattle.std.proofs.Common.{◌≡◌, Bool, true, false, cond, List, [], ◌∷◌, ◌++◌, append-nil, Option, Some, None, Result, Ok, Err, refl, sym, ◌∙◌, subst}
-use Rattle.m11_base_instructions.specs.declared.operand.Register.TheVariants.{Pc}
+use Rattle.m11_base.specs.declared.operand.Register.TheVariants.{Pc}
 use Rattle.m11_cpu_machine.specs.Dialogue.{Asked, Comes, Ends, Exchange, Fails, Gives, Leads, Sent}
 use Rattle.m11_cpu_machine.specs.Jumps.{push}
 use Rattle.m11_cpu_machine.specs.Machine.{register_of}

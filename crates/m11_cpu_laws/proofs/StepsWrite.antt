@@ -1,7 +1,7 @@
 -- A trap writes at most the two words that it pushes, and a step its destination and those.
 use Rattle.std.proofs.Common.{◌≡◌, ℕ, ◌+◌, ◌%◌, Bool, true, false, cond, List, [], ◌++◌, Option, Some, None, Result, Ok, Err, refl, subst}
 use Rattle.std.specs.Prelude.{slice_index}
-use Rattle.m11_base_instructions.specs.declared.operand.Register.TheVariants.{Pc}
+use Rattle.m11_base.specs.declared.operand.Register.TheVariants.{Pc}
 use Rattle.m11_cpu_machine.specs.Access.{is_inside, is_odd, send, sent, store_device, store_register, store_word}
 use Rattle.m11_cpu_machine.specs.Console.{device_at}
 use Rattle.m11_cpu_machine.specs.Dialogue.{Comes, Exchange, Leads}

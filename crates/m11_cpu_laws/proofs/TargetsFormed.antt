@@ -1,13 +1,13 @@
 -- What the forming of a target leaves of the machine, and where it leaves the program counter.
 use Rattle.std.proofs.Common.{◌≡◌, ◌≢◌, ℕ, ◌+◌, ◌%◌, ◌<◌, ◌==◌, Bool, true, false, ◌&&◌, length, None, Result, Ok, Err, refl, sym, ◌∙◌, arith, eq-eqb, true≢false}
 use Rattle.std.specs.Prelude.{⊤}
-use Rattle.m11_base_instructions.specs.Operand.{register_number}
-use Rattle.m11_base_instructions.specs.declared.operand.Mode.{Mode}
-use Rattle.m11_base_instructions.specs.declared.operand.Mode.TheVariants as mode
-use Rattle.m11_base_instructions.specs.declared.operand.Operand.{Operand}
-use Rattle.m11_base_instructions.specs.declared.operand.Register.{Register}
-use Rattle.m11_base_instructions.specs.declared.operand.Register.TheVariants.{Sp, Pc}
-use Rattle.m11_base_instructions.specs.declared.operand.Size.TheVariants.{Word}
+use Rattle.m11_base.specs.Operand.{register_number}
+use Rattle.m11_base.specs.declared.operand.Mode.{Mode}
+use Rattle.m11_base.specs.declared.operand.Mode.TheVariants as mode
+use Rattle.m11_base.specs.declared.operand.Operand.{Operand}
+use Rattle.m11_base.specs.declared.operand.Register.{Register}
+use Rattle.m11_base.specs.declared.operand.Register.TheVariants.{Sp, Pc}
+use Rattle.m11_base.specs.declared.operand.Size.TheVariants.{Word}
 use Rattle.m11_cpu_machine.specs.Access.{load_word}
 use Rattle.m11_cpu_machine.specs.Jumps.{address_of, target}
 use Rattle.m11_cpu_machine.specs.Machine.{advanced, register_of, with_register}
@@ -18,7 +18,7 @@ use Rattle.m11_cpu_machine.specs.declared.console.Receiver.{Receiver}
 use Rattle.m11_cpu_machine.specs.declared.machine.Machine.{Machine}
 use Rattle.m11_cpu_machine.specs.declared.addressing.OperandLocation.{OperandLocation}
 use Rattle.m11_cpu_machine.specs.declared.addressing.OperandLocation.TheVariants.{InRegister, InMemory}
-use Rattle.m11_cpu_laws.proofs.Loads.{deferred_keeps, location_keeps, target_keeps, word_keeps}
+use Rattle.m11_cpu_laws.proofs.AddressesLeave.{deferred_keeps, location_keeps, target_keeps, word_keeps}
 use Rattle.m11_cpu_laws.proofs.Parts.{Always, at_bind, at_comes, at_map, Keeps}
 use Rattle.m11_cpu_machine.proofs.RegistersPut.{put_same}
 use Rattle.m11_cpu_laws.proofs.WordsPut.{put_length, put_other}

@@ -1,12 +1,12 @@
 -- A trap comes back where it came from.
 use Rattle.std.proofs.Common.{◌≡◌, ◌≢◌, ℕ, zero, suc, ◌+◌, ◌/◌, ◌%◌, ◌<◌, ◌≤◌, ◌==◌, Bool, true, false, length, Some, None, Result, Ok, Err, refl, sym, ◌∙◌, ap, subst, arith}
-use Rattle.m11_base_instructions.specs.Operand.{register_number}
-use Rattle.m11_base_instructions.specs.declared.instruction.BareOp.TheVariants.{Rti, Bpt, Iot}
-use Rattle.m11_base_instructions.specs.declared.instruction.Insn.{Insn}
-use Rattle.m11_base_instructions.specs.declared.instruction.Insn.TheVariants as insn
-use Rattle.m11_base_instructions.specs.declared.instruction.NumberOp.TheVariants.{Emt, Trap}
-use Rattle.m11_base_instructions.specs.declared.operand.Register.{Register}
-use Rattle.m11_base_instructions.specs.declared.operand.Register.TheVariants.{Sp, Pc}
+use Rattle.m11_base.specs.Operand.{register_number}
+use Rattle.m11_base.specs.declared.instruction.BareOp.TheVariants.{Rti, Bpt, Iot}
+use Rattle.m11_base.specs.declared.instruction.Insn.{Insn}
+use Rattle.m11_base.specs.declared.instruction.Insn.TheVariants as insn
+use Rattle.m11_base.specs.declared.instruction.NumberOp.TheVariants.{Emt, Trap}
+use Rattle.m11_base.specs.declared.operand.Register.{Register}
+use Rattle.m11_base.specs.declared.operand.Register.TheVariants.{Sp, Pc}
 use Rattle.m11_cpu_machine.specs.Acts.{◌>>=◌}
 use Rattle.m11_cpu_machine.specs.Dialogue.{after, Comes, Dialogue}
 use Rattle.m11_cpu_machine.specs.Execution.{bare, execute, numbered, return_from_trap}

@@ -2,8 +2,8 @@
 use Rattle.std.proofs.Common.{◌≡◌, ◌≢◌, ℕ, ◌+◌, ◌/◌, ◌%◌, ◌<◌, List, length, ◌∙◌, arith}
 use Rattle.std.proofs.lemmas.List.{get_or-set_other, get_or-set_same, length-set}
 use Rattle.std.specs.Prelude.{slice_set}
-use Rattle.m11_base_instructions.specs.Operand.{register_number}
-use Rattle.m11_base_instructions.specs.declared.operand.Register.{Register}
+use Rattle.m11_base.specs.Operand.{register_number}
+use Rattle.m11_base.specs.declared.operand.Register.{Register}
 use Rattle.m11_cpu_machine.specs.Machine.{register_of, with_register}
 use Rattle.m11_cpu_machine.specs.Memory.{byte_at, with_word, word_at}
 use Rattle.m11_cpu_machine.specs.declared.machine.Machine.{Machine}

@@ -1,9 +1,9 @@
 -- Addresses at which nothing is found. (PDP-11/40 Processor Handbook, "Processor traps", JMP, JSR; SIMH PDP-11 manual,
 -- console terminal. That a trap's own push stops the machine instead is this project's own.)
 use Rattle.std.specs.Prelude.{◌≡◌, ℕ, ◌-◌, ◌%◌, ◌==◌, Bool, true, false, not, ◌&&◌, ◌||◌, nat_lt, List, None, Result, Ok, Err}
-use Rattle.m11_base_instructions.specs.declared.instruction.Insn.{Insn}
-use Rattle.m11_base_instructions.specs.declared.operand.Mode.TheVariants as mode
-use Rattle.m11_base_instructions.specs.declared.operand.Operand.{Operand}
+use Rattle.m11_base.specs.declared.instruction.Insn.{Insn}
+use Rattle.m11_base.specs.declared.operand.Mode.TheVariants as mode
+use Rattle.m11_base.specs.declared.operand.Operand.{Operand}
 use Rattle.m11_cpu_machine.specs.Dialogue.{Comes, Dialogue, Exchange, Leads}
 use Rattle.m11_cpu_machine.specs.Execution.{execute}
 use Rattle.m11_cpu_machine.specs.Machine.{memory_size}

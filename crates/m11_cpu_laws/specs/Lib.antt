@@ -13,3 +13,7 @@ pub mod StatusWord
 pub mod Tracing
 pub mod Witnesses
 pub mod Writes
+pub mod Example
+pub mod Image
+pub mod Loaded
+pub mod Tapes

@@ -4,10 +4,10 @@ use Rattle.std.specs.Prelude.{◌≡◌, ℕ, ◌%◌, ◌==◌, Bool, true, len
 use Rattle.m11_cpu_arithmetic.specs.Extended.{division_of, product_of}
 use Rattle.m11_cpu_arithmetic.specs.Shifts.{shift_pair_result}
 use Rattle.m11_cpu_arithmetic.specs.declared.results.Division.TheVariants.{Done, Refused}
-use Rattle.m11_base_instructions.specs.Operand.{register_number}
-use Rattle.m11_base_instructions.specs.declared.instruction.ConditionCodes.{ConditionCodes}
-use Rattle.m11_base_instructions.specs.declared.instruction.ExtendedOp.TheVariants.{Mul, Div, Ashc}
-use Rattle.m11_base_instructions.specs.declared.operand.Register.{Register}
+use Rattle.m11_base.specs.Operand.{register_number}
+use Rattle.m11_base.specs.declared.instruction.ConditionCodes.{ConditionCodes}
+use Rattle.m11_base.specs.declared.instruction.ExtendedOp.TheVariants.{Mul, Div, Ashc}
+use Rattle.m11_base.specs.declared.operand.Register.{Register}
 use Rattle.m11_cpu_machine.specs.Extended.{extended_by}
 use Rattle.m11_cpu_machine.specs.Machine.{register_of}
 use Rattle.m11_cpu_machine.specs.declared.machine.Machine.{Machine}

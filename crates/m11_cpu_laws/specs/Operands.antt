@@ -1,14 +1,14 @@
 -- Where each mode finds its operand: the table of the handbook. (PDP-11/40 Processor Handbook, "Addressing modes", "Use of
 -- the PC as a general register".)
 use Rattle.std.specs.Prelude.{◌≡◌, ◌≢◌, ℕ, ◌+◌, ◌-◌, ◌%◌, Ok}
-use Rattle.m11_base_instructions.specs.Operand.{register_number}
-use Rattle.m11_base_instructions.specs.declared.operand.Mode.{Mode}
-use Rattle.m11_base_instructions.specs.declared.operand.Mode.TheVariants as mode
-use Rattle.m11_base_instructions.specs.declared.operand.Operand.{Operand}
-use Rattle.m11_base_instructions.specs.declared.operand.Register.{Register}
-use Rattle.m11_base_instructions.specs.declared.operand.Register.TheVariants.{Pc}
-use Rattle.m11_base_instructions.specs.declared.operand.Size.{Size}
-use Rattle.m11_base_instructions.specs.declared.operand.Size.TheVariants.{Word}
+use Rattle.m11_base.specs.Operand.{register_number}
+use Rattle.m11_base.specs.declared.operand.Mode.{Mode}
+use Rattle.m11_base.specs.declared.operand.Mode.TheVariants as mode
+use Rattle.m11_base.specs.declared.operand.Operand.{Operand}
+use Rattle.m11_base.specs.declared.operand.Register.{Register}
+use Rattle.m11_base.specs.declared.operand.Register.TheVariants.{Pc}
+use Rattle.m11_base.specs.declared.operand.Size.{Size}
+use Rattle.m11_base.specs.declared.operand.Size.TheVariants.{Word}
 use Rattle.m11_cpu_machine.specs.Addressing.{fetch_operand, location_of, step_of}
 use Rattle.m11_cpu_machine.specs.Dialogue.{Comes}
 use Rattle.m11_cpu_machine.specs.Machine.{advanced, register_of, with_register}

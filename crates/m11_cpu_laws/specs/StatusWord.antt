@@ -2,18 +2,18 @@
 -- "Processor status word", "Trace trap", RTI, RTT. That a store leaves T and overrides the codes of its instruction, and
 -- that the odd byte takes nothing, is this project's own.)
 use Rattle.std.specs.Prelude.{◌≡◌, ℕ, ◌+◌, ◌≤◌, Bool, true, false, List, ◌++◌, Ok}
-use Rattle.m11_base_instructions.specs.declared.instruction.BareOp.{BareOp}
-use Rattle.m11_base_instructions.specs.declared.instruction.BareOp.TheVariants.{Rti, Rtt}
-use Rattle.m11_base_instructions.specs.declared.instruction.DoubleOp.{DoubleOp}
-use Rattle.m11_base_instructions.specs.declared.instruction.Insn.{Insn}
-use Rattle.m11_base_instructions.specs.declared.instruction.Insn.TheVariants as insn
-use Rattle.m11_base_instructions.specs.declared.instruction.RegisterOp.TheVariants.{Jsr, Xor}
-use Rattle.m11_base_instructions.specs.declared.instruction.SingleOp.{SingleOp}
-use Rattle.m11_base_instructions.specs.declared.operand.Operand.{Operand}
-use Rattle.m11_base_instructions.specs.declared.operand.Register.{Register}
-use Rattle.m11_base_instructions.specs.declared.operand.Register.TheVariants.{Pc}
-use Rattle.m11_base_instructions.specs.declared.operand.Size.{Size}
-use Rattle.m11_base_instructions.specs.declared.operand.Size.TheVariants.{Word, Byte}
+use Rattle.m11_base.specs.declared.instruction.BareOp.{BareOp}
+use Rattle.m11_base.specs.declared.instruction.BareOp.TheVariants.{Rti, Rtt}
+use Rattle.m11_base.specs.declared.instruction.DoubleOp.{DoubleOp}
+use Rattle.m11_base.specs.declared.instruction.Insn.{Insn}
+use Rattle.m11_base.specs.declared.instruction.Insn.TheVariants as insn
+use Rattle.m11_base.specs.declared.instruction.RegisterOp.TheVariants.{Jsr, Xor}
+use Rattle.m11_base.specs.declared.instruction.SingleOp.{SingleOp}
+use Rattle.m11_base.specs.declared.operand.Operand.{Operand}
+use Rattle.m11_base.specs.declared.operand.Register.{Register}
+use Rattle.m11_base.specs.declared.operand.Register.TheVariants.{Pc}
+use Rattle.m11_base.specs.declared.operand.Size.{Size}
+use Rattle.m11_base.specs.declared.operand.Size.TheVariants.{Word, Byte}
 use Rattle.m11_cpu_arithmetic.specs.Doubles.{double_result, exclusive_or_result}
 use Rattle.m11_cpu_arithmetic.specs.Singles.{single_result}
 use Rattle.m11_cpu_arithmetic.specs.declared.results.Computed.{Computed}

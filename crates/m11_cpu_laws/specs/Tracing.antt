@@ -1,10 +1,10 @@
 -- What follows an instruction in its step. (PDP-11/40 Processor Handbook, "Trace trap", "Processor traps", RTT. That T
 -- as it is after the instruction decides is this project's own.)
 use Rattle.std.specs.Prelude.{◌≡◌, ℕ, true, false, List, [], ◌++◌, Ok, Err, Some}
-use Rattle.m11_base_instructions.specs.Instructions.{instruction_of}
-use Rattle.m11_base_instructions.specs.declared.instruction.BareOp.TheVariants as bare
-use Rattle.m11_base_instructions.specs.declared.instruction.Insn.{Insn}
-use Rattle.m11_base_instructions.specs.declared.instruction.Insn.TheVariants as insn
+use Rattle.m11_base.specs.Instructions.{instruction_of}
+use Rattle.m11_base.specs.declared.instruction.BareOp.TheVariants as bare
+use Rattle.m11_base.specs.declared.instruction.Insn.{Insn}
+use Rattle.m11_base.specs.declared.instruction.Insn.TheVariants as insn
 use Rattle.m11_cpu_machine.specs.Dialogue.{Exchange, Leads}
 use Rattle.m11_cpu_machine.specs.Execution.{execute}
 use Rattle.m11_cpu_machine.specs.Addressing.{next_word}

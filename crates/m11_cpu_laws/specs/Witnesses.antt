@@ -1,10 +1,10 @@
 -- Machines that meet the premises of laws: each law with premises speaks of one at least. (This project's own.)
 use Rattle.std.specs.Prelude.{◌≡◌, ℕ, true, false, List, [], ◌∷◌, Ok}
-use Rattle.m11_base_instructions.specs.declared.instruction.Insn.TheVariants as insn
-use Rattle.m11_base_instructions.specs.declared.instruction.NumberOp.TheVariants.{Emt}
-use Rattle.m11_base_instructions.specs.declared.instruction.BareOp.TheVariants.{Rti}
-use Rattle.m11_base_instructions.specs.declared.operand.Operand.{Operand}
-use Rattle.m11_base_instructions.specs.declared.operand.Size.TheVariants.{Word}
+use Rattle.m11_base.specs.declared.instruction.Insn.TheVariants as insn
+use Rattle.m11_base.specs.declared.instruction.NumberOp.TheVariants.{Emt}
+use Rattle.m11_base.specs.declared.instruction.BareOp.TheVariants.{Rti}
+use Rattle.m11_base.specs.declared.operand.Operand.{Operand}
+use Rattle.m11_base.specs.declared.operand.Size.TheVariants.{Word}
 use Rattle.m11_cpu_machine.specs.Addressing.{fetch_operand, location_of}
 use Rattle.m11_cpu_machine.specs.Dialogue.{Asked, Comes, Exchange, Fails, Leads, Sent}
 use Rattle.m11_cpu.specs.Runs.{run_counted}

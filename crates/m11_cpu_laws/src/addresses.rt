@@ -1,13 +1,13 @@
 //! Addresses at which nothing is found.
 
 ghost use Rattle.std.specs.Prelude.{List, ℕ};
-ghost use Rattle.m11_base_instructions.specs.declared.instruction.Insn.{Insn};
-ghost use Rattle.m11_base_instructions.specs.declared.instruction.Insn.TheVariants as insn;
-ghost use Rattle.m11_base_instructions.specs.declared.instruction.RegisterOp.TheVariants.{Jsr};
-ghost use Rattle.m11_base_instructions.specs.declared.instruction.SingleOp.TheVariants.{Jmp};
-ghost use Rattle.m11_base_instructions.specs.declared.operand.Operand.{Operand};
-ghost use Rattle.m11_base_instructions.specs.declared.operand.Register.{Register};
-ghost use Rattle.m11_base_instructions.specs.declared.operand.Size.{Size};
+ghost use Rattle.m11_base.specs.declared.instruction.Insn.{Insn};
+ghost use Rattle.m11_base.specs.declared.instruction.Insn.TheVariants as insn;
+ghost use Rattle.m11_base.specs.declared.instruction.RegisterOp.TheVariants.{Jsr};
+ghost use Rattle.m11_base.specs.declared.instruction.SingleOp.TheVariants.{Jmp};
+ghost use Rattle.m11_base.specs.declared.operand.Operand.{Operand};
+ghost use Rattle.m11_base.specs.declared.operand.Register.{Register};
+ghost use Rattle.m11_base.specs.declared.operand.Size.{Size};
 ghost use Rattle.m11_cpu_machine.specs.Access.{load_byte, load_word, store_byte, store_word};
 ghost use Rattle.m11_cpu_machine.specs.Dialogue.{Exchange, Leads};
 ghost use Rattle.m11_cpu_machine.specs.Steps.{step};

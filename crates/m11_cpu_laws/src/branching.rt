@@ -1,8 +1,8 @@
 //! Where branches, SOB and MARK go.
 
 ghost use Rattle.std.specs.Prelude.{ℕ};
-ghost use Rattle.m11_base_instructions.specs.declared.instruction.BranchOp.{BranchOp};
-ghost use Rattle.m11_base_instructions.specs.declared.operand.Register.{Register};
+ghost use Rattle.m11_base.specs.declared.instruction.BranchOp.{BranchOp};
+ghost use Rattle.m11_base.specs.declared.operand.Register.{Register};
 ghost use Rattle.m11_cpu_machine.specs.declared.machine.Machine.{Machine};
 ghost use Rattle.m11_cpu_laws.specs.Branching.{BranchGoes, MarkGoes, SobGoes};
 

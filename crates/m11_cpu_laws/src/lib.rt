@@ -1,5 +1,5 @@
-//! Laws of steps and runs: what the definitions of the machine yield, in words of their own. Each is the contract of
-//! a function that does nothing; no other crate names them.
+//! Laws of steps and runs: what the definitions of the machine yield, in words of their own; and what a tape leaves in a machine's memory,
+//! told by the bytes that lie at each address. Each is the contract of a function that does nothing.
 #![tactic(auto)]
 
 // Where operands are found, and which accesses trap.
@@ -38,3 +38,11 @@ pub use laws::{console_is_exact, runs_are_joined, stops_last};
 mod witnesses;
 
 pub use witnesses::premises_are_met;
+
+mod images;
+mod loads;
+
+pub use images::{later_blocks_count, tapes_have_one_image};
+pub use loads::{
+    a_byte_is_loaded_over_another, larger_memories_hold_the_same, tapes_load_their_bytes,
+};

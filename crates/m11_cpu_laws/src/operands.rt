@@ -1,8 +1,8 @@
 //! Where each mode finds its operand.
 
 ghost use Rattle.std.specs.Prelude.{◌≡◌, length};
-ghost use Rattle.m11_base_instructions.specs.declared.operand.Register.{Register};
-ghost use Rattle.m11_base_instructions.specs.declared.operand.Size.{Size};
+ghost use Rattle.m11_base.specs.declared.operand.Register.{Register};
+ghost use Rattle.m11_base.specs.declared.operand.Size.{Size};
 ghost use Rattle.m11_cpu_machine.specs.declared.machine.Machine.{Machine};
 ghost use Rattle.m11_cpu_laws.specs.Operands.{EightModes, FormsOfCounter};
 

@@ -1,10 +1,10 @@
 //! Which registers a step may change, and what the extended set leaves in an odd one.
 
 ghost use Rattle.std.specs.Prelude.{[], ◌∷◌, List, ℕ, Result};
-ghost use Rattle.m11_base_instructions.specs.Operand.{register_number};
-ghost use Rattle.m11_base_instructions.specs.declared.instruction.Insn.{Insn};
-ghost use Rattle.m11_base_instructions.specs.declared.operand.Register.{Register};
-ghost use Rattle.m11_base_instructions.specs.declared.operand.Register.TheVariants.{Sp};
+ghost use Rattle.m11_base.specs.Operand.{register_number};
+ghost use Rattle.m11_base.specs.declared.instruction.Insn.{Insn};
+ghost use Rattle.m11_base.specs.declared.operand.Register.{Register};
+ghost use Rattle.m11_base.specs.declared.operand.Register.TheVariants.{Sp};
 ghost use Rattle.m11_cpu_machine.specs.Dialogue.{Exchange, Leads};
 ghost use Rattle.m11_cpu_machine.specs.Execution.{execute};
 ghost use Rattle.m11_cpu_machine.specs.Addressing.{next_word};

@@ -1,8 +1,8 @@
 //! Calls and traps come back.
 
-ghost use Rattle.m11_base_instructions.specs.declared.instruction.Insn.{Insn};
-ghost use Rattle.m11_base_instructions.specs.declared.operand.Operand.{Operand};
-ghost use Rattle.m11_base_instructions.specs.declared.operand.Register.{Register};
+ghost use Rattle.m11_base.specs.declared.instruction.Insn.{Insn};
+ghost use Rattle.m11_base.specs.declared.operand.Operand.{Operand};
+ghost use Rattle.m11_base.specs.declared.operand.Register.{Register};
 ghost use Rattle.m11_cpu_machine.specs.declared.abort.Vector.{Vector};
 ghost use Rattle.m11_cpu_machine.specs.declared.machine.Machine.{Machine};
 ghost use Rattle.m11_cpu_laws.specs.Returns.{CallIsMade, CallsReturn, HasRoom, IsRunning, PlainCallIsMade, PlainCallsReturn, TrapInstructionsReturn, TrapReturns};

@@ -1,13 +1,13 @@
 //! What becomes of the processor status word.
 
 ghost use Rattle.std.specs.Prelude.{◌≡◌, false, List, Result};
-ghost use Rattle.m11_base_instructions.specs.declared.instruction.BareOp.{BareOp};
-ghost use Rattle.m11_base_instructions.specs.declared.instruction.DoubleOp.{DoubleOp};
-ghost use Rattle.m11_base_instructions.specs.declared.instruction.Insn.{Insn};
-ghost use Rattle.m11_base_instructions.specs.declared.instruction.SingleOp.{SingleOp};
-ghost use Rattle.m11_base_instructions.specs.declared.operand.Operand.{Operand};
-ghost use Rattle.m11_base_instructions.specs.declared.operand.Register.{Register};
-ghost use Rattle.m11_base_instructions.specs.declared.operand.Size.{Size};
+ghost use Rattle.m11_base.specs.declared.instruction.BareOp.{BareOp};
+ghost use Rattle.m11_base.specs.declared.instruction.DoubleOp.{DoubleOp};
+ghost use Rattle.m11_base.specs.declared.instruction.Insn.{Insn};
+ghost use Rattle.m11_base.specs.declared.instruction.SingleOp.{SingleOp};
+ghost use Rattle.m11_base.specs.declared.operand.Operand.{Operand};
+ghost use Rattle.m11_base.specs.declared.operand.Register.{Register};
+ghost use Rattle.m11_base.specs.declared.operand.Size.{Size};
 ghost use Rattle.m11_cpu_machine.specs.Dialogue.{Exchange, Leads};
 ghost use Rattle.m11_cpu_machine.specs.Execution.{execute};
 ghost use Rattle.m11_cpu_machine.specs.declared.abort.Abort.{Abort};

@@ -7,7 +7,7 @@ use Rattle.m11_base.specs.Sink.{CountsAt}
 use Rattle.m11_cpu_machine.specs.declared.abort.Abort.{Abort}
 use Rattle.m11_cpu_machine.specs.declared.machine.Machine.{Machine}
 use Rattle.m11_cpu_arithmetic.specs.declared.results.Computed.{Computed}
-use Rattle.m11_base_instructions.specs.declared.operand.Size.{Size}
+use Rattle.m11_base.specs.declared.operand.Size.{Size}
 use Rattle.m11_cpu_machine.specs.declared.addressing.OperandLocation.{OperandLocation}
 use Rattle.m11_cpu_machine.specs.declared.addressing.OperandLocation.TheVariants.{InMemory}
 use Rattle.m11_cpu_machine.specs.DoubleOperands.{change_exclusive}

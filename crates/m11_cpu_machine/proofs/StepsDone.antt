@@ -1,6 +1,6 @@
 -- What traps and steps yield, exit by exit.
 use Rattle.std.proofs.Common.{◌≡◌, Option, Some, None, Result, Ok, Err, sym, subst, ap, ◌∙◌}
-use Rattle.m11_base_instructions.specs.declared.instruction.Insn.{Insn}
+use Rattle.m11_base.specs.declared.instruction.Insn.{Insn}
 use Rattle.m11_cpu_machine.specs.declared.abort.Abort.{Abort}
 use Rattle.m11_cpu_machine.specs.declared.abort.Abort.TheVariants.{Traps, Stops}
 use Rattle.m11_cpu_machine.specs.declared.abort.Vector.{Vector}

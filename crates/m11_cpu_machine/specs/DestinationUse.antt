@@ -1,10 +1,10 @@
 -- What operations do with their destination. (PDP-11/40 Processor Handbook, "Instruction set". That MOV, CLR and SXT
 -- don't read it is this project's own.)
 use Rattle.std.specs.Prelude.{Option, Some, None}
-use Rattle.m11_base_instructions.specs.declared.instruction.DoubleOp.{DoubleOp}
-use Rattle.m11_base_instructions.specs.declared.instruction.DoubleOp.TheVariants.{Mov, Cmp, Bit, Bic, Bis, Add, Sub}
-use Rattle.m11_base_instructions.specs.declared.instruction.SingleOp.{SingleOp}
-use Rattle.m11_base_instructions.specs.declared.instruction.SingleOp.TheVariants.{Jmp, Swab, Clr, Com, Inc, Dec, Neg, Adc, Sbc, Tst, Ror, Rol, Asr, Asl, Sxt}
+use Rattle.m11_base.specs.declared.instruction.DoubleOp.{DoubleOp}
+use Rattle.m11_base.specs.declared.instruction.DoubleOp.TheVariants.{Mov, Cmp, Bit, Bic, Bis, Add, Sub}
+use Rattle.m11_base.specs.declared.instruction.SingleOp.{SingleOp}
+use Rattle.m11_base.specs.declared.instruction.SingleOp.TheVariants.{Jmp, Swab, Clr, Com, Inc, Dec, Neg, Adc, Sbc, Tst, Ror, Rol, Asr, Asl, Sxt}
 use Rattle.m11_cpu_machine.specs.declared.destination_use.DestinationUse.{DestinationUse}
 use Rattle.m11_cpu_machine.specs.declared.destination_use.DestinationUse.TheVariants.{Writes, Reads, Changes}
 

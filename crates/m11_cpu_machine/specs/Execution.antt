@@ -1,19 +1,19 @@
 -- What each instruction does. (PDP-11/40 Processor Handbook, "Instruction set".)
 use Rattle.std.specs.Prelude.{ℕ, not, ◌&&◌, ◌||◌, false, Ok, Err}
-use Rattle.m11_base_instructions.specs.declared.instruction.BareOp.{BareOp}
-use Rattle.m11_base_instructions.specs.declared.instruction.BareOp.TheVariants.{Halt, Wait, Rti, Bpt, Iot, Reset, Rtt}
-use Rattle.m11_base_instructions.specs.declared.instruction.ConditionCodes.{ConditionCodes}
-use Rattle.m11_base_instructions.specs.declared.instruction.ConditionOp.{ConditionOp}
-use Rattle.m11_base_instructions.specs.declared.instruction.ConditionOp.TheVariants.{Clear, Set}
-use Rattle.m11_base_instructions.specs.declared.instruction.Insn.{Insn}
-use Rattle.m11_base_instructions.specs.declared.instruction.Insn.TheVariants as insn
-use Rattle.m11_base_instructions.specs.declared.instruction.NumberOp.{NumberOp}
-use Rattle.m11_base_instructions.specs.declared.instruction.NumberOp.TheVariants.{Mark, Emt, Trap}
-use Rattle.m11_base_instructions.specs.declared.instruction.RegisterOp.{RegisterOp}
-use Rattle.m11_base_instructions.specs.declared.instruction.RegisterOp.TheVariants.{Jsr, Xor}
-use Rattle.m11_base_instructions.specs.declared.operand.Operand.{Operand}
-use Rattle.m11_base_instructions.specs.declared.operand.Register.{Register}
-use Rattle.m11_base_instructions.specs.declared.operand.Register.TheVariants.{Pc}
+use Rattle.m11_base.specs.declared.instruction.BareOp.{BareOp}
+use Rattle.m11_base.specs.declared.instruction.BareOp.TheVariants.{Halt, Wait, Rti, Bpt, Iot, Reset, Rtt}
+use Rattle.m11_base.specs.declared.instruction.ConditionCodes.{ConditionCodes}
+use Rattle.m11_base.specs.declared.instruction.ConditionOp.{ConditionOp}
+use Rattle.m11_base.specs.declared.instruction.ConditionOp.TheVariants.{Clear, Set}
+use Rattle.m11_base.specs.declared.instruction.Insn.{Insn}
+use Rattle.m11_base.specs.declared.instruction.Insn.TheVariants as insn
+use Rattle.m11_base.specs.declared.instruction.NumberOp.{NumberOp}
+use Rattle.m11_base.specs.declared.instruction.NumberOp.TheVariants.{Mark, Emt, Trap}
+use Rattle.m11_base.specs.declared.instruction.RegisterOp.{RegisterOp}
+use Rattle.m11_base.specs.declared.instruction.RegisterOp.TheVariants.{Jsr, Xor}
+use Rattle.m11_base.specs.declared.operand.Operand.{Operand}
+use Rattle.m11_base.specs.declared.operand.Register.{Register}
+use Rattle.m11_base.specs.declared.operand.Register.TheVariants.{Pc}
 use Rattle.m11_cpu_machine.specs.Acts.{Act, ◌>>=◌}
 use Rattle.m11_cpu_machine.specs.Dialogue.{Comes}
 use Rattle.m11_cpu_machine.specs.DoubleOperands.{double, exclusive_or}

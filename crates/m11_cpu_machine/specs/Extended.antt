@@ -5,12 +5,12 @@ use Rattle.m11_cpu_arithmetic.specs.Extended.{product_of, division_of}
 use Rattle.m11_cpu_arithmetic.specs.Shifts.{shift_result, shift_pair_result}
 use Rattle.m11_cpu_arithmetic.specs.declared.results.Division.{Division}
 use Rattle.m11_cpu_arithmetic.specs.declared.results.Division.TheVariants.{Done, Refused}
-use Rattle.m11_base_instructions.specs.declared.instruction.ExtendedOp.{ExtendedOp}
-use Rattle.m11_base_instructions.specs.declared.instruction.ExtendedOp.TheVariants.{Mul, Div, Ash, Ashc}
-use Rattle.m11_base_instructions.specs.declared.operand.Operand.{Operand}
-use Rattle.m11_base_instructions.specs.declared.operand.Register.{Register}
-use Rattle.m11_base_instructions.specs.declared.operand.Register.TheVariants.{R0, R1, R2, R3, R4, R5, Sp, Pc}
-use Rattle.m11_base_instructions.specs.declared.operand.Size.TheVariants.{Word}
+use Rattle.m11_base.specs.declared.instruction.ExtendedOp.{ExtendedOp}
+use Rattle.m11_base.specs.declared.instruction.ExtendedOp.TheVariants.{Mul, Div, Ash, Ashc}
+use Rattle.m11_base.specs.declared.operand.Operand.{Operand}
+use Rattle.m11_base.specs.declared.operand.Register.{Register}
+use Rattle.m11_base.specs.declared.operand.Register.TheVariants.{R0, R1, R2, R3, R4, R5, Sp, Pc}
+use Rattle.m11_base.specs.declared.operand.Size.TheVariants.{Word}
 use Rattle.m11_cpu_machine.specs.Acts.{Act, ◌>>=◌}
 use Rattle.m11_cpu_machine.specs.Dialogue.{Comes}
 use Rattle.m11_cpu_machine.specs.Machine.{register_of, with_condition_codes, with_register}

@@ -4,11 +4,11 @@
 use Rattle.std.specs.Prelude.{ℕ, ◌+◌, ◌*◌, ◌%◌, ◌==◌, if◌then◌else◌, ℤ, pos, ◌+ℤ◌, Ok, Err}
 use Rattle.m11_cpu_arithmetic.specs.Branches.{is_taken}
 use Rattle.m11_cpu_arithmetic.specs.Sizes.{modulo}
-use Rattle.m11_base_instructions.specs.declared.instruction.BranchOp.{BranchOp}
-use Rattle.m11_base_instructions.specs.declared.operand.Operand.{Operand}
-use Rattle.m11_base_instructions.specs.declared.operand.Register.{Register}
-use Rattle.m11_base_instructions.specs.declared.operand.Register.TheVariants.{R5, Sp, Pc}
-use Rattle.m11_base_instructions.specs.declared.operand.Size.TheVariants.{Word}
+use Rattle.m11_base.specs.declared.instruction.BranchOp.{BranchOp}
+use Rattle.m11_base.specs.declared.operand.Operand.{Operand}
+use Rattle.m11_base.specs.declared.operand.Register.{Register}
+use Rattle.m11_base.specs.declared.operand.Register.TheVariants.{R5, Sp, Pc}
+use Rattle.m11_base.specs.declared.operand.Size.TheVariants.{Word}
 use Rattle.m11_cpu_machine.specs.Access.{load_word, store_word}
 use Rattle.m11_cpu_machine.specs.Acts.{Act, ◌>>=◌}
 use Rattle.m11_cpu_machine.specs.Dialogue.{Comes}

@@ -1,9 +1,9 @@
 -- The machine: memory, eight registers, the processor status, the console's receiver and transmitter, and the stop
 -- that stands. (PDP-11/40 Processor Handbook, "Central processor"; for the console SIMH PDP-11 manual.)
 use Rattle.std.specs.Prelude.{ℕ, ◌+◌, ◌*◌, ◌%◌, ◌==◌, Bool, false, if◌then◌else◌, None, length, replicate, slice_index, slice_set}
-use Rattle.m11_base_instructions.specs.declared.instruction.ConditionCodes.{ConditionCodes}
-use Rattle.m11_base_instructions.specs.Operand.{register_number}
-use Rattle.m11_base_instructions.specs.declared.operand.Register.{Register}
+use Rattle.m11_base.specs.declared.instruction.ConditionCodes.{ConditionCodes}
+use Rattle.m11_base.specs.Operand.{register_number}
+use Rattle.m11_base.specs.declared.operand.Register.{Register}
 use Rattle.m11_cpu_machine.specs.Memory.{byte_at}
 use Rattle.m11_cpu_machine.specs.Status.{psw_of, status_of}
 use Rattle.m11_cpu_machine.specs.declared.machine.Machine.{Machine}

@@ -2,9 +2,9 @@
 -- CLR and SXT don't read their operand is this project's own.)
 use Rattle.std.specs.Prelude.{Option, Some, None, Ok}
 use Rattle.m11_cpu_arithmetic.specs.Singles.{single_result}
-use Rattle.m11_base_instructions.specs.declared.instruction.SingleOp.{SingleOp}
-use Rattle.m11_base_instructions.specs.declared.operand.Operand.{Operand}
-use Rattle.m11_base_instructions.specs.declared.operand.Size.{Size}
+use Rattle.m11_base.specs.declared.instruction.SingleOp.{SingleOp}
+use Rattle.m11_base.specs.declared.operand.Operand.{Operand}
+use Rattle.m11_base.specs.declared.operand.Size.{Size}
 use Rattle.m11_cpu_machine.specs.Acts.{Act, ◌>>=◌}
 use Rattle.m11_cpu_machine.specs.DestinationUse.{use_by_single}
 use Rattle.m11_cpu_machine.specs.declared.destination_use.DestinationUse.{DestinationUse}

@@ -1,7 +1,7 @@
 -- The processor status word: the priority in bits 7 to 5, T in bit 4, N, Z, V and C in bits 3 to 0.
 -- (PDP-11/40 Processor Handbook, "Processor status word".)
 use Rattle.std.specs.Prelude.{ℕ, ◌+◌, ◌*◌, ◌/◌, ◌%◌, ◌==◌, Bool, cond}
-use Rattle.m11_base_instructions.specs.Instructions.{condition_codes_of}
+use Rattle.m11_base.specs.Instructions.{condition_codes_of}
 use Rattle.m11_cpu_machine.specs.declared.status.ProcessorStatus.{ProcessorStatus}
 
 -- the status of a word, of which the lower eight bits count

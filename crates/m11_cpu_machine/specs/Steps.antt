@@ -1,7 +1,7 @@
 -- Steps: one instruction each, with its traps. (PDP-11/40 Processor Handbook, "Processor traps", "Trace trap". That T
 -- as it is after the instruction decides, and not before it, is this project's own.)
 use Rattle.std.specs.Prelude.{Option, Some, None, Result, Ok, Err, if◌then◌else◌}
-use Rattle.m11_base_instructions.specs.Instructions.{instruction_of}
+use Rattle.m11_base.specs.Instructions.{instruction_of}
 use Rattle.m11_cpu_machine.specs.Acts.{Act, ◌>>=◌}
 use Rattle.m11_cpu_machine.specs.Dialogue.{Dialogue, Comes, after}
 use Rattle.m11_cpu_machine.specs.Execution.{execute}

@@ -1,7 +1,7 @@
 -- Traps. (PDP-11/40 Processor Handbook, "Processor traps". That the processor status and the program counter are pushed
 -- before the vector is read, and that a trap whose push fails stops the machine, is this project's own.)
 use Rattle.std.specs.Prelude.{ℕ, ◌+◌, Some, Result, Ok, Err}
-use Rattle.m11_base_instructions.specs.declared.operand.Register.TheVariants.{Pc}
+use Rattle.m11_base.specs.declared.operand.Register.TheVariants.{Pc}
 use Rattle.m11_cpu_machine.specs.Acts.{Act, ◌>>=◌}
 use Rattle.m11_cpu_machine.specs.Dialogue.{Dialogue, Comes, after}
 use Rattle.m11_cpu_machine.specs.Jumps.{push}

@@ -7,8 +7,7 @@ ghost use Rattle.m11_cpu_machine.specs.Addressing.{back, deferred, forward, fetc
 
 use crate::abort::Abort;
 use crate::machine::Machine;
-use m11_base::{Feed, Sink};
-use m11_base_instructions::{Mode, Operand, Register, Size};
+use m11_base::{Feed, Mode, Operand, Register, Sink, Size};
 use m11_cpu_arithmetic::Computed;
 
 /// Where an operand is.

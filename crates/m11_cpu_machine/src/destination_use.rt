@@ -3,7 +3,7 @@
 ghost use Rattle.std.specs.Prelude.{◌≡◌};
 ghost use Rattle.m11_cpu_machine.specs.DestinationUse.{use_by_double, use_by_single};
 
-use m11_base_instructions::{DoubleOp, SingleOp};
+use m11_base::{DoubleOp, SingleOp};
 
 /// What an operation does with its destination.
 #[derive(Clone, Copy)]

@@ -10,8 +10,7 @@ use crate::abort::Abort;
 use crate::addressing::OperandLocation;
 use crate::destination_use::{DestinationUse, use_by_double};
 use crate::machine::Machine;
-use m11_base::{Feed, Sink};
-use m11_base_instructions::{DoubleOp, Operand, Register, Size};
+use m11_base::{DoubleOp, Feed, Operand, Register, Sink, Size};
 
 impl Machine {
     /// An operation on a source and a destination. The source is fetched first.

@@ -7,9 +7,8 @@ ghost use Rattle.m11_cpu_machine.specs.Execution.{bare, conditions_applied, exec
 use crate::abort::{Abort, Vector};
 use crate::machine::Machine;
 use crate::status::ProcessorStatus;
-use m11_base::{Feed, Sink};
-use m11_base_instructions::{
-    BareOp, ConditionCodes, ConditionOp, Insn, NumberOp, Operand, Register, RegisterOp,
+use m11_base::{
+    BareOp, ConditionCodes, ConditionOp, Feed, Insn, NumberOp, Operand, Register, RegisterOp, Sink,
 };
 
 /// How an instruction ends.

@@ -7,8 +7,7 @@ ghost use Rattle.m11_cpu_machine.specs.Extended.{divided, extended, low_word_of,
 
 use crate::abort::Abort;
 use crate::machine::Machine;
-use m11_base::Feed;
-use m11_base_instructions::{ExtendedOp, Operand, Register, Size};
+use m11_base::{ExtendedOp, Feed, Operand, Register, Size};
 use m11_cpu_arithmetic::{Division, divide, multiply, shift, shift_pair};
 
 impl Machine {

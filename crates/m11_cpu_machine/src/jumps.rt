@@ -7,8 +7,7 @@ ghost use Rattle.m11_cpu_machine.specs.Jumps.{branched, call, counted_down, ente
 use crate::abort::{Abort, Vector};
 use crate::addressing::OperandLocation;
 use crate::machine::Machine;
-use m11_base::{Feed, Sink};
-use m11_base_instructions::{BranchOp, Operand, Register, Size};
+use m11_base::{BranchOp, Feed, Operand, Register, Sink, Size};
 use m11_cpu_arithmetic::is_taken;
 
 impl Machine {

@@ -1,7 +1,7 @@
 //! The machine: what it holds, what is public of it, and what its steps read and write.
 
 ghost use Rattle.std.specs.Prelude.{◌≡◌, ◌<◌, ◌≤◌, IfOk, nat_lt};
-ghost use Rattle.m11_base_instructions.specs.declared.operand.Register.TheVariants.{Pc};
+ghost use Rattle.m11_base.specs.declared.operand.Register.TheVariants.{Pc};
 ghost use Rattle.m11_cpu_machine.specs.Memory.{least_words, most_words};
 ghost use Rattle.m11_cpu_machine.specs.Machine.{advanced, byte_in, finished, memory_size, new_machine, psw_in, register_of, with_condition_codes, with_register};
 
@@ -10,7 +10,7 @@ use crate::console::{Receiver, Transmitter};
 use crate::memory::Memory;
 use crate::status::ProcessorStatus;
 use crate::stop::LastingStop;
-use m11_base_instructions::{ConditionCodes, Register};
+use m11_base::{ConditionCodes, Register};
 use std::alloc::{AllocError, Global};
 
 /// A PDP-11/40 with its memory and its console.

@@ -7,8 +7,7 @@ use crate::abort::Abort;
 use crate::addressing::OperandLocation;
 use crate::destination_use::{DestinationUse, use_by_single};
 use crate::machine::Machine;
-use m11_base::{Feed, Sink};
-use m11_base_instructions::{Operand, SingleOp, Size};
+use m11_base::{Feed, Operand, SingleOp, Sink, Size};
 
 impl Machine {
     /// An operation on one operand.

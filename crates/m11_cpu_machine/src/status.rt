@@ -3,7 +3,7 @@
 ghost use Rattle.std.specs.Prelude.{◌≡◌, ◌<◌};
 ghost use Rattle.m11_cpu_machine.specs.Status.{psw_of, status_of, status_written};
 
-use m11_base_instructions::ConditionCodes;
+use m11_base::ConditionCodes;
 
 /// The eight bits of the processor status word that this machine has.
 #[derive(Clone, Copy, Debug, PartialEq, Eq)]

@@ -7,8 +7,7 @@ use crate::abort::{Abort, Vector};
 use crate::execution::Ending;
 use crate::machine::Machine;
 use crate::stop::{Stop, Turn};
-use m11_base::{Feed, Sink};
-use m11_base_instructions::decode;
+use m11_base::{Feed, Sink, decode};
 
 impl Machine {
     /// One instruction, with the traps that it leads to: the word at the program counter is read, decoded and executed.

@@ -9,8 +9,7 @@ use crate::abort::{Abort, Vector};
 use crate::machine::Machine;
 use crate::status::ProcessorStatus;
 use crate::stop::{LastingStop, Turn};
-use m11_base::Sink;
-use m11_base_instructions::Register;
+use m11_base::{Register, Sink};
 
 impl Machine {
     /// A trap: the processor status and the program counter are pushed, and then loaded from the vector. Where they

@@ -1,7 +1,7 @@
 -- A machine whose registers are handed along beside it, the program counter apart from the others. (This project's own.)
 use Rattle.std.specs.Prelude.{ℕ, ◌+◌, ◌%◌, List, slice_set}
-use Rattle.m11_base_instructions.specs.declared.operand.Size.{Size}
-use Rattle.m11_base_instructions.specs.declared.operand.Size.TheVariants.{Word, Byte}
+use Rattle.m11_base.specs.declared.operand.Size.{Size}
+use Rattle.m11_base.specs.declared.operand.Size.TheVariants.{Word, Byte}
 use Rattle.m11_cpu_machine.specs.Addressing.{without_low_byte}
 use Rattle.m11_cpu_machine.specs.DoubleOperands.{sign_extended}
 use Rattle.m11_cpu_machine.specs.Memory.{with_byte, with_word}

@@ -1,11 +1,11 @@
 -- The forms of operands that a quick step distinguishes. (PDP-11/40 Processor Handbook, "Addressing modes", "Use of the PC as
 -- a general register".)
 use Rattle.std.specs.Prelude.{◌≡◌, ℕ, ◌<◌}
-use Rattle.m11_base_instructions.specs.Operand.{register_number}
-use Rattle.m11_base_instructions.specs.declared.operand.Mode.TheVariants as mode
-use Rattle.m11_base_instructions.specs.declared.operand.Operand.{Operand}
-use Rattle.m11_base_instructions.specs.declared.operand.Size.{Size}
-use Rattle.m11_base_instructions.specs.declared.operand.Size.TheVariants.{Word, Byte}
+use Rattle.m11_base.specs.Operand.{register_number}
+use Rattle.m11_base.specs.declared.operand.Mode.TheVariants as mode
+use Rattle.m11_base.specs.declared.operand.Operand.{Operand}
+use Rattle.m11_base.specs.declared.operand.Size.{Size}
+use Rattle.m11_base.specs.declared.operand.Size.TheVariants.{Word, Byte}
 use Rattle.m11_cpu_machine.specs.Addressing.{step_of}
 use Rattle.m11_cpu_quick.specs.declared.forms.Form.{Form}
 use Rattle.m11_cpu_quick.specs.declared.forms.Form.TheVariants.{Register, Deferred, Increment, Decrement, Index, Absolute, Relative, Immediate, Other}

@@ -1,23 +1,23 @@
 -- The kinds of instructions that have an arm of their own in the loop of quick steps. (This project's own.)
 use Rattle.std.specs.Prelude.{◌≡◌, ℕ, ◌/◌, ◌%◌, ◌<◌, Some, true, false}
-use Rattle.m11_base_instructions.specs.Instructions.{meaning}
-use Rattle.m11_base_instructions.specs.Operand.{operand_of}
-use Rattle.m11_base_instructions.specs.OperationTables.{operation_by_tables}
-use Rattle.m11_base_instructions.specs.declared.instruction.BranchOp.{BranchOp}
-use Rattle.m11_base_instructions.specs.declared.instruction.BranchOp.TheVariants as branch
-use Rattle.m11_base_instructions.specs.declared.instruction.ConditionCodes.{ConditionCodes}
-use Rattle.m11_base_instructions.specs.declared.instruction.ConditionOp.{ConditionOp}
-use Rattle.m11_base_instructions.specs.declared.instruction.ConditionOp.TheVariants.{Clear, Set}
-use Rattle.m11_base_instructions.specs.declared.instruction.DoubleOp.{DoubleOp}
-use Rattle.m11_base_instructions.specs.declared.instruction.DoubleOp.TheVariants.{Add, Bic, Bis, Bit, Cmp, Mov, Sub}
-use Rattle.m11_base_instructions.specs.declared.instruction.ExtendedOp.TheVariants.{Mul}
-use Rattle.m11_base_instructions.specs.declared.instruction.Insn.TheVariants as instruction
-use Rattle.m11_base_instructions.specs.declared.instruction.Op.TheVariants as op
-use Rattle.m11_base_instructions.specs.declared.instruction.RegisterOp.TheVariants.{Jsr}
-use Rattle.m11_base_instructions.specs.declared.instruction.SingleOp.{SingleOp}
-use Rattle.m11_base_instructions.specs.declared.instruction.SingleOp.TheVariants.{Adc, Asl, Asr, Clr, Com, Dec, Inc, Jmp, Neg, Rol, Ror, Sbc, Swab, Sxt, Tst}
-use Rattle.m11_base_instructions.specs.declared.operand.Size.{Size}
-use Rattle.m11_base_instructions.specs.declared.operand.Size.TheVariants.{Word, Byte}
+use Rattle.m11_base.specs.Instructions.{meaning}
+use Rattle.m11_base.specs.Operand.{operand_of}
+use Rattle.m11_base.specs.OperationTables.{operation_by_tables}
+use Rattle.m11_base.specs.declared.instruction.BranchOp.{BranchOp}
+use Rattle.m11_base.specs.declared.instruction.BranchOp.TheVariants as branch
+use Rattle.m11_base.specs.declared.instruction.ConditionCodes.{ConditionCodes}
+use Rattle.m11_base.specs.declared.instruction.ConditionOp.{ConditionOp}
+use Rattle.m11_base.specs.declared.instruction.ConditionOp.TheVariants.{Clear, Set}
+use Rattle.m11_base.specs.declared.instruction.DoubleOp.{DoubleOp}
+use Rattle.m11_base.specs.declared.instruction.DoubleOp.TheVariants.{Add, Bic, Bis, Bit, Cmp, Mov, Sub}
+use Rattle.m11_base.specs.declared.instruction.ExtendedOp.TheVariants.{Mul}
+use Rattle.m11_base.specs.declared.instruction.Insn.TheVariants as instruction
+use Rattle.m11_base.specs.declared.instruction.Op.TheVariants as op
+use Rattle.m11_base.specs.declared.instruction.RegisterOp.TheVariants.{Jsr}
+use Rattle.m11_base.specs.declared.instruction.SingleOp.{SingleOp}
+use Rattle.m11_base.specs.declared.instruction.SingleOp.TheVariants.{Adc, Asl, Asr, Clr, Com, Dec, Inc, Jmp, Neg, Rol, Ror, Sbc, Swab, Sxt, Tst}
+use Rattle.m11_base.specs.declared.operand.Size.{Size}
+use Rattle.m11_base.specs.declared.operand.Size.TheVariants.{Word, Byte}
 use Rattle.m11_cpu_quick.specs.Forms.{IsForm}
 use Rattle.m11_cpu_quick.specs.declared.double_kinds.DoubleKind.{DoubleKind}
 use Rattle.m11_cpu_quick.specs.declared.double_kinds.DoubleKind.TheVariants as two

@@ -1,8 +1,8 @@
 -- What lies in memory, and acts that come to their end at once, without the console and without a trap. (This project's own.)
 use Rattle.std.specs.Prelude.{◌≡◌, ℕ, Bool, not, ◌&&◌, length, nat_lt, Ok}
 use Rattle.m11_base.specs.Devices.{Bytes}
-use Rattle.m11_base_instructions.specs.declared.operand.Size.{Size}
-use Rattle.m11_base_instructions.specs.declared.operand.Size.TheVariants.{Word, Byte}
+use Rattle.m11_base.specs.declared.operand.Size.{Size}
+use Rattle.m11_base.specs.declared.operand.Size.TheVariants.{Word, Byte}
 use Rattle.m11_cpu_machine.specs.Access.{is_odd}
 use Rattle.m11_cpu_machine.specs.Acts.{Act}
 use Rattle.m11_cpu_machine.specs.Dialogue.{Comes}

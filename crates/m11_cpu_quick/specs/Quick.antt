@@ -1,7 +1,7 @@
 -- Steps that have nothing to do with the console, since all that they read and write is near. (This project's own.)
 use Rattle.std.specs.Prelude.{◌≡◌, ℕ, zero, suc, false, List, None}
-use Rattle.m11_base_instructions.specs.Instructions.{meaning}
-use Rattle.m11_base_instructions.specs.OperationTables.{operation_by_tables}
+use Rattle.m11_base.specs.Instructions.{meaning}
+use Rattle.m11_base.specs.OperationTables.{operation_by_tables}
 use Rattle.m11_cpu_machine.specs.Dialogue.{Comes}
 use Rattle.m11_cpu_machine.specs.Execution.{execute}
 use Rattle.m11_cpu_machine.specs.Steps.{step}

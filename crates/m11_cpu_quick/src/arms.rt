@@ -2,11 +2,11 @@
 //! nothing has changed. What stands among the registers for the program counter counts for nothing.
 
 ghost use Rattle.std.specs.Prelude.{◌≡◌, IfSome, None};
-ghost use Rattle.m11_base_instructions.specs.Instructions.{meaning};
-ghost use Rattle.m11_base_instructions.specs.OperationTables.{operation_by_tables};
-ghost use Rattle.m11_base_instructions.specs.declared.instruction.Insn.TheVariants as instruction;
-ghost use Rattle.m11_base_instructions.specs.declared.instruction.SingleOp.TheVariants as one;
-ghost use Rattle.m11_base_instructions.specs.declared.operand.Size.TheVariants as size;
+ghost use Rattle.m11_base.specs.Instructions.{meaning};
+ghost use Rattle.m11_base.specs.OperationTables.{operation_by_tables};
+ghost use Rattle.m11_base.specs.declared.instruction.Insn.TheVariants as instruction;
+ghost use Rattle.m11_base.specs.declared.instruction.SingleOp.TheVariants as one;
+ghost use Rattle.m11_base.specs.declared.operand.Size.TheVariants as size;
 ghost use Rattle.m11_cpu_quick.specs.Kinds.{Describes, DescribesDouble, IsBranch, IsCall, IsCount, IsDouble, IsOnCarry, IsProduct, IsReturn, IsSingle};
 ghost use Rattle.m11_cpu_quick.specs.Near.{NearKeeps};
 ghost use Rattle.m11_cpu_quick.specs.Quick.{Executes};
@@ -22,12 +22,10 @@ use crate::forms::Form::{
 use crate::jumps::{call, count_down, jump, return_by_counter, take_branch};
 use crate::kinds::Kind;
 use crate::singles::single;
-use m11_base_instructions::DoubleOp::{Add, Bic, Bis, Bit, Cmp, Mov, Sub};
-use m11_base_instructions::SingleOp::{
-    Adc, Asl, Asr, Clr, Com, Dec, Inc, Neg, Rol, Ror, Sbc, Swab, Sxt, Tst,
-};
-use m11_base_instructions::Size::{Byte, Word};
-use m11_base_instructions::{
+use m11_base::DoubleOp::{Add, Bic, Bis, Bit, Cmp, Mov, Sub};
+use m11_base::SingleOp::{Adc, Asl, Asr, Clr, Com, Dec, Inc, Neg, Rol, Ror, Sbc, Swab, Sxt, Tst};
+use m11_base::Size::{Byte, Word};
+use m11_base::{
     BranchOp, ConditionCodes, ConditionOp, DoubleOp, Insn, Operand, SingleOp, Size, decode,
 };
 use m11_cpu_machine::Machine;
@@ -372,7 +370,7 @@ fn count(machine: &mut Machine, code: Code, registers: &mut [u16; 8]) -> Option<
     ensures none { result ≡ None → machine.new ≡ machine.old }
     ensures registers { result ≡ None → registers.new ≡ registers.old }
 {
-    let register = m11_base_instructions::Register::of_bits(code.word / 0o100);
+    let register = m11_base::Register::of_bits(code.word / 0o100);
     Some(count_down(register, code.word, registers, code.counter))
 }
 
@@ -455,7 +453,7 @@ fn product(machine: &mut Machine, source: Form, code: Code, registers: &mut [u16
     ensures none { result ≡ None → machine.new ≡ machine.old }
     ensures registers { result ≡ None → registers.new ≡ registers.old }
 {
-    let register = m11_base_instructions::Register::of_bits(code.word / 0o100);
+    let register = m11_base::Register::of_bits(code.word / 0o100);
     let operand = Operand::of_bits(code.word);
     let after = multiply(machine, register, source, operand, registers, code.counter)?;
     Some(after)

@@ -2,16 +2,16 @@
 //! Handbook, "Instruction set": double operand instructions.)
 
 ghost use Rattle.std.specs.Prelude.{◌≡◌, ◌/◌, ◌%◌, Some};
-ghost use Rattle.m11_base_instructions.specs.Operand.{operand_of};
-ghost use Rattle.m11_base_instructions.specs.OperationTables.{operation_by_tables};
-ghost use Rattle.m11_base_instructions.specs.declared.instruction.DoubleOp.TheVariants.{Add, Bic, Bis, Bit, Cmp, Mov, Sub};
-ghost use Rattle.m11_base_instructions.specs.declared.instruction.Op.TheVariants as op;
-ghost use Rattle.m11_base_instructions.specs.declared.operand.Size.TheVariants.{Byte, Word};
+ghost use Rattle.m11_base.specs.Operand.{operand_of};
+ghost use Rattle.m11_base.specs.OperationTables.{operation_by_tables};
+ghost use Rattle.m11_base.specs.declared.instruction.DoubleOp.TheVariants.{Add, Bic, Bis, Bit, Cmp, Mov, Sub};
+ghost use Rattle.m11_base.specs.declared.instruction.Op.TheVariants as op;
+ghost use Rattle.m11_base.specs.declared.operand.Size.TheVariants.{Byte, Word};
 ghost use Rattle.m11_cpu_quick.specs.Forms.{IsForm};
 ghost use Rattle.m11_cpu_quick.specs.Kinds.{DescribesDouble};
 
 use crate::forms::Form;
-use m11_base_instructions::{DoubleOp, Operand, Size};
+use m11_base::{DoubleOp, Operand, Size};
 
 /// A kind of an operation on two operands: the operation, and the forms of its operands, the source first.
 #[derive(Clone, Copy)]

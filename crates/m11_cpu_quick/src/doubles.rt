@@ -2,7 +2,7 @@
 
 ghost use Rattle.std.specs.Prelude.{◌≡◌, ◌<◌, ℕ, List, IfSome, None, true};
 ghost use Rattle.m11_cpu_arithmetic.specs.Sizes.{size_limit};
-ghost use Rattle.m11_base_instructions.specs.Operand.{register_number};
+ghost use Rattle.m11_base.specs.Operand.{register_number};
 ghost use Rattle.m11_cpu_machine.specs.DoubleOperands.{double, double_at};
 ghost use Rattle.m11_cpu_machine.specs.declared.addressing.OperandLocation.TheVariants.{InMemory, InRegister};
 ghost use Rattle.m11_cpu_quick.specs.Beside.{moved, shown};
@@ -13,7 +13,7 @@ ghost use Rattle.m11_cpu_quick.specs.declared.forms.Form.TheVariants as form;
 use crate::forms::Form;
 use crate::near::{plain, store_plain};
 use crate::operands::{address_of, held, hold, low, value_of, with_low};
-use m11_base_instructions::{DoubleOp, Operand, Register, Size};
+use m11_base::{DoubleOp, Operand, Register, Size};
 use m11_cpu_machine::{DestinationUse, Machine, sign_extended, use_by_double};
 
 /// An operation whose destination is a register: the program counter after it; None where the source isn't plain, and

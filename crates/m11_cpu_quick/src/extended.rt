@@ -1,9 +1,9 @@
 //! MUL. (PDP-11/40 Processor Handbook, "Extended instruction set".)
 
 ghost use Rattle.std.specs.Prelude.{◌≡◌, ◌<◌, IfSome, None};
-ghost use Rattle.m11_base_instructions.specs.Operand.{register_number};
-ghost use Rattle.m11_base_instructions.specs.declared.instruction.ExtendedOp.TheVariants.{Mul};
-ghost use Rattle.m11_base_instructions.specs.declared.operand.Size.TheVariants.{Word};
+ghost use Rattle.m11_base.specs.Operand.{register_number};
+ghost use Rattle.m11_base.specs.declared.instruction.ExtendedOp.TheVariants.{Mul};
+ghost use Rattle.m11_base.specs.declared.operand.Size.TheVariants.{Word};
 ghost use Rattle.m11_cpu_machine.specs.Extended.{extended};
 ghost use Rattle.m11_cpu_quick.specs.Beside.{shown};
 ghost use Rattle.m11_cpu_quick.specs.Forms.{IsForm};
@@ -11,7 +11,7 @@ ghost use Rattle.m11_cpu_quick.specs.Near.{NearEnds, NearKeeps};
 
 use crate::forms::Form;
 use crate::operands::{held, hold, value_of};
-use m11_base_instructions::{Operand, Register, Size};
+use m11_base::{Operand, Register, Size};
 use m11_cpu_machine::{Machine, low_word_of};
 
 /// MUL, of a register before SP: the program counter after it; None where the source isn't plain, and nothing changes.

@@ -3,7 +3,7 @@
 ghost use Rattle.std.specs.Prelude.{◌≡◌};
 ghost use Rattle.m11_cpu_quick.specs.Forms.{IsForm, bytes_of};
 
-use m11_base_instructions::{Mode, Operand, Size};
+use m11_base::{Mode, Operand, Size};
 use m11_cpu_machine::step_of;
 
 /// How an operand is found. The first five are those of a register that isn't the program counter.

@@ -3,9 +3,9 @@
 
 ghost use Rattle.std.specs.Prelude.{◌≡◌, ◌<◌, ◌%◌, IfSome, None};
 ghost use Rattle.std.specs.Int.{cast_signed, w8};
-ghost use Rattle.m11_base_instructions.specs.Operand.{register_number};
-ghost use Rattle.m11_base_instructions.specs.declared.operand.Register.TheVariants.{Pc};
-ghost use Rattle.m11_base_instructions.specs.declared.operand.Size.TheVariants.{Word};
+ghost use Rattle.m11_base.specs.Operand.{register_number};
+ghost use Rattle.m11_base.specs.declared.operand.Register.TheVariants.{Pc};
+ghost use Rattle.m11_base.specs.declared.operand.Size.TheVariants.{Word};
 ghost use Rattle.m11_cpu_machine.specs.declared.machine.Machine.{Machine};
 ghost use Rattle.m11_cpu_machine.specs.Jumps.{branched, call, counted_down, jump, return_by};
 ghost use Rattle.m11_cpu_quick.specs.Beside.{shown};
@@ -15,7 +15,7 @@ ghost use Rattle.m11_cpu_quick.specs.Near.{NearEnds, NearKeeps};
 use crate::forms::Form;
 use crate::near::{is_plain, plain, store_plain};
 use crate::operands::{address_of, held, hold};
-use m11_base_instructions::{BranchOp, Operand, Register, Size};
+use m11_base::{BranchOp, Operand, Register, Size};
 use m11_cpu_arithmetic::is_taken;
 use m11_cpu_machine::{Machine, words_on};
 

@@ -2,19 +2,19 @@
 //! kind of a word is found once, so that a step looks at its word once. (PDP-11/40 Processor Handbook, "Instruction set".)
 
 ghost use Rattle.std.specs.Prelude.{◌≡◌, ◌/◌, ◌%◌, ◌<◌, Some};
-ghost use Rattle.m11_base_instructions.specs.Operand.{operand_of};
-ghost use Rattle.m11_base_instructions.specs.OperationTables.{operation_by_tables};
-ghost use Rattle.m11_base_instructions.specs.declared.instruction.ExtendedOp.TheVariants.{Mul};
-ghost use Rattle.m11_base_instructions.specs.declared.instruction.Op.TheVariants as op;
-ghost use Rattle.m11_base_instructions.specs.declared.instruction.RegisterOp.TheVariants.{Jsr};
-ghost use Rattle.m11_base_instructions.specs.declared.instruction.SingleOp.TheVariants.{Adc, Asl, Asr, Clr, Com, Dec, Inc, Jmp, Neg, Rol, Ror, Sbc, Swab, Sxt, Tst};
-ghost use Rattle.m11_base_instructions.specs.declared.operand.Size.TheVariants.{Word};
+ghost use Rattle.m11_base.specs.Operand.{operand_of};
+ghost use Rattle.m11_base.specs.OperationTables.{operation_by_tables};
+ghost use Rattle.m11_base.specs.declared.instruction.ExtendedOp.TheVariants.{Mul};
+ghost use Rattle.m11_base.specs.declared.instruction.Op.TheVariants as op;
+ghost use Rattle.m11_base.specs.declared.instruction.RegisterOp.TheVariants.{Jsr};
+ghost use Rattle.m11_base.specs.declared.instruction.SingleOp.TheVariants.{Adc, Asl, Asr, Clr, Com, Dec, Inc, Jmp, Neg, Rol, Ror, Sbc, Swab, Sxt, Tst};
+ghost use Rattle.m11_base.specs.declared.operand.Size.TheVariants.{Word};
 ghost use Rattle.m11_cpu_quick.specs.Forms.{IsForm};
 ghost use Rattle.m11_cpu_quick.specs.Kinds.{Describes};
 
 use crate::double_kinds::DoubleKind;
 use crate::forms::Form;
-use m11_base_instructions::{
+use m11_base::{
     BranchOp, ConditionOp, ExtendedOp, Op, Operand, RegisterOp, SingleOp, Size, operation,
 };
 

@@ -5,7 +5,7 @@ ghost use Rattle.m11_cpu_arithmetic.specs.Sizes.{size_limit};
 ghost use Rattle.m11_cpu_quick.specs.Beside.{stored};
 ghost use Rattle.m11_cpu_quick.specs.Near.{is_plain, plain_at};
 
-use m11_base_instructions::Size;
+use m11_base::Size;
 use m11_cpu_machine::Machine;
 
 /// Whether a word or byte can be read and written at an address with no device and no trap: it lies in memory, and a word

@@ -3,7 +3,7 @@
 
 ghost use Rattle.std.specs.Prelude.{◌≡◌, ◌<◌, IfSome, None, true, slice_index, slice_set};
 ghost use Rattle.m11_cpu_arithmetic.specs.Sizes.{size_limit};
-ghost use Rattle.m11_base_instructions.specs.Operand.{register_number};
+ghost use Rattle.m11_base.specs.Operand.{register_number};
 ghost use Rattle.m11_cpu_machine.specs.Addressing.{fetch_operand, location_of};
 ghost use Rattle.m11_cpu_machine.specs.declared.addressing.OperandLocation.TheVariants.{InMemory};
 ghost use Rattle.m11_cpu_quick.specs.Beside.{low, shown, with_low};
@@ -12,7 +12,7 @@ ghost use Rattle.m11_cpu_quick.specs.Near.{Yields, is_plain, plain_at};
 
 use crate::forms::{Form, bytes_of};
 use crate::near::{is_plain, plain};
-use m11_base_instructions::{Operand, Register, Size};
+use m11_base::{Operand, Register, Size};
 use m11_cpu_machine::{Machine, without_low_byte};
 
 /// The word at the program counter, or its low byte; None where none lies in memory there.

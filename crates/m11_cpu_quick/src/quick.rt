@@ -2,7 +2,7 @@
 //! what each step needs lies in registers of the host.
 
 ghost use Rattle.std.specs.Prelude.{◌≡◌, ◌≤◌, IfSome, None};
-ghost use Rattle.m11_base_instructions.specs.declared.operand.Register.TheVariants.{Pc};
+ghost use Rattle.m11_base.specs.declared.operand.Register.TheVariants.{Pc};
 ghost use Rattle.m11_cpu_machine.specs.Dialogue.{Comes};
 ghost use Rattle.m11_cpu_machine.specs.Machine.{register_of};
 ghost use Rattle.m11_cpu_machine.specs.Steps.{step};
@@ -14,7 +14,7 @@ use crate::arms::{Code, act, rarer};
 use crate::kind_table::KindTable;
 use crate::operands::{following, hold};
 use core::mem;
-use m11_base_instructions::{Register, Size};
+use m11_base::{Register, Size};
 use m11_cpu_machine::Machine;
 
 /// Makes quick steps while they come, `limit` at most, and returns how many it made. It makes none where the machine has

@@ -9,7 +9,7 @@ ghost use Rattle.m11_cpu_quick.specs.Near.{NearEnds, NearKeeps};
 use crate::forms::Form;
 use crate::near::{plain, store_plain};
 use crate::operands::{address_of, held, hold, low, value_of, with_low};
-use m11_base_instructions::{Operand, SingleOp, Size};
+use m11_base::{Operand, SingleOp, Size};
 use m11_cpu_machine::{DestinationUse, Machine, use_by_single};
 
 /// An operation on one operand: the program counter after it; None where the operand isn't plain, and nothing changes.

@@ -3,7 +3,7 @@
 
 use crate::tests::Fact::{Asked, In, Psw};
 use crate::tests::{Part, Program, Row, SOUND, check_all};
-use m11_base_instructions::Register::{R0, R1};
+use m11_base::Register::{R0, R1};
 use m11_cpu::Stop::Halt;
 use std::test::Fail;
 

@@ -1,7 +1,8 @@
 //! What the tests of whole programs share: tapes of words, runs of them, and what is looked at after a run.
 
-use m11_base::{DeviceFault, Feed, FuseFeed, FuseSink, MemoryFeed, MemorySink, Sink, WriterSink};
-use m11_base_instructions::Register;
+use m11_base::{
+    DeviceFault, Feed, FuseFeed, FuseSink, MemoryFeed, MemorySink, Register, Sink, WriterSink,
+};
 use m11_cpu::{Machine, Stop, Turn, load, run};
 use m11_obj_blocks::{tape_block, tape_transfer};
 use std::alloc::{AllocError, Global};

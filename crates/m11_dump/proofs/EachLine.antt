@@ -3,8 +3,8 @@ use Rattle.std.proofs.Common.{◌≡◌, ℕ, zero, suc, ◌+◌, ◌-◌, ◌*�
 use Rattle.std.specs.Prelude.{◌==◌, nat_le, if◌then◌else◌}
 use Rattle.std.proofs.lemmas.Bool.{leb-true}
 use Rattle.std.proofs.lemmas.List.{length-take-le, take-append-drop}
-use Rattle.m11_base_instructions.specs.Instructions.{instruction_of}
-use Rattle.m11_base_instructions.specs.declared.instruction_list.Row.{Row}
+use Rattle.m11_base.specs.Instructions.{instruction_of}
+use Rattle.m11_base.specs.declared.instruction_list.Row.{Row}
 use Rattle.m11_base_disassembly.specs.Instructions.{row_named, size_by, size_of, words_after}
 use Rattle.m11_base_disassembly.specs.Texts.{statement_text}
 use Rattle.m11_dump.specs.Octets.{location_after}

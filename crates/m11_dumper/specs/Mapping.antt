@@ -5,7 +5,7 @@ use Rattle.m11_base.specs.Feed.{Text}
 use Rattle.m11_dumper.specs.declared.stop.Stop.{Stop}
 use Rattle.m11_dumper.specs.declared.stop.Stop.TheVariants.{NotOpened, InFile, InMap, Write, NoMemory}
 use Rattle.m11_base_files.specs.Opens.{AreFiles, Files, IsFirstLacking}
-use Rattle.m11_base_pass_rules.specs.Passes.{pass_of}
+use Rattle.m11_base_writes.specs.Passes.{pass_of}
 use Rattle.m11_link_load_map.specs.Run.{LoadMapRuns}
 use Rattle.m11_link_load_map.specs.declared.fault.LoadMapFault.{LoadMapFault}
 use Rattle.m11_link_load_map.specs.declared.fault.LoadMapFault.TheVariants as map

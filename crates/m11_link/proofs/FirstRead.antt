@@ -15,7 +15,7 @@ use Rattle.m11_link_layout.specs.Sections.{is_too_large}
 use Rattle.m11_link_layout.specs.Layout.{LayoutState, LayoutAfter, AcceptsBlock, AcceptsParts}
 use Rattle.m11_link_layout.specs.declared.fault.LinkFault.{LinkFault}
 use Rattle.m11_link_layout.specs.declared.fault.LinkFault.TheVariants as fault
-use Rattle.m11_base_pass_rules.specs.Passes.{pass_of}
+use Rattle.m11_base_writes.specs.Passes.{pass_of}
 use Rattle.m11_link.specs.FirstPass.{LaysOut, LaysOutObject, Reaches, ReadsFirst, LayoutBetween}
 use Rattle.m11_link.specs.Objects.{Item, AreItems, BlockOf, ObjectEnds, Refused, GivesItems, BeginsItems, ObjectItems, taken, taken_item, unless_too_large}
 use Rattle.m11_link.specs.Objects as objects

@@ -16,7 +16,7 @@ use Rattle.m11_link_layout.specs.declared.fault.LinkFault.{LinkFault}
 use Rattle.m11_link_layout.specs.declared.fault.LinkFault.TheVariants as fault
 use Rattle.m11_base_writes.specs.declared.outputs.Output.{Output}
 use Rattle.m11_link.specs.Emit.{EmitEnds, EmitAfter, EmitState, GoesOn, AcceptsBlock, AcceptsParts, call_of, written}
-use Rattle.m11_base_pass_rules.specs.Passes.{pass_of}
+use Rattle.m11_base_writes.specs.Passes.{pass_of}
 use Rattle.m11_link.specs.Objects.{◌>>=◌, AreItems, Item, BlockOf, ObjectEnds, Refused, GiveItems, GivesItems, taken, taken_item}
 use Rattle.m11_link.specs.Objects as objects
 use Rattle.m11_link.specs.declared.emit.LinkDone.{LinkDone}

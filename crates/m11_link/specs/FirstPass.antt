@@ -2,7 +2,7 @@
 use Rattle.std.specs.Prelude.{◌≡◌, ℕ, List, [], Option, None, Result, Ok, Err}
 use Rattle.m11_base.specs.Devices.{Rises}
 use Rattle.m11_base.specs.Feed.{Text, NoneFailed}
-use Rattle.m11_base_pass_rules.specs.Passes.{Pass}
+use Rattle.m11_base_writes.specs.Passes.{Pass}
 use Rattle.m11_link_modules.specs.Parts.{Part, EndOfFile}
 use Rattle.m11_link_modules.specs.Rules.{fault_of}
 use Rattle.m11_link_layout.specs.Plan.{PlanTables, IsPlanOf}

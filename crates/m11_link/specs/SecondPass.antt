@@ -10,7 +10,7 @@ use Rattle.m11_link_layout.specs.declared.fault.LinkFault.TheVariants as fault
 use Rattle.m11_link.specs.declared.emit.LinkDone.{LinkDone}
 use Rattle.m11_link.specs.Emit.{EmitState, EmitAfter, written}
 use Rattle.m11_link_text.specs.Findings.{planned}
-use Rattle.m11_base_pass_rules.specs.Passes.{Pass}
+use Rattle.m11_base_writes.specs.Passes.{Pass}
 use Rattle.m11_link.specs.FirstPass.{AreAccepted, ReadsFirst}
 use Rattle.m11_link.specs.Objects.{Item, taken, taken_item, GivesItems, BeginsItems, GiveItems, FailAfter}
 use Rattle.m11_link.specs.Outputs.{Gains, StopsIn, StopsBetween}

@@ -2,7 +2,7 @@
 
 ghost use Rattle.std.specs.Prelude.{◌≡◌, None, ℕ, List, is_some};
 ghost use Rattle.m11_link.specs.Objects.{AreItems, Item};
-ghost use Rattle.m11_base_pass_rules.specs.Passes.{pass_of};
+ghost use Rattle.m11_base_writes.specs.Passes.{pass_of};
 ghost use Rattle.m11_link.specs.FirstPass.{LaysOut, LaysOutObject, ReadsFirst, LayoutBetween};
 ghost use Rattle.m11_link_layout.specs.Layout.{LayoutAfter};
 ghost use Rattle.m11_link_layout.specs.Plan.{PlanTables};

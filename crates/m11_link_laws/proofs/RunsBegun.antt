@@ -9,7 +9,7 @@ use Rattle.m11_link_layout.specs.declared.fault.LinkFault.{LinkFault}
 use Rattle.m11_link_layout.specs.declared.fault.LinkFault.TheVariants as fault
 use Rattle.m11_link_text.specs.Findings.{Findings, planned}
 use Rattle.m11_link.specs.Emit.{written}
-use Rattle.m11_base_pass_rules.specs.Passes.{AreKnown, IsKnown, pass_of}
+use Rattle.m11_base_writes.specs.Passes.{AreKnown, IsKnown, pass_of}
 use Rattle.m11_link.specs.Front.{front_writes}
 use Rattle.m11_link.specs.Objects.{AreItems, BeginningItems, FailAfter, GiveItems, Item, BlockOf, ObjectItems, taken}
 use Rattle.m11_link.specs.Objects as objects

@@ -8,7 +8,7 @@ use Rattle.m11_link_layout.specs.Sections.{is_too_large}
 use Rattle.m11_link_layout.specs.declared.fault.LinkFault.{LinkFault}
 use Rattle.m11_link_layout.specs.declared.fault.LinkFault.TheVariants as fault
 use Rattle.m11_link_text.specs.Findings.{findings_of, planned}
-use Rattle.m11_base_pass_rules.specs.Passes.{AreKnown, IsKnown, pass_of}
+use Rattle.m11_base_writes.specs.Passes.{AreKnown, IsKnown, pass_of}
 use Rattle.m11_link.specs.FirstPass.{ReadsFirst}
 use Rattle.m11_link.specs.Objects.{◌>>=◌, AreItems, GiveItems, Item, outcome, taken, unless_too_large}
 use Rattle.m11_link.specs.Outputs.{Gains, StopsBetween, StopsIn, link}

@@ -7,7 +7,7 @@ use Rattle.m11_link_modules.specs.Parts.{Part}
 use Rattle.m11_link_layout.specs.Transfers.{transfer_address}
 use Rattle.m11_base_writes.specs.declared.outputs.Output.TheVariants.{Product, Report, Messages}
 use Rattle.m11_link_text.specs.Findings.{findings_of}
-use Rattle.m11_base_pass_rules.specs.Passes.{AreKnown, pass_of}
+use Rattle.m11_base_writes.specs.Passes.{AreKnown, pass_of}
 use Rattle.m11_link.specs.Objects.{AreItems, Item, outcome}
 use Rattle.m11_link.specs.Outputs.{Gains}
 use Rattle.m11_base_writes.specs.Outputs.{AreFlushed, Outputs}

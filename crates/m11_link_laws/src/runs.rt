@@ -8,7 +8,7 @@ ghost use Rattle.m11_base_writes.specs.Outputs.{Outputs};
 ghost use Rattle.m11_link.specs.SecondPass.{LinkRuns};
 ghost use Rattle.m11_link.specs.declared.emit.LinkDone.{LinkDone};
 ghost use Rattle.m11_link_laws.specs.Left.{Leaves};
-ghost use Rattle.m11_base_pass_rules.specs.Passes.{AreKnown, pass_of};
+ghost use Rattle.m11_base_writes.specs.Passes.{AreKnown, pass_of};
 ghost use Rattle.m11_link_laws.specs.Runs.{IsDecided};
 
 use m11_base::Feed;

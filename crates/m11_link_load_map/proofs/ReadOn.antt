@@ -10,7 +10,7 @@ use Rattle.m11_link_layout.specs.Layout.{LayoutState, LayoutAfter, AcceptsBlock,
 use Rattle.m11_link_layout.specs.Plan.{LayoutEnds, PlanTables}
 use Rattle.m11_link_layout.specs.declared.fault.LinkFault.{LinkFault}
 use Rattle.m11_link_layout.specs.declared.fault.LinkFault.TheVariants as fault
-use Rattle.m11_base_pass_rules.specs.Passes.{pass_of}
+use Rattle.m11_base_writes.specs.Passes.{pass_of}
 use Rattle.m11_link.specs.FirstPass.{LayoutBetween}
 use Rattle.m11_link.specs.Objects.{Item, BlockOf, ObjectEnds, taken, unless_too_large}
 use Rattle.m11_link.specs.Objects as objects

@@ -7,7 +7,7 @@ use Rattle.m11_link_modules.specs.Parts.{Part, record_parts}
 use Rattle.m11_link_layout.specs.Layout.{LayoutState, LayoutAfter, AcceptsBlock}
 use Rattle.m11_link_layout.specs.Plan.{PlanTables, IsPlanOf}
 use Rattle.m11_link_layout.specs.declared.fault.LinkFault.{LinkFault}
-use Rattle.m11_base_pass_rules.specs.Passes.{Pass}
+use Rattle.m11_base_writes.specs.Passes.{Pass}
 use Rattle.m11_link.specs.FirstPass.{LaysOut, LaysOutObject, Reaches, ReadsFirst, LayoutBetween}
 use Rattle.m11_link.specs.Objects.{Item, GiveItems, GivesItems, outcome}
 use Rattle.m11_link_load_map.specs.Noted.{noted_of}

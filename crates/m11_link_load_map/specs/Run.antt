@@ -9,7 +9,7 @@ use Rattle.m11_link_layout.specs.Plan.{PlanTables}
 use Rattle.m11_link_layout.specs.declared.fault.LinkFault.{LinkFault}
 use Rattle.m11_link_layout.specs.declared.planned.PlannedGlobal.{PlannedGlobal}
 use Rattle.m11_link_layout.specs.Plan.{planned_base, planned_globals, planned_module}
-use Rattle.m11_base_pass_rules.specs.Passes.{Pass}
+use Rattle.m11_base_writes.specs.Passes.{Pass}
 use Rattle.m11_link.specs.FirstPass.{ReadsFirst}
 use Rattle.m11_link.specs.Objects.{Item, GiveItems, outcome}
 use Rattle.m11_link_load_map.specs.LoadMap.{Contribution, IsByValue, IsLoadMap, contribution_line, map_text}

@@ -2,7 +2,7 @@
 
 ghost use Rattle.std.specs.Prelude.{◌≡◌, ℕ, List, [], IfOk};
 ghost use Rattle.m11_link_layout.specs.Layout.{LayoutAfter};
-ghost use Rattle.m11_base_pass_rules.specs.Passes.{pass_of};
+ghost use Rattle.m11_base_writes.specs.Passes.{pass_of};
 ghost use Rattle.m11_link_load_map.specs.Reading.{NotedBetween, NotesAll, NotesBlock, NotesObject, NotesObjects, NotedAfter};
 ghost use Rattle.m11_link_modules.specs.Parts.{Part};
 ghost use Rattle.m11_obj.specs.Reading.{IsRecord};

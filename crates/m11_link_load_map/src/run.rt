@@ -1,6 +1,6 @@
 //! The run: objects in, their load map out.
 
-ghost use Rattle.m11_base_pass_rules.specs.Passes.{pass_of};
+ghost use Rattle.m11_base_writes.specs.Passes.{pass_of};
 ghost use Rattle.m11_link_load_map.specs.Run.{LoadMapRuns, MakesMap};
 ghost use Rattle.m11_base_writes.specs.States.{output_of};
 ghost use Rattle.std.specs.Prelude.{Ok, Err, MatchResult};

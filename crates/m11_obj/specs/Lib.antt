@@ -6,3 +6,12 @@ pub mod Gsd
 pub mod Reading
 pub mod Records
 pub mod Relocations
+pub mod Blocks
+pub mod Directory
+pub mod Fronts
+pub mod Laws
+pub mod OpenText
+pub mod Pieces
+pub mod TextsRead
+pub mod RelocationList
+pub mod Texts

@@ -1,3 +1,8 @@
+pub mod FrameFaults
+pub mod BlockFaults
+pub mod TapeFaults
+pub mod TapeCuts
+pub mod WholeTapes
 pub mod Steps
 pub mod Longer
 pub mod Names

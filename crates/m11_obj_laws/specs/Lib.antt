@@ -1,1 +1,4 @@
+pub mod BlockFaults
+pub mod TapeFaults
+pub mod TapeStops
 pub mod Faults

@@ -7,7 +7,7 @@ use Rattle.std.proofs.lemmas.Bool.Decides.{nat_tests}
 use Rattle.std.proofs.lemmas.List.{drop-map, length-map, map-append, take-map}
 use Rattle.std.proofs.Math.ListN.{get_or-map}
 use Rattle.m11_base.specs.NameCharacters.{character_at, folded, is_name_character, six_of}
-use Rattle.m11_scan_lines.specs.Classes.{is_blank, is_digit}
+use Rattle.m11_scan.specs.Classes.{is_blank, is_digit}
 use Rattle.m11_scan.specs.declared.sort.Sort.{Sort}
 use Rattle.m11_scan.specs.declared.sort.Sort.TheVariants.{Name, Character, TwoCharacters, Packed, Colon, TwoColons, Equals, TwoEquals}
 use Rattle.m11_scan.specs.declared.sort.Form.{Form}

@@ -4,7 +4,7 @@ use Rattle.std.specs.Prelude.{◌==◌, ◌||◌, if◌then◌else◌, drop, len
 use Rattle.std.specs.List.{list_any, prefix_len}
 use Rattle.std.proofs.lemmas.Bool.{cases_Bool, eqb-true, false≢true, true≢false}
 use Rattle.m11_base.specs.NameCharacters.{is_name_character}
-use Rattle.m11_scan_lines.specs.Classes.{is_blank, is_digit, is_kept, is_mark}
+use Rattle.m11_scan.specs.Classes.{is_blank, is_digit, is_kept, is_mark}
 use Rattle.m11_scan.specs.Cutting.{pieces_after}
 use Rattle.m11_scan.specs.Pieces.{caret_piece, doubled_piece, first_piece, mark_form, mark_piece, number_ending, number_piece, token}
 use Rattle.m11_scan.specs.Skipped.{has_skipped, has_unkept, is_skipped}

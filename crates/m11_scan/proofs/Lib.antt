@@ -1,3 +1,14 @@
+pub mod Cuts
+pub mod Gaves
+pub mod MoreBytes
+pub mod OpenLines
+pub mod Seeking
+pub mod SourceSteps
+pub mod Runs
+pub mod PlainFronts
+pub mod ShortLines
+pub mod TableOfClasses
+pub mod PlainTexts
 pub mod Folding
 mod KeptTexts
 pub mod NamedTokens

@@ -6,7 +6,7 @@ use Rattle.std.proofs.lemmas.Bool.{cases_Bool, cases_lt, cond-false, cond-true, 
 use Rattle.std.proofs.lemmas.List.{length-drop, length-take-le}
 use Rattle.std.proofs.Math.Seq.{take-length}
 use Rattle.m11_base.specs.NameCharacters.{folded, is_name_character}
-use Rattle.m11_scan_lines.specs.Classes.{is_blank, is_digit}
+use Rattle.m11_scan.specs.Classes.{is_blank, is_digit}
 use Rattle.m11_scan.specs.declared.sort.Sort.{Sort}
 use Rattle.m11_scan.specs.declared.sort.Sort.TheVariants.{Name, Number, DecimalNumber, LocalSymbol, Character, TwoCharacters, Packed, BinaryRadix, OctalRadix, DecimalRadix, Complement, Colon, TwoColons, Equals, TwoEquals}
 use Rattle.m11_scan.specs.declared.sort.Form.{Form}

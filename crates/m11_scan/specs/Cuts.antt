@@ -4,7 +4,7 @@ use Rattle.std.specs.Prelude.{◌≡◌, ℕ, ◌<◌, ◌≤◌, Bool, ◌==◌
 use Rattle.std.specs.List.{list_all}
 use Rattle.m11_base.specs.Devices.{Bytes}
 use Rattle.m11_base.specs.NameCharacters.{folded, is_name_character}
-use Rattle.m11_scan_lines.specs.Classes.{is_blank, is_digit}
+use Rattle.m11_scan.specs.Classes.{is_blank, is_digit}
 use Rattle.m11_scan.specs.Cutting.{Lexeme, text_between}
 use Rattle.m11_scan.specs.Pieces.{mark_form}
 use Rattle.m11_scan.specs.declared.sort.Sort.{Sort}

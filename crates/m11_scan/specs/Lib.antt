@@ -1,3 +1,10 @@
+pub mod Lines
+pub mod Classes
+pub mod Line
+pub mod OpenLine
+pub mod Sources
+pub mod Reader
+pub mod Laws
 pub mod Codes
 pub mod Ends
 pub mod Expressions

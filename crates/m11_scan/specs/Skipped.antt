@@ -3,7 +3,7 @@
 use Rattle.std.specs.Prelude.{ℕ, Bool, true, false, not, ◌==◌, if◌then◌else◌, [], ◌∷◌}
 use Rattle.std.specs.List.{list_any}
 use Rattle.m11_base.specs.Devices.{Bytes}
-use Rattle.m11_scan_lines.specs.Classes.{is_kept}
+use Rattle.m11_scan.specs.Classes.{is_kept}
 use Rattle.m11_scan.specs.declared.sort.Form.{Form}
 use Rattle.m11_scan.specs.declared.sort.Form.TheVariants.{Cut, Blank, Comment, Skipped}
 use Rattle.m11_scan.specs.declared.pieces.Piece.{Piece}

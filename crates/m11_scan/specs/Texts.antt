@@ -4,7 +4,7 @@
 use Rattle.std.specs.Prelude.{ℕ, zero, suc, ◌+◌, Bool, true, false, not, ◌==◌, if◌then◌else◌, [], ◌∷◌, drop}
 use Rattle.std.specs.List.{list_any, prefix_len}
 use Rattle.m11_base.specs.Devices.{Bytes}
-use Rattle.m11_scan_lines.specs.Classes.{is_blank}
+use Rattle.m11_scan.specs.Classes.{is_blank}
 use Rattle.m11_scan.specs.declared.texts.Enclosed.{Enclosed}
 
 -- the text up to the first delimiter, or to the end

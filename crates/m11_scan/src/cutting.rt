@@ -2,12 +2,12 @@
 
 ghost use Rattle.std.specs.Prelude.{◌≡◌, ◌<◌, ◌≤◌, List, [], ◌∷◌, None, length, IfSome, MatchOption};
 ghost use Rattle.m11_scan.specs.Cutting.{Lexeme, text_between, tokens_from};
-ghost use Rattle.m11_scan_lines.specs.Line.{line_limit};
+ghost use Rattle.m11_scan.specs.Line.{line_limit};
 ghost use Rattle.m11_scan.specs.Views.{lexeme};
 
+use crate::line::Line;
 use crate::pieces::first_piece;
 use crate::sort::{Form, Sort};
-use m11_scan_lines::Line;
 
 /// A token of a line.
 #[derive(Clone, Copy, PartialEq, Eq, Debug, Default)]

@@ -1,14 +1,14 @@
 //! Where an expression of a line ends, and which tokens it has. (MACRO-11 Language Reference Manual, "Expressions".)
 
 ghost use Rattle.std.specs.Prelude.{◌≡◌, ◌≤◌, length, map};
-ghost use Rattle.m11_scan_lines.specs.Line.{line_limit};
+ghost use Rattle.m11_scan.specs.Line.{line_limit};
 ghost use Rattle.m11_scan.specs.Ends.{expression_at, expression_end};
 ghost use Rattle.m11_scan.specs.Views.{lexeme};
 
 use crate::cutting::{Token, next_token};
 use crate::expressions::{Within, goes_on, role_of};
+use crate::line::{LINE_LIMIT, Line};
 use arrayvec::ArrayVec;
-use m11_scan_lines::{LINE_LIMIT, Line};
 
 /// The column after the expression that begins at a column of a line, or that column where no token of an expression stands there.
 pub fn expression_end(line: &Line, column: usize) -> usize

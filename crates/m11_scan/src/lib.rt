@@ -1,14 +1,40 @@
-//! What one line of a source is cut into: its tokens, its numbers and names, and the flags that flag it. No symbol has a
-//! value here, and nothing takes memory. (MACRO-11 Language Reference Manual, "Source program format" and "Symbols and
-//! expressions".)
+//! The lines of sources, and what one line is cut into: what is kept of a line, the reader that takes lines from feeds one after another, the
+//! tokens of a line, its numbers and names, and the flags that flag it. No symbol has a value here, and a line takes no memory. (MACRO-11
+//! Language Reference Manual, "Source program format" and "Symbols and expressions".)
 #![tactic(auto)]
+
+// Classes of characters, a line, and one whose end has not come yet.
+mod classes;
+mod line;
+mod open_line;
+
+pub use classes::{Class, is_of, run_length};
+pub use line::{LINE_LIMIT, Line};
+
+// The reader of the lines of one source, and of several.
+mod reader;
+mod sources;
+
+pub use reader::LineReader;
+
+// What can end the reading.
+mod fault;
+
+pub use fault::LineFault;
+
+// Laws of the cut of a source into lines.
+mod line_laws;
+
+pub use line_laws::{
+    lines_of_parts_are_those_of_the_whole, lines_within_the_limit_are_kept_whole,
+    plain_lines_are_cut_as_they_stand,
+};
 
 // The characters of a line, and its flags.
 mod codes;
 mod flags;
 
 pub use flags::ErrorFlags;
-pub use m11_scan_lines::{Class, LINE_LIMIT, Line, is_of, run_length};
 
 // The pieces that a line is cut into, and the tokens among them.
 mod cutting;

@@ -2,11 +2,11 @@
 //! set".)
 
 ghost use Rattle.std.specs.Prelude.{◌≡◌, ℕ, ◌+◌, ◌<◌, ◌≤◌, ◌∷◌, false, true, length};
-ghost use Rattle.m11_scan_lines.specs.Classes.{is_blank, is_digit};
+ghost use Rattle.m11_scan.specs.Classes.{is_blank, is_digit};
 ghost use Rattle.m11_scan.specs.Pieces as spec;
 
+use crate::classes::{Class, is_of, run_length};
 use crate::sort::{Form, Sort};
-use m11_scan_lines::{Class, is_of, run_length};
 
 /// A piece of a line: a token, a blank, the comment, or a character that begins no token.
 #[derive(Clone, Copy, PartialEq, Eq, Debug)]

@@ -3,9 +3,10 @@
 ghost use Rattle.std.specs.Prelude.{◌≡◌, ◌≤◌, length};
 ghost use Rattle.m11_scan.specs.Skipped.{has_skipped, has_unkept, is_skipped, skipped_between};
 
+use crate::classes::{Class, is_of};
+use crate::line::Line;
 use crate::pieces::first_piece;
 use crate::sort::Form;
-use m11_scan_lines::{Class, Line, is_of};
 
 /// Whether some character between two columns of a line begins no token, and is part of none. Such a character is skipped, and
 /// its line has I.

@@ -4,7 +4,7 @@
 ghost use Rattle.std.specs.Prelude.{◌≡◌, ◌<◌, ◌≤◌, length, true};
 ghost use Rattle.m11_scan.specs.Texts.{bracketed, delimited, separator_length};
 
-use m11_scan_lines::{Class, run_length};
+use crate::classes::{Class, run_length};
 
 /// A text between two delimiters, or one whose second delimiter is missing.
 #[derive(Clone, Copy, PartialEq, Eq, Debug)]

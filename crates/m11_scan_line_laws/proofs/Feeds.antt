@@ -3,12 +3,12 @@ use Rattle.std.proofs.Common.{◌≡◌, ℕ, ◌+◌, ◌-◌, List, [], ◌∷
 use Rattle.std.proofs.lemmas.List.{length-map, length-drop, length-set, append-nil}
 use Rattle.m11_base.specs.Devices.{Rises}
 use Rattle.m11_base.specs.Feed.{Text, GiveAll, NoneFailed, OneFailed}
-use Rattle.m11_scan_lines.specs.declared.fault.LineFault.TheVariants.{Read, TooMuchSource, TooManyLines}
-use Rattle.m11_scan_lines.specs.Line.{SourceLine}
-use Rattle.m11_scan_lines.specs.Lines.{input_of}
-use Rattle.m11_scan_lines.specs.Reader.{Position, position_at, Gave, Fails, ReadsNext}
-use Rattle.m11_scan_lines.proofs.Cuts.{bytes_of}
-use Rattle.m11_scan_lines.proofs.Gaves.{gave_both}
+use Rattle.m11_scan.specs.declared.fault.LineFault.TheVariants.{Read, TooMuchSource, TooManyLines}
+use Rattle.m11_scan.specs.Line.{SourceLine}
+use Rattle.m11_scan.specs.Lines.{input_of}
+use Rattle.m11_scan.specs.Reader.{Position, position_at, Gave, Fails, ReadsNext}
+use Rattle.m11_scan.proofs.Cuts.{bytes_of}
+use Rattle.m11_scan.proofs.Gaves.{gave_both}
 use Rattle.m11_scan_line_laws.specs.Readings.{reading_of_input}
 use Rattle.m11_scan_line_laws.specs.Calls.{HasRead, HaveReading, BeginReading, FailReading, start}
 use Rattle.m11_scan_line_laws.proofs.Given.{GiveParts, GiveSources, Whole, begins_with, parts_of, whole_of, ended}

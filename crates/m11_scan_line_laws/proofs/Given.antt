@@ -2,9 +2,9 @@
 use Rattle.std.proofs.Common.{◌≡◌, ℕ, List, [], ◌∷◌, ◌++◌, Option, Some, None, refl, sym, ap, ◌∙◌, append_assoc}
 use Rattle.std.proofs.lemmas.List.{map-append}
 use Rattle.m11_base.specs.Feed.{Text, GivesByte, GivesBytes, GivesEnd, HasBytes, BeginsWith, GiveAll}
-use Rattle.m11_scan_lines.specs.Lines.{input_of}
-use Rattle.m11_scan_lines.specs.Reader.{Gave}
-use Rattle.m11_scan_lines.proofs.Cuts.{bytes_of}
+use Rattle.m11_scan.specs.Lines.{input_of}
+use Rattle.m11_scan.specs.Reader.{Gave}
+use Rattle.m11_scan.proofs.Cuts.{bytes_of}
 
 -- the texts give these sources to their ends, and then a beginning of one more, where there is one more
 abbrev pub GiveParts : List (Option Text) → List (Option Text) → List (List ℕ) → List ℕ → Type 0

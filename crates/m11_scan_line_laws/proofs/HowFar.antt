@@ -2,13 +2,13 @@
 use Rattle.std.proofs.Common.{◌≡◌, ℕ, ◌≤◌, zero, suc, List, [], ◌∷◌, ◌++◌, length, map, drop, get_or, Option, Some, None, Ok, Err, refl, sym, ap, subst, ◌∙◌, arith, append_assoc}
 use Rattle.std.proofs.lemmas.List.{length-map, length-drop, length-set, append-nil, map-append}
 use Rattle.m11_base.specs.Feed.{Text, GivesBytes, GivesFailure}
-use Rattle.m11_scan_lines.specs.declared.fault.LineFault.{LineFault}
-use Rattle.m11_scan_lines.specs.declared.fault.LineFault.TheVariants.{Read, TooMuchSource, TooManyLines}
-use Rattle.m11_scan_lines.specs.Line.{SourceLine}
-use Rattle.m11_scan_lines.specs.Lines.{cut, input_of}
-use Rattle.m11_scan_lines.specs.Reader.{Position, position_at, Gave, Fails, ReadsNext}
-use Rattle.m11_scan_lines.proofs.Cuts.{bytes_of}
-use Rattle.m11_scan_lines.proofs.SourceSteps.{gave_one, gave_then}
+use Rattle.m11_scan.specs.declared.fault.LineFault.{LineFault}
+use Rattle.m11_scan.specs.declared.fault.LineFault.TheVariants.{Read, TooMuchSource, TooManyLines}
+use Rattle.m11_scan.specs.Line.{SourceLine}
+use Rattle.m11_scan.specs.Lines.{cut, input_of}
+use Rattle.m11_scan.specs.Reader.{Position, position_at, Gave, Fails, ReadsNext}
+use Rattle.m11_scan.proofs.Cuts.{bytes_of}
+use Rattle.m11_scan.proofs.SourceSteps.{gave_one, gave_then}
 use Rattle.m11_scan_line_laws.specs.Readings.{reading_of_input}
 use Rattle.m11_scan_line_laws.specs.Calls.{HasRead, start}
 use Rattle.m11_scan_line_laws.specs.Extents.{GaveAll, GaveLines, GavePast, GaveTill, GaveTo, came_of}

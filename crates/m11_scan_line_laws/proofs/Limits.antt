@@ -3,11 +3,11 @@ use Rattle.std.proofs.Common.{◌≡◌, ℕ, ◌+◌, ◌<◌, ◌≤◌, Bool,
 use Rattle.std.specs.Prelude.{◌==◌, ◌&&◌}
 use Rattle.std.proofs.lemmas.Bool.{cases_lt, lt-ltb, le-ltb, ltb-true}
 use Rattle.std.proofs.lemmas.List.{length-append, append-nil}
-use Rattle.m11_scan_lines.specs.declared.fault.LineFault.{LineFault}
-use Rattle.m11_scan_lines.specs.declared.fault.LineFault.TheVariants.{TooMuchSource, TooManyLines}
-use Rattle.m11_scan_lines.specs.Lines.{RawLine, as_read, cleaned, is_empty, is_line, size_of, bytes_in, lines_in, most_bytes, most_lines}
-use Rattle.m11_scan_lines.proofs.Cuts.{either, raw}
-use Rattle.m11_scan_lines.proofs.SourceSteps.{cleaned-append}
+use Rattle.m11_scan.specs.declared.fault.LineFault.{LineFault}
+use Rattle.m11_scan.specs.declared.fault.LineFault.TheVariants.{TooMuchSource, TooManyLines}
+use Rattle.m11_scan.specs.Lines.{RawLine, as_read, cleaned, is_empty, is_line, size_of, bytes_in, lines_in, most_bytes, most_lines}
+use Rattle.m11_scan.proofs.Cuts.{either, raw}
+use Rattle.m11_scan.proofs.SourceSteps.{cleaned-append}
 use Rattle.m11_scan_line_laws.specs.Readings.{begins_at, fault_at}
 
 -- ---- a piece

@@ -2,11 +2,11 @@
 use Rattle.std.proofs.Common.{◌≡◌, ℕ, ◌+◌, ◌≤◌, Bool, true, false, List, [], ◌∷◌, ◌++◌, Option, Some, None, refl, sym, ap, ◌∙◌, arith, append_assoc, inl, inr}
 use Rattle.std.specs.Prelude.{◌==◌, ◌&&◌, nat_lt, if◌then◌else◌}
 use Rattle.std.proofs.lemmas.List.{append-nil, map-append}
-use Rattle.m11_scan_lines.specs.declared.fault.LineFault.{LineFault}
-use Rattle.m11_scan_lines.specs.declared.fault.LineFault.TheVariants.{TooMuchSource, TooManyLines}
-use Rattle.m11_scan_lines.specs.Line.{SourceLine}
-use Rattle.m11_scan_lines.specs.Lines.{RawLine, Cut, cut, input_of, in_front, is_line, size_of, bytes_in, lines_in, most_bytes, most_lines}
-use Rattle.m11_scan_lines.proofs.Cuts.{either, raw, bytes_of}
+use Rattle.m11_scan.specs.declared.fault.LineFault.{LineFault}
+use Rattle.m11_scan.specs.declared.fault.LineFault.TheVariants.{TooMuchSource, TooManyLines}
+use Rattle.m11_scan.specs.Line.{SourceLine}
+use Rattle.m11_scan.specs.Lines.{RawLine, Cut, cut, input_of, in_front, is_line, size_of, bytes_in, lines_in, most_bytes, most_lines}
+use Rattle.m11_scan.proofs.Cuts.{either, raw, bytes_of}
 use Rattle.m11_scan_line_laws.specs.Readings.{Reading, lines_of, begins_at, fault_at, unless_fault, reading_from, reading_of, reading_of_input}
 use Rattle.m11_scan_line_laws.proofs.Limits.{within, no_fault, empty_within}
 use Rattle.m11_scan_line_laws.proofs.Pieces.{following, cut_more, after_line, after_none, bytes_in-first, lines_in-first, bytes_in-push, lines_in-push, lines_of-append}

@@ -4,9 +4,9 @@ use Rattle.std.specs.Prelude.{◌==◌, filter}
 use Rattle.std.proofs.lemmas.List.{map-append}
 use Rattle.std.proofs.lemmas.List.Elements.{filter-append}
 use Rattle.std.proofs.lemmas.List.Sums.{sum_by-append, length-filter}
-use Rattle.m11_scan_lines.specs.Line.{line_of}
-use Rattle.m11_scan_lines.specs.Lines.{RawLine, Cut, cut, closed_by, in_front, is_line, line_text, size_of, bytes_in, lines_in}
-use Rattle.m11_scan_lines.proofs.Cuts.{either, raw}
+use Rattle.m11_scan.specs.Line.{line_of}
+use Rattle.m11_scan.specs.Lines.{RawLine, Cut, cut, closed_by, in_front, is_line, line_text, size_of, bytes_in, lines_in}
+use Rattle.m11_scan.proofs.Cuts.{either, raw}
 use Rattle.m11_scan_line_laws.specs.Readings.{lines_of}
 
 -- ---- bytes before a cut

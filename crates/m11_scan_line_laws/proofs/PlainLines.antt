@@ -2,11 +2,11 @@
 use Rattle.std.proofs.Common.{◌≡◌, ◌≢◌, ℕ, ◌≤◌, true, false, List, [], ◌∷◌, ◌++◌, length, map, sum_by, Option, Some, None, refl, sym, ap, ◌∙◌, subst, append_assoc, arith}
 use Rattle.std.proofs.lemmas.List.{append-nil, length-append, map-append}
 use Rattle.std.proofs.lemmas.List.Sums.{sum_by-append}
-use Rattle.m11_scan_lines.specs.Laws.{ArePlainTexts, IsPlainText, with_line_feed, written}
-use Rattle.m11_scan_lines.specs.Line.{SourceLine, line_of}
-use Rattle.m11_scan_lines.specs.Lines.{RawLine, bytes_in, cut, input_of, is_line, lines_in, most_bytes, most_lines}
-use Rattle.m11_scan_lines.proofs.Cuts.{bytes_of, cut_end, cut_joined, raw}
-use Rattle.m11_scan_lines.proofs.PlainTexts.{cleaned_plain, cut_written, has_no_line_feed, plain_text}
+use Rattle.m11_scan.specs.Laws.{ArePlainTexts, IsPlainText, with_line_feed, written}
+use Rattle.m11_scan.specs.Line.{SourceLine, line_of}
+use Rattle.m11_scan.specs.Lines.{RawLine, bytes_in, cut, input_of, is_line, lines_in, most_bytes, most_lines}
+use Rattle.m11_scan.proofs.Cuts.{bytes_of, cut_end, cut_joined, raw}
+use Rattle.m11_scan.proofs.PlainTexts.{cleaned_plain, cut_written, has_no_line_feed, plain_text}
 use Rattle.m11_scan_line_laws.specs.Laws.{AllEnded, HasLines, HaveLines, LastOpen, NoSource, OneMore}
 use Rattle.m11_scan_line_laws.specs.Readings.{lines_of, reading_from, reading_of}
 use Rattle.m11_scan_line_laws.proofs.Limits.{empty_within}

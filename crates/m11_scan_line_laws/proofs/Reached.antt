@@ -2,13 +2,13 @@
 use Rattle.std.proofs.Common.{◌≡◌, ℕ, ◌+◌, ◌<◌, ◌≤◌, true, false, cond, List, [], ◌∷◌, ◌++◌, length, map, Option, Some, None, refl, sym, ap, ◌∙◌, arith, append_assoc, inl, inr}
 use Rattle.std.specs.Prelude.{◌==◌}
 use Rattle.std.proofs.lemmas.List.{append-nil}
-use Rattle.m11_scan_lines.specs.declared.fault.LineFault.{LineFault}
-use Rattle.m11_scan_lines.specs.declared.fault.LineFault.TheVariants.{TooMuchSource, TooManyLines}
-use Rattle.m11_scan_lines.specs.Line.{SourceLine, line_of}
-use Rattle.m11_scan_lines.specs.Lines.{RawLine, Cut, cut, cleaned, is_line, line_text, bytes_in, lines_in, most_bytes, most_lines}
-use Rattle.m11_scan_lines.specs.Reader.{Position, Gave, Came, ReadsLine}
-use Rattle.m11_scan_lines.proofs.Cuts.{cut_joined}
-use Rattle.m11_scan_lines.proofs.Gaves.{gave_none, gave_both}
+use Rattle.m11_scan.specs.declared.fault.LineFault.{LineFault}
+use Rattle.m11_scan.specs.declared.fault.LineFault.TheVariants.{TooMuchSource, TooManyLines}
+use Rattle.m11_scan.specs.Line.{SourceLine, line_of}
+use Rattle.m11_scan.specs.Lines.{RawLine, Cut, cut, cleaned, is_line, line_text, bytes_in, lines_in, most_bytes, most_lines}
+use Rattle.m11_scan.specs.Reader.{Position, Gave, Came, ReadsLine}
+use Rattle.m11_scan.proofs.Cuts.{cut_joined}
+use Rattle.m11_scan.proofs.Gaves.{gave_none, gave_both}
 use Rattle.m11_scan_line_laws.specs.Readings.{Reading, lines_of, reading_from, reading_of_input}
 use Rattle.m11_scan_line_laws.specs.Calls.{HasRead}
 use Rattle.m11_scan_line_laws.proofs.Limits.{open_within, too_much_at_line_feed, too_much_at_byte, too_many_at_line_feed, too_many_at_byte}

@@ -3,9 +3,9 @@
 use Rattle.std.specs.Prelude.{◌≡◌, ℕ, ◌+◌, List, [], ◌++◌, map, Option, Some}
 use Rattle.m11_base.specs.Devices.{Bytes}
 use Rattle.m11_base.specs.Feed.{Text, GiveAll, NoneFailed, OneFailed}
-use Rattle.m11_scan_lines.specs.Line.{SourceLine}
-use Rattle.m11_scan_lines.specs.Lines.{RawLine, input_of, cut, bytes_in, lines_in, most_bytes, most_lines}
-use Rattle.m11_scan_lines.specs.Reader.{Position, position_at, Gave}
+use Rattle.m11_scan.specs.Line.{SourceLine}
+use Rattle.m11_scan.specs.Lines.{RawLine, input_of, cut, bytes_in, lines_in, most_bytes, most_lines}
+use Rattle.m11_scan.specs.Reader.{Position, position_at, Gave}
 use Rattle.m11_scan_line_laws.specs.Extents.{EndWithLine}
 use Rattle.m11_scan_line_laws.specs.Readings.{Reading, lines_of, reading_of, reading_of_input}
 

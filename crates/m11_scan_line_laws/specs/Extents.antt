@@ -3,9 +3,9 @@
 use Rattle.std.specs.Prelude.{◌≡◌, ◌⊎◌, true, ℕ, List, [], ◌∷◌, ◌++◌, length, map, Option, Some, None}
 use Rattle.m11_base.specs.Devices.{Bytes}
 use Rattle.m11_base.specs.Feed.{Text, GivesBytes, HasBytes}
-use Rattle.m11_scan_lines.specs.declared.fault.LineFault.{LineFault}
-use Rattle.m11_scan_lines.specs.Line.{SourceLine}
-use Rattle.m11_scan_lines.specs.Lines.{RawLine, input_of, cut, is_line}
+use Rattle.m11_scan.specs.declared.fault.LineFault.{LineFault}
+use Rattle.m11_scan.specs.Line.{SourceLine}
+use Rattle.m11_scan.specs.Lines.{RawLine, input_of, cut, is_line}
 use Rattle.m11_scan_line_laws.specs.Readings.{lines_of, reading_of, reading_of_input}
 
 -- the first feeds gave these sources, which are all their bytes; the feed after them gave this beginning of its own, and the others nothing

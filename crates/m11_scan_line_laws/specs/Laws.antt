@@ -1,7 +1,7 @@
 -- Sources by the lines that stand in them.
 use Rattle.std.specs.Prelude.{◌≢◌, List, [], ◌∷◌, ◌++◌}
 use Rattle.m11_base.specs.Devices.{Bytes}
-use Rattle.m11_scan_lines.specs.Laws.{ArePlainTexts, IsPlainText, written}
+use Rattle.m11_scan.specs.Laws.{ArePlainTexts, IsPlainText, written}
 
 -- a source has these lines, none of them with NULs, line feeds, form feeds or CRs: a line feed follows each, or each but the
 -- last, which isn't empty then

@@ -3,10 +3,10 @@
 -- from that byte on counts, are this project's own.)
 use Rattle.std.specs.Prelude.{ℕ, ◌+◌, ◌==◌, ◌&&◌, nat_lt, false, if◌then◌else◌, List, [], ◌∷◌, ◌++◌, map, filter, Option, Some, None}
 use Rattle.m11_base.specs.Devices.{Bytes}
-use Rattle.m11_scan_lines.specs.declared.fault.LineFault.{LineFault}
-use Rattle.m11_scan_lines.specs.declared.fault.LineFault.TheVariants.{TooMuchSource, TooManyLines}
-use Rattle.m11_scan_lines.specs.Line.{SourceLine, line_of}
-use Rattle.m11_scan_lines.specs.Lines.{RawLine, input_of, cut, is_line, line_text, size_of, bytes_in, lines_in, most_bytes, most_lines}
+use Rattle.m11_scan.specs.declared.fault.LineFault.{LineFault}
+use Rattle.m11_scan.specs.declared.fault.LineFault.TheVariants.{TooMuchSource, TooManyLines}
+use Rattle.m11_scan.specs.Line.{SourceLine, line_of}
+use Rattle.m11_scan.specs.Lines.{RawLine, input_of, cut, is_line, line_text, size_of, bytes_in, lines_in, most_bytes, most_lines}
 
 -- the lines up to the end of the last source, or up to the byte that passes a limit
 pub record Reading : Type 0 where

@@ -3,10 +3,10 @@
 ghost use Rattle.std.specs.Prelude.{◌≡◌, ◌≤◌, ◌∷◌, ◌++◌, ℕ, List, [], length, map, sum_by, Option, Some, None, Ok, Err};
 ghost use Rattle.m11_base.specs.Devices.{Bytes};
 ghost use Rattle.m11_base.specs.Feed.{Text};
-ghost use Rattle.m11_scan_lines.specs.declared.fault.LineFault.TheVariants.{Read, TooMuchSource, TooManyLines};
-ghost use Rattle.m11_scan_lines.specs.Line.{SourceLine, line_of};
-ghost use Rattle.m11_scan_lines.specs.Lines.{most_bytes, most_lines};
-ghost use Rattle.m11_scan_lines.specs.Reader.{Position, position_at, ReadsNext};
+ghost use Rattle.m11_scan.specs.declared.fault.LineFault.TheVariants.{Read, TooMuchSource, TooManyLines};
+ghost use Rattle.m11_scan.specs.Line.{SourceLine, line_of};
+ghost use Rattle.m11_scan.specs.Lines.{most_bytes, most_lines};
+ghost use Rattle.m11_scan.specs.Reader.{Position, position_at, ReadsNext};
 ghost use Rattle.m11_scan_line_laws.specs.Calls.{BeginReading, FailReading, HasRead, HaveReading, start};
 ghost use Rattle.m11_scan_line_laws.specs.Extents.{GaveAll, GaveLines, GavePast, GaveTill};
 ghost use Rattle.m11_scan_line_laws.specs.Laws.{HaveLines};

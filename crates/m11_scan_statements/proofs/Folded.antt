@@ -4,7 +4,7 @@ use Rattle.std.specs.Prelude.{◌==◌, if◌then◌else◌, not}
 use Rattle.std.specs.List.{prefix_len}
 use Rattle.std.proofs.lemmas.List.{take-map}
 use Rattle.m11_base.specs.NameCharacters.{folded}
-use Rattle.m11_scan_lines.specs.Classes.{is_digit}
+use Rattle.m11_scan.specs.Classes.{is_digit}
 use Rattle.m11_scan.specs.Cutting.{Lexeme, tokens_from, tokens_of}
 use Rattle.std.specs.Int.RustNames.{bit_or}
 use Rattle.m11_scan.specs.ErrorFlags.{flag_A, flag_I, flag_L, flag_if}

@@ -5,7 +5,7 @@ use Rattle.std.specs.List.{prefix_len}
 use Rattle.std.proofs.lemmas.Bool.{eqb-true, false≢true, true≢false}
 use Rattle.m11_base.specs.Devices.{Bytes}
 use Rattle.m11_base.specs.NameCharacters.{is_name_character}
-use Rattle.m11_scan_lines.specs.Classes.{is_blank, is_digit}
+use Rattle.m11_scan.specs.Classes.{is_blank, is_digit}
 use Rattle.m11_scan.specs.Cutting.{Lexeme, lexemes_at, lexemes_from, pieces_after, pieces_of, text_between, tokens_from}
 use Rattle.m11_scan.specs.Pieces.{first_piece, number_ending, number_piece, token}
 use Rattle.m11_scan.specs.Skipped.{skipped_between}

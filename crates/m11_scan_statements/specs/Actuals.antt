@@ -4,7 +4,7 @@
 use Rattle.std.specs.Prelude.{ℕ, ◌+◌, Bool, true, false, ◌&&◌, ◌==◌, if◌then◌else◌, [], ◌∷◌, drop, Option, Some, None}
 use Rattle.std.specs.List.{prefix_len}
 use Rattle.m11_base.specs.Devices.{Bytes}
-use Rattle.m11_scan_lines.specs.Classes.{is_bare, is_blank}
+use Rattle.m11_scan.specs.Classes.{is_bare, is_blank}
 use Rattle.m11_scan.specs.declared.texts.Enclosed.{Enclosed}
 use Rattle.m11_scan.specs.Ends.{expression_end}
 use Rattle.m11_scan.specs.Texts.{bracketed, separator_length}

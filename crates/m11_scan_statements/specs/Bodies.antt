@@ -5,7 +5,7 @@ use Rattle.std.specs.Prelude.{ℕ, Bool, true, false, ◌||◌, ◌==◌, if◌t
 use Rattle.std.specs.List.{prefix_len}
 use Rattle.m11_base.specs.Devices.{Bytes}
 use Rattle.m11_base.specs.NameCharacters.{is_name_character}
-use Rattle.m11_scan_lines.specs.Classes.{is_blank}
+use Rattle.m11_scan.specs.Classes.{is_blank}
 use Rattle.m11_scan.specs.declared.sort.Sort.{Sort}
 use Rattle.m11_scan.specs.declared.sort.Sort.TheVariants as sorts
 use Rattle.m11_scan.specs.Cutting.{Lexeme}

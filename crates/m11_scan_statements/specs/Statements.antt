@@ -5,7 +5,7 @@ use Rattle.std.specs.Int.RustNames.{bit_or}
 use Rattle.m11_base.specs.Devices.{Bytes}
 use Rattle.m11_scan.specs.Cutting.{tokens_from}
 use Rattle.m11_scan.specs.ErrorFlags.{flag_A, flag_I, flag_L, flag_if}
-use Rattle.m11_scan_lines.specs.Line.{SourceLine}
+use Rattle.m11_scan.specs.Line.{SourceLine}
 use Rattle.m11_scan.specs.Skipped.{skipped_between}
 use Rattle.m11_scan_statements.specs.Bodies.{body_in}
 use Rattle.m11_scan_statements.specs.Labels.{labels_at, labels_end}

@@ -2,7 +2,7 @@
 
 ghost use Rattle.std.specs.Prelude.{◌≡◌, ◌+◌, ◌<◌, ◌≤◌, [], ◌∷◌, length, IfSome, MatchOption};
 ghost use Rattle.m11_scan.specs.Cutting.{tokens_from};
-ghost use Rattle.m11_scan_lines.specs.Line.{line_limit};
+ghost use Rattle.m11_scan.specs.Line.{line_limit};
 ghost use Rattle.m11_scan.specs.Views.{lexeme};
 ghost use Rattle.m11_scan_statements.specs.Labels as spec;
 ghost use Rattle.m11_scan_statements.specs.Statements.{has_outside, is_outside};

@@ -1,7 +1,7 @@
 //! The parts of the text of `.ASCII`, `.ASCIZ` and `.RAD50`. (MACRO-11 Language Reference Manual, ".ASCII directive".)
 
 ghost use Rattle.std.specs.Prelude.{◌≡◌, ◌+◌, ◌<◌, ◌≤◌, length, true, IfSome};
-ghost use Rattle.m11_scan_lines.specs.Line.{line_limit};
+ghost use Rattle.m11_scan.specs.Line.{line_limit};
 ghost use Rattle.m11_scan.specs.Views.{bits_of};
 ghost use Rattle.m11_scan_statements.specs.Parts as spec;
 

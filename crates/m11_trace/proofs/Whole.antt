@@ -4,7 +4,7 @@ use Rattle.std.specs.Prelude.{unwrap_or}
 use Rattle.std.specs.Io.KnownBytes.{Appends}
 use Rattle.m11_base.specs.Devices.{Rises}
 use Rattle.m11_base.specs.Sink.{AppendsBeginning}
-use Rattle.m11_base_instructions.specs.declared.operand.Register.TheVariants.{Pc}
+use Rattle.m11_base.specs.declared.operand.Register.TheVariants.{Pc}
 use Rattle.m11_base.proofs.Known.{Appends-Appends}
 use Rattle.m11_cpu.specs.Loading.{LoadsInto}
 use Rattle.m11_cpu.specs.Messages.{PutsMessages}

@@ -1,7 +1,7 @@
 -- Steps that were made one after another. (This project's own.)
 use Rattle.std.specs.Prelude.{◌≡◌, ℕ, suc, ◌-◌, ◌%◌, ◌==◌, nat_le, nat_lt, if◌then◌else◌, List, [], ◌∷◌, ◌++◌, length, map, take}
 use Rattle.m11_base.specs.Devices.{Bytes}
-use Rattle.m11_base_instructions.specs.declared.operand.Register.TheVariants.{Pc}
+use Rattle.m11_base.specs.declared.operand.Register.TheVariants.{Pc}
 use Rattle.m11_cpu_machine.specs.Dialogue.{Devices, Does}
 use Rattle.m11_cpu_machine.specs.Machine.{with_register}
 use Rattle.m11_cpu_machine.specs.Steps.{step}

@@ -1,7 +1,7 @@
 -- What is kept where a fault comes.
 use Rattle.std.proofs.Common.{◌≡◌, ◌<◌, ◌+◌, Bool, true, Option, Some, None, ap, arith}
 use Rattle.m11_unfold_bodies.specs.Conditions.{no_conditions}
-use Rattle.m11_scan_lines.specs.Line.{SourceLine}
+use Rattle.m11_scan.specs.Line.{SourceLine}
 use Rattle.m11_unfold_rules.specs.Limits.{bytes_taken, most_lines}
 use Rattle.m11_unfold_rules.specs.Stages.{Opening, Stage}
 use Rattle.m11_unfold_rules.specs.declared.fault.UnfoldFault.{UnfoldFault}

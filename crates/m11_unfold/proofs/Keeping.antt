@@ -5,14 +5,14 @@ use Rattle.std.specs.Option.{is_none}
 use Rattle.std.proofs.lemmas.Bool.Decides.{nat_tests}
 use Rattle.std.proofs.lemmas.List.Sums.{sum_by-append}
 use Rattle.m11_base.specs.Rad50.{Name, is_same_name}
-use Rattle.m11_unfold_arguments.specs.declared.directives.Directive.{Directive}
-use Rattle.m11_unfold_arguments.specs.declared.directives.Directive.TheVariants as word
+use Rattle.m11_unfold_rules.specs.declared.directives.Directive.{Directive}
+use Rattle.m11_unfold_rules.specs.declared.directives.Directive.TheVariants as word
 use Rattle.m11_unfold_bodies.specs.Bodies.{size_of}
 use Rattle.m11_unfold_bodies.specs.Conditions.{OpenConditions, unnested}
 use Rattle.m11_unfold_bodies.specs.Left.{RemainingItem, Line, End, depth, expanded, marks}
 use Rattle.m11_unfold_bodies.specs.declared.mark.Mark.{Mark}
 use Rattle.m11_unfold_bodies.proofs.Stacks.{marks-rounds}
-use Rattle.m11_scan_lines.specs.Line.{SourceLine}
+use Rattle.m11_scan.specs.Line.{SourceLine}
 use Rattle.m11_unfold_rules.specs.Limits.{body_fault, bytes_of, bytes_taken, closing_fault, fault_from, most_bytes, most_lines, most_macros, next_fault, taking_fault}
 use Rattle.m11_unfold_bodies.specs.Left.{most_expansions}
 use Rattle.m11_unfold_rules.specs.Macros.{defined, macro_named}
@@ -20,7 +20,7 @@ use Rattle.m11_unfold_rules.specs.Stages.{Macro, Opening, Purpose, Defines, Repe
 use Rattle.m11_unfold_rules.specs.Taking.{Move, NothingLeft, Passes, Gives, into_body, line_taken, live_or_skipped, move, move_from, nesting, one_taken, opened, skipped, skipped_by, switch_in, used}
 use Rattle.m11_unfold_bodies.specs.Bodies.{depth_after}
 use Rattle.m11_unfold_bodies.specs.Conditions.{is_skipping}
-use Rattle.m11_unfold_arguments.specs.Directives.{directive}
+use Rattle.m11_unfold_rules.specs.Directives.{directive}
 use Rattle.m11_unfold_rules.specs.declared.fault.UnfoldFault.{UnfoldFault}
 use Rattle.m11_unfold.specs.Kept.{IsKept}
 

@@ -2,20 +2,20 @@
 use Rattle.std.proofs.Common.{◌≡◌, ◌≤◌, ◌<◌, ◌+◌, ℕ, Bool, true, false, List, [], ◌∷◌, length, Option, Some, None, Result, Ok, Err, IfErr, IfOk, refl, sym, subst, arith}
 use Rattle.std.specs.Prelude.{if◌then◌else◌, nat_le, nat_lt, drop, map}
 use Rattle.std.proofs.lemmas.Bool.Decides.{nat_tests}
-use Rattle.m11_unfold_arguments.specs.Actuals.{actuals_from}
-use Rattle.m11_unfold_arguments.specs.Conditions.{ConditionResult, condition}
+use Rattle.m11_unfold_rules.specs.Actuals.{actuals_from}
+use Rattle.m11_unfold_rules.specs.Conditions.{ConditionResult, condition}
 use Rattle.m11_scan_expressions.specs.Expressions.{KnownSymbols}
-use Rattle.m11_unfold_arguments.specs.Filling.{filled}
-use Rattle.m11_unfold_arguments.specs.Immediate as immediate
-use Rattle.m11_unfold_arguments.specs.Indefinite.{irpc, irp}
-use Rattle.m11_unfold_arguments.specs.Macros.{header}
-use Rattle.m11_unfold_arguments.specs.declared.directives.Directive.TheVariants as word
+use Rattle.m11_unfold_rules.specs.Filling.{filled}
+use Rattle.m11_unfold_rules.specs.Immediate as immediate
+use Rattle.m11_unfold_rules.specs.Indefinite.{irpc, irp}
+use Rattle.m11_unfold_rules.specs.Headers.{header}
+use Rattle.m11_unfold_rules.specs.declared.directives.Directive.TheVariants as word
 use Rattle.m11_unfold_bodies.specs.Conditions.{OpenConditions, closed, has_none, most_conditions, switched, with_part, without_first}
 use Rattle.m11_unfold_bodies.specs.Left.{RemainingItem, Line, End, after_mark, conditions_open, depth, is_expanding, marks, most_expansions}
 use Rattle.m11_unfold_bodies.specs.declared.conditions.OpenCondition.{OpenCondition}
 use Rattle.m11_unfold_bodies.specs.declared.conditions.Part.{Part}
 use Rattle.m11_unfold_bodies.specs.declared.conditions.Part.TheVariants as part
-use Rattle.m11_scan_lines.specs.Line.{line_of}
+use Rattle.m11_scan.specs.Line.{line_of}
 use Rattle.m11_unfold_rules.specs.Acting.{Acted, Operation, Foreign, Calls, OwnDirective, act, act_fault, acted_by, acted_exit, acted_within, condition_opened, defining, fault_by, flagged, formal_name, flag_O, operation, opens, own, repeating, with_statement}
 use Rattle.m11_unfold_rules.specs.Limits.{has_room}
 use Rattle.m11_unfold_rules.specs.Stages.{Purpose, Stage}

@@ -2,7 +2,7 @@
 use Rattle.std.proofs.Common.{◌≡◌, ◌≤◌, ℕ, length, Some, subst}
 use Rattle.std.proofs.lemmas.Option.{none-some, same_Some}
 use Rattle.m11_base.specs.Devices.{Bytes}
-use Rattle.m11_unfold_arguments.specs.Directives.{operator, operator_in}
+use Rattle.m11_unfold_rules.specs.Directives.{operator, operator_in}
 use Rattle.m11_scan_statements.specs.Labels.{labels_end}
 use Rattle.m11_scan_statements.specs.Order.{BodyLies}
 use Rattle.m11_scan_statements.specs.Statements.{body_of}

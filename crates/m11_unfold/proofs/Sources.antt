@@ -5,7 +5,7 @@ use Rattle.std.proofs.lemmas.List.{map-append}
 use Rattle.m11_scan_expressions.specs.Expressions.{KnownSymbols}
 use Rattle.m11_unfold_bodies.specs.Left.{RemainingItem}
 use Rattle.m11_unfold_bodies.specs.Left as lefts
-use Rattle.m11_scan_lines.specs.Line.{SourceLine}
+use Rattle.m11_scan.specs.Line.{SourceLine}
 use Rattle.m11_unfold_rules.proofs.Ending.{rests_after, stays_after}
 use Rattle.m11_unfold_rules.proofs.Following.{follows}
 use Rattle.m11_unfold_rules.proofs.MoreLines.{leads_on}

@@ -1,7 +1,7 @@
 -- What a body is taken for, as the code holds it. (This project's own.)
 use Rattle.std.specs.Prelude.{◌≤◌, length, Option, Some, None}
-use Rattle.m11_unfold_arguments.specs.Macros.{MacroNamed}
-use Rattle.m11_scan_lines.specs.Line.{line_limit}
+use Rattle.m11_unfold_rules.specs.Headers.{MacroNamed}
+use Rattle.m11_scan.specs.Line.{line_limit}
 use Rattle.m11_unfold_rules.specs.Stages as stages
 use Rattle.m11_unfold.specs.declared.opening.Purpose.{Purpose}
 use Rattle.m11_unfold.specs.declared.opening.Purpose.TheVariants.{Defines, Repeats, Drops}

@@ -1,7 +1,7 @@
 -- What an unfolder has given of a source, whatever lines of it are still to be fed. (This project's own.)
 use Rattle.std.specs.Prelude.{◌≡◌, List, [], ◌∷◌, ◌++◌, None, Result, Ok, Err}
 use Rattle.m11_scan_expressions.specs.Expressions.{KnownSymbols}
-use Rattle.m11_scan_lines.specs.Line.{SourceLine}
+use Rattle.m11_scan.specs.Line.{SourceLine}
 use Rattle.m11_unfold_rules.specs.Acting.{act, act_fault}
 use Rattle.m11_unfold_rules.specs.Limits.{next_fault}
 use Rattle.m11_unfold_rules.specs.Stages.{Stage}

@@ -3,7 +3,7 @@ use Rattle.std.specs.Prelude.{◌≡◌, Bool, true, false, is_some, List, [], �
 use Rattle.m11_base.specs.Devices.{Bytes}
 use Rattle.m11_unfold_bodies.specs.Bodies.{depth_after}
 use Rattle.m11_unfold_bodies.specs.Left.{RemainingItem, Line, End}
-use Rattle.m11_scan_lines.specs.Line.{SourceLine}
+use Rattle.m11_scan.specs.Line.{SourceLine}
 use Rattle.m11_unfold_rules.specs.Limits.{body_fault, closing_fault, next_fault}
 use Rattle.m11_unfold_rules.specs.Stages.{Opening, Purpose, Stage}
 use Rattle.m11_unfold_rules.specs.Taking as taking

@@ -2,11 +2,11 @@
 //! definition", "Repeat block directives", "Indefinite repeat block directives" and "Macro exit".)
 
 ghost use Rattle.std.specs.Prelude.{◌≡◌, ◌+◌, ◌<◌, ◌≤◌, false, if◌then◌else◌, length, bit_or, IfErr, IfOk};
-ghost use Rattle.m11_unfold_arguments.specs.Conditions.{condition as asked_condition};
+ghost use Rattle.m11_unfold_rules.specs.Conditions.{condition as asked_condition};
 ghost use Rattle.m11_scan_expressions.specs.Expressions.{known_by};
-ghost use Rattle.m11_unfold_arguments.specs.Indefinite.{rounds_seen};
+ghost use Rattle.m11_unfold_rules.specs.Indefinite.{rounds_seen};
 ghost use Rattle.m11_scan_expressions.specs.LeftOvers.{left_over as line_left_over};
-ghost use Rattle.m11_unfold_arguments.specs.Macros.{header, header_seen};
+ghost use Rattle.m11_unfold_rules.specs.Headers.{header, header_seen};
 ghost use Rattle.m11_scan_expressions.specs.Remarks.{joined};
 ghost use Rattle.m11_unfold_bodies.specs.Conditions.{closed, most_conditions, switched};
 ghost use Rattle.m11_unfold_bodies.specs.Left.{conditions_open};
@@ -20,10 +20,10 @@ use crate::rounds::round_of_each;
 use crate::state::State;
 use m11_scan::{ErrorFlags, Line};
 use m11_scan_expressions::{Names, Remarks, left_over};
-use m11_unfold_arguments::{
+use m11_unfold_bodies::{CONDITION_LIMIT, Part};
+use m11_unfold_rules::{
     Directive, Header, Rounds, condition, header_at, iif, irp, irpc, rept_count,
 };
-use m11_unfold_bodies::{CONDITION_LIMIT, Part};
 use std::alloc::{AllocError, Global};
 
 impl State {

@@ -3,8 +3,8 @@
 
 ghost use Rattle.std.specs.Prelude.{◌≡◌, ◌<◌, ◌≤◌, false, length, None, Some, IfOk, IfErr};
 ghost use Rattle.std.specs.Option.{option_copied};
-ghost use Rattle.m11_unfold_arguments.specs.Actuals.{actuals_from};
-ghost use Rattle.m11_unfold_arguments.specs.Directives.{operator as line_operator};
+ghost use Rattle.m11_unfold_rules.specs.Actuals.{actuals_from};
+ghost use Rattle.m11_unfold_rules.specs.Directives.{operator as line_operator};
 ghost use Rattle.m11_scan_expressions.specs.Expressions.{known_by};
 ghost use Rattle.m11_scan_expressions.specs.Remarks.{joined};
 ghost use Rattle.m11_base.specs.NameCharacters.{six_of};
@@ -23,9 +23,8 @@ use m11_base::Name;
 use m11_scan::{Line, read_name};
 use m11_scan_expressions::{Names, Remarks};
 use m11_scan_statements::{Span, labels_and_body_stand_in_order};
-use m11_unfold_arguments::{actuals_from, directive_named, fill};
 use m11_unfold_bodies::EXPANSION_LIMIT;
-use m11_unfold_rules::UnfoldFault;
+use m11_unfold_rules::{UnfoldFault, actuals_from, directive_named, fill};
 use std::alloc::{AllocError, Global};
 
 impl State {

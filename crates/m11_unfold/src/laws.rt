@@ -3,7 +3,7 @@
 ghost use Rattle.std.specs.Prelude.{◌≡◌, ◌++◌, ◌∷◌, Bool, List, [], Result, Ok};
 ghost use Rattle.m11_scan_expressions.specs.Expressions.{KnownSymbols};
 ghost use Rattle.m11_unfold_bodies.specs.Left.{Line};
-ghost use Rattle.m11_scan_lines.specs.Line.{SourceLine};
+ghost use Rattle.m11_scan.specs.Line.{SourceLine};
 ghost use Rattle.m11_unfold_rules.specs.Histories.{with_more};
 ghost use Rattle.m11_unfold_rules.specs.Stages.{Stage, start};
 ghost use Rattle.m11_unfold_rules.specs.Unfolding.{UnfoldedLine, Unfolds};

@@ -1,12 +1,12 @@
 //! A macro that is defined. (MACRO-11 Language Reference Manual, "Macro definition".)
 
 ghost use Rattle.std.specs.Prelude.{◌≡◌, ◌≤◌, length, map, IfOk};
-ghost use Rattle.m11_scan_lines.specs.Line.{line_limit};
+ghost use Rattle.m11_scan.specs.Line.{line_limit};
 ghost use Rattle.m11_unfold_rules.specs.Acting.{formal_name};
 
 use m11_base::Name;
-use m11_unfold_arguments::MacroFormal;
 use m11_unfold_bodies::{Template, Texts};
+use m11_unfold_rules::MacroFormal;
 use std::alloc::{AllocError, Global};
 use std::marker::Model;
 use std::rc::Rc;
@@ -20,7 +20,7 @@ pub(crate) struct Macro {
 
 impl Model for Macro {
     ghost use Rattle.std.specs.Prelude.{◌≡◌, ◌≤◌, length, map};
-    ghost use Rattle.m11_scan_lines.specs.Line.{line_limit};
+    ghost use Rattle.m11_scan.specs.Line.{line_limit};
     ghost use Rattle.m11_unfold_rules.specs.Acting.{formal_name};
     ghost use Rattle.m11_unfold_rules.specs.Stages as stages;
 

@@ -6,8 +6,8 @@ ghost use Rattle.m11_unfold_rules.specs.Limits.{most_bytes};
 ghost use Rattle.m11_unfold.specs.Purposes.{IsPurpose, purpose_of};
 
 use m11_base::Name;
-use m11_unfold_arguments::MacroFormal;
 use m11_unfold_bodies::{Nesting, OpenBody, Rounds, Texts};
+use m11_unfold_rules::MacroFormal;
 use std::alloc::{AllocError, Global};
 use std::marker::Model;
 

@@ -2,7 +2,7 @@
 //! definitions and macro calls" and "Indefinite repeat block directives".)
 
 ghost use Rattle.std.specs.Prelude.{◌≡◌, ◌∷◌, [], map, IfOk};
-ghost use Rattle.m11_unfold_arguments.specs.Actuals.{texts_of};
+ghost use Rattle.m11_unfold_rules.specs.Actuals.{texts_of};
 ghost use Rattle.m11_unfold_rules.specs.Acting.{alone};
 
 use m11_unfold_bodies::{Rounds, Texts};

@@ -2,12 +2,12 @@
 //! block directives".)
 
 ghost use Rattle.std.specs.Prelude.{◌≡◌, ◌<◌, true, false, Some, None};
-ghost use Rattle.m11_unfold_arguments.specs.Directives.{directive};
+ghost use Rattle.m11_unfold_rules.specs.Directives.{directive};
 ghost use Rattle.m11_unfold_rules.specs.Taking as spec;
 
 use m11_scan::Line;
-use m11_unfold_arguments::{Directive, directive_of};
 use m11_unfold_bodies::{Conditions, Nesting};
+use m11_unfold_rules::{Directive, directive_of};
 
 // Skips a line, unless it is live. Returns whether it is skipped.
 // speed: inline, since each line of a source comes here, and few are skipped.

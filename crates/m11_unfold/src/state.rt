@@ -8,8 +8,8 @@ use crate::macros::Macro;
 use crate::opening::Opening;
 use indexmap::IndexMap;
 use m11_base::Name;
-use m11_unfold_arguments::FIRST_CREATED;
 use m11_unfold_bodies::{Conditions, RemainingLines};
+use m11_unfold_rules::FIRST_CREATED;
 use std::alloc::Global;
 
 // A stage of an unfolding.

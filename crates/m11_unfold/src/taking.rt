@@ -3,7 +3,7 @@
 ghost use Rattle.std.specs.Prelude.{◌≡◌, ◌+◌, ◌<◌, ◌≤◌, false, true, length, None, Some, Ok, IfErr, IfOk, is_some};
 ghost use Rattle.m11_unfold_bodies.specs.Bodies.{size_of};
 ghost use Rattle.m11_unfold_bodies.specs.Left.{bytes_held, depth, is_expanding, most_expansions};
-ghost use Rattle.m11_scan_lines.specs.Line.{line_limit};
+ghost use Rattle.m11_scan.specs.Line.{line_limit};
 ghost use Rattle.m11_unfold_rules.specs.Limits.{line_fault, most_bytes};
 ghost use Rattle.m11_unfold_rules.specs.Stages as stages;
 ghost use Rattle.m11_unfold_rules.specs.Taking as spec;
@@ -18,9 +18,8 @@ use crate::skipping::{nesting_of, skip};
 use crate::state::State;
 use m11_base::Name;
 use m11_scan::Line;
-use m11_unfold_arguments::MacroFormal;
 use m11_unfold_bodies::{Conditions, EXPANSION_LIMIT, LineOrEnd, Mark, Rounds, Template, Texts};
-use m11_unfold_rules::UnfoldFault;
+use m11_unfold_rules::{MacroFormal, UnfoldFault};
 use std::alloc::{AllocError, Global};
 use std::rc::Rc;
 

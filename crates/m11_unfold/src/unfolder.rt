@@ -2,7 +2,7 @@
 
 ghost use Rattle.std.specs.Prelude.{◌≡◌, ◌∷◌, [], false, None, Some, Err};
 ghost use Rattle.std.specs.Result.{result_err};
-ghost use Rattle.m11_unfold_arguments.specs.Directives.{operator as line_operator};
+ghost use Rattle.m11_unfold_rules.specs.Directives.{operator as line_operator};
 ghost use Rattle.m11_scan_expressions.specs.Expressions.{known_by};
 ghost use Rattle.m11_unfold_bodies.specs.Left as lefts;
 ghost use Rattle.m11_unfold_rules.specs.Stages.{start};

@@ -1,6 +1,6 @@
 -- When nothing is left to take.
 use Rattle.std.proofs.Common.{◌≡◌, Bool, true, false, List, [], ◌∷◌, ◌++◌, Option, Some, None, refl}
-use Rattle.m11_scan_lines.specs.Line.{SourceLine}
+use Rattle.m11_scan.specs.Line.{SourceLine}
 use Rattle.m11_unfold_bodies.specs.declared.mark.Mark.{Mark}
 use Rattle.m11_unfold_bodies.specs.Left.{RemainingItem, End, is_empty}
 use Rattle.m11_unfold_bodies.specs.Frames.{Frame, has_frame, is_none_of, is_there, line_left, line_where, lines_of, remains, stacked}

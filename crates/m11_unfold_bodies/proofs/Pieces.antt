@@ -4,8 +4,8 @@ use Rattle.std.specs.Prelude.{◌&&◌, ◌||◌, if◌then◌else◌}
 use Rattle.std.specs.List.{prefix_len}
 use Rattle.std.proofs.lemmas.List.{append-nil}
 use Rattle.m11_base.specs.NameCharacters.{is_name_character}
-use Rattle.m11_scan_lines.specs.Line.{SourceLine, line_of, with_bytes}
-use Rattle.m11_scan_lines.proofs.MoreBytes.{line_of-more}
+use Rattle.m11_scan.specs.Line.{SourceLine, line_of, with_bytes}
+use Rattle.m11_scan.proofs.MoreBytes.{line_of-more}
 use Rattle.m11_unfold_bodies.specs.Substitution.{Run, Other, pieces_of, piece_of, text_of, is_quote, begins_replaced, put_or, actual_for, is_replaced, joined, substituted}
 
 -- a name character before a text begins the run that goes on in it

@@ -2,7 +2,7 @@
 use Rattle.std.proofs.Common.{◌≡◌, ◌≢◌, ◌∙◌, ℕ, Bool, true, false, List, [], ◌∷◌, ◌++◌, refl, sym, ap, append_assoc, append-nil, subst, Option, Some, inl, inr, ◌⊎◌}
 use Rattle.std.specs.Prelude.{◌||◌, ◌&&◌, ◌==◌, if◌then◌else◌}
 use Rattle.m11_base.specs.NameCharacters.{is_name_character}
-use Rattle.m11_scan_lines.proofs.Cuts.{either}
+use Rattle.m11_scan.proofs.Cuts.{either}
 use Rattle.m11_scan.specs.Names.{has_name_characters_alone}
 use Rattle.m11_unfold_bodies.specs.Laws.{IsReplacedBy, IsWord, begins_in_word, ends_in_word, without_first_quote, without_last_quote}
 use Rattle.m11_unfold_bodies.specs.Substitution.{Other, Piece, Run, actual_for, begins_replaced, in_run, is_put, is_replaced, joined, kept, pieces_of, put_or, substituted}

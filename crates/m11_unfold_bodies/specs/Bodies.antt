@@ -3,7 +3,7 @@
 use Rattle.std.specs.Prelude.{◌≡◌, ℕ, zero, suc, ◌+◌, ◌-◌, Bool, true, false, List, [], ◌∷◌, ◌++◌, length, map, sum_by, Option, Some, None, Result, Ok, Err}
 use Rattle.m11_base.specs.Devices.{Bytes}
 use Rattle.m11_base.specs.Rad50.{Name}
-use Rattle.m11_scan_lines.specs.Line.{SourceLine}
+use Rattle.m11_scan.specs.Line.{SourceLine}
 use Rattle.m11_unfold_bodies.specs.Left.{RemainingItem, Line, End}
 use Rattle.m11_unfold_bodies.specs.declared.open_body.Nesting.{Nesting}
 use Rattle.m11_unfold_bodies.specs.declared.open_body.Nesting.TheVariants.{Opens, Closes, Neither}

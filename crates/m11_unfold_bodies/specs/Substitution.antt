@@ -5,7 +5,7 @@ use Rattle.std.specs.Prelude.{ℕ, Bool, true, false, ◌||◌, ◌&&◌, ◌==�
 use Rattle.m11_base.specs.Devices.{Bytes}
 use Rattle.m11_base.specs.NameCharacters.{is_name_character, six_of}
 use Rattle.m11_base.specs.Rad50.{Name, is_same_name, name_of}
-use Rattle.m11_scan_lines.specs.Line.{SourceLine, line_of}
+use Rattle.m11_scan.specs.Line.{SourceLine, line_of}
 
 -- a piece of a body's line: a longest run of name characters, or another character
 pub data Piece : Type 0 where

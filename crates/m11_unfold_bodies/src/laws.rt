@@ -14,7 +14,7 @@ ghost use Rattle.m11_unfold_bodies.specs.Substitution.{Other, Run, actual_for, i
 ghost use Rattle.m11_unfold_bodies.specs.declared.conditions.Part.{Part};
 ghost use Rattle.m11_unfold_bodies.specs.declared.mark.Mark.{Mark};
 ghost use Rattle.m11_unfold_bodies.specs.declared.open_body.Nesting.{Nesting};
-ghost use Rattle.m11_scan_lines.specs.Line.{SourceLine};
+ghost use Rattle.m11_scan.specs.Line.{SourceLine};
 
 /// A text in which no formal stands is put as it is. A `'` between two formals joins their actuals.
 pub fn formals_alone_are_replaced()

@@ -1,9 +1,9 @@
 -- Lines that were read up to their end, or up to a word of the condition around them.
 use Rattle.std.proofs.Common.{◌≡◌, ◌∙◌, ℕ, suc, Bool, true, List, [], ◌∷◌, ◌++◌, append_assoc, append-nil, refl, sym, ap, subst}
-use Rattle.m11_scan_lines.specs.Line.{SourceLine}
+use Rattle.m11_scan.specs.Line.{SourceLine}
 use Rattle.m11_scan_expressions.specs.Expressions.{KnownSymbols}
-use Rattle.m11_unfold_arguments.specs.Immediate as immediate
-use Rattle.m11_unfold_arguments.specs.declared.directives.Directive.TheVariants as word
+use Rattle.m11_unfold_rules.specs.Immediate as immediate
+use Rattle.m11_unfold_rules.specs.declared.directives.Directive.TheVariants as word
 use Rattle.m11_unfold_bodies.specs.Conditions.{is_live_inside}
 use Rattle.m11_unfold_bodies.specs.Left.{RemainingItem, after_mark, marks}
 use Rattle.m11_unfold_bodies.specs.declared.conditions.Part.{Part}

@@ -3,12 +3,12 @@ use Rattle.std.proofs.Common.{◌≡◌, ◌∙◌, ℕ, suc, ◌+◌, Bool, tru
 use Rattle.std.proofs.lemmas.List.{length-map}
 use Rattle.m11_base.specs.Devices.{Bytes}
 use Rattle.m11_base.specs.Rad50.{Name}
-use Rattle.m11_scan_lines.specs.Line.{SourceLine, line_of}
-use Rattle.m11_unfold_arguments.specs.Actuals.{actuals_from}
-use Rattle.m11_unfold_arguments.specs.Conditions.{condition}
+use Rattle.m11_scan.specs.Line.{SourceLine, line_of}
+use Rattle.m11_unfold_rules.specs.Actuals.{actuals_from}
+use Rattle.m11_unfold_rules.specs.Conditions.{condition}
 use Rattle.m11_scan_expressions.specs.Expressions.{KnownSymbols}
 use Rattle.m11_scan_expressions.specs.Remarks.{Remarks}
-use Rattle.m11_unfold_arguments.specs.declared.directives.Directive.TheVariants as word
+use Rattle.m11_unfold_rules.specs.declared.directives.Directive.TheVariants as word
 use Rattle.m11_unfold_bodies.specs.Bodies.{Cut, cut_after, cut_at, depth_after, size_of, texts_of, with_line}
 use Rattle.m11_unfold_bodies.specs.Left.{RemainingItem}
 use Rattle.m11_unfold_bodies.specs.declared.open_body.Nesting.{Nesting}

@@ -2,15 +2,15 @@
 use Rattle.std.proofs.Common.{◌≡◌, ◌∙◌, ◌⊎◌, inl, inr, ℕ, suc, ◌+◌, Bool, true, false, List, [], ◌∷◌, ◌++◌, length, map, append_assoc, append-nil, Option, Some, None, refl, sym, ap, subst, arith}
 use Rattle.std.specs.Prelude.{if◌then◌else◌}
 use Rattle.m11_base.specs.Devices.{Bytes}
-use Rattle.m11_scan_lines.specs.Line.{SourceLine}
-use Rattle.m11_unfold_arguments.specs.Actuals.{actuals_from}
-use Rattle.m11_unfold_arguments.specs.Conditions.{condition}
-use Rattle.m11_unfold_arguments.specs.Directives.{directive}
+use Rattle.m11_scan.specs.Line.{SourceLine}
+use Rattle.m11_unfold_rules.specs.Actuals.{actuals_from}
+use Rattle.m11_unfold_rules.specs.Conditions.{condition}
+use Rattle.m11_unfold_rules.specs.Directives.{directive}
 use Rattle.m11_scan_expressions.specs.Expressions.{KnownSymbols}
-use Rattle.m11_unfold_arguments.specs.Immediate as immediate
+use Rattle.m11_unfold_rules.specs.Immediate as immediate
 use Rattle.m11_scan_expressions.specs.Remarks.{Remarks, remarks_of}
-use Rattle.m11_unfold_arguments.specs.declared.directives.Directive.{Directive}
-use Rattle.m11_unfold_arguments.specs.declared.directives.Directive.TheVariants as word
+use Rattle.m11_unfold_rules.specs.declared.directives.Directive.{Directive}
+use Rattle.m11_unfold_rules.specs.declared.directives.Directive.TheVariants as word
 use Rattle.m11_unfold_bodies.specs.Bodies.{cut_at}
 use Rattle.m11_unfold_bodies.specs.Conditions.{is_live_inside, past}
 use Rattle.m11_unfold_bodies.specs.Left.{RemainingItem, Line, End, after_mark, count_in, has_mark, is_expanding, marks}

@@ -1,10 +1,10 @@
 -- What is left of a condition is read into its parts; and each source that unfolds has a shape.
 use Rattle.std.proofs.Common.{◌≡◌, ◌∙◌, ℕ, zero, suc, Bool, true, false, List, [], ◌∷◌, ◌++◌, length, map, append_assoc, append-nil, Option, None, refl, sym, ap, subst}
-use Rattle.m11_scan_lines.specs.Line.{SourceLine}
-use Rattle.m11_unfold_arguments.specs.Directives.{directive}
-use Rattle.m11_unfold_arguments.specs.Immediate as immediate
-use Rattle.m11_unfold_arguments.specs.declared.directives.Directive.{Directive}
-use Rattle.m11_unfold_arguments.specs.declared.directives.Directive.TheVariants as word
+use Rattle.m11_scan.specs.Line.{SourceLine}
+use Rattle.m11_unfold_rules.specs.Directives.{directive}
+use Rattle.m11_unfold_rules.specs.Immediate as immediate
+use Rattle.m11_unfold_rules.specs.declared.directives.Directive.{Directive}
+use Rattle.m11_unfold_rules.specs.declared.directives.Directive.TheVariants as word
 use Rattle.m11_unfold_bodies.specs.Conditions.{is_live_in, is_live_inside}
 use Rattle.m11_unfold_bodies.specs.Left.{RemainingItem, Line, after_mark, is_expanding, marks}
 use Rattle.m11_unfold_bodies.specs.declared.conditions.Part.{Part}

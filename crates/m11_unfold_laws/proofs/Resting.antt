@@ -1,8 +1,8 @@
 -- An unfolding to where nothing is taken, from its first move on.
 use Rattle.std.proofs.Common.{◌≡◌, ◌∙◌, ℕ, zero, suc, Bool, true, List, [], ◌∷◌, ◌++◌, append_assoc, append-nil, None, inl, inr, refl, sym, ap, subst}
 use Rattle.std.specs.Prelude.{not, if◌then◌else◌}
-use Rattle.m11_scan_lines.specs.Line.{SourceLine}
-use Rattle.m11_unfold_arguments.specs.Directives.{directive}
+use Rattle.m11_scan.specs.Line.{SourceLine}
+use Rattle.m11_unfold_rules.specs.Directives.{directive}
 use Rattle.m11_scan_expressions.specs.Expressions.{KnownSymbols}
 use Rattle.m11_unfold_bodies.specs.Conditions.{is_live_inside}
 use Rattle.m11_unfold_bodies.specs.Left.{RemainingItem, Line, count_in, has_mark, is_expanding, marks}

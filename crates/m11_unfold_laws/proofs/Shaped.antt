@@ -4,17 +4,17 @@ use Rattle.std.specs.Prelude.{if◌then◌else◌, nat_lt, ⊤}
 use Rattle.std.proofs.lemmas.List.{length-map}
 use Rattle.m11_base.specs.Devices.{Bytes}
 use Rattle.m11_base.specs.Rad50.{Name}
-use Rattle.m11_scan_lines.specs.Line.{SourceLine}
-use Rattle.m11_unfold_arguments.specs.Actuals as actuals
-use Rattle.m11_unfold_arguments.specs.Actuals.{actuals_from}
-use Rattle.m11_unfold_arguments.specs.Conditions.{condition}
-use Rattle.m11_unfold_arguments.specs.Directives.{directive}
-use Rattle.m11_unfold_arguments.specs.declared.directives.Directive.{Directive}
+use Rattle.m11_scan.specs.Line.{SourceLine}
+use Rattle.m11_unfold_rules.specs.Actuals as actuals
+use Rattle.m11_unfold_rules.specs.Actuals.{actuals_from}
+use Rattle.m11_unfold_rules.specs.Conditions.{condition}
+use Rattle.m11_unfold_rules.specs.Directives.{directive}
+use Rattle.m11_unfold_rules.specs.declared.directives.Directive.{Directive}
 use Rattle.m11_scan_expressions.specs.Expressions.{KnownSymbols}
-use Rattle.m11_unfold_arguments.specs.Filling.{filled}
-use Rattle.m11_unfold_arguments.specs.Immediate as immediate
+use Rattle.m11_unfold_rules.specs.Filling.{filled}
+use Rattle.m11_unfold_rules.specs.Immediate as immediate
 use Rattle.m11_scan_expressions.specs.Remarks.{Remarks, remarks_of}
-use Rattle.m11_unfold_arguments.specs.declared.directives.Directive.TheVariants as word
+use Rattle.m11_unfold_rules.specs.declared.directives.Directive.TheVariants as word
 use Rattle.m11_unfold_bodies.specs.Bodies.{Cut, cut_at, nothing_taken, texts_of}
 use Rattle.m11_unfold_bodies.specs.Conditions.{is_live_in, is_live_inside, most_conditions, past}
 use Rattle.m11_unfold_bodies.specs.Left.{RemainingItem, Line, End, after_mark, conditions_in, count_in, expanded, has_mark, is_expanding, marks}

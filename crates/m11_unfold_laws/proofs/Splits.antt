@@ -5,14 +5,14 @@ use Rattle.std.proofs.lemmas.Bool.Decides.{nat_tests}
 use Rattle.m11_base.specs.Devices.{Bytes}
 use Rattle.m11_base.specs.NameCharacters.{six_of}
 use Rattle.m11_base.specs.Rad50.{Name, name_of}
-use Rattle.m11_scan_lines.specs.Line.{SourceLine}
+use Rattle.m11_scan.specs.Line.{SourceLine}
 use Rattle.m11_scan.specs.Cutting.{text_between}
 use Rattle.m11_scan_statements.specs.declared.spans.Span.{Span}
-use Rattle.m11_unfold_arguments.specs.Directives.{directive, directive_at, directive_named, operator}
+use Rattle.m11_unfold_rules.specs.Directives.{directive, directive_at, directive_named, operator}
 use Rattle.m11_scan_expressions.specs.Expressions.{KnownSymbols}
 use Rattle.m11_scan_expressions.specs.Remarks.{Remarks}
-use Rattle.m11_unfold_arguments.specs.declared.directives.Directive.{Directive}
-use Rattle.m11_unfold_arguments.specs.declared.directives.Directive.TheVariants as word
+use Rattle.m11_unfold_rules.specs.declared.directives.Directive.{Directive}
+use Rattle.m11_unfold_rules.specs.declared.directives.Directive.TheVariants as word
 use Rattle.m11_unfold_bodies.specs.Bodies.{cut_after, cut_at, depth_after, with_line}
 use Rattle.m11_unfold_bodies.specs.Conditions.{OpenConditions, is_skipping}
 use Rattle.m11_unfold_bodies.specs.declared.conditions.Part.{Part}

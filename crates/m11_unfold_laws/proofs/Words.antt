@@ -5,7 +5,7 @@ use Rattle.std.proofs.lemmas.Bool.Decides.{nat_tests}
 use Rattle.m11_base.specs.Devices.{Bytes}
 use Rattle.m11_scan_expressions.specs.Expressions.{KnownSymbols}
 use Rattle.m11_scan_expressions.specs.Remarks.{Remarks}
-use Rattle.m11_unfold_arguments.specs.declared.directives.Directive.TheVariants as word
+use Rattle.m11_unfold_rules.specs.declared.directives.Directive.TheVariants as word
 use Rattle.m11_unfold_bodies.specs.Conditions.{closed, is_live_in, switched}
 use Rattle.m11_unfold_bodies.specs.Left.{RemainingItem, after_mark, has_mark, marks}
 use Rattle.m11_unfold_bodies.specs.declared.conditions.OpenCondition.{OpenCondition}

@@ -2,7 +2,7 @@
 use Rattle.std.proofs.Common.{◌≡◌, ℕ, List, [], ◌∷◌, ◌++◌, map, Some, None, refl}
 use Rattle.std.specs.Prelude.{codes}
 use Rattle.m11_base.specs.Rad50.{alphabet, code_of}
-use Rattle.m11_scan_lines.specs.Line.{SourceLine, line_of}
+use Rattle.m11_scan.specs.Line.{SourceLine, line_of}
 use Rattle.m11_scan.specs.Pieces.{first_piece}
 use Rattle.m11_scan.specs.declared.radix.Radix.TheVariants.{Octal}
 use Rattle.m11_scan_expressions.specs.declared.names.Symbol.{Symbol}
@@ -10,7 +10,7 @@ use Rattle.m11_scan_expressions.specs.Quantities.{Quantity}
 use Rattle.m11_scan_expressions.specs.Values.{value_of}
 use Rattle.m11_scan_expressions.specs.Expressions.{KnownSymbols, known_by}
 use Rattle.m11_scan_expressions.specs.Remarks.{no_remarks}
-use Rattle.m11_unfold_arguments.specs.declared.directives.Directive.TheVariants as word
+use Rattle.m11_unfold_rules.specs.declared.directives.Directive.TheVariants as word
 use Rattle.m11_unfold_rules.specs.Acting.{OwnDirective}
 use Rattle.m11_unfold_rules.specs.Stages.{Macro, Defines, start}
 use Rattle.m11_unfold_rules.specs.Unfolding.{UnfoldedLine}

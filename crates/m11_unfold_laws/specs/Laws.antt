@@ -1,7 +1,7 @@
 -- Where the lines of a shape lead to. (MACRO-11 Language Reference Manual, "Macro directives" and "Conditional assembly
 -- directives".)
 use Rattle.std.specs.Prelude.{◌≡◌, true, false, List, ◌++◌, map, Option}
-use Rattle.m11_scan_lines.specs.Line.{SourceLine}
+use Rattle.m11_scan.specs.Line.{SourceLine}
 use Rattle.m11_unfold_bodies.specs.Conditions.{OpenConditions, is_live_inside}
 use Rattle.m11_unfold_bodies.specs.Left.{RemainingItem, marks}
 use Rattle.m11_unfold_rules.specs.Stages.{Opening, Stage, line_left}

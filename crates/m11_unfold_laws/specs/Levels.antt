@@ -3,16 +3,16 @@
 use Rattle.std.specs.Prelude.{ℕ, ◌+◌, Bool, true, false, nat_lt, List, [], ◌∷◌, length, Option, None}
 use Rattle.m11_base.specs.Devices.{Bytes}
 use Rattle.m11_base.specs.Rad50.{Name}
-use Rattle.m11_scan_lines.specs.Line.{SourceLine}
+use Rattle.m11_scan.specs.Line.{SourceLine}
 use Rattle.m11_scan_expressions.specs.Expressions.{KnownSymbols}
-use Rattle.m11_unfold_arguments.specs.Filling.{first_created}
+use Rattle.m11_unfold_rules.specs.Filling.{first_created}
 use Rattle.m11_scan_expressions.specs.Remarks.{Remarks, no_remarks}
 use Rattle.m11_unfold_bodies.specs.Bodies.{size_of}
 use Rattle.m11_unfold_bodies.specs.Conditions.{OpenConditions, most_conditions}
 use Rattle.m11_unfold_bodies.specs.Left.{RemainingItem, conditions_in, count_in, has_mark}
 use Rattle.m11_unfold_bodies.specs.declared.conditions.OpenCondition.{OpenCondition}
 use Rattle.m11_unfold_bodies.specs.declared.mark.Mark.{Mark}
-use Rattle.m11_unfold_arguments.specs.declared.macros.MacroFormal.{MacroFormal}
+use Rattle.m11_unfold_rules.specs.declared.macros.MacroFormal.{MacroFormal}
 use Rattle.m11_unfold_rules.specs.Acting.{Operation, operation}
 use Rattle.m11_unfold_rules.specs.Macros.{defined}
 use Rattle.m11_unfold_rules.specs.Stages.{Macro, Stage}

@@ -3,15 +3,15 @@
 use Rattle.std.specs.Prelude.{◌≡◌, ℕ, ◌+◌, true, false, List, [], length, map, replicate, Option, Some, None}
 use Rattle.m11_base.specs.Devices.{Bytes}
 use Rattle.m11_base.specs.Rad50.{Name}
-use Rattle.m11_scan_lines.specs.Line.{SourceLine}
-use Rattle.m11_unfold_arguments.specs.Actuals.{ActualTexts, actuals_from}
+use Rattle.m11_scan.specs.Line.{SourceLine}
+use Rattle.m11_unfold_rules.specs.Actuals.{ActualTexts, actuals_from}
 use Rattle.m11_scan_expressions.specs.Expressions.{KnownSymbols}
-use Rattle.m11_unfold_arguments.specs.Filling.{FormalTexts, filled}
-use Rattle.m11_unfold_arguments.specs.Indefinite.{irpc, irp}
-use Rattle.m11_unfold_arguments.specs.Macros.{header}
+use Rattle.m11_unfold_rules.specs.Filling.{FormalTexts, filled}
+use Rattle.m11_unfold_rules.specs.Indefinite.{irpc, irp}
+use Rattle.m11_unfold_rules.specs.Headers.{header}
 use Rattle.m11_scan_expressions.specs.Remarks.{Remarks, remarks_of}
-use Rattle.m11_unfold_arguments.specs.Repeats as repeats
-use Rattle.m11_unfold_arguments.specs.declared.directives.Directive.TheVariants as word
+use Rattle.m11_unfold_rules.specs.Repeats as repeats
+use Rattle.m11_unfold_rules.specs.declared.directives.Directive.TheVariants as word
 use Rattle.m11_unfold_bodies.specs.Bodies.{body_of, size_of}
 use Rattle.m11_unfold_rules.specs.Acting as acting
 use Rattle.m11_unfold_rules.specs.Acting.{Operation, Calls, OwnDirective, formal_name, repeating}

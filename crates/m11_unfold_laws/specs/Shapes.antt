@@ -3,15 +3,15 @@
 use Rattle.std.specs.Prelude.{◌≡◌, ℕ, ◌+◌, suc, Bool, true, false, not, ◌||◌, ◌==◌, List, [], ◌∷◌, ◌++◌, length, drop, Option, Some, None, ⊤}
 use Rattle.m11_base.specs.Devices.{Bytes}
 use Rattle.m11_base.specs.Rad50.{Name}
-use Rattle.m11_scan_lines.specs.Line.{SourceLine, line_of}
-use Rattle.m11_unfold_arguments.specs.Conditions.{condition}
-use Rattle.m11_unfold_arguments.specs.Directives.{directive}
+use Rattle.m11_scan.specs.Line.{SourceLine, line_of}
+use Rattle.m11_unfold_rules.specs.Conditions.{condition}
+use Rattle.m11_unfold_rules.specs.Directives.{directive}
 use Rattle.m11_scan_expressions.specs.Expressions.{KnownSymbols}
-use Rattle.m11_unfold_arguments.specs.Immediate as immediate
+use Rattle.m11_unfold_rules.specs.Immediate as immediate
 use Rattle.m11_scan_expressions.specs.Remarks.{Remarks, remarks_of}
-use Rattle.m11_unfold_arguments.specs.declared.directives.Directive.{Directive}
-use Rattle.m11_unfold_arguments.specs.declared.directives.Directive.TheVariants as word
-use Rattle.m11_unfold_arguments.specs.declared.macros.MacroFormal.{MacroFormal}
+use Rattle.m11_unfold_rules.specs.declared.directives.Directive.{Directive}
+use Rattle.m11_unfold_rules.specs.declared.directives.Directive.TheVariants as word
+use Rattle.m11_unfold_rules.specs.declared.macros.MacroFormal.{MacroFormal}
 use Rattle.m11_unfold_bodies.specs.Conditions.{is_live_in, past}
 use Rattle.m11_unfold_bodies.specs.Left.{has_mark}
 use Rattle.m11_unfold_bodies.specs.declared.conditions.Part.{Part}

@@ -4,13 +4,13 @@ use Rattle.std.specs.Prelude.{ℕ, Bool, true, false, List, [], ◌∷◌, codes
 use Rattle.m11_base.specs.Devices.{Bytes}
 use Rattle.m11_base.specs.Names.{name_in_words}
 use Rattle.m11_base.specs.Rad50.{Name}
-use Rattle.m11_scan_lines.specs.Line.{SourceLine, line_of}
+use Rattle.m11_scan.specs.Line.{SourceLine, line_of}
 use Rattle.m11_scan.specs.declared.radix.Radix.TheVariants.{Octal}
 use Rattle.m11_scan_expressions.specs.declared.names.Symbol.{Symbol}
 use Rattle.m11_scan_expressions.specs.Quantities.{Quantity}
 use Rattle.m11_scan_expressions.specs.Expressions.{known_by}
 use Rattle.m11_scan_expressions.specs.Remarks.{no_remarks}
-use Rattle.m11_unfold_arguments.specs.declared.macros.MacroFormal.{MacroFormal}
+use Rattle.m11_unfold_rules.specs.declared.macros.MacroFormal.{MacroFormal}
 use Rattle.m11_unfold_rules.specs.Unfolding.{UnfoldedLine}
 use Rattle.m11_unfold_laws.specs.Levels.{Situation}
 

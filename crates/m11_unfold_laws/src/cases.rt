@@ -2,16 +2,16 @@
 //! that does nothing.
 
 ghost use Rattle.std.specs.Prelude.{◌≡◌, ◌+◌, ◌++◌, ◌∷◌, ℕ, List, [], true, false, None, Some, length, map};
-ghost use Rattle.m11_unfold_arguments.specs.Actuals.{actuals_from};
-ghost use Rattle.m11_unfold_arguments.specs.Conditions.{condition};
+ghost use Rattle.m11_unfold_rules.specs.Actuals.{actuals_from};
+ghost use Rattle.m11_unfold_rules.specs.Conditions.{condition};
 ghost use Rattle.m11_scan_expressions.specs.Expressions.{KnownSymbols};
 ghost use Rattle.m11_scan_expressions.specs.Remarks.{Remarks};
-ghost use Rattle.m11_unfold_arguments.specs.declared.directives.Directive.TheVariants as directive;
+ghost use Rattle.m11_unfold_rules.specs.declared.directives.Directive.TheVariants as directive;
 ghost use Rattle.m11_base.specs.Devices.{Bytes};
 ghost use Rattle.m11_base.specs.Rad50.{Name};
 ghost use Rattle.m11_unfold_bodies.specs.Bodies.{size_of, texts_of};
 ghost use Rattle.m11_unfold_bodies.specs.declared.open_body.Nesting.TheVariants.{Closes};
-ghost use Rattle.m11_scan_lines.specs.Line.{SourceLine, line_of};
+ghost use Rattle.m11_scan.specs.Line.{SourceLine, line_of};
 ghost use Rattle.m11_unfold_rules.specs.Acting.{Calls, OwnDirective, flagged};
 ghost use Rattle.m11_unfold_rules.specs.Constructs.{IsPlainBody, condition_remarks, lines_of_rounds};
 ghost use Rattle.m11_unfold_rules.specs.Laws.{AreForeign};

@@ -5,7 +5,7 @@ ghost use Rattle.m11_scan_expressions.specs.Expressions.{KnownSymbols};
 ghost use Rattle.m11_unfold_bodies.specs.Bodies.{PartialBody};
 ghost use Rattle.m11_unfold_bodies.specs.Left.{End, RemainingItem};
 ghost use Rattle.m11_unfold_bodies.specs.declared.mark.Mark.{Mark};
-ghost use Rattle.m11_scan_lines.specs.Line.{SourceLine};
+ghost use Rattle.m11_scan.specs.Line.{SourceLine};
 ghost use Rattle.m11_unfold_rules.specs.Histories.{IsKnownBy};
 ghost use Rattle.m11_unfold_rules.specs.Stages.{Purpose, Stage, start};
 ghost use Rattle.m11_unfold_rules.specs.Taking.{Live, NothingLeft, ended, move, used};

@@ -4,8 +4,8 @@ use Rattle.std.specs.Prelude.{nat_le}
 use Rattle.std.proofs.lemmas.Bool.Decides.{nat_tests}
 use Rattle.std.proofs.lemmas.List.{length-map}
 use Rattle.m11_base.specs.Devices.{Bytes}
-use Rattle.m11_scan_lines.specs.Line.{SourceLine, line_of}
-use Rattle.m11_unfold_arguments.specs.Actuals.{actuals_from}
+use Rattle.m11_scan.specs.Line.{SourceLine, line_of}
+use Rattle.m11_unfold_rules.specs.Actuals.{actuals_from}
 use Rattle.m11_scan_expressions.specs.Expressions.{KnownSymbols}
 use Rattle.m11_scan_expressions.specs.Remarks.{Remarks}
 use Rattle.m11_unfold_bodies.specs.Conditions.{no_conditions}

@@ -1,9 +1,9 @@
 -- After a live `.END` nothing is taken any more.
 use Rattle.std.proofs.Common.{◌≡◌, ℕ, true, List, [], refl, ap, subst, sym, ◌∙◌}
 use Rattle.std.specs.Prelude.{Bool, if◌then◌else◌}
-use Rattle.m11_scan_lines.specs.Line.{SourceLine}
+use Rattle.m11_scan.specs.Line.{SourceLine}
 use Rattle.m11_scan_expressions.specs.Expressions.{KnownSymbols}
-use Rattle.m11_unfold_arguments.specs.declared.directives.Directive.TheVariants as word
+use Rattle.m11_unfold_rules.specs.declared.directives.Directive.TheVariants as word
 use Rattle.m11_unfold_rules.specs.Acting.{Operation, act, acted_by}
 use Rattle.m11_unfold_rules.specs.Laws.{IsDirective}
 use Rattle.m11_unfold_rules.specs.Stages.{Stage}

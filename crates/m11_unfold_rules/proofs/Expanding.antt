@@ -6,7 +6,7 @@ use Rattle.std.proofs.lemmas.List.{map-append}
 use Rattle.m11_base.specs.Devices.{Bytes}
 use Rattle.m11_base.specs.NameCharacters.{six_of}
 use Rattle.m11_base.specs.Rad50.{Name, name_of}
-use Rattle.m11_scan_lines.specs.Line.{SourceLine, line_of}
+use Rattle.m11_scan.specs.Line.{SourceLine, line_of}
 use Rattle.m11_scan_expressions.specs.Expressions.{KnownSymbols}
 use Rattle.m11_unfold_bodies.specs.Conditions.{no_conditions}
 use Rattle.m11_unfold_bodies.specs.Left.{RemainingItem, Line, End, expanded, round}

@@ -1,3 +1,14 @@
+mod ActualsOfCalls
+mod Created
+mod Fillings
+mod Headers
+mod Immediately
+mod Insides
+mod Numerals
+mod Repetitions
+mod SameSecond
+mod Tests
+mod Texts
 mod Calls
 mod Constructs
 pub mod Ending
@@ -8,4 +19,4 @@ pub mod OneUnfolding
 mod OpenConditions
 pub mod Operators
 pub mod OtherLines
-mod Repeats
+mod RepeatedBodies

@@ -4,15 +4,15 @@ use Rattle.std.specs.Prelude.{if◌then◌else◌, nat_le, nat_lt}
 use Rattle.std.specs.List.{flat_map}
 use Rattle.m11_base.specs.Devices.{Bytes}
 use Rattle.m11_base.specs.Rad50.{Name}
-use Rattle.m11_scan_lines.specs.Line.{SourceLine}
-use Rattle.m11_unfold_arguments.specs.Actuals.{ActualTexts, actuals_from}
-use Rattle.m11_unfold_arguments.specs.Conditions.{condition}
+use Rattle.m11_scan.specs.Line.{SourceLine}
+use Rattle.m11_unfold_rules.specs.Actuals.{ActualTexts, actuals_from}
+use Rattle.m11_unfold_rules.specs.Conditions.{condition}
 use Rattle.m11_scan_expressions.specs.Expressions.{KnownSymbols}
-use Rattle.m11_unfold_arguments.specs.Filling.{FormalTexts, filled}
-use Rattle.m11_unfold_arguments.specs.Immediate as immediate
+use Rattle.m11_unfold_rules.specs.Filling.{FormalTexts, filled}
+use Rattle.m11_unfold_rules.specs.Immediate as immediate
 use Rattle.m11_scan_expressions.specs.Remarks.{remarks_of}
-use Rattle.m11_unfold_arguments.specs.declared.directives.Directive.{Directive}
-use Rattle.m11_unfold_arguments.specs.declared.directives.Directive.TheVariants as word
+use Rattle.m11_unfold_rules.specs.declared.directives.Directive.{Directive}
+use Rattle.m11_unfold_rules.specs.declared.directives.Directive.TheVariants as word
 use Rattle.m11_unfold_bodies.specs.Bodies.{PartialBody, depth_after, size_of}
 use Rattle.m11_unfold_bodies.specs.Conditions.{OpenConditions, closed, has_none, most_conditions, no_conditions, past, switched}
 use Rattle.m11_unfold_bodies.specs.Left.{RemainingItem, Line, End, after_mark, bytes_in, conditions_in, count_in, has_mark, is_expanding, marks, most_expansions, round}

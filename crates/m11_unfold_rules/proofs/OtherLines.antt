@@ -3,7 +3,7 @@ use Rattle.std.proofs.Common.{◌≡◌, ◌∙◌, ℕ, suc, ◌+◌, ◌≤◌
 use Rattle.std.specs.Prelude.{nat_le, ⊤}
 use Rattle.std.proofs.lemmas.Bool.Decides.{nat_tests}
 use Rattle.m11_base.specs.Rad50.{Name}
-use Rattle.m11_scan_lines.specs.Line.{SourceLine}
+use Rattle.m11_scan.specs.Line.{SourceLine}
 use Rattle.m11_scan_expressions.specs.Expressions.{KnownSymbols}
 use Rattle.m11_scan_expressions.specs.Remarks.{no_remarks}
 use Rattle.m11_unfold_bodies.specs.Conditions.{OpenConditions, is_skipping}

@@ -6,23 +6,23 @@ use Rattle.std.specs.Int.RustNames.{bit_or}
 use Rattle.m11_base.specs.Devices.{Bytes}
 use Rattle.m11_base.specs.NameCharacters.{six_of}
 use Rattle.m11_base.specs.Rad50.{Name, name_of}
-use Rattle.m11_scan_lines.specs.Line.{line_of}
+use Rattle.m11_scan.specs.Line.{line_of}
 use Rattle.m11_scan.specs.Cutting.{text_between}
 use Rattle.m11_scan_statements.specs.declared.spans.Span.{Span}
-use Rattle.m11_unfold_arguments.specs.Actuals.{ActualTexts, actuals_from}
-use Rattle.m11_unfold_arguments.specs.Conditions.{ConditionResult, condition, remarks_in}
-use Rattle.m11_unfold_arguments.specs.Directives.{directive_named, operator}
+use Rattle.m11_unfold_rules.specs.Actuals.{ActualTexts, actuals_from}
+use Rattle.m11_unfold_rules.specs.Conditions.{ConditionResult, condition, remarks_in}
+use Rattle.m11_unfold_rules.specs.Directives.{directive_named, operator}
 use Rattle.m11_scan_expressions.specs.Expressions.{KnownSymbols}
-use Rattle.m11_unfold_arguments.specs.Filling.{FormalTexts, filled}
-use Rattle.m11_unfold_arguments.specs.Immediate as immediate
-use Rattle.m11_unfold_arguments.specs.Indefinite.{Repeated, Repetition, irpc, irp}
-use Rattle.m11_unfold_arguments.specs.Macros.{MacroNamed, MacroHeader, header}
+use Rattle.m11_unfold_rules.specs.Filling.{FormalTexts, filled}
+use Rattle.m11_unfold_rules.specs.Immediate as immediate
+use Rattle.m11_unfold_rules.specs.Indefinite.{Repeated, Repetition, irpc, irp}
+use Rattle.m11_unfold_rules.specs.Headers.{MacroNamed, MacroHeader, header}
 use Rattle.m11_scan_expressions.specs.LeftOvers.{left_over}
 use Rattle.m11_scan_expressions.specs.Remarks.{Remarks, no_remarks, remarks_of, with_flags}
-use Rattle.m11_unfold_arguments.specs.Repeats as repeats
-use Rattle.m11_unfold_arguments.specs.declared.directives.Directive.{Directive}
-use Rattle.m11_unfold_arguments.specs.declared.directives.Directive.TheVariants as word
-use Rattle.m11_unfold_arguments.specs.declared.macros.MacroFormal.{MacroFormal}
+use Rattle.m11_unfold_rules.specs.Repeats as repeats
+use Rattle.m11_unfold_rules.specs.declared.directives.Directive.{Directive}
+use Rattle.m11_unfold_rules.specs.declared.directives.Directive.TheVariants as word
+use Rattle.m11_unfold_rules.specs.declared.macros.MacroFormal.{MacroFormal}
 use Rattle.m11_unfold_bodies.specs.Bodies.{nothing_taken}
 use Rattle.m11_unfold_bodies.specs.Conditions.{OpenConditions, closed, entering, has_none, is_skipping, past, switched}
 use Rattle.m11_unfold_bodies.specs.Left.{Line, after_mark, is_expanding}

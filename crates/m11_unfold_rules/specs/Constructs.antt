@@ -4,10 +4,10 @@ use Rattle.std.specs.Prelude.{◌≡◌, ℕ, zero, suc, ◌+◌, ◌<◌, ◌�
 use Rattle.std.specs.List.{flat_map}
 use Rattle.m11_base.specs.Devices.{Bytes}
 use Rattle.m11_base.specs.Rad50.{Name}
-use Rattle.m11_scan_lines.specs.Line.{SourceLine}
-use Rattle.m11_unfold_arguments.specs.Conditions.{condition, remarks_in}
+use Rattle.m11_scan.specs.Line.{SourceLine}
+use Rattle.m11_unfold_rules.specs.Conditions.{condition, remarks_in}
 use Rattle.m11_scan_expressions.specs.Expressions.{KnownSymbols}
-use Rattle.m11_unfold_arguments.specs.Indefinite.{Repetition}
+use Rattle.m11_unfold_rules.specs.Indefinite.{Repetition}
 use Rattle.m11_scan_expressions.specs.LeftOvers.{left_over}
 use Rattle.m11_scan_expressions.specs.Remarks.{Remarks, no_remarks, with_flags}
 use Rattle.m11_unfold_bodies.specs.Bodies.{size_of}

@@ -1,6 +1,6 @@
 -- What two unfoldings have in common. (This project's own.)
 use Rattle.std.specs.Prelude.{◌≡◌, List, ◌∷◌, ◌++◌, map}
-use Rattle.m11_scan_lines.specs.Line.{SourceLine}
+use Rattle.m11_scan.specs.Line.{SourceLine}
 use Rattle.m11_scan_expressions.specs.Expressions.{KnownSymbols}
 use Rattle.m11_unfold_rules.specs.Stages.{Stage, line_left}
 use Rattle.m11_unfold_rules.specs.Taking.{Live}

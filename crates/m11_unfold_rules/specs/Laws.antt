@@ -1,10 +1,10 @@
 -- What unfolding leaves alone, how an expansion is left, and where it ends. (MACRO-11 Language Reference Manual,
 -- "Source program format", ".MEXIT directive" and ".END directive".)
 use Rattle.std.specs.Prelude.{◌≡◌, ℕ, true, false, List, [], ◌∷◌, ◌++◌, ◌+◌, length, map, None, ⊤}
-use Rattle.m11_scan_lines.specs.Line.{SourceLine}
+use Rattle.m11_scan.specs.Line.{SourceLine}
 use Rattle.m11_scan_expressions.specs.Expressions.{KnownSymbols}
 use Rattle.m11_scan_expressions.specs.Remarks.{Remarks, no_remarks}
-use Rattle.m11_unfold_arguments.specs.declared.directives.Directive.{Directive}
+use Rattle.m11_unfold_rules.specs.declared.directives.Directive.{Directive}
 use Rattle.m11_unfold_bodies.specs.Conditions.{is_skipping}
 use Rattle.m11_unfold_bodies.specs.Left.{RemainingItem, Line, End, argument_count, is_expanding}
 use Rattle.m11_unfold_bodies.specs.declared.mark.Mark.{Mark}

@@ -1,3 +1,14 @@
+pub mod Actuals
+pub mod Conditions
+pub mod Definedness
+pub mod Digits
+pub mod Directives
+pub mod Filling
+pub mod Immediate
+pub mod Indefinite
+pub mod ArgumentLaws
+pub mod Headers
+pub mod Repeats
 pub mod Acting
 pub mod Constructs
 pub mod Fault

@@ -4,10 +4,10 @@
 use Rattle.std.specs.Prelude.{ℕ, ◌+◌, ◌==◌, Bool, if◌then◌else◌, List, [], ◌∷◌, Option, Some, None}
 use Rattle.m11_base.specs.Devices.{Bytes}
 use Rattle.m11_base.specs.Rad50.{Name}
-use Rattle.m11_scan_lines.specs.Line.{SourceLine}
-use Rattle.m11_unfold_arguments.specs.Directives.{directive}
-use Rattle.m11_unfold_arguments.specs.declared.directives.Directive.{Directive}
-use Rattle.m11_unfold_arguments.specs.declared.directives.Directive.TheVariants as word
+use Rattle.m11_scan.specs.Line.{SourceLine}
+use Rattle.m11_unfold_rules.specs.Directives.{directive}
+use Rattle.m11_unfold_rules.specs.declared.directives.Directive.{Directive}
+use Rattle.m11_unfold_rules.specs.declared.directives.Directive.TheVariants as word
 use Rattle.m11_unfold_bodies.specs.Bodies.{PartialBody, depth_after, size_of, taken_with}
 use Rattle.m11_unfold_bodies.specs.Conditions.{OpenConditions, is_skipping, nested, no_conditions, unnested}
 use Rattle.m11_unfold_bodies.specs.Left.{RemainingItem, Line, End, expanded, is_expanding}

@@ -1,7 +1,7 @@
 -- The unfolding of a source: which lines become live, one after the other. (MACRO-11 Language Reference Manual, "Macro directives" and
 -- "Conditional assembly directives".) It rewrites what is left, and knows nothing of how the source comes.
 use Rattle.std.specs.Prelude.{◌≡◌, ℕ, Bool, List, [], ◌∷◌, ◌++◌, Option, None}
-use Rattle.m11_scan_lines.specs.Line.{SourceLine}
+use Rattle.m11_scan.specs.Line.{SourceLine}
 use Rattle.m11_scan_expressions.specs.Expressions.{KnownSymbols}
 use Rattle.m11_scan_expressions.specs.Remarks.{Remarks}
 use Rattle.m11_unfold_bodies.specs.Left.{argument_count}

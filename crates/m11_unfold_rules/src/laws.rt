@@ -1,18 +1,18 @@
 //! Laws of unfolding. Each is the contract of a function that does nothing.
 
 ghost use Rattle.std.specs.Prelude.{◌≡◌, ◌⊎◌, ◌+◌, ◌<◌, ◌≤◌, ◌++◌, ◌∷◌, ℕ, List, [], Some, true, false, length, map};
-ghost use Rattle.m11_unfold_arguments.specs.Actuals.{actuals_from};
-ghost use Rattle.m11_unfold_arguments.specs.Conditions.{condition};
+ghost use Rattle.m11_unfold_rules.specs.Actuals.{actuals_from};
+ghost use Rattle.m11_unfold_rules.specs.Conditions.{condition};
 ghost use Rattle.m11_scan_expressions.specs.Expressions.{KnownSymbols};
-ghost use Rattle.m11_unfold_arguments.specs.Indefinite.{Repetition, irpc, irp};
-ghost use Rattle.m11_unfold_arguments.specs.Repeats as repeats;
-ghost use Rattle.m11_unfold_arguments.specs.declared.directives.Directive.TheVariants as directive;
+ghost use Rattle.m11_unfold_rules.specs.Indefinite.{Repetition, irpc, irp};
+ghost use Rattle.m11_unfold_rules.specs.Repeats as repeats;
+ghost use Rattle.m11_unfold_rules.specs.declared.directives.Directive.TheVariants as directive;
 ghost use Rattle.m11_base.specs.Devices.{Bytes};
 ghost use Rattle.m11_unfold_bodies.specs.Bodies.{texts_of};
 ghost use Rattle.m11_unfold_bodies.specs.Left.{RemainingItem, argument_count, depth, most_expansions};
 ghost use Rattle.m11_unfold_bodies.specs.declared.mark.Mark.{Mark};
 ghost use Rattle.m11_unfold_bodies.specs.declared.open_body.Nesting.TheVariants.{Closes};
-ghost use Rattle.m11_scan_lines.specs.Line.{SourceLine, line_of};
+ghost use Rattle.m11_scan.specs.Line.{SourceLine, line_of};
 ghost use Rattle.m11_unfold_rules.specs.Acting.{act, flagged};
 ghost use Rattle.m11_unfold_rules.specs.Constructs.{Block, HasConditionLeft, HasRoom, IsCall, IsPlainBody, after_block, after_call, before_block, before_call, condition_remarks, expanded_given, repeated_lines, times};
 ghost use Rattle.m11_unfold_rules.specs.Histories.{GoesOn, IsKnownBy, with_more};

@@ -14,8 +14,7 @@ use m11_base::Name;
 use m11_scan::{ErrorFlags, Line};
 use m11_scan_expressions::{Names, Radix, Symbol, Value};
 use m11_unfold::{Act, Step, Unfolder};
-use m11_unfold_arguments::operator;
-use m11_unfold_rules::UnfoldFault;
+use m11_unfold_rules::{UnfoldFault, operator};
 use std::alloc::{AllocError, Global};
 use std::process::Abort;
 

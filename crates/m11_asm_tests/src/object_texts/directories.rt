@@ -1,8 +1,7 @@
 //! Rows of directories and their records. (RT-11 Volume and File Formats Manual, "Object file format", GSD block.)
 
 use super::{name, same};
-use m11_obj::{Block, SectionFlags};
-use m11_obj_texts::{DirectoryRow, OpenDirectory};
+use m11_obj::{Block, DirectoryRow, OpenDirectory, SectionFlags};
 use std::alloc::{AllocError, Global};
 use std::test::Fail;
 

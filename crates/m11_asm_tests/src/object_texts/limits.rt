@@ -1,7 +1,7 @@
 //! Where texts end: at 32 bytes, and at 120 bytes of relocations.
 
 use super::{byte, limit_pair, name, records, word};
-use m11_obj_texts::{Piece, RelocationKind};
+use m11_obj::{Piece, RelocationKind};
 use std::test::Fail;
 
 #[test]

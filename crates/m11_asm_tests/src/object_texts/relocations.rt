@@ -2,7 +2,7 @@
 //! format", RLD block.)
 
 use super::{byte, name, records, same, word};
-use m11_obj_texts::{Piece, RelocationKind};
+use m11_obj::{Piece, RelocationKind};
 use std::test::Fail;
 
 #[test]

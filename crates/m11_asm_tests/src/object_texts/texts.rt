@@ -1,7 +1,7 @@
 //! Pieces of small programs and the records of their texts. (RT-11 Volume and File Formats Manual, "Object file format".)
 
 use super::{byte, limit_pair, name, records, same, word};
-use m11_obj_texts::{Piece, RelocationKind};
+use m11_obj::{Piece, RelocationKind};
 use std::test::Fail;
 
 // What the pieces of the first program of a pair of modules give: `MOV F,R0` and a byte in section PROG.

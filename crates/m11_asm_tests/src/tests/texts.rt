@@ -1,7 +1,7 @@
 //! Texts of what lines put.
 
 use m11_base::{Name, octal6};
-use m11_obj_texts::{PieceContent, RelocationKind, StoredConstant};
+use m11_obj::{PieceContent, RelocationKind, StoredConstant};
 use m11_scan::ErrorFlags;
 use std::alloc::AllocError;
 

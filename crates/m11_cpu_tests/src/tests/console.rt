@@ -2,7 +2,7 @@
 
 use super::Fact::{Asked, In, Psw, Sent};
 use super::{BUS_ERROR_HALTS, POLLS, Part, Program, Row, SOUND, check, check_all};
-use m11_base_instructions::Register::{Pc, Sp};
+use m11_base::Register::{Pc, Sp};
 use m11_cpu::Stop::{Halt, InputFault, Limit, OutputFault};
 use std::process::Abort;
 use std::test::Fail;

@@ -2,8 +2,8 @@
 
 use super::Fact::{In, Psw};
 use super::{After, Fact, Part, Program, SOUND, has_all, machine_of};
+use m11_base::Register::{Pc, R0, Sp};
 use m11_base::{MemoryFeed, MemorySink, Sink};
-use m11_base_instructions::Register::{Pc, R0, Sp};
 use m11_cpu::Stop::{Halt, StackFault, Wait};
 use m11_cpu::Turn::{Next, Stopped};
 use m11_cpu::{Machine, Stop, Turn, run};

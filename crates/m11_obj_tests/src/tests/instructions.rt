@@ -1,7 +1,7 @@
 //! Words and their instructions, names and their operations. (PDP-11/40 Processor Handbook, "Instruction set".)
 
 use super::same;
-use m11_base_instructions::{
+use m11_base::{
     BranchOp, ConditionCodes, ConditionOp, DoubleOp, Insn, Op, Row, Size, decode, decode_by_list,
     encode, mnemonic, other_names, rows,
 };

@@ -5,7 +5,7 @@ use super::statements::label_of;
 use super::{same, values};
 use m11_asm_operands::{Fields, fields_at};
 use m11_asm_rules::{Field, Form};
-use m11_base_instructions::{DoubleOp, Mode, Op, Size};
+use m11_base::{DoubleOp, Mode, Op, Size};
 use m11_scan::{Line, skipped_between};
 use m11_scan_expressions::Radix;
 use m11_scan_statements::{Body, LabelKind, Span, labels_of, statement};

@@ -2,7 +2,7 @@
 
 use super::same;
 use m11_base::{Feed, FuseFeed, MemoryFeed};
-use m11_scan_lines::{LineFault, LineReader};
+use m11_scan::{LineFault, LineReader};
 use std::alloc::AllocError;
 use std::process::Abort;
 

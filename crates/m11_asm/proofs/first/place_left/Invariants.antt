@@ -1,5 +1,5 @@
 use Rattle.std.proofs.Common.{◌≡◌, ◌-◌, List, None}
-use Rattle.m11_scan_lines.specs.Line.{SourceLine}
+use Rattle.m11_scan.specs.Line.{SourceLine}
 use Rattle.m11_unfold_rules.specs.Limits.{most_lines}
 use Rattle.m11_asm_passes.specs.Lines.{NumberedLine}
 use Rattle.m11_asm_lines.specs.Counting.{none_used}

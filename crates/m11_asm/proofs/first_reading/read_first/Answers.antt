@@ -1,4 +1,4 @@
-use Rattle.m11_base_pass_rules.specs.Passes.{pass_of}
+use Rattle.m11_base_writes.specs.Passes.{pass_of}
 use Rattle.m11_asm.proofs.FirstLines.{all_given, none_given}
 use Rattle.m11_asm.proofs.first_reading.read_first.Goals as goal
 

@@ -1,7 +1,7 @@
 use Rattle.std.proofs.Common.{inl, refl}
 use Rattle.std.proofs.lemmas.Result.{err_from_is_err_and}
 use Rattle.m11_base_writes.specs.Outputs.{outputs_of}
-use Rattle.m11_base_pass_rules.specs.Passes.{pass_of}
+use Rattle.m11_base_writes.specs.Passes.{pass_of}
 use Rattle.m11_asm.proofs.Joined.{asm_gives, asm_runs}
 use Rattle.m11_asm.proofs.ProgramsAgree.{LawsOfFirstPasses}
 use Rattle.m11_asm.proofs.run.asm_run.Goals as goal

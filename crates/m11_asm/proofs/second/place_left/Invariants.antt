@@ -1,6 +1,6 @@
 use Rattle.std.proofs.Common.{◌≡◌, ◌-◌, List, None, length}
 use Rattle.m11_base_writes.specs.Outputs.{Outputs, outputs_of}
-use Rattle.m11_scan_lines.specs.Line.{SourceLine}
+use Rattle.m11_scan.specs.Line.{SourceLine}
 use Rattle.m11_asm_passes.specs.Lines.{NumberedLine}
 use Rattle.m11_unfold_rules.specs.Limits.{most_lines}
 use Rattle.m11_asm.specs.Program.{Program}

@@ -1,7 +1,7 @@
 use Rattle.std.proofs.Common.{◌∙◌, [], Some, Ok, ap, sym, subst}
 use Rattle.std.proofs.lemmas.Result.{err_from_is_err_and}
-use Rattle.m11_scan_lines.specs.Line.{SourceLine}
-use Rattle.m11_scan_lines.specs.Reader.{LineReading, ReadsNext, position}
+use Rattle.m11_scan.specs.Line.{SourceLine}
+use Rattle.m11_scan.specs.Reader.{LineReading, ReadsNext, position}
 use Rattle.m11_base_writes.specs.Outputs.{outputs_of}
 use Rattle.m11_asm.proofs.LinesRead.{reader_begins}
 use Rattle.m11_asm.proofs.SecondLines.{second_ended, second_goes_on, second_read, second_refuses, second_stops}

@@ -2,7 +2,7 @@ use Rattle.m11_asm_outputs.specs.Outputs.{assembly}
 use Rattle.m11_base_writes.specs.Outputs.{Outputs, outputs_of}
 use Rattle.m11_asm.specs.Program.{program_in}
 use Rattle.m11_base_writes.proofs.Writing.{gains_nothing}
-use Rattle.m11_base_pass_rules.specs.Passes.{pass_of}
+use Rattle.m11_base_writes.specs.Passes.{pass_of}
 use Rattle.m11_asm.proofs.SecondLines.{none_read, second_ends}
 use Rattle.m11_asm.proofs.second_reading.read_second.Goals as goal
 

@@ -1,5 +1,5 @@
 use Rattle.std.proofs.Common.{◌++◌, ◌∷◌, [], ap, ◌∙◌}
-use Rattle.m11_obj_texts.specs.declared.directory.DirectoryRow.{DirectoryRow}
+use Rattle.m11_obj.specs.declared.directory.DirectoryRow.{DirectoryRow}
 use Rattle.m11_asm_directory.specs.FirstPass.{directory_facts}
 use Rattle.m11_asm_directory.proofs.Joining.{parts_joined}
 use Rattle.m11_asm_directory.proofs.rows.directory_rows.Goals as goal

@@ -1,4 +1,4 @@
-use Rattle.m11_obj_texts.specs.OpenText.{records_in}
+use Rattle.m11_obj.specs.OpenText.{records_in}
 use Rattle.std.proofs.Common.{[], ◌∷◌}
 use Rattle.m11_asm_outputs.specs.Object.{AllFit, closed_records, records_closed_by}
 use Rattle.m11_asm_outputs.proofs.Blocks.{contents_as}

@@ -1,6 +1,6 @@
 use Rattle.std.proofs.Common.{ap, ◌∙◌, sym, append-nil}
-use Rattle.m11_obj_texts.specs.OpenText.{records_in}
-use Rattle.m11_obj_texts.specs.Texts.{records_of}
+use Rattle.m11_obj.specs.OpenText.{records_in}
+use Rattle.m11_obj.specs.Texts.{records_of}
 use Rattle.m11_asm_outputs.specs.Object.{AllFit}
 use Rattle.m11_asm_outputs.specs.Outputs.{assembly}
 use Rattle.m11_base_writes.proofs.Writing.{gains_nothing}

@@ -1,6 +1,6 @@
 use Rattle.std.proofs.Common.{[], ◌∷◌, ◌++◌, sym}
 use Rattle.m11_obj.specs.Records.{EndOfModule}
-use Rattle.m11_obj_texts.specs.OpenText.{records_in}
+use Rattle.m11_obj.specs.OpenText.{records_in}
 use Rattle.m11_asm_outputs.specs.Object.{AllFit, closed_records, content_writes, last_records}
 use Rattle.m11_asm_outputs.specs.Outputs.{assembly}
 use Rattle.m11_asm_outputs.proofs.Blocks.{contents_gain, contents_stop}

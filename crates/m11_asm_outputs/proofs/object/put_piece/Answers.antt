@@ -1,7 +1,7 @@
 use Rattle.std.proofs.Common.{◌≡◌, List, [], Option, None, Ok, sym, subst}
-use Rattle.m11_obj_texts.specs.OpenText.{records_in}
-use Rattle.m11_obj_texts.specs.Texts.{TextParts}
-use Rattle.m11_obj_texts.specs.declared.pieces.Piece.{Piece}
+use Rattle.m11_obj.specs.OpenText.{records_in}
+use Rattle.m11_obj.specs.Texts.{TextParts}
+use Rattle.m11_obj.specs.declared.pieces.Piece.{Piece}
 use Rattle.m11_base_writes.proofs.Writing.{gains_nothing}
 use Rattle.m11_asm_outputs.specs.Object.{IsOpenAfter, closed_records}
 use Rattle.m11_asm_outputs.specs.Object.{content_writes}

@@ -1,7 +1,7 @@
 use Rattle.std.proofs.Common.{◌∙◌, ℕ, List, ap, subst}
 use Rattle.std.specs.List.{AllByRecursion}
 use Rattle.arrayvec.specs.ArrayVec.{ArrayVec}
-use Rattle.m11_obj_texts.specs.Texts.{records_of}
+use Rattle.m11_obj.specs.Texts.{records_of}
 use Rattle.m11_asm_outputs.specs.Object.{AllFit, BlockFits, block_writes}
 use Rattle.m11_asm_outputs.proofs.Blocks.{as_records}
 use Rattle.m11_asm_outputs.proofs.Fitting.{on_ok, records_fit}

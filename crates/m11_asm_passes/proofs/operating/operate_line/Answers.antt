@@ -1,11 +1,11 @@
 use Rattle.std.proofs.Common.{◌∙◌, ap, sym, subst}
-use Rattle.m11_asm_instructions.specs.Reading.{operator_fields}
+use Rattle.m11_asm_operands.specs.Reading.{operator_fields}
 use Rattle.m11_asm_rules.specs.Changes.{changed}
 use Rattle.m11_asm_rules.specs.Effects.{operator_change}
 use Rattle.m11_asm_rules.specs.Tables.{firm_table}
 use Rattle.m11_asm_rules.specs.declared.operators.Operator.{Operator}
 use Rattle.m11_asm_lines.specs.Passes.{Follows}
-use Rattle.m11_asm_table.specs.Alike as tables
+use Rattle.m11_asm_rules.specs.Alike as tables
 use Rattle.m11_asm_passes.proofs.operating.operate_line.Goals as goal
 
 pub step_over-requires-clause-fields : goal.step_over-requires-clause-fields

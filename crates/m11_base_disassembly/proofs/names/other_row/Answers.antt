@@ -1,7 +1,7 @@
 use Rattle.std.proofs.Common.{◌∙◌, rules, tests}
 use Rattle.std.proofs.lemmas.Iterator.Search.{find_from_yields_List}
 use Rattle.std.proofs.lemmas.Iterator.{YieldsList-from_slice}
-use Rattle.m11_base_instructions.specs.Instructions.{is_of, other_names}
+use Rattle.m11_base.specs.Instructions.{is_of, other_names}
 use Rattle.m11_base_disassembly.proofs.names.other_row.Goals as goal
 
 pub returns : goal.returns

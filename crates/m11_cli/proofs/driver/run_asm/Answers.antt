@@ -1,5 +1,5 @@
 use Rattle.std.proofs.Common.{◌∙◌, ap}
-use Rattle.m11_base_pass_rules.specs.Passes.{pass_of}
+use Rattle.m11_base_writes.specs.Passes.{pass_of}
 use Rattle.m11_asm.specs.Run.{AsmRuns}
 use Rattle.m11_base_files.specs.Opens.{keeping, keeping_some}
 use Rattle.m11_cli.specs.Driver.{got, outputs}

@@ -7,7 +7,7 @@ use Rattle.m11_cli.proofs.Linked.{emptied, kept, link_runs, same_output, seen_ou
 use Rattle.m11_base_writes.specs.States.{output_of}
 use Rattle.m11_cli.proofs.Sources.{are, seen}
 use Rattle.m11_cli.proofs.driver.run_link.Goals as goal
-use Rattle.m11_base_pass_rules.specs.Passes.{pass_of}
+use Rattle.m11_base_writes.specs.Passes.{pass_of}
 
 pub returns : goal.returns
 returns g c =

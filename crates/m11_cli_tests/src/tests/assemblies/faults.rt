@@ -2,7 +2,7 @@
 
 use m11_asm::AsmFault;
 use m11_base_writes::Output;
-use m11_scan_lines::LineFault;
+use m11_scan::LineFault;
 use m11_unfold_rules::UnfoldFault;
 use std::alloc::AllocError;
 use std::process::Abort;

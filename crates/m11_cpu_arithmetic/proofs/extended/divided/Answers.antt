@@ -1,6 +1,6 @@
 use Rattle.std.proofs.Common.{◌≡◌, false, ◌∙◌, sym, w64}
 use Rattle.std.specs.Prelude.{FitsSigned}
-use Rattle.m11_base_instructions.specs.declared.operand.Size.TheVariants.{Word}
+use Rattle.m11_base.specs.declared.operand.Size.TheVariants.{Word}
 use Rattle.m11_cpu_arithmetic.specs.Sizes.{overflows}
 use Rattle.m11_cpu_arithmetic.proofs.Exact.{no_overflow, division_exact}
 use Rattle.m11_cpu_arithmetic.proofs.extended.divided.Goals.{then-quotient-ltminus32768, else-quotient-ltminus32768}

@@ -1,4 +1,4 @@
-use Rattle.m11_base_instructions.specs.declared.operand.Size.TheVariants.{Word, Byte}
+use Rattle.m11_base.specs.declared.operand.Size.TheVariants.{Word, Byte}
 use Rattle.m11_cpu_arithmetic.proofs.Comparing.{compared}
 use Rattle.m11_cpu_arithmetic.proofs.laws.branches_after_compare.Goals as goal
 

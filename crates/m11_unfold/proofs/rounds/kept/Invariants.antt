@@ -1,5 +1,5 @@
 use Rattle.std.proofs.Common.{◌≡◌, ◌++◌, drop}
-use Rattle.m11_unfold_arguments.specs.Actuals.{texts_of}
+use Rattle.m11_unfold_rules.specs.Actuals.{texts_of}
 use Rattle.m11_unfold.proofs.rounds.kept.Given as goal
 
 abbrev pub invariant-texts : goal.invariant-texts

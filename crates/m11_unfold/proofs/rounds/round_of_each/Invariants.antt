@@ -1,5 +1,5 @@
 use Rattle.std.proofs.Common.{◌≡◌, ◌++◌, drop, map}
-use Rattle.m11_unfold_arguments.specs.Actuals.{texts_of}
+use Rattle.m11_unfold_rules.specs.Actuals.{texts_of}
 use Rattle.m11_unfold_rules.specs.Acting.{alone}
 use Rattle.m11_unfold.proofs.rounds.round_of_each.Given as goal
 

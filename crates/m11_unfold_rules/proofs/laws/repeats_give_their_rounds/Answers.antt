@@ -1,4 +1,4 @@
-use Rattle.m11_unfold_rules.proofs.Repeats.{repeated, with_characters, with_list}
+use Rattle.m11_unfold_rules.proofs.RepeatedBodies.{repeated, with_characters, with_list}
 use Rattle.m11_unfold_rules.proofs.laws.repeats_give_their_rounds.Goals as goal
 
 pub returns-clause-counted : goal.returns-clause-counted

@@ -1,6 +1,6 @@
 use Rattle.std.proofs.Common.{refl, []}
 use Rattle.m11_asm_outputs.specs.Outputs.{assembly}
-use Rattle.m11_asm_listing_writes.specs.Listed.{added_lines, all_to_listing}
+use Rattle.m11_asm.specs.Listed.{added_lines, all_to_listing}
 use Rattle.m11_base_writes.proofs.Writing.{stopped_first, writes_then}
 use Rattle.m11_asm.proofs.Putting.{none_added, one_added, writes_nothing}
 use Rattle.m11_asm.proofs.writing.Writing.add_line.Goals as goal

@@ -2,7 +2,7 @@ use Rattle.std.proofs.Common.{◌∙◌, List, sym, ap}
 use Rattle.m11_asm_outputs.proofs.Fitting.{fit_as}
 use Rattle.m11_asm_outputs.specs.Object.{content_writes, head_contents}
 use Rattle.m11_asm_outputs.specs.Outputs.{assembly}
-use Rattle.m11_obj_texts.specs.declared.directory.DirectoryRow.{DirectoryRow}
+use Rattle.m11_obj.specs.declared.directory.DirectoryRow.{DirectoryRow}
 use Rattle.m11_base_writes.proofs.Writing.{stopped_alone}
 use Rattle.m11_asm.specs.Writing.{Writing}
 use Rattle.m11_asm_outputs.proofs.Looping.{writes_as}

@@ -2,11 +2,11 @@ use Rattle.std.proofs.Common.{[], ◌∷◌, ◌++◌, List, Option, sym, ap, su
 use Rattle.m11_asm_outputs.specs.Object.{IsOpenAfter, content_writes, last_records}
 use Rattle.m11_asm_outputs.specs.Outputs.{assembly}
 use Rattle.m11_base_writes.specs.Outputs.{Write, flushes, to_messages}
-use Rattle.m11_asm_listing_writes.specs.Listed.{all_to_listing}
+use Rattle.m11_asm.specs.Listed.{all_to_listing}
 use Rattle.m11_asm_listing.specs.Messages.{count_line}
 use Rattle.m11_asm_listing.specs.SymbolTable.{last_lines}
 use Rattle.m11_obj.specs.Records.{EndOfModule}
-use Rattle.m11_obj_texts.specs.Texts.{TextParts}
+use Rattle.m11_obj.specs.Texts.{TextParts}
 use Rattle.m11_base_writes.proofs.Writing.{gains_then, stopped_alone, stopped_first, writes_then}
 use Rattle.m11_asm.specs.Writing.{Writing}
 use Rattle.m11_asm_outputs.proofs.Looping.{writes_as}

@@ -2,8 +2,8 @@ use Rattle.std.proofs.Common.{◌∙◌, List, ◌++◌, ap}
 use Rattle.m11_base.specs.Rad50.{Name}
 use Rattle.m11_asm_directory.specs.FirstPass.{DirectoryFacts, directory_facts}
 use Rattle.m11_asm_directory.specs.Rows.{directory_rows}
-use Rattle.m11_asm_symbol_list.specs.Sections.{section_entries}
-use Rattle.m11_asm_symbol_list.specs.Symbols.{symbol_entries}
+use Rattle.m11_asm.specs.Sections.{section_entries}
+use Rattle.m11_asm.specs.Symbols.{symbol_entries}
 use Rattle.m11_asm.specs.Program.{all_names}
 use Rattle.m11_asm.proofs.Putting.{stands_first}
 use Rattle.m11_asm.proofs.writing.Writing.new.Goals as goal

@@ -2,7 +2,7 @@ use Rattle.std.proofs.Common.{◌∙◌, ◌++◌, Option, refl, sym, ap, subst}
 use Rattle.std.specs.Int.RustNames.{bit_or}
 use Rattle.m11_asm_outputs.specs.Object.{IsOpenAfter}
 use Rattle.m11_asm_outputs.specs.Outputs.{assembly}
-use Rattle.m11_obj_texts.specs.Texts.{TextParts}
+use Rattle.m11_obj.specs.Texts.{TextParts}
 use Rattle.m11_asm_passes.specs.Lines.{table_at}
 use Rattle.m11_asm_rules.specs.Contents.{pieces_from}
 use Rattle.m11_scan.specs.Views.{bits_of}

@@ -1,6 +1,6 @@
 use Rattle.std.proofs.Common.{Option, sym, ap, subst}
 use Rattle.m11_asm_outputs.specs.Object.{IsOpenAfter}
-use Rattle.m11_obj_texts.specs.Texts.{TextParts}
+use Rattle.m11_obj.specs.Texts.{TextParts}
 use Rattle.m11_asm.specs.Writing.{Writing}
 use Rattle.m11_asm.proofs.writing.Writing.put_pieces.Goals as goal
 

@@ -9,7 +9,7 @@ use Rattle.m11_asm_lines.specs.Actions.{action_seen}
 use Rattle.m11_asm_lines.specs.Faults.{Overfills}
 use Rattle.m11_asm_lines.specs.Passes.{Follows, Matches}
 use Rattle.m11_asm_lines.specs.declared.actions.Action.{Action}
-use Rattle.m11_asm_table.specs.Alike as tables
+use Rattle.m11_asm_rules.specs.Alike as tables
 use Rattle.m11_asm_lines.proofs.pass.Pass.apply_action.Goals as goal
 
 pub returns-in_err-apply_counter-in-SetCounter-clause-refuses : goal.returns-in_err-apply_counter-in-SetCounter-clause-refuses

@@ -7,7 +7,7 @@ use Rattle.m11_asm_rules.specs.Meanings.{known_at}
 use Rattle.m11_asm_rules.specs.Tables.{location}
 use Rattle.m11_asm_rules.specs.declared.meanings.Context.TheVariants.{LocalOnly}
 use Rattle.m11_asm_lines.specs.Passes.{Follows, TableState}
-use Rattle.m11_asm_table.specs.Alike as tables
+use Rattle.m11_asm_rules.specs.Alike as tables
 use Rattle.m11_asm_lines.proofs.pass.Pass.apply_assignment.Goals as goal
 
 pub returns-clause-takes : goal.returns-clause-takes

@@ -5,7 +5,7 @@ use Rattle.m11_asm_rules.specs.Tables.{Table}
 use Rattle.m11_asm_lines.proofs.FirmCounters.{counter_firm}
 use Rattle.m11_asm_lines.specs.Faults.{Overfills}
 use Rattle.m11_asm_lines.specs.Passes.{Follows, TableState, Matches}
-use Rattle.m11_asm_table.specs.Alike as tables
+use Rattle.m11_asm_rules.specs.Alike as tables
 use Rattle.m11_asm_lines.proofs.pass.Pass.apply_counter.Goals as goal
 
 pub returns-clause-takes : goal.returns-clause-takes

@@ -3,7 +3,7 @@ use Rattle.m11_base.specs.Rad50.{Name}
 use Rattle.m11_asm_rules.specs.Assigning.{assignment_to}
 use Rattle.m11_asm_rules.specs.Changes.{changed}
 use Rattle.m11_asm_lines.specs.Passes.{Follows}
-use Rattle.m11_asm_table.specs.Alike as tables
+use Rattle.m11_asm_rules.specs.Alike as tables
 use Rattle.m11_asm_rules.specs.Tables.{Table}
 use Rattle.m11_asm_lines.specs.Faults.{Overfills}
 use Rattle.m11_asm_lines.specs.Passes.{Matches}

@@ -4,7 +4,7 @@ use Rattle.m11_asm_directives.specs.Changes.{names_among}
 use Rattle.m11_asm_rules.specs.Changes.{with_globals}
 use Rattle.m11_asm_lines.proofs.NameLists.{same_list}
 use Rattle.m11_asm_lines.specs.Passes.{Follows}
-use Rattle.m11_asm_table.specs.Alike as tables
+use Rattle.m11_asm_rules.specs.Alike as tables
 use Rattle.m11_asm_lines.proofs.pass.Pass.export_list.Goals as goal
 
 pub returns-clause-exports : goal.returns-clause-exports

@@ -3,7 +3,7 @@ use Rattle.m11_asm_rules.specs.Definitions.{is_labelled}
 use Rattle.m11_asm_rules.specs.Labels.{with_definition}
 use Rattle.m11_asm_rules.specs.declared.definitions.Definition.{Definition}
 use Rattle.m11_asm_rules.specs.declared.definitions.Key.TheVariants.{Named}
-use Rattle.m11_asm_table.specs.Alike.{Follows}
+use Rattle.m11_asm_rules.specs.Alike.{Follows}
 use Rattle.m11_asm_lines.proofs.Assigning.{number_defines, number_doubles}
 use Rattle.m11_asm_lines.specs.Passes.{TableState}
 use Rattle.m11_asm_lines.proofs.pass.Pass.number.Goals as goal

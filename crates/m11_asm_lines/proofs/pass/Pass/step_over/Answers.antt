@@ -1,11 +1,11 @@
 use Rattle.std.proofs.Common.{◌∙◌, ℕ, ap, sym, subst}
-use Rattle.m11_asm_instructions.specs.Reading.{operator_fields}
+use Rattle.m11_asm_operands.specs.Reading.{operator_fields}
 use Rattle.m11_asm_rules.specs.Changes.{Change, changed}
 use Rattle.m11_asm_rules.specs.Effects.{operator_change}
 use Rattle.m11_asm_rules.specs.Tables.{firm_table}
 use Rattle.m11_asm_rules.specs.declared.operators.Operator.TheVariants.{Instruction}
 use Rattle.m11_asm_lines.specs.Passes.{Follows, TableState}
-use Rattle.m11_asm_table.specs.Alike as tables
+use Rattle.m11_asm_rules.specs.Alike as tables
 use Rattle.m11_asm_lines.proofs.pass.Pass.step_over.Goals as goal
 
 pub instruction_steps-steps-requires : goal.instruction_steps-steps-requires

@@ -3,7 +3,7 @@ use Rattle.std.specs.List.{flat_map}
 use Rattle.m11_asm_rules.specs.Fields.{Fields}
 use Rattle.m11_asm_rules.specs.SymbolUses.{field_uses}
 use Rattle.m11_asm_rules.specs.declared.fields.Field.{Field}
-use Rattle.m11_asm_instructions.specs.Reading.{operator_fields}
+use Rattle.m11_asm_operands.specs.Reading.{operator_fields}
 use Rattle.m11_asm_lines.specs.UsedSymbols.{Adds}
 use Rattle.m11_asm_lines.proofs.used_symbols.UsedSymbols.add_operator.Goals as goal
 

@@ -3,7 +3,7 @@ use Rattle.m11_obj_blocks.specs.Frames.{word_bytes}
 use Rattle.m11_obj.specs.Gsd.{entry_bytes, EntryFits}
 use Rattle.m11_obj.specs.Records.{Gsd}
 use Rattle.m11_obj.proofs.RecordsAgain.{means}
-use Rattle.m11_obj.proofs.Pieces.{pieces_all, fact_all, pieces_more, fact_more}
+use Rattle.m11_obj.proofs.BytesByPieces.{pieces_all, fact_all, pieces_more, fact_more}
 use Rattle.m11_obj.proofs.records.Record.gsd.Goals as goal
 
 pub loop-entry-preserved : goal.loop-entry-preserved

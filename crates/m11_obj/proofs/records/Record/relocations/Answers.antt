@@ -2,7 +2,7 @@ use Rattle.m11_obj_blocks.specs.Frames.{word_bytes, content_limit}
 use Rattle.m11_obj.specs.Relocations.{relocation_bytes, RelocationFits}
 use Rattle.m11_obj.specs.Records.{Relocations}
 use Rattle.m11_obj.proofs.RecordsAgain.{means}
-use Rattle.m11_obj.proofs.Pieces.{pieces_all, fact_all, pieces_more, piece_has_room, fact_more}
+use Rattle.m11_obj.proofs.BytesByPieces.{pieces_all, fact_all, pieces_more, piece_has_room, fact_more}
 use Rattle.m11_obj.proofs.records.Record.relocations.Goals as goal
 
 pub add_relocation-requires-clause-room : goal.add_relocation-requires-clause-room

@@ -1,6 +1,6 @@
 use Rattle.std.proofs.Common.{ℕ, List, length, ap, arith}
 use Rattle.std.proofs.lemmas.List.{length-map}
-use Rattle.m11_unfold_arguments.specs.Actuals.{characters_of}
+use Rattle.m11_unfold_rules.specs.Actuals.{characters_of}
 use Rattle.m11_scan_expressions.specs.Expressions.{known_by}
 use Rattle.m11_unfold.proofs.Counted.{few_actuals}
 use Rattle.m11_unfold.proofs.state.State.call.Goals as goal

@@ -1,9 +1,9 @@
 use Rattle.std.proofs.Common.{ℕ, ap, ◌∙◌}
-use Rattle.m11_unfold_arguments.specs.Conditions.{condition, remarks_in}
+use Rattle.m11_unfold_rules.specs.Conditions.{condition, remarks_in}
 use Rattle.m11_scan_expressions.specs.Expressions.{known_by}
 use Rattle.m11_scan_expressions.specs.LeftOvers.{left_over}
 use Rattle.m11_scan_expressions.specs.Remarks.{Remarks, joined, with_flags}
-use Rattle.m11_unfold_arguments.specs.declared.conditions.Verdict.{Verdict}
+use Rattle.m11_unfold_rules.specs.declared.conditions.Verdict.{Verdict}
 use Rattle.m11_scan.specs.Views.{bits_of}
 use Rattle.m11_unfold.proofs.Noting.{flags_after}
 use Rattle.m11_unfold.proofs.state.State.open_condition.Goals as goal

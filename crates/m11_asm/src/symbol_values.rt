@@ -1,0 +1,44 @@
+//! The values that the symbol table shows. (MACRO-11 Language Reference Manual, "Table of contents and symbol table".)
+
+ghost use Rattle.std.specs.Prelude.{◌≡◌};
+ghost use Rattle.m11_asm_rules.specs.Sections.{number_of};
+ghost use Rattle.m11_asm.specs.Values as spec;
+
+use m11_asm_listing::SymbolValue;
+use m11_asm_rules::{Standing, Table};
+use m11_base::Name;
+use m11_scan_expressions::Kind;
+
+// A location, with the number of its section.
+fn location_value(table: &Table, number: u16, name: Name) -> SymbolValue
+    ensures { result ≡ spec.location_value number (number_of name table.now.sections) }
+{
+    table.sections_are_within_the_limit();
+    match table.section_number(name) {
+        Some(section) => SymbolValue::Relocatable {
+            location: number,
+            section: section as u8,
+        },
+        None => SymbolValue::Absolute(number),
+    }
+}
+
+fn known_value(table: &Table, number: u16, kind: Kind) -> SymbolValue
+    ensures { result ≡ spec.known_value table.now.sections number kind }
+{
+    match kind {
+        Kind::Section(name) => location_value(table, number, name),
+        Kind::Register => SymbolValue::Register(number),
+        Kind::Absolute | Kind::Reference(_) => SymbolValue::Absolute(number),
+    }
+}
+
+/// The value that a definition gives.
+pub(crate) fn value_of(table: &Table, standing: Standing) -> SymbolValue
+    ensures { result ≡ spec.value_of table.now.sections standing }
+{
+    match standing {
+        Standing::Known(number, kind) => known_value(table, number, kind),
+        Standing::Unknown => SymbolValue::Unknown,
+    }
+}

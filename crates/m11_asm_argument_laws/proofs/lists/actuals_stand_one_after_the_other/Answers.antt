@@ -1,8 +1,0 @@
-use Rattle.m11_asm_argument_laws.proofs.Listed.{all_actuals, first_actuals}
-use Rattle.m11_asm_argument_laws.proofs.lists.actuals_stand_one_after_the_other.Goals as goal
-
-pub returns-clause-all : goal.returns-clause-all
-returns-clause-all c = all_actuals
-
-pub returns-clause-first : goal.returns-clause-first
-returns-clause-first c = first_actuals

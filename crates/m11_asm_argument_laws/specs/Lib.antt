@@ -1,3 +1,0 @@
-pub mod Lists
-pub mod Refusals
-pub mod Written

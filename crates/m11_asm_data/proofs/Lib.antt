@@ -1,4 +1,0 @@
-pub mod NextParts
-pub mod Packs
-pub mod Stepping
-pub mod TextSteps

@@ -1,5 +1,0 @@
-use Rattle.m11_asm_data.proofs.Packs.{none_waits}
-use Rattle.m11_asm_data.proofs.packing.Waiting.end.Goals as goal
-
-pub returns-in-Nothing : goal.returns-in-Nothing
-returns-in-Nothing c = none_waits c.args.emission.now c.args.self c.in-Nothing.is

@@ -1,0 +1,13 @@
+use Rattle.std.proofs.Common.{ℕ, List, ap, ◌∙◌}
+use Rattle.m11_asm_rules.specs.Contents.{further}
+use Rattle.m11_asm_rules.specs.Strings.{part_size}
+use Rattle.m11_asm_directives.proofs.TextSteps.{part_on}
+use Rattle.m11_asm_directives.proofs.ascii.emit_part.Goals as goal
+
+pub returns : goal.returns
+returns c =
+    let here = c.args.line_context.now in
+    part_on here.map here.table here.line c.args.emission.now c.emit_part_bytes.new.emission c.args.location c.further.result c.args.part
+    c.in_ok-emit_part_bytes.ensures
+    (c.further.ensures ∙ ap (λ (n : ℕ). further c.args.location n)
+    (c.part_size.ensures.size ∙ ap (λ (l : List ℕ). part_size l c.args.part c.args.part.kind) c.line.ensures))

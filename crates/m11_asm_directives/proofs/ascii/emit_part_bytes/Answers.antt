@@ -1,0 +1,21 @@
+use Rattle.std.proofs.Common.{◌≡◌, IfOk, subst, sym, ap, ◌∙◌}
+use Rattle.m11_scan_expressions.specs.Expressions.{value_at}
+use Rattle.m11_asm_operands.specs.LineContext.{Standpoint, line_context_of}
+use Rattle.m11_asm_rules.specs.Contents.{Emission, byte, followed_by}
+use Rattle.m11_asm_rules.specs.Strings.{part_bytes}
+use Rattle.m11_scan_statements.specs.declared.parts.PartKind.{PartKind}
+use Rattle.m11_scan_expressions.specs.Quantities.{Quantity}
+use Rattle.m11_asm_directives.proofs.ascii.emit_part_bytes.Goals as goal
+
+pub returns-in-Expression : goal.returns-in-Expression
+returns-in-Expression c =
+    let here = c.args.line_context.now in
+    let done = c.args.emission.now in
+    let P : Emission → Type 0 = λ p. IfOk c.emit_byte.result (λ x. c.emit_byte.new.emission ≡ p) in
+    subst P
+    (ap (λ (q : Quantity). followed_by done (byte here.table c.args.location q))
+    (c.reference-value.ensures
+    ∙ ap (λ (s : Standpoint). value_at (line_context_of s).refers s.line c.args.part.inside.start) c.at.ensures)
+    ∙ ap (λ (k : PartKind). followed_by done (part_bytes here.map here.table c.args.location here.line c.args.part k))
+    (sym c.in-Expression.is))
+    c.emit_byte.ensures

@@ -1,0 +1,15 @@
+-- What the definitions see of the parts of a text that the code has found. (MACRO-11 Language Reference Manual, ".ASCII directive".)
+use Rattle.std.specs.Prelude.{ℕ, List, ◌++◌}
+use Rattle.m11_asm_rules.specs.Strings as spec
+use Rattle.m11_scan_statements.specs.declared.parts.Part.{Part}
+use Rattle.m11_asm_directives.specs.declared.parts.Parts.{Parts}
+
+abbrev pub parts_of : List Part → ℕ → spec.Parts
+parts_of list end = record { list = list; end = end }
+
+abbrev pub parts_seen : Parts → spec.Parts
+parts_seen parts = parts_of parts.list.items parts.end
+
+-- some parts before others
+abbrev pub parts_then : List Part → spec.Parts → spec.Parts
+parts_then list more = parts_of (list ++ more.list) more.end

@@ -1,0 +1,87 @@
+//! The flags of the parts of a text, and of what stands around them. (MACRO-11 Language Reference Manual, ".ASCII directive" and
+//! "Diagnostic error message summary", A, I and Q.)
+
+ghost use Rattle.std.specs.Prelude.{◌≡◌, ◌≤◌, ◌∷◌, length, List};
+ghost use Rattle.std.specs.Int.RustNames.{bit_or};
+ghost use Rattle.m11_asm_rules.specs.Strings as spec;
+ghost use Rattle.m11_scan.specs.ErrorFlags.{flag_A, flag_if};
+ghost use Rattle.m11_scan.specs.Views.{bits_of};
+ghost use Rattle.m11_scan_statements.specs.Parts.{part_flags};
+ghost use Rattle.m11_scan_statements.specs.declared.parts.Part.{Part};
+ghost use Rattle.m11_asm_directives.specs.Seen.{parts_seen};
+
+use crate::parts::Parts;
+use m11_scan::{ErrorFlags, Line};
+use m11_scan_expressions::{column_in, left_over, skip_flags};
+use m11_scan_statements::{Part, PartKind};
+
+// The flags of a text: A where it has no part; those of its parts; and those of what is left over.
+pub(crate) fn text_flags(line: &Line, start: usize, parts: &Parts) -> ErrorFlags
+    requires start { start ≤ length line.now.text }
+    requires end { parts.now.end ≤ length line.now.text }
+    ensures { bits_of result ≡ spec.text_flags line.now.text start (parts_seen parts.now) }
+{
+    let list = parts.list.as_slice();
+    let flags = empty_flags(list).with(parts_flags(line, column_in(line, start), list));
+    flags.with(left_over(line, usize::from(parts.end)))
+}
+
+// A for a text without a part.
+fn empty_flags(parts: &[Part]) -> ErrorFlags
+    ensures { bits_of result ≡ flag_if (spec.is_empty parts.now) flag_A }
+{
+    ErrorFlags::A.when(is_empty(parts))
+}
+
+fn is_empty(parts: &[Part]) -> bool
+    ensures { result ≡ spec.is_empty parts.now }
+{
+    matches!(parts, [])
+}
+
+// The flags of parts that begin after a column.
+fn parts_flags(line: &Line, start: u8, parts: &[Part]) -> ErrorFlags
+    ensures { bits_of result ≡ spec.parts_flags line.now.text start parts.now }
+{
+    let mut flags = ErrorFlags::none();
+    let mut column = start;
+    'parts: for part in parts {
+        flags = with_part(flags, line, column, *part);
+        column = part.end;
+    }
+    flags
+}
+
+// Flags with those of a part that stands next after a column.
+fn with_part(flags: ErrorFlags, line: &Line, column: u8, part: Part) -> ErrorFlags
+    ensures { (parts : List Part) → bit_or (bits_of result) (spec.parts_flags line.now.text part.end parts)
+        ≡ bit_or (bits_of flags) (spec.parts_flags line.now.text column (part ∷ parts)) }
+{
+    flags.with(flags_of(line, usize::from(column), part))
+}
+
+// The flags of such a part.
+fn flags_of(line: &Line, column: usize, part: Part) -> ErrorFlags
+    ensures { bits_of result ≡ bit_or (spec.skipped_flags line.now.text column part) (part_flags part) }
+{
+    skipped_flags(line, column, part).with(part.flags())
+}
+
+// I for a character that is skipped before a part, or in its expression.
+fn skipped_flags(line: &Line, column: usize, part: Part) -> ErrorFlags
+    ensures { bits_of result ≡ spec.skipped_flags line.now.text column part }
+{
+    let begin = usize::from(part.inside.start).saturating_sub(1);
+    skip_flags(line, column, begin).with(inside_flags(line, part))
+}
+
+fn inside_flags(line: &Line, part: Part) -> ErrorFlags
+    ensures { bits_of result ≡ spec.inside_flags line.now.text part part.kind }
+{
+    match part.kind {
+        PartKind::Text => ErrorFlags::none(),
+        PartKind::Expression => {
+            skip_flags(line, usize::from(part.inside.start), usize::from(part.end))
+        }
+    }
+}

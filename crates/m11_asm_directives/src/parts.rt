@@ -1,0 +1,91 @@
+//! The parts of a text. (MACRO-11 Language Reference Manual, ".ASCII directive".)
+
+ghost use Rattle.std.specs.Prelude.{◌≡◌, ◌≤◌, ◌*◌, length};
+ghost use Rattle.m11_asm_rules.specs.Strings as spec;
+ghost use Rattle.m11_asm_directives.specs.Seen.{parts_seen};
+
+use arrayvec::ArrayVec;
+use m11_scan::Line;
+use m11_scan_expressions::column_in;
+use m11_scan_statements::{Part, PartKind, next_part};
+
+/// The most parts of a line: each has two characters or more, but for the last one, which may lack its end.
+pub const PART_LIMIT: usize = 66;
+
+/// The parts that stand one after the other.
+#[derive(Drop)]
+pub struct Parts {
+    /// The parts, in order.
+    pub list: ArrayVec<Part, PART_LIMIT>,
+    /// The column after the last one. What stands after it is left over.
+    pub end: u8,
+}
+
+/// The parts of a text that begins at a column of a line.
+pub fn parts_at(line: &Line, start: usize) -> Parts
+    requires { start ≤ length line.now.text }
+    ensures parts { parts_seen result ≡ spec.parts_at line.now.text start }
+    ensures within { result.end ≤ length line.now.text }
+{
+    let mut list = ArrayVec::new();
+    let mut is_first = true;
+    let mut column = start;
+    let mut left = line.text().len() + 1;
+    'parts: while left > 0 {
+        let Some(part) = next_part(line, column, is_first) else {
+            return Parts {
+                list,
+                end: column_in(line, column),
+            };
+        };
+        list.push(part);
+        if !part.is_closed {
+            return Parts {
+                list,
+                end: part.end,
+            };
+        }
+        column = usize::from(part.end);
+        is_first = false;
+        left -= 1;
+    }
+    Parts {
+        list,
+        end: column_in(line, column),
+    }
+}
+
+// How many bytes a part takes: one for each of its characters, or one for an expression.
+pub(crate) fn part_size(line: &Line, part: Part) -> u16
+    ensures size { result ≡ spec.part_size line.now.text part part.kind }
+    ensures most { result ≤ 255 }
+{
+    match part.kind {
+        PartKind::Text => part.inside.text(line).len() as u16,
+        PartKind::Expression => 1,
+    }
+}
+
+// How many bytes some parts take.
+fn parts_size(line: &Line, parts: &[Part]) -> u16
+    requires { length parts.now ≤ 66 }
+    ensures size { result ≡ spec.parts_size line.now.text parts.now }
+    ensures most { result ≤ 255 * 66 }
+{
+    let mut size = 0;
+    let mut rest = parts;
+    'parts: while let [part, others @ ..] = rest {
+        size += part_size(line, *part);
+        rest = others;
+    }
+    size
+}
+
+/// How many bytes the parts of a text take that begins at a column of a line.
+pub(crate) fn text_size(line: &Line, start: usize) -> u16
+    requires { start ≤ length line.now.text }
+    ensures size { result ≡ spec.parts_size line.now.text (spec.parts_at line.now.text start).list }
+    ensures most { result ≤ 255 * 66 }
+{
+    parts_size(line, parts_at(line, start).list.as_slice())
+}

@@ -1,0 +1,258 @@
+//! Words and bytes that a line lists, the limits of the program, and room without contents. (MACRO-11 Language Reference Manual, ".WORD
+//! directive", ".BYTE directive", ".LIMIT directive" and ".BLKB and .BLKW directives".)
+
+ghost use Rattle.std.specs.Prelude.{◌≡◌, ◌≤◌, ℕ, ◌∷◌, length, List, IfOk};
+ghost use Rattle.m11_scan_expressions.specs.Expressions.{has_expression, number_flags, value_at};
+ghost use Rattle.m11_asm_rules.specs.Contents.{element_value, followed_by};
+ghost use Rattle.m11_asm_rules.specs.Elements as elements;
+ghost use Rattle.m11_asm_rules.specs.Meanings.{firm_known, known_at};
+ghost use Rattle.m11_asm_rules.specs.Storage as spec;
+ghost use Rattle.m11_asm_rules.specs.declared.meanings.Context.TheVariants.{MayBeGlobal};
+ghost use Rattle.m11_scan.specs.Views.{bits_of};
+ghost use Rattle.m11_scan_expressions.specs.Quantities.{quantity};
+
+use m11_asm_operands::{Emission, LineContext, elements_at, emit_byte, emit_word, further};
+use m11_asm_rules::{FirmNames, Table};
+use m11_scan::{ErrorFlags, Line, expression_end};
+use m11_scan_expressions::{Value, has_expression, left_over, skip_flags, value_at};
+use std::alloc::AllocError;
+
+/// The size of a `.LIMIT` in bytes.
+pub const LIMIT_SIZE: u16 = 4;
+
+/// The size of a `.WORD` in bytes.
+pub fn word_size(line: &Line, start: usize) -> u16
+    requires { start ≤ length line.now.text }
+    ensures { result ≡ spec.word_size line.now.text start }
+{
+    element_count(line, start) * 2
+}
+
+/// The size of a `.BYTE` in bytes.
+pub fn byte_size(line: &Line, start: usize) -> u16
+    requires { start ≤ length line.now.text }
+    ensures { result ≡ spec.byte_size line.now.text start }
+{
+    element_count(line, start)
+}
+
+// How many elements a list has.
+fn element_count(line: &Line, start: usize) -> u16
+    requires { start ≤ length line.now.text }
+    ensures count { result ≡ length (elements.elements_at line.now.text start).columns }
+    ensures most { result ≤ 133 }
+{
+    elements_at(line, start).columns.as_slice().len() as u16
+}
+
+/// The words of a `.WORD`. Error: memory may be refused.
+pub fn emit_words(
+    emission: &mut Emission,
+    line_context: &LineContext,
+    start: usize,
+) -> Result<(), AllocError>
+    requires { start ≤ length line_context.now.line }
+    ensures { IfOk result (λ _. emission.new ≡ followed_by emission.old
+        (spec.words line_context.now.map line_context.now.table line_context.now.location line_context.now.line start)) }
+{
+    let elements = elements_at(line_context.line(), start);
+    emission.add_flags(end_flags(line_context.line(), start, usize::from(elements.end)));
+    emit_words_from(
+        emission,
+        line_context,
+        line_context.location(),
+        elements.columns.as_slice(),
+    )
+}
+
+// Elements as words, one after the other.
+fn emit_words_from(
+    emission: &mut Emission,
+    line_context: &LineContext,
+    location: u16,
+    starts: &[u8],
+) -> Result<(), AllocError>
+    ensures { IfOk result (λ _. emission.new ≡ followed_by emission.old
+        (spec.words_from line_context.now.map line_context.now.table line_context.now.line location starts.now)) }
+{
+    let mut location = location;
+    'elements: for start in starts {
+        location = emit_element_word(emission, line_context, location, *start)?;
+    }
+    Ok(())
+}
+
+// An element as a word, and the location after it.
+fn emit_element_word(
+    emission: &mut Emission,
+    line_context: &LineContext,
+    location: u16,
+    start: u8,
+) -> Result<u16, AllocError>
+    ensures { IfOk result (λ next. (starts : List ℕ)
+        → followed_by emission.new (spec.words_from line_context.now.map line_context.now.table line_context.now.line next starts)
+        ≡ followed_by emission.old (spec.words_from line_context.now.map line_context.now.table line_context.now.line location (start ∷ starts))) }
+{
+    let value = element_value(line_context, location, start);
+    emit_word(emission, line_context, false, location, value)?;
+    Ok(further(location, 2))
+}
+
+/// The bytes of a `.BYTE`. Error: memory may be refused.
+pub fn emit_bytes(
+    emission: &mut Emission,
+    line_context: &LineContext,
+    start: usize,
+) -> Result<(), AllocError>
+    requires { start ≤ length line_context.now.line }
+    ensures { IfOk result (λ _. emission.new ≡ followed_by emission.old
+        (spec.bytes line_context.now.map line_context.now.table line_context.now.location line_context.now.line start)) }
+{
+    let elements = elements_at(line_context.line(), start);
+    emission.add_flags(end_flags(line_context.line(), start, usize::from(elements.end)));
+    emit_bytes_from(
+        emission,
+        line_context,
+        line_context.location(),
+        elements.columns.as_slice(),
+    )
+}
+
+// Elements as bytes, one after the other.
+fn emit_bytes_from(
+    emission: &mut Emission,
+    line_context: &LineContext,
+    location: u16,
+    starts: &[u8],
+) -> Result<(), AllocError>
+    ensures { IfOk result (λ _. emission.new ≡ followed_by emission.old
+        (spec.bytes_from line_context.now.map line_context.now.table line_context.now.line location starts.now)) }
+{
+    let mut location = location;
+    'elements: for start in starts {
+        location = emit_element_byte(emission, line_context, location, *start)?;
+    }
+    Ok(())
+}
+
+// An element as a byte, and the location after it.
+fn emit_element_byte(
+    emission: &mut Emission,
+    line_context: &LineContext,
+    location: u16,
+    start: u8,
+) -> Result<u16, AllocError>
+    ensures { IfOk result (λ next. (starts : List ℕ)
+        → followed_by emission.new (spec.bytes_from line_context.now.map line_context.now.table line_context.now.line next starts)
+        ≡ followed_by emission.old (spec.bytes_from line_context.now.map line_context.now.table line_context.now.line location (start ∷ starts))) }
+{
+    let value = element_value(line_context, location, start);
+    emit_byte(emission, line_context, location, value)?;
+    Ok(further(location, 1))
+}
+
+// What an element stands for at its own location, which is `.` in it. An empty one counts as 0.
+fn element_value(line_context: &LineContext, location: u16, start: u8) -> Value
+    ensures { quantity result ≡ element_value
+        (known_at line_context.now.map MayBeGlobal line_context.now.table location) line_context.now.line start }
+{
+    if has_element(line_context.line(), start) {
+        line_context.at(location).reference(start)
+    } else {
+        Value::absolute(0, ErrorFlags::none())
+    }
+}
+
+// Whether some expression stands at a column of a line. After its end there is none, as at its end.
+fn has_element(line: &Line, start: u8) -> bool
+    ensures { result ≡ has_expression line.now.text start }
+{
+    let start = usize::from(start);
+    let end = line.text().len();
+    if start <= end {
+        has_expression(line, start)
+    } else {
+        has_expression(line, end)
+    }
+}
+
+// What is skipped up to the end of arguments, and what is left over after it.
+fn end_flags(line: &Line, start: usize, end: usize) -> ErrorFlags
+    requires { end ≤ length line.now.text }
+    ensures { bits_of result ≡ spec.end_flags line.now.text start end }
+{
+    skip_flags(line, start, end).with(left_over(line, end))
+}
+
+/// The limits of the program, for a `.LIMIT`. Error: memory may be refused.
+pub fn emit_limits(
+    emission: &mut Emission,
+    line_context: &LineContext,
+    start: usize,
+) -> Result<(), AllocError>
+    requires { start ≤ length line_context.now.line }
+    ensures { IfOk result (λ _. emission.new ≡ followed_by emission.old (spec.limits line_context.now.line start)) }
+{
+    emission.add_limits(left_over(line_context.line(), start))
+}
+
+/// The size of a `.BLKB` in bytes.
+pub fn blkb_size(table: &Table, location: u16, line: &Line, start: usize) -> u32
+    requires { start ≤ length line.now.text }
+    ensures size { result ≡ spec.blkb_size table.now location line.now.text start }
+    ensures most { result ≤ 65535 }
+{
+    u32::from(block_count(table, location, line, start))
+}
+
+/// The size of a `.BLKW` in bytes.
+pub fn blkw_size(table: &Table, location: u16, line: &Line, start: usize) -> u32
+    requires { start ≤ length line.now.text }
+    ensures size { result ≡ spec.blkw_size table.now location line.now.text start }
+    ensures most { result ≤ 131070 }
+{
+    u32::from(block_count(table, location, line, start)) * 2
+}
+
+// How many bytes or words a block has: 1 where nothing says it. It is asked of firm names.
+fn block_count(table: &Table, location: u16, line: &Line, start: usize) -> u16
+    requires { start ≤ length line.now.text }
+    ensures { result ≡ spec.block_count table.now location line.now.text start }
+{
+    if has_expression(line, start) {
+        firm_value(table, location, line, start).number
+    } else {
+        1
+    }
+}
+
+fn firm_value(table: &Table, location: u16, line: &Line, start: usize) -> Value
+    requires { start ≤ length line.now.text }
+    ensures { quantity result ≡ value_at (firm_known table.now location) line.now.text start }
+{
+    let names = FirmNames::new(table, location);
+    value_at(line, start, &names)
+}
+
+/// The flags of a `.BLKB` or `.BLKW`: those of its count, and of what is left over.
+pub fn block_flags(table: &Table, location: u16, line: &Line, start: usize) -> ErrorFlags
+    requires { start ≤ length line.now.text }
+    ensures { bits_of result ≡ spec.block_flags table.now location line.now.text start }
+{
+    if has_expression(line, start) {
+        let flags = count_flags(table, location, line, start);
+        flags.with(left_over(line, expression_end(line, start)))
+    } else {
+        left_over(line, start)
+    }
+}
+
+// The flags of a count: it has to be an absolute number.
+fn count_flags(table: &Table, location: u16, line: &Line, start: usize) -> ErrorFlags
+    requires { start ≤ length line.now.text }
+    ensures { bits_of result ≡ number_flags (firm_known table.now location) line.now.text start }
+{
+    let value = firm_value(table, location, line, start);
+    let flags = value.flags.with(value.kind.absence());
+    flags.with(skip_flags(line, start, expression_end(line, start)))
+}

@@ -1,2 +1,0 @@
-pub mod Fields
-mod TwoFields

@@ -1,2 +1,0 @@
-pub mod CodeValues
-pub mod Reading

@@ -1,0 +1,8 @@
+use Rattle.m11_asm_line_laws.proofs.ReadAsWritten.{labels-exists, labels-written}
+use Rattle.m11_asm_line_laws.proofs.statements.labels_are_read_as_they_are_written.Goals as goal
+
+pub returns-clause-written : goal.returns-clause-written
+returns-clause-written c = labels-written
+
+pub returns-clause-exists : goal.returns-clause-exists
+returns-clause-exists c = labels-exists

@@ -1,0 +1,11 @@
+pub mod Lists
+pub mod Refusals
+pub mod Written
+pub mod Worked
+pub mod InstructionRows
+pub mod ItemRows
+pub mod LimitRows
+pub mod DirectiveRows
+pub mod RelocationRows
+pub mod SourceRows
+pub mod ConditionRows

@@ -1,0 +1,48 @@
+-- Lists of formals, of actuals and of names, as they are written. (MACRO-11 Language Reference Manual, "Arguments in macro
+-- definitions and macro calls" and ".GLOBL directive".)
+use Rattle.std.specs.Prelude.{◌≡◌, ℕ, true, false, List, [], ◌∷◌, Option, Some, None}
+use Rattle.std.specs.Int.RustNames.{bit_or}
+use Rattle.m11_unfold_rules.specs.Actuals.{ActualTexts, followed_by, given_by, nothing_given}
+use Rattle.m11_scan_expressions.specs.Expressions.{KnownSymbols}
+use Rattle.m11_unfold_rules.specs.Headers.{listed_at}
+use Rattle.m11_unfold_rules.specs.Headers.NextListed.{Ending, Formally}
+use Rattle.m11_unfold_rules.specs.declared.macros.MacroFormal.{MacroFormal}
+use Rattle.m11_base.specs.Devices.{Bytes}
+use Rattle.m11_scan.specs.Cutting.{tokens_from}
+use Rattle.m11_scan_statements.specs.Actuals.{next_actual, separator_at}
+use Rattle.m11_scan_statements.specs.Listed.{listed_name}
+use Rattle.m11_scan_statements.specs.declared.actuals.Actual.{Actual}
+use Rattle.m11_scan_statements.specs.declared.listed.ListedName.{ListedName}
+use Rattle.m11_scan_statements.specs.declared.spans.Span.{Span}
+
+-- formals that stand one after the other from a column on, with the flags of their list: blanks, a comma or both stand before
+-- each
+pub data AreFormals (line : Bytes) : ℕ → List MacroFormal → ℕ → Type 0 where
+  -- where none stands next, the list ends
+  NoFormal : (column flags : ℕ) → listed_at line (separator_at line column).end ≡ Ending flags
+      → AreFormals line column [] flags
+  -- where one stands next, the list goes on after it
+  OneFormal : (column : ℕ) (formal : MacroFormal) (flags end : ℕ) (formals : List MacroFormal) (further : ℕ)
+      → listed_at line (separator_at line column).end ≡ Formally formal flags end → AreFormals line end formals further
+      → AreFormals line column (formal ∷ formals) (bit_or flags further)
+
+-- actuals that stand one after the other from a column on, with what reading them leaves: blanks, a comma or both stand between
+-- two
+pub data AreActuals (known : KnownSymbols) (line : Bytes) : ℕ → ActualTexts → Type 0 where
+  -- where none stands next, they end
+  NoActual : (column : ℕ) → next_actual line column true ≡ None → AreActuals known line column nothing_given
+  -- where one stands next, the others stand after what separates it from them
+  OneActual : (column : ℕ) (actual : Actual) (more : ActualTexts) → next_actual line column true ≡ Some actual
+      → AreActuals known line (separator_at line actual.end).end more
+      → AreActuals known line column (followed_by (given_by known line actual) more)
+
+-- elements of a list of names that stand one after the other from a column on, and the column after them; one that is no name is
+-- none
+pub data AreNames (line : Bytes) : ℕ → List (Option Span) → ℕ → Type 0 where
+  -- where no comma stands after an element, it is the last
+  LastName : (column : ℕ) (element : ListedName) → listed_name column (tokens_from line column) ≡ element → element.goes_on ≡ false
+      → AreNames line column (element.name ∷ []) element.end
+  -- after a comma the next one stands
+  NextName : (column : ℕ) (element : ListedName) (names : List (Option Span)) (end : ℕ)
+      → listed_name column (tokens_from line column) ≡ element → element.goes_on ≡ true → AreNames line element.end names end
+      → AreNames line column (element.name ∷ names) end

@@ -1,0 +1,31 @@
+//! Lists of formals, of actuals and of names. (MACRO-11 Language Reference Manual, "Arguments in macro definitions and macro
+//! calls" and ".GLOBL directive".)
+
+ghost use Rattle.std.specs.Prelude.{◌≡◌, ◌+◌, ◌≤◌, ℕ, length, take};
+ghost use Rattle.m11_asm_line_laws.specs.Lists.{AreActuals, AreFormals, AreNames};
+ghost use Rattle.m11_unfold_rules.specs.Actuals.{ActualTexts, actuals_from};
+ghost use Rattle.m11_scan_expressions.specs.Expressions.{KnownSymbols};
+ghost use Rattle.m11_unfold_rules.specs.Headers.{formals_after};
+ghost use Rattle.m11_base.specs.Devices.{Bytes};
+ghost use Rattle.m11_scan.specs.Line.{line_limit};
+ghost use Rattle.m11_asm_rules.specs.Elements.{names_at};
+
+/// The formals of a macro are all that stand one after the other: no bound cuts them off.
+pub fn formals_stand_one_after_the_other()
+    ensures { (line : Bytes) (column : ℕ) → length line ≤ line_limit
+        → AreFormals line column (formals_after line column).list (formals_after line column).flags }
+{}
+
+/// A call takes its actuals in their order: where enough are wanted all that stand one after the other, and else the first of
+/// them.
+pub fn actuals_stand_one_after_the_other()
+    ensures all { (known : KnownSymbols) (line : Bytes) (wanted column : ℕ) → length line ≤ column + wanted
+        → AreActuals known line column (actuals_from known line wanted column) }
+    ensures first { (known : KnownSymbols) (line : Bytes) (wanted column : ℕ) (all : ActualTexts) → AreActuals known line column all
+        → (actuals_from known line wanted column).texts ≡ take wanted all.texts }
+{}
+
+/// The names of a list, as that of `.GLOBL`, are all that stand one after the other, each with a comma before the next.
+pub fn names_stand_one_after_the_other()
+    ensures { (line : Bytes) (column : ℕ) → AreNames line column (names_at line column).list (names_at line column).end }
+{}

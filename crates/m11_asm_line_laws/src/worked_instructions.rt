@@ -1,0 +1,30 @@
+//! Instructions as they were worked by hand. (PDP-11/40 Processor Handbook, "Instruction set" and "Addressing modes".)
+
+ghost use Rattle.std.specs.Prelude.{◌≡◌, map};
+ghost use Rattle.m11_asm_line_laws.specs.InstructionRows.{branch_rows, location_rows, missing_rows, operand_rows, register_rows};
+ghost use Rattle.m11_asm_line_laws.specs.Worked.{found, expected};
+
+/// Operands in registers, by registers and in the words after an instruction.
+pub fn operands_are_as_worked()
+    ensures { map found operand_rows ≡ map expected operand_rows }
+{}
+
+/// Relative operands, and locations as numbers.
+pub fn relative_operands_are_as_worked()
+    ensures { map found location_rows ≡ map expected location_rows }
+{}
+
+/// Operands that are missing or not closed, and registers where none may be.
+pub fn missing_operands_are_as_worked()
+    ensures { map found missing_rows ≡ map expected missing_rows }
+{}
+
+/// Registers whose expressions have names that aren't firm.
+pub fn registers_are_as_worked()
+    ensures { map found register_rows ≡ map expected register_rows }
+{}
+
+/// Branches, SOB, and numbers in a code.
+pub fn branches_are_as_worked()
+    ensures { map found branch_rows ≡ map expected branch_rows }
+{}

@@ -1,0 +1,145 @@
+//! What operators change for the lines after them. (MACRO-11 Language Reference Manual, "Current location counter" and "General assembler
+//! directives".)
+
+ghost use Rattle.std.specs.Prelude.{◌≡◌, ◌<◌, ◌≤◌, ℕ, Option, length};
+ghost use Rattle.m11_asm_directives.specs.Changes.{change_seen};
+ghost use Rattle.m11_asm_operands.specs.Reads.{fields_seen};
+ghost use Rattle.m11_asm_operands.specs.Reading.{fields_at, operator_fields};
+ghost use Rattle.m11_asm_rules.specs.Changes.{Counts};
+ghost use Rattle.m11_asm_rules.specs.Effects as spec;
+ghost use Rattle.m11_asm_rules.specs.Locations.{Steps};
+ghost use Rattle.m11_asm_rules.specs.Tables.{firm_table};
+ghost use Rattle.m11_asm_rules.specs.declared.operators.Operator.TheVariants.{Instruction};
+
+use m11_asm_directives::{
+    Change, LIMIT_SIZE, Move, ascii_size, asciz_size, asect, blkb_size, blkw_size, byte_size,
+    csect, global, list, narg, nchr, nlist, psect, rad50_size, radix, word_size,
+};
+use m11_asm_operands::{Fields, gap, instruction_size, is_even, location_for, to_even, to_odd};
+use m11_asm_rules::{Directive, Operator, Table};
+use m11_base::Op;
+use m11_scan::Line;
+
+/// The change that an operator with these fields makes, whose name ends at a column of its line. It is asked of firm names alone.
+/// `arguments` is the number of actuals of the macro around the line.
+#[tactic(auto, using(crate::proofs::FirmEffects::change_firm))]
+pub fn operator_change(
+    table: &Table,
+    line: &Line,
+    start: usize,
+    arguments: Option<u16>,
+    operator: Operator,
+    fields: &Fields,
+) -> Change
+    requires within { start ≤ length line.now.text }
+    requires listed { table.now.modes.listed < u64.MAX }
+    requires unlisted { table.now.modes.unlisted < u64.MAX }
+    requires fields { fields_seen fields.now ≡ operator_fields table.now line.now.text start operator }
+    ensures { change_seen result ≡ spec.operator_change (firm_table table.now) line.now.text start arguments operator }
+{
+    let is_even = is_even(operator);
+    let passed = gap(is_even, table.location());
+    let here = location_for(is_even, table.location());
+    change_at(
+        table, passed, here, line, start, arguments, operator, fields,
+    )
+}
+
+/// The bytes by which an instruction moves the counter, with those that are passed over before it. Its name ends at a column of its line,
+/// and these are its fields.
+pub fn instruction_steps(
+    table: &Table,
+    line: &Line,
+    start: usize,
+    operation: Op,
+    fields: &Fields,
+) -> u32
+    requires fields { fields_seen fields.now ≡ operator_fields table.now line.now.text start (Instruction operation) }
+    ensures { (arguments : Option ℕ) → Counts (Steps result)
+        ≡ spec.operator_change (firm_table table.now) line.now.text start arguments (Instruction operation) }
+{
+    let passed = gap(true, table.location());
+    let size = instruction_size(fields.list.as_slice());
+    u32::from(passed) + u32::from(size)
+}
+
+// The change of an operator that stands at a location, after some bytes that are passed over.
+fn change_at(
+    table: &Table,
+    passed: u16,
+    here: u16,
+    line: &Line,
+    start: usize,
+    arguments: Option<u16>,
+    operator: Operator,
+    fields: &Fields,
+) -> Change
+    requires within { start ≤ length line.now.text }
+    requires listed { table.now.modes.listed < u64.MAX }
+    requires unlisted { table.now.modes.unlisted < u64.MAX }
+    requires fields { fields_seen fields.now ≡ fields_at table.now here line.now.text start operator }
+    ensures { change_seen result ≡ spec.change_by table.now passed here line.now.text start arguments operator }
+{
+    match operator {
+        Operator::Instruction(_) => {
+            steps(passed, u32::from(instruction_size(fields.list.as_slice())))
+        }
+        Operator::Directive(directive) => {
+            directive_change(table, passed, here, line, start, arguments, directive)
+        }
+    }
+}
+
+// The change that moves the counter past the bytes that are passed over, and past those of the operator.
+fn steps(passed: u16, size: u32) -> Change
+    requires { size ≤ 131070 }
+    ensures { change_seen result ≡ spec.steps passed size }
+{
+    Change::Counts(Move::Steps(u32::from(passed) + size))
+}
+
+// The change of a directive.
+fn directive_change(
+    table: &Table,
+    passed: u16,
+    here: u16,
+    line: &Line,
+    start: usize,
+    arguments: Option<u16>,
+    directive: Directive,
+) -> Change
+    requires within { start ≤ length line.now.text }
+    requires listed { table.now.modes.listed < u64.MAX }
+    requires unlisted { table.now.modes.unlisted < u64.MAX }
+    ensures { change_seen result ≡ spec.directive_change table.now passed here line.now.text start arguments directive }
+{
+    match directive {
+        Directive::Word => steps(passed, u32::from(word_size(line, start))),
+        Directive::Byte => steps(passed, u32::from(byte_size(line, start))),
+        Directive::Ascii => steps(passed, u32::from(ascii_size(line, start))),
+        Directive::Asciz => steps(passed, u32::from(asciz_size(line, start))),
+        Directive::Rad50 => steps(passed, u32::from(rad50_size(line, start))),
+        Directive::Blkb => steps(passed, blkb_size(table, here, line, start)),
+        Directive::Blkw => steps(passed, blkw_size(table, here, line, start)),
+        Directive::Even => steps(passed, u32::from(to_even(here))),
+        Directive::Odd => steps(passed, u32::from(to_odd(here))),
+        Directive::Limit => steps(passed, u32::from(LIMIT_SIZE)),
+        Directive::Radix => radix(table.modes(), line, start),
+        Directive::Asect => asect(),
+        Directive::Csect => csect(line, start),
+        Directive::Psect => psect(line, start),
+        Directive::Globl => global(line, start),
+        Directive::Weak => global(line, start),
+        Directive::List => list(table.modes(), line, start),
+        Directive::Nlist => nlist(table.modes(), line, start),
+        Directive::Narg => narg(arguments, line, start),
+        Directive::Nchr => nchr(line, start),
+        Directive::Title => Change::Keeps,
+        Directive::Ident => Change::Keeps,
+        Directive::Sbttl => Change::Keeps,
+        Directive::Page => Change::Keeps,
+        Directive::Enabl => Change::Keeps,
+        Directive::Dsabl => Change::Keeps,
+        Directive::End => Change::Keeps,
+    }
+}

@@ -1,0 +1,236 @@
+//! What operators emit at their locations, with their flags. (MACRO-11 Language Reference Manual, "General assembler directives"; PDP-11/40
+//! Processor Handbook, "Instruction set".)
+
+ghost use Rattle.std.specs.Prelude.{◌≡◌, ◌≤◌, length, IfOk, IsTrue};
+ghost use Rattle.std.specs.Int.RustNames.{bit_or};
+ghost use Rattle.m11_asm_operands.specs.ListedOperations.{has_listed_operation, is_listed};
+ghost use Rattle.m11_asm_operands.specs.Reads.{fields_seen};
+ghost use Rattle.m11_asm_operands.specs.Terms.{AreTerms};
+ghost use Rattle.m11_asm_operands.specs.Reading.{fields_at, operator_fields};
+ghost use Rattle.m11_asm_rules.specs.Assigning.{number_flags};
+ghost use Rattle.m11_asm_rules.specs.Contents.{followed_by, nothing};
+ghost use Rattle.m11_asm_rules.specs.Counts as counts;
+ghost use Rattle.m11_asm_rules.specs.Effects as effects;
+ghost use Rattle.m11_asm_rules.specs.Exports as exports;
+ghost use Rattle.m11_asm_rules.specs.Instructions as instructions;
+ghost use Rattle.m11_asm_rules.specs.Lines as lines;
+ghost use Rattle.m11_asm_rules.specs.Psects as sections;
+ghost use Rattle.m11_asm_rules.specs.Storage as storage;
+ghost use Rattle.m11_scan.specs.Views.{bits_of};
+
+use m11_asm_directives::{
+    asect_flags, block_flags, csect_flags, dsabl_flags, emit_ascii, emit_asciz, emit_bytes,
+    emit_limits, emit_rad50, emit_words, enabl_flags, end_flags, globl_flags, ident_flags,
+    list_flags, narg, narg_flags, nchr, nchr_flags, number_flags, page_flags, psect_flags,
+    radix_flags, sbttl_flags, title_flags,
+};
+use m11_asm_operands::{
+    Emission, Fields, LineContext, emit_instruction, gap_flags, is_even, location_for,
+};
+use m11_asm_rules::{Directive, Map, Operator, Table};
+use m11_base::Op;
+use m11_scan::{ErrorFlags, Line};
+use m11_scan_expressions::left_over;
+use std::alloc::AllocError;
+
+/// Puts what an operator with these fields emits, whose name ends at a column of its line, with its flags. What has to stand at an even
+/// location goes on to the next one, with B. `arguments` is the number of actuals of the macro around the line. Error: memory may be
+/// refused.
+pub fn emit_operator(
+    emission: &mut Emission,
+    map: &Map<'_>,
+    table: &Table,
+    line: &Line,
+    start: usize,
+    arguments: Option<u16>,
+    operator: Operator,
+    fields: &Fields,
+) -> Result<(), AllocError>
+    requires within { start ≤ length line.now.text }
+    requires listed { IsTrue (has_listed_operation operator) }
+    requires fields { fields_seen fields.now ≡ operator_fields table.now line.now.text start operator }
+    requires ends { fields.now.end ≤ length line.now.text }
+    requires terms { AreTerms line.now.text fields.now.list.items fields.now.terms }
+    ensures { IfOk result (λ _. emission.new ≡ followed_by emission.old
+        (lines.operation_emission map.now table.now line.now.text arguments operator start)) }
+{
+    let is_even = is_even(operator);
+    emission.add_flags(gap_flags(is_even, table.location()));
+    let line_context = LineContext::new(map, table, location_for(is_even, table.location()), line);
+    emit_at(emission, &line_context, start, arguments, operator, fields)
+}
+
+// Puts what an operator emits at the location of its line.
+fn emit_at(
+    emission: &mut Emission,
+    line_context: &LineContext,
+    start: usize,
+    arguments: Option<u16>,
+    operator: Operator,
+    fields: &Fields,
+) -> Result<(), AllocError>
+    requires within { start ≤ length line_context.now.line }
+    requires listed { IsTrue (has_listed_operation operator) }
+    requires fields { fields_seen fields.now ≡ fields_at line_context.now.table line_context.now.location line_context.now.line start operator }
+    requires ends { fields.now.end ≤ length line_context.now.line }
+    requires terms { AreTerms line_context.now.line fields.now.list.items fields.now.terms }
+    ensures { IfOk result (λ _. emission.new ≡ followed_by emission.old (effects.operator_emission
+        line_context.now.map line_context.now.table line_context.now.location line_context.now.line start arguments operator)) }
+{
+    match operator {
+        Operator::Instruction(operation) => emit_operation(
+            emission,
+            line_context,
+            start,
+            operation,
+            fields,
+        ),
+        Operator::Directive(directive) => emit_directive(
+            emission,
+            line_context,
+            start,
+            arguments,
+            directive,
+        ),
+    }
+}
+
+// The words of an instruction.
+fn emit_operation(
+    emission: &mut Emission,
+    line_context: &LineContext,
+    start: usize,
+    operation: Op,
+    fields: &Fields,
+) -> Result<(), AllocError>
+    requires within { start ≤ length line_context.now.line }
+    requires listed { IsTrue (is_listed operation) }
+    requires fields { fields_seen fields.now
+        ≡ instructions.fields line_context.now.table line_context.now.location line_context.now.line start operation }
+    requires ends { fields.now.end ≤ length line_context.now.line }
+    requires terms { AreTerms line_context.now.line fields.now.list.items fields.now.terms }
+    ensures { IfOk result (λ _. emission.new ≡ followed_by emission.old (instructions.words
+        line_context.now.map line_context.now.table line_context.now.location line_context.now.line start operation)) }
+{
+    emit_instruction(
+        emission,
+        line_context,
+        operation,
+        start,
+        fields.list.as_slice(),
+        usize::from(fields.end),
+        fields.flags,
+        &fields.terms,
+    )
+}
+
+// What a directive emits.
+fn emit_directive(
+    emission: &mut Emission,
+    line_context: &LineContext,
+    start: usize,
+    arguments: Option<u16>,
+    directive: Directive,
+) -> Result<(), AllocError>
+    requires { start ≤ length line_context.now.line }
+    ensures { IfOk result (λ _. emission.new ≡ followed_by emission.old (effects.directive_emission
+        line_context.now.map line_context.now.table line_context.now.location line_context.now.line start arguments directive)) }
+{
+    let line = line_context.line();
+    match directive {
+        Directive::Word => emit_words(emission, line_context, start),
+        Directive::Byte => emit_bytes(emission, line_context, start),
+        Directive::Ascii => emit_ascii(emission, line_context, start),
+        Directive::Asciz => emit_asciz(emission, line_context, start),
+        Directive::Rad50 => emit_rad50(emission, line_context, start),
+        Directive::Limit => emit_limits(emission, line_context, start),
+        Directive::Blkb => emit_flags(emission, block_flags_at(line_context, start)),
+        Directive::Blkw => emit_flags(emission, block_flags_at(line_context, start)),
+        Directive::Even => emit_flags(emission, left_over(line, start)),
+        Directive::Odd => emit_flags(emission, left_over(line, start)),
+        Directive::Radix => emit_flags(emission, radix_flags(line, start)),
+        Directive::Asect => emit_flags(emission, asect_flags(line, start)),
+        Directive::Csect => emit_flags(emission, csect_flags(line, start)),
+        Directive::Psect => emit_flags(emission, psect_flags_at(line_context, start)),
+        Directive::Globl => emit_flags(emission, globl_flags(line, start)),
+        Directive::Weak => emit_flags(emission, globl_flags(line, start)),
+        Directive::Title => emit_flags(emission, title_flags(line, start)),
+        Directive::Ident => emit_flags(emission, ident_flags(line, start)),
+        Directive::Sbttl => emit_flags(emission, sbttl_flags(line, start)),
+        Directive::Page => emit_flags(emission, page_flags(line, start)),
+        Directive::List => emit_flags(emission, list_flags(line, start)),
+        Directive::Nlist => emit_flags(emission, list_flags(line, start)),
+        Directive::Enabl => emit_flags(emission, enabl_flags(line, start)),
+        Directive::Dsabl => emit_flags(emission, dsabl_flags(line, start)),
+        Directive::Narg => emit_flags(emission, narg_flags_at(line_context, start, arguments)),
+        Directive::Nchr => emit_flags(emission, nchr_flags_at(line_context, start)),
+        Directive::End => emit_flags(emission, end_flags_at(line_context, start)),
+    }
+}
+
+// Nothing but flags.
+fn emit_flags(emission: &mut Emission, flags: ErrorFlags) -> Result<(), AllocError>
+    ensures { IfOk result (λ _. emission.new ≡ followed_by emission.old (nothing (bits_of flags))) }
+{
+    emission.add_flags(flags);
+    Ok(())
+}
+
+// The flags of a `.BLKB` or `.BLKW`.
+fn block_flags_at(line_context: &LineContext, start: usize) -> ErrorFlags
+    requires { start ≤ length line_context.now.line }
+    ensures { bits_of result
+        ≡ storage.block_flags line_context.now.table line_context.now.location line_context.now.line start }
+{
+    block_flags(
+        line_context.table(),
+        line_context.location(),
+        line_context.line(),
+        start,
+    )
+}
+
+// The flags of a `.PSECT`.
+fn psect_flags_at(line_context: &LineContext, start: usize) -> ErrorFlags
+    requires { start ≤ length line_context.now.line }
+    ensures { bits_of result ≡ sections.psect_flags line_context.now.table.sections line_context.now.line start }
+{
+    psect_flags(line_context.table(), line_context.line(), start)
+}
+
+// The flags of a `.END`.
+fn end_flags_at(line_context: &LineContext, start: usize) -> ErrorFlags
+    requires { start ≤ length line_context.now.line }
+    ensures { bits_of result ≡ exports.end_flags line_context.now.map line_context.now.table line_context.now.line start }
+{
+    end_flags(
+        line_context.map(),
+        line_context.table(),
+        line_context.line(),
+        start,
+    )
+}
+
+// The flags of a `.NARG`, and of the name that it defines.
+fn narg_flags_at(line_context: &LineContext, start: usize, arguments: Option<u16>) -> ErrorFlags
+    requires { start ≤ length line_context.now.line }
+    ensures { bits_of result ≡ bit_or (counts.narg_flags arguments line_context.now.line start)
+        (number_flags line_context.now.map line_context.now.table (counts.narg arguments line_context.now.line start)) }
+{
+    let line = line_context.line();
+    let change = narg(arguments, line, start);
+    let flags = number_flags(line_context.map(), line_context.table(), &change);
+    narg_flags(arguments, line, start).with(flags)
+}
+
+// The flags of a `.NCHR`, and of the name that it defines.
+fn nchr_flags_at(line_context: &LineContext, start: usize) -> ErrorFlags
+    requires { start ≤ length line_context.now.line }
+    ensures { bits_of result ≡ bit_or (counts.nchr_flags line_context.now.line start)
+        (number_flags line_context.now.map line_context.now.table (counts.nchr line_context.now.line start)) }
+{
+    let line = line_context.line();
+    let change = nchr(line, start);
+    let flags = number_flags(line_context.map(), line_context.table(), &change);
+    nchr_flags(line, start).with(flags)
+}

@@ -1,2 +1,0 @@
-pub mod LinesListed
-pub mod ListedLines

@@ -1,7 +1,0 @@
-use Rattle.std.proofs.Common.{◌∙◌}
-use Rattle.m11_asm_listing_writes.proofs.ListedLines.{writes_line}
-use Rattle.m11_asm_listing_writes.proofs.symbol_table.put_empty.Goals as goal
-
-pub returns : goal.returns
-returns g c = λ object messages.
-    writes_line _ _ _ _ _ (c.as_slice.ensures.value ∙ c.empty_line.ensures) (c.put_report.ensures.writes object messages)

@@ -1,0 +1,14 @@
+use Rattle.std.proofs.Common.{◌∙◌, ℕ, ap, true}
+use Rattle.m11_asm_rules.specs.Alignment.{location_for}
+use Rattle.m11_asm_rules.specs.Instructions.{fields}
+use Rattle.m11_asm_operands.proofs.reading.operator_fields.Goals as goal
+
+pub returns-in-Instruction-clause-fields : goal.returns-in-Instruction-clause-fields
+returns-in-Instruction-clause-fields c =
+    rw c.in-Instruction.is
+    (c.operation_fields.ensures.fields
+    ∙ ap (λ (n : ℕ). fields c.args.table.now n c.args.line.now.text c.args.start c.in-Instruction.operation)
+    (c.location_for.ensures ∙ ap (location_for true) c.location.ensures))
+
+pub returns-in-Directive-clause-terms : goal.returns-in-Directive-clause-terms
+returns-in-Directive-clause-terms c = c.no_fields.ensures.terms c.args.line.now.text

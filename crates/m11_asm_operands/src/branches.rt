@@ -1,0 +1,78 @@
+//! Where branches and SOB go. (PDP-11/40 Processor Handbook, "Branch instructions" and "SOB".)
+
+ghost use Rattle.std.specs.Prelude.{◌≡◌, ◌<◌, ◌%◌, ◌==◌, ◌&&◌, nat_le};
+ghost use Rattle.m11_scan.specs.Views.{bits_of};
+ghost use Rattle.m11_asm_rules.specs.Branches as spec;
+ghost use Rattle.m11_scan_expressions.specs.Quantities.{quantity};
+
+use crate::relocations::distance;
+use m11_asm_rules::Table;
+use m11_scan::ErrorFlags;
+use m11_scan_expressions::Value;
+
+// 128 words back to 127 on, from the location after the branch.
+pub(crate) fn in_reach(bytes: u16) -> bool
+    ensures { result ≡ spec.in_reach bytes }
+{
+    bytes % 2 == 0 && (bytes <= 0o376 || bytes >= 0o177400)
+}
+
+// How far back a target lies from the location after a word, modulo 65536.
+pub(crate) fn back(location: u16, target: u16) -> u16
+    ensures { result ≡ spec.back location target }
+{
+    0u16.wrapping_sub(distance(location, target))
+}
+
+// 0 to 63 words back, from the location after SOB.
+pub(crate) fn in_loop_reach(bytes: u16) -> bool
+    ensures { result ≡ (bytes % 2 == 0 && nat_le bytes 0o176) }
+{
+    bytes % 2 == 0 && bytes <= 0o176
+}
+
+// Whether a branch at a location reaches a target of its section.
+pub(crate) fn branch_reaches(table: &Table, location: u16, target: &Value) -> bool
+    ensures { result ≡ spec.branch_reaches table.now location (quantity target.now) }
+{
+    table.is_here(target.kind) && in_reach(distance(location, target.number))
+}
+
+// The words to go, as eight bits; 0 for a target that isn't reached.
+pub(crate) fn branch_offset(table: &Table, location: u16, target: &Value) -> u8
+    ensures { result ≡ spec.branch_offset table.now location (quantity target.now) }
+{
+    let bytes = distance(location, target.number);
+    if table.is_here(target.kind) && in_reach(bytes) {
+        (bytes / 2 % 256) as u8
+    } else {
+        0
+    }
+}
+
+// Whether SOB at a location reaches a target of its section.
+pub(crate) fn loop_reaches(table: &Table, location: u16, target: &Value) -> bool
+    ensures { result ≡ spec.loop_reaches table.now location (quantity target.now) }
+{
+    table.is_here(target.kind) && in_loop_reach(back(location, target.number))
+}
+
+// The words to go back for SOB, 0 to 63; 0 for a target that isn't reached.
+pub(crate) fn loop_offset(table: &Table, location: u16, target: &Value) -> u8
+    ensures offset { result ≡ spec.loop_offset table.now location (quantity target.now) }
+    ensures below { result < 64 }
+{
+    let bytes = back(location, target.number);
+    if table.is_here(target.kind) && in_loop_reach(bytes) {
+        (bytes / 2) as u8
+    } else {
+        0
+    }
+}
+
+// A for a target that isn't reached.
+pub(crate) fn target_flags(reaches: bool) -> ErrorFlags
+    ensures { bits_of result ≡ spec.target_flags reaches }
+{
+    ErrorFlags::A.when(!reaches)
+}

@@ -1,0 +1,111 @@
+//! What is emitted, one thing after the other, with its flags. (MACRO-11 Language Reference Manual, "Diagnostic error message summary".)
+
+ghost use Rattle.std.specs.Prelude.{◌≡◌, ◌∷◌, [], IfOk};
+ghost use Rattle.m11_obj.specs.declared.pieces.PieceContent.TheVariants.{Byte, Limits, Word};
+ghost use Rattle.m11_scan.specs.Views.{bits_of};
+ghost use Rattle.m11_asm_rules.specs.Contents.{fixed_byte, fixed_word, followed_by, nothing, emission};
+
+use crate::relocations::fixed;
+use m11_obj::{PieceContent, StoredConstant};
+use m11_scan::ErrorFlags;
+use std::alloc::{AllocError, Global};
+use std::marker::Model;
+
+/// What stands at locations, one after the other, and flags. Each call that emits something adds its own.
+#[derive(Drop)]
+pub struct Emission {
+    contents: Vec<PieceContent>,
+    flags: ErrorFlags,
+}
+
+impl Model for Emission {
+    ghost use Rattle.m11_scan.specs.Views.{bits_of};
+    ghost use Rattle.m11_asm_rules.specs.Contents.{Emission};
+
+    ghost Value = { Emission };
+
+    ghost view = { λ what. record { contents = what.contents.items; flags = bits_of what.flags } };
+}
+
+impl Emission {
+    /// Nothing, and no flag.
+    pub fn new(alloc: Global) -> Emission
+        ensures { result ≡ nothing 0 }
+    {
+        Emission {
+            contents: Vec::new(alloc),
+            flags: ErrorFlags::none(),
+        }
+    }
+
+    /// Lets go of what was emitted. The memory is kept for what follows.
+    pub fn clear(&mut self)
+        ensures { self.new ≡ nothing 0 }
+    {
+        self.contents.clear();
+        self.flags = ErrorFlags::none();
+    }
+
+    /// What was emitted, in order.
+    pub fn contents(&self) -> &[PieceContent]
+        ensures { result.now ≡ self.now.contents }
+    {
+        self.contents.as_slice()
+    }
+
+    /// The flags so far.
+    pub fn flags(&self) -> ErrorFlags
+        ensures { bits_of result ≡ self.now.flags }
+    {
+        self.flags
+    }
+
+    /// Further flags.
+    #[tactic(auto, using(crate::proofs::Joining::flagged))]
+    pub fn add_flags(&mut self, flags: ErrorFlags)
+        ensures { self.new ≡ followed_by self.old (nothing (bits_of flags)) }
+    {
+        self.flags = self.flags.with(flags);
+    }
+
+    /// A word more, with its flags. Error: memory may be refused.
+    pub fn add_word(&mut self, stored: StoredConstant, flags: ErrorFlags) -> Result<(), AllocError>
+        ensures { IfOk result (λ _. self.new ≡ followed_by self.old (emission (Word stored ∷ []) (bits_of flags))) }
+    {
+        self.contents.push(PieceContent::Word(stored))?;
+        self.flags = self.flags.with(flags);
+        Ok(())
+    }
+
+    /// A word more that stands as it is. Error: memory may be refused.
+    pub fn add_fixed_word(&mut self, number: u16) -> Result<(), AllocError>
+        ensures { IfOk result (λ _. self.new ≡ followed_by self.old (emission (fixed_word number ∷ []) 0)) }
+    {
+        self.add_word(fixed(number), ErrorFlags::none())
+    }
+
+    /// A byte more that stands as it is. Error: memory may be refused.
+    pub fn add_fixed_byte(&mut self, number: u16) -> Result<(), AllocError>
+        ensures { IfOk result (λ _. self.new ≡ followed_by self.old (emission (fixed_byte number ∷ []) 0)) }
+    {
+        self.add_byte(fixed(number), ErrorFlags::none())
+    }
+
+    /// A byte more, with its flags. Error: memory may be refused.
+    pub fn add_byte(&mut self, stored: StoredConstant, flags: ErrorFlags) -> Result<(), AllocError>
+        ensures { IfOk result (λ _. self.new ≡ followed_by self.old (emission (Byte stored ∷ []) (bits_of flags))) }
+    {
+        self.contents.push(PieceContent::Byte(stored))?;
+        self.flags = self.flags.with(flags);
+        Ok(())
+    }
+
+    /// The limits of the program, with flags. Error: memory may be refused.
+    pub fn add_limits(&mut self, flags: ErrorFlags) -> Result<(), AllocError>
+        ensures { IfOk result (λ _. self.new ≡ followed_by self.old (emission (Limits ∷ []) (bits_of flags))) }
+    {
+        self.contents.extend_from_slice(&[PieceContent::Limits])?;
+        self.flags = self.flags.with(flags);
+        Ok(())
+    }
+}

@@ -1,0 +1,188 @@
+-- What the operator of a line defines, it mentions.
+use Rattle.std.proofs.Common.{◌≡◌, ◌∙◌, ℕ, ◌||◌, Bool, true, false, if◌then◌else◌, List, [], ◌∷◌, ◌++◌, Option, Some, None, refl, ap}
+use Rattle.std.proofs.lemmas.List.Folds.{list_any-append}
+use Rattle.std.specs.List.{list_any}
+use Rattle.m11_scan_expressions.specs.LeftOvers.{has_token}
+use Rattle.m11_unfold_rules.specs.declared.macros.NameAt.{NameAt}
+use Rattle.m11_base.proofs.SameNames.{same_name_itself}
+use Rattle.m11_base.specs.Devices.{Bytes}
+use Rattle.m11_base.specs.Rad50.{Name, is_same_name}
+use Rattle.m11_asm_rules.specs.Alignment.{gap, location_for}
+use Rattle.m11_asm_rules.specs.Assigning as assigning
+use Rattle.m11_asm_rules.specs.Changes.{Change, Keeps, Counts, Selects, Assigns, Numbers, Exports, Sets}
+use Rattle.m11_asm_rules.specs.Control as control
+use Rattle.m11_asm_rules.specs.Counts as counts
+use Rattle.m11_asm_rules.specs.Definitions.{is_defined, registers}
+use Rattle.m11_asm_rules.specs.declared.definitions.Key.TheVariants.{Named}
+use Rattle.m11_asm_rules.specs.Effects.{change_by, directive_change}
+use Rattle.m11_asm_rules.specs.Elements.{names_at, texts_of}
+use Rattle.m11_asm_rules.specs.Limits.{is_counted, with_uses, with_symbol}
+use Rattle.m11_asm_rules.specs.Lines.{Action, NoAction, Assign, SetCounter, Operate, change_of}
+use Rattle.m11_asm_rules.specs.SymbolUses.{SymbolUse, action_uses, defined, directive_uses, symbol_use, named, numbered_use, operator_uses, read_at}
+use Rattle.m11_asm_rules.specs.Operators.{is_even}
+use Rattle.m11_asm_rules.specs.Locations.{Goes}
+use Rattle.m11_asm_rules.specs.Psects as sections
+use Rattle.m11_asm_rules.specs.Relocations.{is_here}
+use Rattle.m11_asm_rules.specs.Tables.{Table, location}
+use Rattle.m11_asm_rules.specs.declared.meanings.Context.TheVariants.{LocalOnly}
+use Rattle.m11_asm_rules.specs.declared.operators.Directive.{Directive}
+use Rattle.m11_asm_rules.specs.declared.operators.Directive.TheVariants as word
+use Rattle.m11_asm_rules.specs.declared.operators.Operator.{Operator}
+use Rattle.m11_asm_rules.specs.declared.operators.Operator.TheVariants as operators
+use Rattle.m11_asm_rules.specs.declared.modes.Modes.{Modes}
+use Rattle.m11_scan.specs.Cutting.{Lexeme, tokens_from}
+use Rattle.m11_scan.specs.declared.radix.Radix.{Radix}
+use Rattle.m11_scan_expressions.specs.declared.names.Symbol.{Symbol}
+use Rattle.m11_scan_expressions.specs.declared.names.Symbol.TheVariants.{Ordinary, Local, Counter}
+
+-- ---- a name that counts goes on counting, and one that is mentioned counts
+
+stays_by : (is_register is_there is_new : Bool) → (is_register || is_there) ≡ true → (is_register || (is_there || is_new)) ≡ true
+stays_by true is_there is_new there = refl
+stays_by false true is_new there = refl
+stays_by false false is_new there = absurd (cc)
+
+counts_by : (is_register is_there is_new : Bool) → is_new ≡ true → (is_register || (is_there || (is_new || false))) ≡ true
+counts_by true is_there is_new same = refl
+counts_by false true is_new same = refl
+counts_by false false true same = refl
+counts_by false false false same = absurd (cc)
+
+module _ (name : Name) where
+  counted_with : (names more : List Name) → is_counted name (names ++ more)
+      ≡ (is_defined (Named name) registers
+      || (list_any (λ other. is_same_name other name) names || list_any (λ other. is_same_name other name) more))
+  counted_with names more =
+      ap (λ (b : Bool). is_defined (Named name) registers || b) (list_any-append (λ other. is_same_name other name) names more)
+
+  name_stays : (is_known : Bool) (other : Name) (names : List Name) → is_counted name names ≡ true
+      → is_counted name (if is_known then names else names ++ other ∷ []) ≡ true
+  name_stays true other names there = there
+  name_stays false other names there =
+      counted_with names (other ∷ [])
+      ∙ stays_by (is_defined (Named name) registers) (list_any (λ other. is_same_name other name) names)
+      (list_any (λ other. is_same_name other name) (other ∷ [])) there
+
+  symbol_stays : (symbol : Symbol) (names : List Name) → is_counted name names ≡ true → is_counted name (with_symbol symbol names) ≡ true
+  symbol_stays (Ordinary other) names there = name_stays (is_counted other names) other names there
+  symbol_stays (Local number) names there = there
+  symbol_stays Counter names there = there
+
+  pub uses_stay : (some : List SymbolUse) (names : List Name) → is_counted name names ≡ true
+      → is_counted name (with_uses some names) ≡ true
+  uses_stay [] names there = there
+  uses_stay (symbol_use ∷ some) names there =
+      uses_stay some (with_symbol symbol_use.symbol names) (symbol_stays symbol_use.symbol names there)
+
+  now_by : (is_known : Bool) (names : List Name) → is_counted name names ≡ is_known
+      → is_counted name (if is_known then names else names ++ name ∷ []) ≡ true
+  now_by true names there = there
+  now_by false names there =
+      counted_with names (name ∷ [])
+      ∙ counts_by (is_defined (Named name) registers) (list_any (λ other. is_same_name other name) names) (is_same_name name name)
+      (same_name_itself name)
+
+  -- the first of some mentions
+  pub first_counts : (some : List SymbolUse) (names : List Name) → is_counted name (with_uses (named name ∷ some) names) ≡ true
+  first_counts some names = uses_stay some (with_symbol (Ordinary name) names) (now_by (is_counted name names) names refl)
+
+-- ---- the name that a change defines is mentioned
+
+abbrev pub IsNoted : List SymbolUse → Change → Type 0
+IsNoted some (Assigns name is_global start) = (names : List Name) → is_counted name (with_uses some names) ≡ true
+IsNoted some (Numbers name number) = (names : List Name) → is_counted name (with_uses some names) ≡ true
+IsNoted some Keeps = Unit {0}
+IsNoted some (Counts move) = Unit {0}
+IsNoted some (Selects name attributes) = Unit {0}
+IsNoted some (Exports start) = Unit {0}
+IsNoted some (Sets modes) = Unit {0}
+
+module _ (some : List SymbolUse) where
+  choice_noted : (choice : Bool) (one other : Change) → IsNoted some one → IsNoted some other
+      → IsNoted some (if choice then one else other)
+  choice_noted true one other first second = first
+  choice_noted false one other first second = second
+
+  radix_noted : (modes : Modes) (radix : Option Radix) → IsNoted some (control.with_radix modes radix)
+  radix_noted modes (Some radix) = tt
+  radix_noted modes None = tt
+
+  token_noted : (modes : Modes) (tokens : List Lexeme) → IsNoted some (control.radix_by modes tokens)
+  token_noted modes [] = tt
+  token_noted modes (token ∷ tokens) = radix_noted modes (control.radix_in token.sort token.text)
+
+  words_noted : (modes : Modes) (shows : Bool) (words : List Bytes) → IsNoted some (control.with_words modes shows words)
+  words_noted modes shows words = choice_noted (control.is_among words control.expansions_word) _ _ tt tt
+
+  section_noted : (line : Bytes) (start : ℕ) (at : sections.SectionAt) → IsNoted some (sections.psect_of line start at)
+  section_noted line start sections.Unnamed = tt
+  section_noted line start (sections.NamedAt name end) = tt
+  section_noted line start sections.Bad = tt
+
+  control_noted : (at : sections.SectionAt) → IsNoted some (sections.csect_of at)
+  control_noted sections.Unnamed = tt
+  control_noted (sections.NamedAt name end) = tt
+  control_noted sections.Bad = tt
+
+count_noted : (arguments : Option ℕ) (name : Option NameAt)
+    → IsNoted (numbered_use (counts.narg_by arguments name)) (counts.narg_by arguments name)
+count_noted (Some count) (Some at) = λ names. first_counts at.name [] names
+count_noted (Some count) None = tt
+count_noted None name = tt
+
+character_noted : (line : Bytes) (name : Option NameAt)
+    → IsNoted (numbered_use (counts.nchr_by line name)) (counts.nchr_by line name)
+character_noted line (Some at) = λ names. first_counts at.name [] names
+character_noted line None = tt
+
+directive_noted : (table : Table) (passed here : ℕ) (line : Bytes) (start : ℕ) (arguments : Option ℕ) (of : Directive)
+    → IsNoted (directive_uses line start arguments of) (directive_change table passed here line start arguments of)
+directive_noted table passed here line start arguments word.Word = tt
+directive_noted table passed here line start arguments word.Byte = tt
+directive_noted table passed here line start arguments word.Ascii = tt
+directive_noted table passed here line start arguments word.Asciz = tt
+directive_noted table passed here line start arguments word.Rad50 = tt
+directive_noted table passed here line start arguments word.Blkb = tt
+directive_noted table passed here line start arguments word.Blkw = tt
+directive_noted table passed here line start arguments word.Even = tt
+directive_noted table passed here line start arguments word.Odd = tt
+directive_noted table passed here line start arguments word.Limit = tt
+directive_noted table passed here line start arguments word.Radix = token_noted [] table.modes (tokens_from line start)
+directive_noted table passed here line start arguments word.Asect = tt
+directive_noted table passed here line start arguments word.Csect = control_noted [] (sections.section_at line start)
+directive_noted table passed here line start arguments word.Psect = section_noted [] line start (sections.section_at line start)
+directive_noted table passed here line start arguments word.Globl = tt
+directive_noted table passed here line start arguments word.Weak = tt
+directive_noted table passed here line start arguments word.List =
+    choice_noted [] (has_token (tokens_from line start)) _ _ (words_noted [] table.modes true (texts_of line (names_at line start).list)) tt
+directive_noted table passed here line start arguments word.Nlist =
+    choice_noted [] (has_token (tokens_from line start)) _ _ (words_noted [] table.modes false (texts_of line (names_at line start).list)) tt
+directive_noted table passed here line start arguments word.Narg = count_noted arguments (counts.name_in line start)
+directive_noted table passed here line start arguments word.Nchr = character_noted line (counts.name_in line start)
+directive_noted table passed here line start arguments word.Title = tt
+directive_noted table passed here line start arguments word.Ident = tt
+directive_noted table passed here line start arguments word.Sbttl = tt
+directive_noted table passed here line start arguments word.Page = tt
+directive_noted table passed here line start arguments word.Enabl = tt
+directive_noted table passed here line start arguments word.Dsabl = tt
+directive_noted table passed here line start arguments word.End = tt
+
+operator_noted : (stood firm : Table) (passed here : ℕ) (line : Bytes) (start : ℕ) (arguments : Option ℕ) (operator : Operator)
+    → IsNoted (operator_uses stood line start arguments operator) (change_by firm passed here line start arguments operator)
+operator_noted stood firm passed here line start arguments (operators.Instruction operation) = tt
+operator_noted stood firm passed here line start arguments (operators.Directive of) = directive_noted firm passed here line start arguments of
+
+target_noted : (is_global : Bool) (start : ℕ) (line : Bytes) (name : Option Name)
+    → IsNoted (defined name ++ read_at LocalOnly line start) (assigning.assignment_to is_global start name)
+target_noted is_global start line (Some name) = λ names. first_counts name (read_at LocalOnly line start) names
+target_noted is_global start line None = tt
+
+pub action_noted : (stood firm : Table) (line : Bytes) (arguments : Option ℕ) (action : Action)
+    → IsNoted (action_uses stood line arguments action) (change_of firm line arguments action)
+action_noted stood firm line arguments NoAction = tt
+action_noted stood firm line arguments (Assign name is_global start) = target_noted is_global start line (assigning.target line name)
+action_noted stood firm line arguments (SetCounter start) =
+    let value = assigning.counter_value firm line start in
+    choice_noted (read_at LocalOnly line start) (is_here firm value.kind) (Counts (Goes value.number)) Keeps tt tt
+action_noted stood firm line arguments (Operate operator start) =
+    operator_noted stood firm (gap (is_even operator) (location firm)) (location_for (is_even operator) (location firm)) line start arguments operator

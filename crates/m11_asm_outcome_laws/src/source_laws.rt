@@ -1,0 +1,52 @@
+//! Laws of a pass, which reads one line after the other: it has the live lines of the rewriting of the whole source. Each law is the
+//! contract of a function that does nothing.
+
+ghost use Rattle.std.specs.Prelude.{◌≡◌, ◌≤◌, ◌+◌, ◌++◌, List, [], length};
+ghost use Rattle.m11_scan.specs.Line.{SourceLine};
+ghost use Rattle.m11_asm_pass_laws.specs.Ends.{EndsAfter};
+ghost use Rattle.m11_asm_outcome_laws.specs.AllLines.{AreAllLines, EndsWith, KeepLimits};
+ghost use Rattle.m11_asm_passes.specs.Lines.{NumberedLine, PassLines, givens};
+ghost use Rattle.m11_asm_rules.specs.Definitions.{registers};
+ghost use Rattle.m11_asm_rules.specs.Limits.{name_count, names_after};
+ghost use Rattle.m11_asm_rules.specs.Meanings.{Map};
+ghost use Rattle.m11_asm_rules.specs.Placements.{table_after};
+ghost use Rattle.m11_asm_rules.specs.Tables.{first_table};
+ghost use Rattle.m11_asm_rules.specs.Unfolded.{AreLines};
+ghost use Rattle.m11_unfold_rules.specs.Histories.{with_more};
+ghost use Rattle.m11_unfold_rules.specs.Stages.{Stage};
+ghost use Rattle.m11_unfold_rules.specs.Unfolding.{UnfoldedLine};
+ghost use Rattle.m11_asm_lines.specs.declared.counting.Counting.{Counting};
+
+use m11_unfold_rules::a_source_has_one_unfolding;
+
+/// The live lines of a pass are those of the rewriting of the whole source, whatever lines of it aren't read yet: the rewriting
+/// leads to the stage of the pass, with the lines that aren't read left; and none of them passes a limit where it is placed. Where
+/// the pass ends, they are all live lines of the source.
+pub fn the_lines_of_a_pass_are_those_of_the_whole_source()
+    ensures so_far { (map : Map) (counting : Counting) (source more : List SourceLine) (lines : List NumberedLine) (stage : Stage)
+        → PassLines map counting source lines stage → AreLines map (source ++ more) (givens lines) (with_more more stage) }
+    ensures limits { (map : Map) (counting : Counting) (source : List SourceLine) (lines : List NumberedLine) (stage : Stage)
+        → PassLines map counting source lines stage → KeepLimits map first_table counting (givens lines) }
+    ensures all { (map : Map) (counting : Counting) (all source : List SourceLine) (lines : List NumberedLine) (stage : Stage)
+        (end : EndsAfter map counting all source lines stage) → AreAllLines map all (givens lines) (with_more end.more stage) }
+{}
+
+/// Where these are all live lines of the rewriting of a whole source, and none of them passes a limit where it is placed, a pass
+/// over the source ends with them. A pass that ends has no others.
+pub fn a_pass_has_the_lines_of_the_whole_source()
+    ensures ends { (map : Map) (counting : Counting) (all : List SourceLine) (gives : List UnfoldedLine) (stage : Stage)
+        → AreAllLines map all gives stage → KeepLimits map first_table counting gives → EndsWith map counting all gives }
+    ensures just_these { (map : Map) (counting : Counting) (all source : List SourceLine) (lines : List NumberedLine)
+        (gives : List UnfoldedLine) (stage after : Stage) → EndsAfter map counting all source lines stage → AreAllLines map all gives after
+        → givens lines ≡ gives }
+{
+    a_source_has_one_unfolding();
+}
+
+/// Lines use each name that they define. So a reading that counts the names that its lines use has no more names defined than it may, as
+/// long as it has no more used than it may.
+#[tactic(auto, using(crate::proofs::Defining::few_defined))]
+pub fn what_lines_define_they_use()
+    ensures { (map : Map) (lines : List UnfoldedLine)
+        → name_count (table_after map lines) ≤ length registers + length (names_after map first_table lines []) }
+{}

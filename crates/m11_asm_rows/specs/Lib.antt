@@ -1,8 +1,0 @@
-pub mod Worked
-pub mod InstructionRows
-pub mod ItemRows
-pub mod LimitRows
-pub mod DirectiveRows
-pub mod RelocationRows
-pub mod SourceRows
-pub mod ConditionRows

@@ -1,0 +1,23 @@
+use Rattle.std.proofs.Common.{◌∙◌, ◌++◌, not, ap}
+use Rattle.m11_asm_rules.specs.Definitions.{is_defined}
+use Rattle.m11_asm_rules.specs.Tables.{Table}
+use Rattle.m11_asm_rules.specs.declared.definitions.Key.TheVariants.{Named}
+use Rattle.m11_asm_rules.proofs.Found.{name_found}
+use Rattle.m11_asm_rules.proofs.NewKeys.{new_by}
+use Rattle.m11_asm_rules.specs.Entries.{definitions_by, symbol_key}
+use Rattle.m11_asm_rules.proofs.Following.{name_follows}
+use Rattle.m11_asm_rules.proofs.table.Table.insert_name.Goals as goal
+
+pub returns-clause-follows : goal.returns-clause-follows
+returns-clause-follows c =
+    name_follows c.self.inside.names.entries c.self.inside.local_symbols.entries c.self.inside.doubly_defined_names.keys
+    c.self.inside.doubly_defined_symbols.keys c.self.inside.globals.keys c.self.inside.sections.entries c.self.inside.counters
+    c.self.inside.modes c.args.self.now c.self.view_is c.args.name c.args.definition.now c.insert.new.self.entries c.in_ok-before.ensures.entries c.requires
+
+pub returns-clause-is_new : goal.returns-clause-is_new
+returns-clause-is_new c =
+    new_by (Named c.args.name)
+    (definitions_by Named c.self.inside.names.entries ++ definitions_by symbol_key c.self.inside.local_symbols.entries)
+    c.in_ok-before.before _ c.is_none.result c.is_none.ensures c.in_ok-before.ensures.old
+    (name_found c.args.name c.self.inside.names.entries c.self.inside.local_symbols.entries)
+    ∙ ap (λ (t : Table). not (is_defined (Named c.args.name) t.definitions)) c.self.view_is

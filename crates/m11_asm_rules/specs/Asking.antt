@@ -1,0 +1,37 @@
+-- What is asked when a symbol stands for something, and by which steps it is found. (MACRO-11 Language Reference Manual, "Symbols" and
+-- "Current location counter".)
+use Rattle.std.specs.Prelude.{ℕ, Bool, Option, Some, None}
+use Rattle.m11_scan.specs.ErrorFlags.{flag_if}
+use Rattle.m11_scan_expressions.specs.declared.kinds.Kind.{Kind}
+use Rattle.m11_scan_expressions.specs.Quantities.{Quantity}
+use Rattle.m11_asm_rules.specs.declared.meanings.Context.{Context}
+use Rattle.m11_asm_rules.specs.Meanings.{Map, flag_D, quantity_of}
+use Rattle.m11_asm_rules.specs.Tables.{Table}
+use Rattle.m11_asm_rules.specs.declared.entries.Entry.{Entry}
+
+-- the map and the table, where the symbol stands, and the location that `.` is
+pub record LookupContext : Type 0 where
+  pub map : Map
+  pub context : Context
+  pub table : Table
+  pub location : ℕ
+
+abbrev pub asked : Map → Context → Table → ℕ → LookupContext
+asked map context table location = record { map = map; context = context; table = table; location = location }
+
+-- a question that firm names alone answer
+pub record FirmContext : Type 0 where
+  pub table : Table
+  pub location : ℕ
+
+abbrev pub firm_asked : Table → ℕ → FirmContext
+firm_asked table location = record { table = table; location = location }
+
+-- what `.` stands for
+abbrev pub counted : ℕ → Kind → Quantity
+counted location kind = record { number = location; kind = kind; flags = 0 }
+
+-- what is kept of a key gives a value, with D where the key is doubly defined; where nothing is kept there is something else
+abbrev pub given_by : Bool → Quantity → Option Entry → Quantity
+given_by is_doubly_defined other (Some entry) = quantity_of (flag_if is_doubly_defined flag_D) entry.standing
+given_by is_doubly_defined other None = other

@@ -1,0 +1,219 @@
+//! What symbols stand for at a line. (MACRO-11 Language Reference Manual, "Symbols", "Local symbols" and "Current location counter".)
+
+ghost use Rattle.std.specs.Prelude.{◌≡◌, Option, option_copied};
+ghost use Rattle.m11_scan.specs.Views.{bits_of};
+ghost use Rattle.m11_scan.specs.ErrorFlags.{flag_if};
+ghost use Rattle.m11_scan_expressions.specs.Quantities.{absolute, quantity};
+ghost use Rattle.m11_asm_rules.specs.Contents.{register_flags};
+ghost use Rattle.m11_asm_rules.specs.Meanings.{empty_map, flag_D, meaning_of, quantity_of, stands_for, undefined};
+ghost use Rattle.m11_asm_rules.specs.declared.meanings.Context.TheVariants.{LocalOnly};
+ghost use Rattle.m11_asm_rules.specs.Tables.{firm_table, kind_here};
+ghost use Rattle.m11_asm_rules.specs.Definitions.{firm_standing};
+ghost use Rattle.m11_asm_rules.specs.Asking.{asked, counted, firm_asked, given_by};
+ghost use Rattle.m11_unfold_rules.specs.Definedness.{flag_U};
+
+use crate::definitions::{Key, Standing};
+use crate::entries::Entry;
+use crate::map::Map;
+use crate::meanings::Context;
+use crate::table::Table;
+use m11_scan::{ErrorFlags, Radix};
+use m11_scan_expressions::{Kind, Names, Symbol, Value};
+use std::marker::Model;
+
+/// What symbols stand for where `.` is a location: the last definition before the line, or else that of the map.
+#[derive(Drop)]
+pub struct NamesAt<'a> {
+    map: &'a Map<'a>,
+    context: Context,
+    table: &'a Table,
+    location: u16,
+}
+
+impl<'a> Model for NamesAt<'a> {
+    ghost use Rattle.m11_asm_rules.specs.Asking.{LookupContext, asked};
+
+    ghost Value = { LookupContext };
+
+    ghost view = { λ n. asked n.map.now n.context n.table.now n.location };
+}
+
+impl<'a> NamesAt<'a> {
+    /// Names where `.` is a location, in a word or elsewhere.
+    pub fn new(map: &'a Map<'a>, context: Context, table: &'a Table, location: u16) -> NamesAt<'a>
+        ensures { result ≡ asked map.now context table.now location }
+    {
+        NamesAt {
+            map,
+            context,
+            table,
+            location,
+        }
+    }
+}
+
+impl<'a> Names for NamesAt<'a> {
+    ghost base = { λ n. n.table.modes.radix };
+
+    ghost stands_for = { λ n symbol. stands_for n.map n.context n.table n.location symbol };
+
+    fn radix(&self) -> Radix {
+        self.table.modes().radix
+    }
+
+    // speed: inline, since each symbol of an expression comes here, and a call would hand its result on by memory.
+    #[inline(always)]
+    fn meaning(&self, symbol: Symbol) -> Value {
+        match symbol {
+            Symbol::Ordinary(name) => {
+                let other = undefined(self.context, Symbol::Ordinary(name));
+                meaning_of(self.map, other, self.table, &Key::Named(name))
+            }
+            Symbol::Local(number) => {
+                let other = undefined(self.context, Symbol::Local(number));
+                let block = self.table.modes().block;
+                meaning_of(self.map, other, self.table, &Key::Numbered(block, number))
+            }
+            Symbol::Counter => counter_value(self.table, self.location),
+        }
+    }
+}
+
+/// What sizes, locations, conditions and repeats see: firm names of the lines before alone. Any other counts as 0, with U.
+#[derive(Drop)]
+pub struct FirmNames<'a> {
+    table: &'a Table,
+    location: u16,
+}
+
+impl<'a> Model for FirmNames<'a> {
+    ghost use Rattle.m11_asm_rules.specs.Asking.{FirmContext, firm_asked};
+
+    ghost Value = { FirmContext };
+
+    ghost view = { λ n. firm_asked n.table.now n.location };
+}
+
+impl<'a> FirmNames<'a> {
+    /// Firm names where `.` is a location.
+    pub fn new(table: &'a Table, location: u16) -> FirmNames<'a>
+        ensures { result ≡ firm_asked table.now location }
+    {
+        FirmNames { table, location }
+    }
+}
+
+impl<'a> Names for FirmNames<'a> {
+    ghost base = { λ n. n.table.modes.radix };
+
+    ghost stands_for = { λ n symbol. stands_for empty_map LocalOnly (firm_table n.table) n.location symbol };
+
+    fn radix(&self) -> Radix {
+        self.table.modes().radix
+    }
+
+    // speed: inline, since each symbol of an expression comes here, and a call would hand its result on by memory.
+    #[inline(always)]
+    fn meaning(&self, symbol: Symbol) -> Value {
+        match symbol {
+            Symbol::Ordinary(name) => firm_meaning_of(self.table, &Key::Named(name)),
+            Symbol::Local(number) => {
+                let block = self.table.modes().block;
+                firm_meaning_of(self.table, &Key::Numbered(block, number))
+            }
+            Symbol::Counter => counter_value(self.table, self.location),
+        }
+    }
+}
+
+// What `.` stands for.
+fn counter_value(table: &Table, location: u16) -> Value
+    ensures { quantity result ≡ counted location (kind_here table.now) }
+{
+    Value {
+        number: location,
+        kind: table.kind_here(),
+        flags: ErrorFlags::none(),
+    }
+}
+
+// The value of a standing, with D where its key is doubly defined, and with U where it isn't known.
+fn value_of(standing: Standing, is_doubly_defined: bool) -> Value
+    ensures { quantity result ≡ quantity_of (flag_if is_doubly_defined flag_D) standing }
+{
+    let flags = ErrorFlags::D.when(is_doubly_defined);
+    match standing {
+        Standing::Known(number, kind) => Value {
+            number,
+            kind,
+            flags,
+        },
+        Standing::Unknown => Value::absolute(0, flags.with(ErrorFlags::U)),
+    }
+}
+
+// The value of a symbol without a definition.
+fn undefined(context: Context, symbol: Symbol) -> Value
+    ensures { quantity result ≡ undefined context symbol }
+{
+    match (context, symbol) {
+        (Context::MayBeGlobal, Symbol::Ordinary(name)) => Value {
+            number: 0,
+            kind: Kind::Reference(name),
+            flags: ErrorFlags::none(),
+        },
+        _ => Value::absolute(0, ErrorFlags::U),
+    }
+}
+
+// The value of a key by what is kept of its definition, or another value where it has none.
+fn given_or(found: Option<&Entry>, is_doubly_defined: bool, other: Value) -> Value
+    ensures { quantity result ≡ given_by is_doubly_defined (quantity other) (option_copied found.entry) }
+{
+    match found {
+        Some(entry) => value_of(entry.standing, is_doubly_defined),
+        None => other,
+    }
+}
+
+// The value of a key by its last definition before the line, or else by that of the map.
+// speed: inline, since each symbol of an expression comes here, and a call would hand its result on by memory.
+#[inline(always)]
+fn meaning_of(map: &Map<'_>, other: Value, table: &Table, key: &Key) -> Value
+    ensures { quantity result ≡ meaning_of map.now (quantity other) table.now key.now }
+{
+    match table.entry(key) {
+        Some(entry) => value_of(entry.standing, table.is_doubly_defined(key)),
+        None => given_or(map.entry(key), map.is_doubly_defined(key), other),
+    }
+}
+
+// What a definition makes of a symbol, as far as it is firm.
+fn firm_standing(entry: &Entry) -> Standing
+    ensures { result ≡ firm_standing entry.now.is_firm entry.now.standing }
+{
+    if entry.is_firm {
+        entry.standing
+    } else {
+        Standing::Unknown
+    }
+}
+
+// The last definition before the line, as far as it is firm.
+// speed: inline, since each symbol of an expression comes here, and a call would hand its result on by memory.
+#[inline(always)]
+fn firm_meaning_of(table: &Table, key: &Key) -> Value
+    ensures { quantity result ≡ meaning_of empty_map (absolute 0 flag_U) (firm_table table.now) key.now }
+{
+    match table.entry(key) {
+        Some(entry) => value_of(firm_standing(entry), table.is_doubly_defined(key)),
+        None => Value::absolute(0, ErrorFlags::U),
+    }
+}
+
+/// R for a register where none may be.
+pub fn register_flags(kind: Kind) -> ErrorFlags
+    ensures { bits_of result ≡ register_flags kind }
+{
+    ErrorFlags::R.when(kind.is_register())
+}

@@ -1,5 +1,0 @@
-mod Defining
-mod MoreLines
-mod Noted
-mod WholeEnds
-mod WholeSources

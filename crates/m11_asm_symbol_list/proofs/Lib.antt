@@ -1,3 +1,0 @@
-mod Needed
-mod Numbering
-mod SameEntries

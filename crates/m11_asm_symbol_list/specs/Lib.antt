@@ -1,4 +1,0 @@
-pub mod Sections
-pub mod Symbols
-pub mod Values
-pub mod Worked

@@ -1,8 +1,0 @@
-use Rattle.std.proofs.Common.{◌+◌, ◌%◌, arith}
-use Rattle.m11_asm_table.proofs.Moving.{step_follows}
-use Rattle.m11_asm_table.proofs.table.Table.step.Goals as goal
-
-pub returns : goal.returns
-returns c =
-    step_follows c.args.self.now c.go_to.new.self ((c.from.result + c.from-2.result) % 65536) c.args.size
-    (omega (arith, c.from.ensures, c.from-2.ensures, c.location.ensures)) c.go_to.ensures

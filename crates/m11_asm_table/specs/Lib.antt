@@ -1,4 +1,0 @@
-pub mod Alike
-pub mod Asking
-pub mod Entries
-pub mod Maps

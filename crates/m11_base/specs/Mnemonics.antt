@@ -1,0 +1,25 @@
+-- What names in a source stand for. (MACRO-11 Language Reference Manual, "Permanent symbol table"; that
+-- six characters of a name count, "Symbols".)
+use Rattle.std.specs.Prelude.{ℕ, if◌then◌else◌, List, [], ◌∷◌, find, Option, Some, None}
+use Rattle.std.specs.List.{list_all}
+use Rattle.std.specs.Str.{bytes_eq}
+use Rattle.m11_base.specs.NameCharacters.{is_name_character, six_of}
+use Rattle.m11_base.specs.declared.instruction.Op.{Op}
+use Rattle.m11_base.specs.declared.instruction_list.Row.{Row}
+use Rattle.m11_base.specs.Instructions.{rows, other_names, operation_in}
+
+-- the operation of a row with a name
+abbrev pub named_in : List Row → List ℕ → Option Op
+named_in list name = operation_in (find (λ row. bytes_eq row.name name) list)
+
+abbrev pub or_else : Option Op → Option Op → Option Op
+or_else (Some operation) other = Some operation
+or_else None other = other
+
+-- the operation of a name: that of the first list, or else that of the second; a text that is empty, or
+-- has a byte that no name has, is no name
+abbrev pub operation_named : List ℕ → Option Op
+operation_named [] = None
+operation_named (first ∷ rest) =
+    if list_all is_name_character (first ∷ rest)
+    then or_else (named_in rows (six_of (first ∷ rest))) (named_in other_names (six_of (first ∷ rest))) else None

@@ -1,4 +1,0 @@
-pub mod OneRow
-pub mod EachWord
-pub mod Codes
-pub mod Words

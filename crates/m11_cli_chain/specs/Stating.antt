@@ -1,0 +1,20 @@
+-- A machine that holds what the lines of sources state. (MACRO-11 Language Reference Manual, "Relocation and linking". That memory is 0 before a
+-- load is this project's own.)
+use Rattle.std.specs.Prelude.{◌≡◌, ◌<◌, ◌*◌, ℕ, List, map}
+use Rattle.std.specs.Option.{unwrap_or}
+use Rattle.m11_base.specs.Devices.{Bytes}
+use Rattle.m11_cli_chain.specs.Sources.{AllLive, sources_of}
+use Rattle.m11_cli_image.specs.Image.{addresses_of}
+use Rattle.m11_cli_image.specs.Agreement.{AbsolutesAgree}
+use Rattle.m11_cli_image.specs.Lines.{all_lying}
+use Rattle.m11_cpu_machine.specs.Machine.{byte_in}
+use Rattle.m11_cpu_machine.specs.declared.machine.Machine.{Machine}
+use Rattle.m11_asm_passes.specs.Lines.{NumberedLine, givens}
+use Rattle.m11_cpu_laws.specs.Image.{byte_of}
+
+-- a machine of so many words holds the bytes that the live lines of these texts state in a program from a bottom on, and 0 elsewhere
+pub record HoldsStated (texts : List (List Bytes)) (bottom words : ℕ) (machine : Machine) : Type 0 where
+  pub lines : List (List NumberedLine)
+  pub live : AllLive texts lines
+  pub bytes : AbsolutesAgree (sources_of lines) → (address : ℕ) → address < 2 * words
+      → byte_in address machine ≡ unwrap_or (byte_of (all_lying (addresses_of bottom (sources_of lines)) (map givens lines)) address) 0

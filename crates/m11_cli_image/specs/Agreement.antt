@@ -1,0 +1,37 @@
+-- Which lines a source has, and where sources agree on their sections. (MACRO-11 Language Reference Manual, ".PSECT directive": REL and ABS.
+-- That a section has the attributes of its first entry in the program, and that others are reported, is this project's own.)
+use Rattle.std.specs.Prelude.{◌≡◌, false, List, [], ◌∷◌, ⊤}
+use Rattle.std.specs.List.{AllByRecursion, flat_map}
+use Rattle.m11_link_layout.specs.Sections.{is_relocatable}
+use Rattle.m11_obj.specs.declared.pieces.Piece.{Piece}
+use Rattle.m11_asm_rules.specs.Meanings.{empty_map}
+use Rattle.m11_asm_rules.specs.Placements.{LinePlacement, placement, program_map, table_after}
+use Rattle.m11_unfold_rules.specs.Unfolding.{UnfoldedLine}
+use Rattle.m11_cli_image.specs.Sections.{OwnSection, all_sections, attributes_of}
+use Rattle.m11_cli_image.specs.Sources.{Source}
+
+-- ---- lines
+
+abbrev pub placed_pieces : LinePlacement → List Piece
+placed_pieces line = line.pieces
+
+-- a source is what these live lines give: its table is that of the first pass, and its pieces are put under the map that the lines make
+pub record IsOf (lines : List UnfoldedLine) (source : Source) : Type 0 where
+  pub table : source.facts.table ≡ table_after empty_map lines
+  pub pieces : source.pieces ≡ flat_map placed_pieces (placement (program_map lines) lines)
+
+-- each of several sources, by its lines
+abbrev pub AreOf : List (List UnfoldedLine) → List Source → Type 0
+AreOf [] [] = ⊤
+AreOf [] (source ∷ sources) = ⊥
+AreOf (lines ∷ all) [] = ⊥
+AreOf (lines ∷ all) (source ∷ sources) = IsOf lines source × AreOf all sources
+
+-- ---- sections
+
+-- what one source calls ABS isn't relocatable in the program: no earlier source says REL of it
+abbrev pub StaysAbsolute : List Source → OwnSection → Type 0
+StaysAbsolute sources own = is_relocatable own.attributes ≡ false → is_relocatable (attributes_of sources own.name) ≡ false
+
+abbrev pub AbsolutesAgree : List Source → Type 0
+AbsolutesAgree sources = AllByRecursion (StaysAbsolute sources) (all_sections sources)

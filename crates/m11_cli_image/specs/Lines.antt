@@ -1,0 +1,53 @@
+-- What the lines of sources state, each thing at its address in a linked program. (MACRO-11 Language Reference Manual, "Current location
+-- counter" and "Relocation and linking".)
+use Rattle.std.specs.Prelude.{ℕ, ◌+◌, List, [], ◌∷◌, ◌++◌}
+use Rattle.std.specs.List.{enumerate_from, flat_map}
+use Rattle.m11_base.specs.Devices.{Bytes}
+use Rattle.m11_base.specs.Rad50.{Name}
+use Rattle.m11_link_text.specs.Relocation.{modulo}
+use Rattle.m11_asm_rules.specs.Contents.{further}
+use Rattle.m11_asm_rules.specs.Lines.{after_line, action, put_location, stands}
+use Rattle.m11_asm_rules.specs.Meanings.{Map}
+use Rattle.m11_asm_rules.specs.Placements.{program_map}
+use Rattle.m11_asm_rules.specs.Tables.{Table, first_table, section_name}
+use Rattle.m11_unfold_rules.specs.Unfolding.{UnfoldedLine}
+use Rattle.m11_cli_image.specs.Addresses.{Addresses}
+use Rattle.m11_cli_image.specs.Stated.{Stated, line_stated, stated_size}
+use Rattle.m11_cli_image.specs.Targets.{stated_bytes}
+
+-- where a location of a section of a source lies
+abbrev pub address_in : Addresses → ℕ → Name → ℕ → ℕ
+address_in program source section location = modulo (program.base source section + location)
+
+abbrev pub lying : Addresses → ℕ → ℕ → Stated → ℕ × Bytes
+lying program source address stated = (address, stated_bytes program source address stated)
+
+-- what lines state, one thing after another, the first at a location of a section
+abbrev pub lying_from : Addresses → ℕ → Name → ℕ → List Stated → List (ℕ × Bytes)
+lying_from program source section location [] = []
+lying_from program source section location (stated ∷ more) =
+    lying program source (address_in program source section location) stated
+    ∷ lying_from program source section (further location (stated_size stated)) more
+
+-- where a line puts what it states
+abbrev pub line_location : Table → UnfoldedLine → ℕ
+line_location stood given = put_location stood (action given.is_own given.live.line.text)
+
+abbrev pub line_lying : Addresses → ℕ → Map → Table → UnfoldedLine → List (ℕ × Bytes)
+line_lying program source map stood given =
+    lying_from program source (section_name stood) (line_location stood given) (line_stated map stood given)
+
+-- line by line, the first after a table
+abbrev pub lines_lying : Addresses → ℕ → Map → Table → List UnfoldedLine → List (ℕ × Bytes)
+lines_lying program source map table [] = []
+lines_lying program source map table (given ∷ lines) =
+    line_lying program source map (stands table given) given
+    ++ lines_lying program source map (after_line map table given) lines
+
+-- the lines of the source of an index, under the map that they make themselves
+abbrev pub source_lying : Addresses → ℕ × List UnfoldedLine → List (ℕ × Bytes)
+source_lying program numbered = lines_lying program numbered.0 (program_map numbered.1) first_table numbered.1
+
+-- what the lines of all sources state: the first source, then the next
+abbrev pub all_lying : Addresses → List (List UnfoldedLine) → List (ℕ × Bytes)
+all_lying program all = flat_map (source_lying program) (enumerate_from 0 all)

@@ -1,0 +1,48 @@
+//! What the bytes of a linked program say. (MACRO-11 Language Reference Manual, "Relocation and linking".)
+
+ghost use Rattle.std.specs.Prelude.{◌≡◌, ℕ, ◌+◌, ◌<◌, true, false, List};
+ghost use Rattle.m11_cli_image.specs.Addresses.{Addresses};
+ghost use Rattle.m11_cli_image.specs.Image.{addresses_of, image_of};
+ghost use Rattle.m11_cli_image.specs.Sources.{Source};
+ghost use Rattle.m11_link_text.specs.Relocation.{following, less, modulo};
+ghost use Rattle.m11_asm_rules.specs.Branches.{branch_offset, branch_reaches, loop_offset, loop_reaches};
+ghost use Rattle.m11_asm_rules.specs.Relocations.{is_moved};
+ghost use Rattle.m11_asm_rules.specs.Tables.{Table, section_name};
+ghost use Rattle.m11_cpu_laws.specs.Image.{byte_of};
+ghost use Rattle.m11_unfold_rules.specs.Unfolding.{UnfoldedLine};
+ghost use Rattle.m11_scan_expressions.specs.Quantities.{Quantity};
+ghost use Rattle.m11_cli_image.specs.Agreement.{AbsolutesAgree, AreOf};
+ghost use Rattle.m11_cli_image.specs.Branching.{branch_distance, loop_distance};
+ghost use Rattle.m11_cli_image.specs.Lines.{address_in, all_lying};
+ghost use Rattle.m11_cli_image.specs.Targets.{target};
+
+/// Where no section that one source calls ABS is REL in the program, the image of sources has at each address the byte that their lines state
+/// there: an expression by its value in the program, which is so many bytes after what its source contributes to a section, or after a name of
+/// any source, or a number; a relative operand by how far that value lies from the location after it. A later line counts before an
+/// earlier one.
+pub fn images_hold_what_their_lines_state()
+    ensures { (bottom : ℕ) (all : List (List UnfoldedLine)) (sources : List Source) → AreOf all sources → AbsolutesAgree sources
+        → (address : ℕ) → (image_of bottom sources).byte address ≡ byte_of (all_lying (addresses_of bottom sources) all) address }
+{
+    m11_asm_rules::placements_are_the_same_under_every_map();
+}
+
+/// A processor that adds the word of a relative operand to the address after it, modulo 65,536, comes to the value that the source states.
+pub fn relative_words_lead_to_their_targets()
+    ensures { (address target : ℕ) → modulo (following address + less target (following address)) ≡ modulo target }
+{}
+
+/// A branch, or SOB, that reaches its target goes to it: so many words from the location after it as its offset says. It is in the section
+/// of its target, which an absolute one is in a section with ABS.
+pub fn branches_lead_to_their_targets()
+    ensures branch { (program : Addresses) (source location : ℕ) (table : Table) (value : Quantity)
+        → (is_moved table ≡ false → program.base source (section_name table) ≡ 0) → location < 65536
+        → branch_reaches table location value ≡ true
+        → modulo (following (address_in program source (section_name table) location) + branch_distance (branch_offset table location value))
+        ≡ modulo (target program source value) }
+    ensures sob { (program : Addresses) (source location : ℕ) (table : Table) (value : Quantity)
+        → (is_moved table ≡ false → program.base source (section_name table) ≡ 0) → location < 65536
+        → loop_reaches table location value ≡ true
+        → modulo (following (address_in program source (section_name table) location) + loop_distance (loop_offset table location value))
+        ≡ modulo (target program source value) }
+{}

@@ -1,5 +1,0 @@
-use Rattle.m11_cli_image_laws.proofs.NoMessages.{silent_links_agree}
-use Rattle.m11_cli_image_laws.proofs.links.links_without_messages_agree.Goals as goal
-
-pub returns : goal.returns
-returns c bottom sources = silent_links_agree bottom sources (c.links_read_their_sources.ensures sources)

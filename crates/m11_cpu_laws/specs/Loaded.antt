@@ -1,0 +1,48 @@
+-- What a load of a tape of an image leaves in a machine. (RT-11 Volume and File Formats Manual, "Absolute binary file format". That a byte
+-- past the memory is refused, and the limit on the bytes of a tape, are this project's own.)
+use Rattle.std.specs.Prelude.{◌≡◌, ℕ, ◌<◌, ◌≤◌, length, Some, None, Result, Ok, Err}
+use Rattle.std.specs.Option.{unwrap_or}
+use Rattle.m11_base.specs.Devices.{Bytes, Rises}
+use Rattle.m11_obj_blocks.specs.Limited.{most_bytes}
+use Rattle.m11_obj_blocks.specs.declared.tape_fault.TapeFault.TheVariants as fault
+use Rattle.m11_cpu_machine.specs.Machine.{byte_in, memory_size}
+use Rattle.m11_cpu.specs.declared.fault.LoadFault.{LoadFault}
+use Rattle.m11_cpu.specs.declared.fault.LoadFault.TheVariants.{Tape, OutsideMemory}
+use Rattle.m11_cpu_machine.specs.declared.machine.Machine.{Machine}
+use Rattle.m11_cpu_laws.specs.Image.{Image}
+use Rattle.m11_cpu_laws.specs.Tapes.{transfer_address}
+
+-- no byte of the image lies at or past this size
+abbrev pub LiesInside : ℕ → Image → Type 0
+LiesInside size image = (address : ℕ) → size ≤ address → image.byte address ≡ None
+
+-- a byte of the image lies at or past this size
+pub record LiesPast (size : ℕ) (image : Image) : Type 0 where
+  pub address : ℕ
+  pub byte : ℕ
+  pub past : size ≤ address
+  pub has : image.byte address ≡ Some byte
+
+-- after a load the machine holds the image: at each address of its memory stands the image's byte, and where the image has none what
+-- stood there before. All of the image lies in the memory, whose size stays, and so does all else of the machine
+pub record HoldsImage (image : Image) (before after : Machine) (start : ℕ) : Type 0 where
+  pub bytes : (address : ℕ) → address < memory_size before
+      → byte_in address after ≡ unwrap_or (image.byte address) (byte_in address before)
+  pub inside : LiesInside (memory_size before) image
+  pub size : memory_size after ≡ memory_size before
+  pub others : after ≡ record before { memory = after.memory }
+  pub start_is : start ≡ transfer_address image
+
+-- what the load of a tape of an image yields. No fault of the tape's own can come, since it is a tape: it is refused for a byte past the
+-- memory, for its length, or because the device failed
+abbrev pub LoadYields : Image → Bytes → ℕ → ℕ → Machine → Machine → Result ℕ LoadFault → Type 0
+LoadYields image tape faults faults' before after (Ok start) = HoldsImage image before after start
+LoadYields image tape faults faults' before after (Err OutsideMemory) = LiesPast (memory_size before) image
+LoadYields image tape faults faults' before after (Err (Tape fault.Device)) = Rises faults faults'
+LoadYields image tape faults faults' before after (Err (Tape fault.TooMuch)) = most_bytes < length tape
+LoadYields image tape faults faults' before after (Err (Tape other)) = ⊥
+
+-- up to the end of the smaller memory two machines hold the same, and after it the larger one holds 0
+pub record HoldsTheSame (small large : Machine) : Type 0 where
+  pub bytes : (address : ℕ) → address < memory_size small → byte_in address large ≡ byte_in address small
+  pub others : (address : ℕ) → memory_size small ≤ address → byte_in address large ≡ 0

@@ -1,0 +1,28 @@
+//! The images of tapes.
+
+ghost use Rattle.std.specs.Prelude.{◌≡◌, ◌++◌, ℕ, List};
+ghost use Rattle.std.specs.Option.{option_or};
+ghost use Rattle.m11_base.specs.Devices.{Bytes};
+ghost use Rattle.m11_obj_blocks.specs.Tapes.{IsTape};
+ghost use Rattle.m11_cpu_laws.specs.Image.{Image, byte_of};
+ghost use Rattle.m11_cpu_laws.specs.Tapes.{IsTapeOf, image_of_blocks, transfer_address};
+
+/// Later blocks count: the byte at an address is that of the later ones, and where they have none there that of the ones
+/// before them.
+pub fn later_blocks_count()
+    ensures { (blocks later : List (ℕ × Bytes)) (address : ℕ)
+        → byte_of (blocks ++ later) address ≡ option_or (byte_of later address) (byte_of blocks address) }
+{}
+
+/// A tape consists of its blocks and its start in one way only, is a tape of the image that these have, and of no image
+/// with another byte at an address or with another start.
+pub fn tapes_have_one_image()
+    ensures reading { (tape : Bytes) (blocks other_blocks : List (ℕ × Bytes)) (start other_start : ℕ)
+        → IsTape blocks start tape → IsTape other_blocks other_start tape
+        → (other_blocks ≡ blocks) × (other_start ≡ start) }
+    ensures image { (tape : Bytes) (blocks : List (ℕ × Bytes)) (start : ℕ) → IsTape blocks start tape
+        → IsTapeOf (image_of_blocks blocks start) tape }
+    ensures no_other { (tape : Bytes) (image other : Image) → IsTapeOf image tape → IsTapeOf other tape
+        → ((address : ℕ) → other.byte address ≡ image.byte address)
+        × (transfer_address other ≡ transfer_address image) }
+{}

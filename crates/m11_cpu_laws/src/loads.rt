@@ -1,0 +1,64 @@
+//! Loading the tapes of an image.
+
+ghost use Rattle.std.specs.Prelude.{◌≡◌, ◌≤◌, ℕ, [], length, Some, Option, Result, Ok, Err};
+ghost use Rattle.m11_base.specs.Devices.{Rises};
+ghost use Rattle.m11_base.specs.Feed.{Ending, Text};
+ghost use Rattle.m11_obj_blocks.specs.Limited.{most_bytes};
+ghost use Rattle.m11_cpu.specs.Loading.{LoadsInto};
+ghost use Rattle.m11_cpu_machine.specs.Machine.{byte_in, memory_size, new_machine};
+ghost use Rattle.m11_cpu.specs.declared.fault.LoadFault.{LoadFault};
+ghost use Rattle.m11_cpu.specs.declared.fault.LoadFault.TheVariants.{OutsideMemory};
+ghost use Rattle.m11_cpu_machine.specs.declared.machine.Machine.{Machine};
+ghost use Rattle.m11_cpu_laws.specs.Example.{overlaid_tape};
+ghost use Rattle.m11_cpu_laws.specs.Image.{Image};
+ghost use Rattle.m11_cpu_laws.specs.Loaded.{HoldsTheSame, LiesInside, LiesPast, LoadYields};
+ghost use Rattle.m11_cpu_laws.specs.Tapes.{IsTapeOf};
+
+/// A machine into which a tape of an image was loaded holds the image: its bytes stand at their addresses, everything else
+/// is as it was, and the start is the image's. The load is refused only where the image has a byte past the memory
+/// (`OutsideMemory`), where the tape has more than 4,194,304 bytes (`TooMuch`), or where the device failed (`Device`).
+pub fn tapes_load_their_bytes()
+    ensures yields { (image : Image) (text : Text) (left : Option Text) (faults faults' : ℕ) (before after : Machine)
+        (result : Result ℕ LoadFault) → IsTapeOf image text.bytes
+        → LoadsInto (Some text) left faults faults' before after result
+        → LoadYields image text.bytes faults faults' before after result }
+    // where none of the three is so, the tape is loaded
+    ensures loaded { (image : Image) (text : Text) (left : Option Text) (faults faults' : ℕ) (before after : Machine)
+        (result : Result ℕ LoadFault) → IsTapeOf image text.bytes
+        → LoadsInto (Some text) left faults faults' before after result
+        → LiesInside (memory_size before) image → length text.bytes ≤ most_bytes → (Rises faults faults' → ⊥)
+        → (start : ℕ) × (result ≡ Ok start) }
+    // where the image has a byte past the memory, it isn't
+    ensures refused { (image : Image) (text : Text) (left : Option Text) (faults faults' : ℕ) (before after : Machine)
+        (start : ℕ) → IsTapeOf image text.bytes → LiesPast (memory_size before) image
+        → LoadsInto (Some text) left faults faults' before after (Ok start) → ⊥ }
+{}
+
+/// Machines that differ in the size of their memory load an image alike, whichever tapes of it they are given: up to the
+/// end of the smaller memory both hold the same, after it the larger one holds 0, and the program starts at one address.
+/// What a smaller memory takes a larger one takes too.
+pub fn larger_memories_hold_the_same()
+    ensures alike { (image : Image) (text other_text : Text) (left other_left : Option Text)
+        (faults faults' other_faults other_faults' words more_words : ℕ) (small large : Machine) (start other_start : ℕ)
+        → words ≤ more_words → IsTapeOf image text.bytes → IsTapeOf image other_text.bytes
+        → LoadsInto (Some text) left faults faults' (new_machine words) small (Ok start)
+        → LoadsInto (Some other_text) other_left other_faults other_faults' (new_machine more_words) large (Ok other_start)
+        → HoldsTheSame small large × (other_start ≡ start) }
+    ensures taken { (image : Image) (text other_text : Text) (left other_left : Option Text)
+        (faults faults' other_faults other_faults' words more_words : ℕ) (small large : Machine) (start : ℕ)
+        → words ≤ more_words → IsTapeOf image text.bytes → IsTapeOf image other_text.bytes
+        → LoadsInto (Some text) left faults faults' (new_machine words) small (Ok start)
+        → LoadsInto (Some other_text) other_left other_faults other_faults' (new_machine more_words) large
+        (Err OutsideMemory) → ⊥ }
+{}
+
+/// A tape that has two bytes at one address leaves the later one there, and around it what it has once.
+pub fn a_byte_is_loaded_over_another()
+    ensures later { (ending : Ending) (left : Option Text) (faults faults' : ℕ) (before after : Machine) (start : ℕ)
+        → LoadsInto (Some (record { bytes = overlaid_tape; ending = ending })) left faults faults' before after (Ok start)
+        → (byte_in 0o1001 after ≡ 2) × (byte_in 0o1002 after ≡ 0o377) × (byte_in 0o1003 after ≡ 4) × (start ≡ 0o1000) }
+    // a machine whose memory is large enough may load it
+    ensures met { (ending : Ending) (faults : ℕ) (before : Machine) → 0o1004 ≤ memory_size before
+        → (after : Machine) × LoadsInto (Some (record { bytes = overlaid_tape; ending = ending }))
+        (Some (record { bytes = []; ending = ending })) faults faults before after (Ok 0o1000) }
+{}

@@ -1,4 +1,0 @@
-pub mod Example
-pub mod Image
-pub mod Loaded
-pub mod Tapes

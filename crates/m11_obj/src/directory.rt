@@ -1,0 +1,185 @@
+//! The rows of a directory, and the records that they fill. (RT-11 Volume and File Formats Manual, "Object file format", GSD block.)
+
+ghost use Rattle.std.specs.Prelude.{◌≡◌, ◌≤◌, List, [], ◌∷◌, ◌++◌, length};
+ghost use Rattle.std.specs.Option.{option_to_list};
+ghost use Rattle.m11_obj.specs.Records.{Content};
+ghost use Rattle.m11_obj.specs.Blocks.{AreRecords};
+ghost use Rattle.m11_obj.specs.Directory.{entry, entry_of, definition_flags, reference_flags, IsOpenDirectory, directory_records, written_by};
+
+use crate::flags::{SectionFlags, SymbolFlags};
+use crate::gsd::{GsdEntry, GsdKind};
+use crate::records::Record;
+use bitflags::Flags;
+use m11_base::{Name, absolute_section};
+use m11_obj_blocks::Block;
+use std::marker::Model;
+
+/// The most entries of one record.
+const MOST_ENTRIES: usize = 15;
+
+/// One row of a directory.
+#[derive(Clone, Copy, Debug, PartialEq, Eq)]
+pub enum DirectoryRow {
+    /// The module's name.
+    Module(Name),
+    /// The identification of the module.
+    Identification(Name),
+    /// A section, its attributes, and its size in bytes. The definitions after it stand in it.
+    Section {
+        name: Name,
+        flags: SectionFlags,
+        size: u16,
+    },
+    /// A global that is defined, whether it moves with its section, and its value.
+    Definition {
+        name: Name,
+        is_relocatable: bool,
+        value: u16,
+    },
+    /// A global that is referred to, and whether only weakly.
+    Reference {
+        name: Name,
+        is_weak: bool,
+    },
+    /// The section of the transfer address, and the address from the beginning of that section.
+    Transfer {
+        section: Name,
+        value: u16,
+    },
+}
+
+impl DirectoryRow {
+    /// The entry that is written for the row.
+    pub fn entry(&self) -> GsdEntry
+        ensures { result ≡ entry_of self.now }
+    {
+        match *self {
+            DirectoryRow::Module(name) => entry(name, 0, GsdKind::ModuleName, 0),
+            DirectoryRow::Identification(name) => entry(name, 0, GsdKind::Identification, 0),
+            DirectoryRow::Section { name, flags, size } => {
+                entry(name, flags.bits(), GsdKind::ProgramSection, size)
+            }
+            DirectoryRow::Definition {
+                name,
+                is_relocatable,
+                value,
+            } => entry(
+                name,
+                definition_flags(is_relocatable),
+                GsdKind::GlobalSymbol,
+                value,
+            ),
+            DirectoryRow::Reference { name, is_weak } => {
+                entry(name, reference_flags(is_weak), GsdKind::GlobalSymbol, 0)
+            }
+            DirectoryRow::Transfer { section, value } => {
+                entry(section, 0, GsdKind::TransferAddress, value)
+            }
+        }
+    }
+}
+
+fn entry(name: Name, flags: u8, kind: GsdKind, value: u16) -> GsdEntry
+    ensures { result ≡ entry name flags kind value }
+{
+    GsdEntry {
+        name,
+        flags,
+        kind,
+        value,
+    }
+}
+
+fn definition_flags(is_relocatable: bool) -> u8
+    ensures { result ≡ definition_flags is_relocatable }
+{
+    let flags = if is_relocatable {
+        SymbolFlags::DEFINED.union(SymbolFlags::RELOCATABLE)
+    } else {
+        SymbolFlags::DEFINED
+    };
+    flags.bits()
+}
+
+fn reference_flags(is_weak: bool) -> u8
+    ensures { result ≡ reference_flags is_weak }
+{
+    if is_weak { SymbolFlags::WEAK.bits() } else { 0 }
+}
+
+/// The entries that wait for a record to be full.
+#[derive(Drop)]
+pub struct OpenDirectory {
+    slots: [GsdEntry; MOST_ENTRIES],
+    count: usize,
+}
+
+impl Model for OpenDirectory {
+    ghost use Rattle.std.specs.Prelude.{◌≡◌, ◌≤◌, List, length, take};
+    ghost use Rattle.m11_obj.specs.declared.gsd.GsdEntry.{GsdEntry};
+
+    ghost Value = { List GsdEntry };
+
+    ghost view = { λ d. take d.count d.slots };
+
+    ghost invariant = { λ d. (length (take d.count d.slots) ≡ d.count) × (d.count ≤ 15) };
+}
+
+impl OpenDirectory {
+    ghost use Rattle.m11_obj.specs.declared.directory.DirectoryRow.{DirectoryRow};
+
+    /// Before the first row.
+    pub fn new() -> OpenDirectory
+        ensures empty { result ≡ [] }
+        ensures stands { IsOpenDirectory [] [] result }
+    {
+        OpenDirectory {
+            slots: [entry(absolute_section(), 0, GsdKind::ModuleName, 0); MOST_ENTRIES],
+            count: 0,
+        }
+    }
+
+    // The record of what waits, if something does.
+    fn record(&self) -> Option<Block>
+        ensures { AreRecords (option_to_list result) (written_by self.now) }
+    {
+        if self.count == 0 {
+            return None;
+        }
+        Some(Record::gsd(&self.slots[..self.count]))
+    }
+
+    // Adds an entry to those that wait.
+    fn push(&mut self, entry: GsdEntry)
+        requires { length self.old ≤ 14 }
+        ensures { self.new ≡ self.old ++ entry ∷ [] }
+    {
+        self.slots[self.count] = entry;
+        self.count += 1;
+    }
+
+    /// Takes a row. Where the record is full, it is handed out and is to be written as a block; the row then begins another one.
+    pub fn accept(&mut self, row: &DirectoryRow) -> Option<Block>
+        ensures { (rows : List DirectoryRow) (written : List Content) → IsOpenDirectory rows written self.old
+            → (more : List Content) × IsOpenDirectory (rows ++ row.now ∷ []) (written ++ more) self.new
+            × AreRecords (option_to_list result) more }
+    {
+        if self.count < MOST_ENTRIES {
+            self.push(row.entry());
+            return None;
+        }
+        let full = self.record();
+        self.count = 0;
+        self.push(row.entry());
+        full
+    }
+
+    /// The last record, if there was a row. It is to be written as a block.
+    pub fn end(self) -> Option<Block>
+        ensures { (rows : List DirectoryRow) (written : List Content) → IsOpenDirectory rows written self
+            → (more : List Content) × (written ++ more ≡ directory_records rows)
+            × AreRecords (option_to_list result) more }
+    {
+        self.record()
+    }
+}

@@ -1,0 +1,30 @@
+//! Laws of texts and directories. Each is the contract of a function that does nothing.
+
+ghost use Rattle.std.specs.Prelude.{◌≡◌, ◌<◌, ◌^◌, ◌++◌, ◌∷◌, List, true};
+ghost use Rattle.m11_obj.specs.Laws.{HoldsPieces, HoldsRows, LiesInText};
+ghost use Rattle.m11_obj.specs.TextsRead.{AreReadAgain};
+ghost use Rattle.m11_obj.specs.Texts.{is_one_text};
+ghost use Rattle.m11_obj.specs.declared.directory.DirectoryRow.{DirectoryRow};
+ghost use Rattle.m11_obj.specs.declared.pieces.Piece.{Piece};
+
+/// Texts hold exactly the pieces, in order, and no text could take the next piece too.
+pub fn texts_hold_the_pieces()
+    ensures { (pieces : List Piece) → HoldsPieces pieces }
+{}
+
+/// Each piece of a text stands at its location, counted modulo 65536, and its relocation points at it.
+pub fn pieces_lie_in_their_text()
+    ensures { (before after : List Piece) (piece : Piece) → piece.location < 2 ^ 16
+        → is_one_text (before ++ piece ∷ after) ≡ true → LiesInText before piece after }
+{}
+
+/// A reader of the records, which goes by the sections that they select, finds each text again: its section, its location, its bytes and
+/// its relocations.
+pub fn texts_are_read_again()
+    ensures { (pieces : List Piece) → AreReadAgain pieces }
+{}
+
+/// Records of a directory hold exactly the entries of its rows, in order, and only the last one may have less than 15.
+pub fn records_hold_the_rows()
+    ensures { (rows : List DirectoryRow) → HoldsRows rows }
+{}

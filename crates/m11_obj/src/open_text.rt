@@ -1,0 +1,79 @@
+//! The text that is open while pieces come. (RT-11 Volume and File Formats Manual, "Object file format", TXT and RLD blocks.)
+
+ghost use Rattle.std.specs.Prelude.{◌≡◌, List, [], ◌∷◌, ◌++◌, None, true, false};
+ghost use Rattle.m11_obj.specs.Records.{Content};
+ghost use Rattle.m11_obj.specs.declared.pieces.Piece.{Piece};
+ghost use Rattle.m11_obj.specs.OpenText.{IsOpenText, records_in};
+ghost use Rattle.m11_obj.specs.Texts.{text_records};
+
+use crate::pieces::Piece;
+use crate::texts::Text;
+use std::marker::Model;
+use std::mem;
+
+/// The text that further pieces may come into: all pieces so far but those of texts that were handed out.
+#[derive(Drop)]
+pub struct OpenText {
+    text: Option<Text>,
+}
+
+impl Model for OpenText {
+    ghost use Rattle.std.specs.Prelude.{Option};
+    ghost use Rattle.m11_obj.specs.Texts.{TextParts};
+
+    ghost Value = { Option TextParts };
+
+    ghost view = { λ o. o.text };
+}
+
+impl OpenText {
+    /// Before the first piece.
+    pub fn new() -> OpenText
+        ensures { IsOpenText [] [] result }
+    {
+        OpenText { text: None }
+    }
+
+    /// Takes a piece into the open text, if that can hold it too, and returns whether it did. It is what `take` does then, and takes less
+    /// time, since no text is handed out.
+    pub fn accept_within(&mut self, piece: &Piece) -> bool
+        ensures takes { result ≡ true → (pieces : List Piece) (written : List Content) → IsOpenText pieces written self.old
+            → IsOpenText (pieces ++ piece.now ∷ []) (written ++ records_in None) self.new }
+        ensures unchanged { result ≡ false → self.new ≡ self.old }
+    {
+        let Some(text) = &mut self.text else {
+            return false;
+        };
+        if text.fits(piece) {
+            text.push(piece);
+            return true;
+        }
+        false
+    }
+
+    /// Takes a piece. Where the open text can't hold it too, that text is handed out and is to be written; the piece opens another
+    /// one.
+    pub fn accept(&mut self, piece: &Piece) -> Option<Text>
+        ensures { (pieces : List Piece) (written : List Content) → IsOpenText pieces written self.old
+            → IsOpenText (pieces ++ piece.now ∷ []) (written ++ records_in result) self.new }
+    {
+        let Some(text) = &mut self.text else {
+            self.text = Some(Text::start(None, piece));
+            return None;
+        };
+        if text.fits(piece) {
+            text.push(piece);
+            return None;
+        }
+        let following = Text::start(Some(text.section()), piece);
+        Some(mem::replace(text, following))
+    }
+
+    /// The last text, if there was a piece.
+    pub fn end(self) -> Option<Text>
+        ensures { (pieces : List Piece) (written : List Content) → IsOpenText pieces written self
+            → written ++ records_in result ≡ text_records pieces }
+    {
+        self.text
+    }
+}

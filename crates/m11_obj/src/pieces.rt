@@ -1,0 +1,177 @@
+//! The pieces of a program: what a line puts at a location. (MACRO-11 Language Reference Manual, "Relocation and linking"; RT-11 Volume
+//! and File Formats Manual, "Object file format", RLD block.)
+
+ghost use Rattle.std.specs.Prelude.{◌≡◌, ◌+◌, ◌≤◌, ◌++◌, length, true, IfSome};
+ghost use Rattle.arrayvec.specs.ArrayVec.{array_vec_len};
+ghost use Rattle.std.specs.Option.{option_to_list};
+ghost use Rattle.m11_obj_blocks.specs.Frames.{word_bytes};
+ghost use Rattle.m11_obj.specs.Relocations.{relocations_bytes};
+ghost use Rattle.m11_obj.specs.Pieces.{target_of, standing, content_bytes, relocation_at, last_location};
+ghost use Rattle.m11_obj.specs.RelocationList.{has_byte_form, has_form};
+ghost use Rattle.m11_obj.specs.Texts.{most_bytes};
+
+use crate::relocations::{Relocation, Target};
+use arrayvec::ArrayVec;
+use byteorder::{ByteOrder, LittleEndian};
+use m11_base::Name;
+
+/// What becomes of a constant when its object is linked. A displaced one is less the location and 2.
+#[derive(Clone, Copy, Debug, PartialEq, Eq)]
+pub enum RelocationKind {
+    /// It stands as it is: there is no relocation.
+    Fixed,
+    /// Command 1: it is moved with its own section.
+    Internal,
+    /// Command 3: it is an absolute location, displaced.
+    InternalDisplaced,
+    /// Commands 2 and 5: it is added to a global symbol.
+    Global(Name),
+    /// Commands 4 and 6: it is added to a global symbol, displaced.
+    GlobalDisplaced(Name),
+    /// Commands 12 and 15: it is moved with another section.
+    Section(Name),
+    /// Commands 14 and 16: it is moved with another section, displaced.
+    SectionDisplaced(Name),
+}
+
+/// A constant and what becomes of it.
+#[derive(Clone, Copy, Debug, PartialEq, Eq)]
+pub struct StoredConstant {
+    /// A word; of a byte its low half counts.
+    pub constant: u16,
+    /// How a linker changes it.
+    pub kind: RelocationKind,
+}
+
+/// What stands at a location.
+#[derive(Clone, Copy, Debug, PartialEq, Eq)]
+pub enum PieceContent {
+    /// The low byte of a number.
+    Byte(StoredConstant),
+    /// A word, low byte first.
+    Word(StoredConstant),
+    /// Command 11: the two limits of the program, in four bytes.
+    Limits,
+}
+
+/// A piece: a byte, a word or a pair of limits at a location of a section.
+#[derive(Clone, Copy, Debug, PartialEq, Eq)]
+pub struct Piece {
+    /// The name of its section.
+    pub section: Name,
+    /// The location of its first byte, from the beginning of the section.
+    pub location: u16,
+    /// The byte, word or pair of limits, with how each is relocated.
+    pub content: PieceContent,
+}
+
+impl StoredConstant {
+    // What a linker stores, if the constant is relocated. An addition of 0 isn't written.
+    fn target(&self) -> Option<Target>
+        ensures target { result ≡ target_of self.now.kind self.now.constant }
+        ensures form { IfSome result (λ target. has_byte_form target ≡ true) }
+    {
+        let constant = self.constant;
+        let is_added = constant != 0;
+        match self.kind {
+            RelocationKind::Fixed => None,
+            RelocationKind::Internal => Some(Target::Internal(constant)),
+            RelocationKind::InternalDisplaced => Some(Target::InternalDisplaced(constant)),
+            RelocationKind::Global(name) if is_added => Some(Target::GlobalAdditive(
+                name, constant,
+            )),
+            RelocationKind::Global(name) => Some(Target::Global(name)),
+            RelocationKind::GlobalDisplaced(name) if is_added => {
+                Some(Target::GlobalAdditiveDisplaced(name, constant))
+            }
+            RelocationKind::GlobalDisplaced(name) => Some(Target::GlobalDisplaced(name)),
+            RelocationKind::Section(name) if is_added => Some(Target::SectionAdditive(
+                name, constant,
+            )),
+            RelocationKind::Section(name) => Some(Target::Section(name)),
+            RelocationKind::SectionDisplaced(name) if is_added => {
+                Some(Target::SectionAdditiveDisplaced(name, constant))
+            }
+            RelocationKind::SectionDisplaced(name) => Some(Target::SectionDisplaced(name)),
+        }
+    }
+
+    // The number that stands in the text: 0 where a linker stores another one.
+    fn standing(&self) -> u16
+        ensures { result ≡ standing self.now.kind self.now.constant }
+    {
+        match self.kind {
+            RelocationKind::Fixed => self.constant,
+            _ => 0,
+        }
+    }
+}
+
+impl PieceContent {
+    /// The number of bytes: 1, 2 or 4.
+    pub fn byte_count(&self) -> usize
+        ensures count { result ≡ length (content_bytes self.now) }
+        ensures least { 1 ≤ result }
+        ensures most { result ≤ 4 }
+    {
+        match self {
+            PieceContent::Byte(_) => 1,
+            PieceContent::Word(_) => 2,
+            PieceContent::Limits => 4,
+        }
+    }
+
+    // Adds the bytes to those of a text.
+    pub(crate) fn put(&self, bytes: &mut ArrayVec<u8, 32>)
+        requires { array_vec_len bytes.old + length (content_bytes self.now) ≤ most_bytes }
+        ensures { bytes.new.items ≡ bytes.old.items ++ content_bytes self.now }
+    {
+        match self {
+            PieceContent::Byte(stored) => bytes.push((stored.standing() % 256) as u8),
+            PieceContent::Word(stored) => put_word(bytes, stored.standing()),
+            PieceContent::Limits => {
+                put_word(bytes, 0);
+                put_word(bytes, 0);
+            }
+        }
+    }
+
+    // The relocation of the bytes, which stand at this displacement, if they have one.
+    pub(crate) fn relocation(&self, displacement: u8) -> Option<Relocation>
+        ensures relocation { result ≡ relocation_at displacement self.now }
+        ensures form { IfSome result (λ relocation. has_form relocation ≡ true) }
+        ensures most { length (relocations_bytes (option_to_list result)) ≤ 8 }
+    {
+        let (is_byte, target) = match self {
+            PieceContent::Byte(stored) => (true, stored.target()?),
+            PieceContent::Word(stored) => (false, stored.target()?),
+            PieceContent::Limits => (false, Target::ProgramLimits),
+        };
+        Some(Relocation {
+            is_byte,
+            displacement,
+            target,
+        })
+    }
+}
+
+fn put_word(bytes: &mut ArrayVec<u8, 32>, word: u16)
+    requires { array_vec_len bytes.old + 2 ≤ most_bytes }
+    ensures { bytes.new.items ≡ bytes.old.items ++ word_bytes word }
+{
+    let mut pair = [0; 2];
+    LittleEndian::write_u16(&mut pair, word);
+    bytes.push(pair[0]);
+    bytes.push(pair[1]);
+}
+
+impl Piece {
+    // The location after the last byte, from 1 to 65536: only the last byte's location is counted modulo 65536.
+    pub(crate) fn location_after(&self) -> u32
+        ensures { result ≡ last_location self.now + 1 }
+    {
+        let location = self.location;
+        let size = self.content.byte_count() as u32;
+        (u32::from(location) + (size - 1)) % 65536 + 1
+    }
+}

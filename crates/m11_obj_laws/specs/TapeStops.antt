@@ -1,0 +1,95 @@
+-- Bytes of which no whole tape is read, by what they are. (RT-11 Volume and File Formats Manual, "Absolute binary file
+-- format". That any bytes but 001 are skipped before a block, and the names of the faults, are this project's own.)
+use Rattle.std.specs.Prelude.{◌≡◌, ◌≢◌, ℕ, ◌+◌, ◌*◌, ◌<◌, ◌≤◌, List, [], ◌∷◌, ◌++◌, length, Ok, Err}
+use Rattle.m11_obj_blocks.specs.Frames.{closing}
+use Rattle.m11_obj_blocks.specs.Limited.{Read, Stop, Between, Inside, Refused}
+use Rattle.m11_obj_blocks.specs.Tapes.{tape_header, tape_block, data_limit, total_of, next_part, PartFits}
+use Rattle.m11_obj_blocks.specs.declared.tape_fault.TapeFault.{TapeFault}
+use Rattle.m11_obj_blocks.specs.declared.tape_fault.TapeFault.TheVariants as fault
+use Rattle.m11_obj_blocks.specs.declared.tape_part.TapePart.{TapePart}
+use Rattle.m11_obj_blocks.specs.declared.tape_part.TapePart.TheVariants.{Data, Start}
+use Rattle.m11_obj_laws.specs.TapeFaults.{AreSkipped}
+
+-- ---- one part
+
+-- what is read as one part: the header of a block of data, or the whole transfer block
+abbrev pub part_bytes : TapePart → List ℕ
+part_bytes (Data address count) = tape_header address count
+part_bytes (Start address) = tape_block address []
+
+abbrev pub address_of : TapePart → ℕ
+address_of (Data address count) = address
+address_of (Start address) = address
+
+-- bytes that are skipped, and then the beginning of a part, with some of its bytes and not with all of them
+pub record IsPartCut (bytes : List ℕ) : Type 0 where
+  pub skipped : List ℕ
+  pub part : TapePart
+  pub front : List ℕ
+  pub missing : List ℕ
+  pub are : AreSkipped skipped
+  pub in_range : address_of part < 65536
+  pub fits : PartFits part
+  pub split : part_bytes part ≡ front ++ missing
+  pub some : 0 < length front
+  pub cut : 0 < length missing
+  pub is : bytes ≡ skipped ++ front
+
+-- after the data of a block, whose bytes so far have this sum: nothing; or its last byte, and then a part that is cut
+pub data IsCutAfterData (total : ℕ) : List ℕ → Type 0 where
+  Nothing : IsCutAfterData total []
+  Closed : {bytes : List ℕ} → IsPartCut bytes → IsCutAfterData total (closing total ∷ bytes)
+
+-- after the data of a block: its last byte, and then bytes that begin no block
+abbrev pub EndsAfterData : ℕ → List ℕ → Type 0
+EndsAfterData total bytes = (rest : List ℕ) × (bytes ≡ closing total ∷ rest) × AreSkipped rest
+
+-- ---- a whole tape
+
+-- parts are read one after another, and the data of each block between them, until this comes in place of a part or a
+-- byte of data
+pub data StopsFrom (stop : Stop TapeFault) : (List ℕ → Read TapeFault TapePart) → List ℕ → Type 0 where
+  AtPart : {read : List ℕ → Read TapeFault TapePart} {bytes : List ℕ} → read bytes ≡ Err stop → StopsFrom stop read bytes
+  InData : {read : List ℕ → Read TapeFault TapePart} {bytes : List ℕ} (address count : ℕ) (following : List ℕ)
+      → read bytes ≡ Ok (Data address count, following) → length following < count → stop ≡ Inside
+      → StopsFrom stop read bytes
+  AfterBlock : {read : List ℕ → Read TapeFault TapePart} {bytes : List ℕ} (address : ℕ) (content following : List ℕ)
+      → read bytes ≡ Ok (Data address (length content), content ++ following)
+      → StopsFrom stop (next_part (total_of address content)) following → StopsFrom stop read bytes
+
+-- bytes that hold whole blocks of data, and then some of this kind. Before each block any bytes but 001 may stand
+pub data AfterBlocks (Kind : List ℕ → Type 0) : List ℕ → Type 0 where
+  Here : {bytes : List ℕ} → Kind bytes → AfterBlocks Kind bytes
+  Skipped : {bytes : List ℕ} (byte : ℕ) → byte ≢ 1 → AfterBlocks Kind bytes → AfterBlocks Kind (byte ∷ bytes)
+  Block : {bytes : List ℕ} (address : ℕ) (content : List ℕ) → address < 65536 → 0 < length content
+      → length content ≤ data_limit → AfterBlocks Kind bytes → AfterBlocks Kind (tape_block address content ++ bytes)
+
+-- the beginning of a block, the transfer block too, with some of its bytes and not with all of them: it is cut inside its
+-- header, inside its data, or before its last byte
+pub record IsBlockCut (bytes : List ℕ) : Type 0 where
+  pub address : ℕ
+  pub content : List ℕ
+  pub missing : List ℕ
+  pub in_range : address < 65536
+  pub fits : length content ≤ data_limit
+  pub split : tape_block address content ≡ bytes ++ missing
+  pub some : 0 < length bytes
+  pub cut : 0 < length missing
+
+-- bytes are no block, by one of them, and these stand after it
+abbrev pub IsNoBlock : TapeFault → List ℕ → List ℕ → Type 0
+-- 001 and no 000, which may be another 001
+IsNoBlock fault.BadStart bytes rest = (byte : ℕ) × (byte ≢ 0) × (bytes ≡ 1 ∷ byte ∷ rest)
+-- 001 000 and a count that leaves no room for the six bytes before the data
+IsNoBlock fault.TooShort bytes rest = (low high : ℕ) × (low + 256 * high < 6) × (bytes ≡ 1 ∷ 0 ∷ low ∷ high ∷ rest)
+-- a block, the transfer block too, but for its last byte
+IsNoBlock fault.BadSum bytes rest = (address : ℕ) × (content : List ℕ) × (byte : ℕ) × (address < 65536)
+    × (length content ≤ data_limit) × (byte ≢ closing (total_of address content))
+    × (bytes ≡ tape_header address (length content) ++ (content ++ byte ∷ rest))
+IsNoBlock other bytes rest = ⊥
+
+-- how bytes show that no tape can be read on: there are none, and no transfer block came; a block is cut; or they are none
+abbrev pub ShowsStop : Stop TapeFault → List ℕ → Type 0
+ShowsStop Between bytes = bytes ≡ []
+ShowsStop Inside bytes = IsBlockCut bytes
+ShowsStop (Refused said rest) bytes = IsNoBlock said bytes rest

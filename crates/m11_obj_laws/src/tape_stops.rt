@@ -1,0 +1,36 @@
+//! Where no more of a tape is read.
+
+ghost use Rattle.std.specs.List.{AllByRecursion};
+ghost use Rattle.std.specs.Prelude.{◌≡◌, ◌<◌, ℕ, List, Err};
+ghost use Rattle.m11_obj_blocks.specs.Limited.{Stop, Between, Inside};
+ghost use Rattle.m11_obj_blocks.specs.Tapes.{first_part, next_part};
+ghost use Rattle.m11_obj_laws.specs.TapeStops.{IsPartCut, IsCutAfterData, EndsAfterData, StopsFrom, AfterBlocks, ShowsStop};
+ghost use Rattle.m11_obj_blocks.specs.declared.tape_fault.TapeFault.{TapeFault};
+
+/// A tape ends inside a part exactly where its bytes are a beginning of one, after bytes that are skipped: of the header of
+/// a block of data, or of the transfer block. After the data of a block it also ends so where its last byte is missing,
+/// and it ends before a part exactly where after that byte no byte is 001.
+pub fn tape_cuts_are_shown()
+    ensures cut { (bytes : List ℕ) → IsPartCut bytes → first_part bytes ≡ Err Inside }
+    ensures inside { (bytes : List ℕ) → AllByRecursion (λ byte. byte < 256) bytes
+        → first_part bytes ≡ Err Inside → IsPartCut bytes }
+    // after the data of a block, whose bytes so far have this sum
+    ensures cut_after { (total : ℕ) (bytes : List ℕ) → IsCutAfterData total bytes
+        → next_part total bytes ≡ Err Inside }
+    ensures inside_after { (total : ℕ) (bytes : List ℕ) → AllByRecursion (λ byte. byte < 256) bytes
+        → next_part total bytes ≡ Err Inside → IsCutAfterData total bytes }
+    ensures ends_after { (total : ℕ) (bytes : List ℕ) → EndsAfterData total bytes
+        → next_part total bytes ≡ Err Between }
+    ensures none_after { (total : ℕ) (bytes : List ℕ)
+        → next_part total bytes ≡ Err Between → EndsAfterData total bytes }
+{}
+
+/// No more of a tape is read exactly where its bytes show it, after whole blocks and bytes that are skipped: they end, and
+/// no transfer block came; or they end inside a block, be it in its header, in its data or before its last byte; or a
+/// block has no 000 after its 001, a count that is too small, or a wrong last byte, and nothing after that byte counts.
+pub fn tape_stops_are_shown()
+    ensures shown { (stop : Stop TapeFault) (bytes : List ℕ) → AllByRecursion (λ byte. byte < 256) bytes
+        → StopsFrom stop first_part bytes → AfterBlocks (ShowsStop stop) bytes }
+    ensures found { (stop : Stop TapeFault) (bytes : List ℕ) → AfterBlocks (ShowsStop stop) bytes
+        → StopsFrom stop first_part bytes }
+{}

@@ -1,5 +1,0 @@
-use Rattle.m11_obj_texts.proofs.InTexts.{lies_in_text}
-use Rattle.m11_obj_texts.proofs.laws.pieces_lie_in_their_text.Goals as goal
-
-pub returns : goal.returns
-returns c = lies_in_text

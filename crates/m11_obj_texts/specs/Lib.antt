@@ -1,9 +1,0 @@
-pub mod Blocks
-pub mod Directory
-pub mod Fronts
-pub mod Laws
-pub mod OpenText
-pub mod Pieces
-pub mod Reading
-pub mod RelocationList
-pub mod Texts

@@ -1,0 +1,37 @@
+-- A line whose end has not come yet, kept in bounded room. (This project's own.)
+use Rattle.std.specs.Prelude.{ℕ, Bool, true, false, ◌==◌, if◌then◌else◌, [], ◌∷◌}
+use Rattle.m11_base.specs.Devices.{Bytes}
+use Rattle.m11_scan.specs.Line.{SourceLine, no_line, with_bytes}
+use Rattle.m11_scan.specs.Lines.{as_read, is_empty}
+
+-- the characters so far, without a CR that stands last and may belong to the line's end
+pub record OpenLine : Type 0 where
+  pub kept : SourceLine
+  pub has_return : Bool
+
+abbrev pub nothing_open : OpenLine
+nothing_open = record { kept = no_line; has_return = false }
+
+-- the CR is a character of the line
+abbrev pub with_return : OpenLine → SourceLine
+with_return line = if line.has_return then with_bytes line.kept (13 ∷ []) else line.kept
+
+-- characters that are kept as they are
+abbrev pub with_plain : OpenLine → Bytes → OpenLine
+with_plain line [] = line
+with_plain line (byte ∷ bytes) = record { kept = with_bytes (with_return line) (byte ∷ bytes); has_return = false }
+
+-- one byte more, which is no line feed
+abbrev pub with_byte : OpenLine → ℕ → OpenLine
+with_byte line byte =
+    if byte == 0 then line
+    else if byte == 13 then record { kept = with_return line; has_return = true }
+    else record { kept = with_bytes (with_return line) (as_read byte ∷ []); has_return = false }
+
+abbrev pub with_all : OpenLine → Bytes → OpenLine
+with_all line [] = line
+with_all line (byte ∷ bytes) = with_all (with_byte line byte) bytes
+
+-- whether no character came
+abbrev pub is_unbegun : OpenLine → Bool
+is_unbegun line = if line.has_return then false else is_empty line.kept.text

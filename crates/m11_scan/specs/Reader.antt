@@ -1,0 +1,121 @@
+-- Reading of the lines of sources one after another: the next line, or the first fault in the order of the bytes.
+-- (That all sources have at most 4,194,304 bytes and 65,535 lines, and which faults there are, is this project's own.)
+use Rattle.std.specs.Prelude.{◌≡◌, ◌==◌, ℕ, ◌+◌, Bool, true, false, List, [], ◌∷◌, ◌++◌, length, map, drop, slice_index, slice_set, Option, Some, None, Result, Ok, Err}
+use Rattle.m11_base.specs.Devices.{Bytes, Rises}
+use Rattle.m11_base.specs.Feed.{Text, GivesByte, GivesBytes, GivesEnd, GivesFailure}
+use Rattle.m11_scan.specs.declared.fault.LineFault.{LineFault}
+use Rattle.m11_scan.specs.declared.fault.LineFault.TheVariants.{Read, TooMuchSource, TooManyLines}
+use Rattle.m11_scan.specs.Line.{SourceLine, line_of, no_line}
+use Rattle.m11_scan.specs.Lines.{RawLine, cut, cleaned, is_line, line_text, size_of, bytes_in, lines_in, most_bytes, most_lines}
+
+-- a reader of lines between two calls: the sources that were read to their ends, what the limits leave, the line that was
+-- read last, and the fault that came
+pub record LineReading : Type 0 where
+  pub source : ℕ
+  pub bytes_left : ℕ
+  pub lines_left : ℕ
+  pub line : SourceLine
+  pub fault : Option LineFault
+
+-- a reading at the start of the first source
+abbrev pub unread : LineReading
+unread =
+    record { source = 0; bytes_left = most_bytes; lines_left = most_lines; line = no_line; fault = None }
+
+-- sources between two calls: the texts of those that are not at their ends, and all counts of failures
+pub record Position : Type 0 where
+  pub source : ℕ
+  pub texts : List (Option Text)
+  pub faults : List ℕ
+  pub bytes_left : ℕ
+  pub lines_left : ℕ
+
+abbrev pub position_at : {F : Type 0} → (F → Option Text) → (F → ℕ) → List F → ℕ → ℕ → ℕ → Position
+position_at text faults feeds source bytes_left lines_left = record {
+  source = source;
+  texts = drop source (map text feeds);
+  faults = map faults feeds;
+  bytes_left = bytes_left;
+  lines_left = lines_left;
+}
+
+abbrev pub position : {F : Type 0} → (F → Option Text) → (F → ℕ) → List F → LineReading → Position
+position text faults feeds reading =
+    position_at text faults feeds reading.source reading.bytes_left reading.lines_left
+
+-- the sources gave this, one after another: bytes, and after each source its end
+abbrev pub Gave : List (Option Text) → List (Option Text) → List (Option ℕ) → Type 0
+Gave [] new [] = new ≡ []
+Gave [] new (symbol ∷ input) = ⊥
+Gave (text ∷ texts) new [] = (text' : Option Text) × GivesBytes text text' [] × (new ≡ text' ∷ texts)
+Gave (text ∷ texts) new (Some byte ∷ input) =
+    (text' : Option Text) × GivesByte text text' byte × Gave (text' ∷ texts) new input
+Gave (text ∷ texts) new (None ∷ input) = (text' : Option Text) × GivesEnd text text' × Gave texts new input
+
+-- pieces of sources came that are no lines, and bytes after them, all within the limits
+pub record Came (old new : Position) (given : List (Option ℕ)) : Type 0 where
+  pub passed : List RawLine
+  pub unclosed : Bytes
+  pub gave : Gave old.texts new.texts given
+  pub is_cut : cut given ≡ record { lines = passed; unclosed = unclosed }
+  pub none : lines_in passed ≡ 0
+  pub bytes_left : old.bytes_left ≡ bytes_in passed + length unclosed + new.bytes_left
+  pub lines_left : new.lines_left ≡ old.lines_left
+  pub begins : old.lines_left ≡ 0 → cleaned unclosed ≡ []
+  pub faults : new.faults ≡ old.faults
+
+-- what came are such pieces and then a line, up to its line feed or the end of its source
+pub record ReadsLine (old new : Position) (line : SourceLine) : Type 0 where
+  pub given : List (Option ℕ)
+  pub passed : List RawLine
+  pub raw : RawLine
+  pub gave : Gave old.texts new.texts given
+  pub is_cut : cut given ≡ record { lines = passed ++ raw ∷ []; unclosed = [] }
+  pub none : lines_in passed ≡ 0
+  pub some : is_line raw ≡ true
+  pub is : line ≡ line_of (line_text raw)
+  pub bytes_left : old.bytes_left ≡ bytes_in passed + size_of raw + new.bytes_left
+  pub lines_left : old.lines_left ≡ 1 + new.lines_left
+  pub faults : new.faults ≡ old.faults
+
+-- what came has no line, and no source is left
+pub record ReadsEnd (old new : Position) : Type 0 where
+  pub given : List (Option ℕ)
+  pub came : Came old new given
+  pub closed : came.unclosed ≡ []
+  pub ended : new.texts ≡ []
+
+-- the source that is read failed, and no other did
+pub record Fails (old new : Position) : Type 0 where
+  pub text : Option Text
+  pub text' : Option Text
+  pub texts : List (Option Text)
+  pub count : ℕ
+  pub was : old.texts ≡ text ∷ texts
+  pub is : new.texts ≡ text' ∷ texts
+  pub gives : GivesFailure text text' (slice_index old.faults old.source)
+  pub rises : Rises (slice_index old.faults old.source) count
+  pub source : new.source ≡ old.source
+  pub faults : new.faults ≡ slice_set old.faults old.source count
+
+-- a fault came, after what has no line: a failure, the byte past the limit on bytes, or the first byte of a line past
+-- the limit on lines that is no NUL
+abbrev pub FaultComes : Position → Position → LineFault → Type 0
+FaultComes old new Read = Fails old new
+FaultComes old new TooMuchSource = (byte : ℕ) × Gave old.texts new.texts (Some byte ∷ [])
+    × (new.faults ≡ old.faults) × (old.bytes_left ≡ 0)
+FaultComes old new TooManyLines = (byte : ℕ) × Gave old.texts new.texts (Some byte ∷ [])
+    × (new.faults ≡ old.faults) × ((byte == 0) ≡ false) × (old.lines_left ≡ 0) × (old.bytes_left ≡ 1 + new.bytes_left)
+
+-- what a call found: a line, which is the one that it read, or none; or a fault
+abbrev pub found : SourceLine → Result Bool LineFault → Result (Option SourceLine) LineFault
+found line (Ok true) = Ok (Some line)
+found line (Ok false) = Ok None
+found line (Err fault) = Err fault
+
+-- a call read the next line, found that there is none, or met a fault
+abbrev pub ReadsNext : Position → Position → Result (Option SourceLine) LineFault → Type 0
+ReadsNext old new (Ok (Some line)) = ReadsLine old new line
+ReadsNext old new (Ok None) = ReadsEnd old new
+ReadsNext old new (Err fault) =
+    (given : List (Option ℕ)) × (middle : Position) × Came old middle given × FaultComes middle new fault

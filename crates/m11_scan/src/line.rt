@@ -1,0 +1,130 @@
+//! A line of a source. (MACRO-11 Language Reference Manual, "Source program format".)
+
+ghost use Rattle.std.specs.Prelude.{◌≡◌, ◌≤◌, ◌+◌, ◌++◌, length, take};
+ghost use Rattle.m11_scan.specs.Line.{line_limit, line_of, no_line, with_bytes};
+
+use std::marker::Model;
+
+/// The most characters of a line that count.
+pub const LINE_LIMIT: usize = 132;
+
+// A line with at most so many characters is short.
+const SHORT: usize = 48;
+
+/// The first 132 characters of a line, and whether it has more.
+#[derive(Drop, Debug)]
+pub struct Line {
+    // Its characters come first. What stands after them says nothing, and need not be cleared.
+    bytes: [u8; LINE_LIMIT],
+    length: usize,
+    is_over_long: bool,
+}
+
+impl Model for Line {
+    ghost use Rattle.std.specs.Prelude.{◌≤◌, take};
+    ghost use Rattle.m11_scan.specs.Line.{SourceLine};
+
+    ghost Value = { SourceLine };
+
+    ghost view = { λ line. record { text = take line.length line.bytes; is_over_long = line.is_over_long } };
+
+    ghost invariant = { λ line. line.length ≤ 132 };
+}
+
+impl Line {
+    /// A line without a character.
+    pub fn new() -> Line
+        ensures { result ≡ no_line }
+    {
+        Line {
+            bytes: [0; LINE_LIMIT],
+            length: 0,
+            is_over_long: false,
+        }
+    }
+
+    /// The line of some characters.
+    pub fn from_bytes(bytes: &[u8]) -> Line
+        ensures { result ≡ line_of bytes.now }
+    {
+        let mut line = Line::new();
+        line.push_all(bytes);
+        line
+    }
+
+    /// Empties the line.
+    pub fn clear(&mut self)
+        ensures { self.new ≡ no_line }
+    {
+        self.length = 0;
+        self.is_over_long = false;
+    }
+
+    /// Becomes a copy of another line.
+    pub fn copy_from(&mut self, other: &Line)
+        ensures { self.new ≡ other.now }
+    {
+        self.length = other.length;
+        self.is_over_long = other.is_over_long;
+        // most lines are short, and so few bytes are copied without a call
+        if other.length <= SHORT {
+            self.bytes[..SHORT].copy_from_slice(&other.bytes[..SHORT]);
+        } else {
+            self.bytes = other.bytes;
+        }
+    }
+
+    /// Adds characters; those past the limit are dropped.
+    // speed: a call, since most lines are short and are begun as a whole.
+    #[inline(never)]
+    pub fn push_all(&mut self, bytes: &[u8])
+        ensures { self.new ≡ with_bytes self.old bytes.now }
+    {
+        let room = LINE_LIMIT - self.text().len();
+        if bytes.len() > room {
+            self.push_within(&bytes[..room]);
+            self.is_over_long = true;
+        } else {
+            self.push_within(bytes);
+        }
+    }
+
+    /// The first characters of a text; those past the limit are dropped.
+    pub(crate) fn push_first(&mut self, text: &[u8], count: usize)
+        requires { count ≤ length text.now }
+        ensures { self.new ≡ with_bytes self.old (take count text.now) }
+    {
+        // mostly a short line begins, and what stands after it in the text may be copied with it
+        if self.length == 0 && count <= SHORT && text.len() >= SHORT {
+            self.bytes[..SHORT].copy_from_slice(&text[..SHORT]);
+            self.length = count;
+        } else {
+            self.push_all(&text[..count]);
+        }
+    }
+
+    // More characters, for which there is room.
+    fn push_within(&mut self, bytes: &[u8])
+        requires { length self.old.text + length bytes.now ≤ line_limit }
+        ensures { self.new ≡ record { text = self.old.text ++ bytes.now; is_over_long = self.old.is_over_long } }
+    {
+        let end = self.length + bytes.len();
+        self.bytes[self.length..end].copy_from_slice(bytes);
+        self.length = end;
+    }
+
+    /// The characters that count, at most 132.
+    pub fn text(&self) -> &[u8]
+        ensures text { result.now ≡ self.now.text }
+        ensures limited { length result.now ≤ line_limit }
+    {
+        &self.bytes[..self.length]
+    }
+
+    /// Whether characters past the limit were dropped.
+    pub fn is_over_long(&self) -> bool
+        ensures { result ≡ self.now.is_over_long }
+    {
+        self.is_over_long
+    }
+}

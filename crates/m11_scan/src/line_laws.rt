@@ -1,0 +1,32 @@
+//! Laws above the definition of lines. Each is the contract of a function that does nothing.
+
+ghost use Rattle.std.specs.Prelude.{◌≡◌, ◌<◌, ◌≤◌, ◌++◌, ℕ, Bool, true, false, List, [], length, map, take, Option, Some};
+ghost use Rattle.m11_base.specs.Devices.{Bytes};
+ghost use Rattle.m11_scan.specs.Laws.{ArePlainTexts, IsPlainText, with_line_feed, written};
+ghost use Rattle.m11_scan.specs.Line.{line_limit, line_of};
+ghost use Rattle.m11_scan.specs.Lines.{RawLine, cut, line_text};
+
+/// Where one part of an input ends with a line's end, the lines of the whole are those of that part and then those of
+/// the rest. So the lines that a reader takes one after another are the lines of all that came.
+pub fn lines_of_parts_are_those_of_the_whole()
+    ensures { (front rest : List (Option ℕ)) (lines more : List RawLine) (unclosed : Bytes)
+        → cut front ≡ record { lines = lines; unclosed = [] } → cut rest ≡ record { lines = more; unclosed = unclosed }
+        → cut (front ++ rest) ≡ record { lines = lines ++ more; unclosed = unclosed } }
+{}
+
+/// Lines without NULs, line feeds, form feeds and CRs, each followed by a line feed, are cut into just these lines, and what
+/// stands after the last line feed isn't closed. The text of each is the line as it stands.
+pub fn plain_lines_are_cut_as_they_stand()
+    ensures cuts { (lines : List Bytes) (last : Bytes) → ArePlainTexts lines → IsPlainText last
+        → cut (map (λ byte. Some byte) (written lines ++ last))
+        ≡ record { lines = map with_line_feed lines; unclosed = last } }
+    ensures texts { (line : Bytes) (has_line_feed : Bool) → IsPlainText line
+        → line_text (record { bytes = line; has_line_feed = has_line_feed }) ≡ line }
+{}
+
+/// A line of at most 132 characters is kept whole. Of a longer one the first 132 are kept, and it is marked.
+pub fn lines_within_the_limit_are_kept_whole()
+    ensures whole { (line : Bytes) → length line ≤ line_limit → line_of line ≡ record { text = line; is_over_long = false } }
+    ensures over_long { (line : Bytes) → line_limit < length line
+        → line_of line ≡ record { text = take line_limit line; is_over_long = true } }
+{}

@@ -1,0 +1,199 @@
+//! A line whose end has not come yet.
+
+ghost use Rattle.std.specs.Prelude.{◌≡◌, ◌≤◌, ◌∷◌, [], false, length, take};
+ghost use Rattle.std.specs.List.{AllByRecursion, prefix_len};
+ghost use Rattle.std.specs.Bool.{IsTrue};
+ghost use Rattle.m11_scan.specs.Classes.{is_plain};
+ghost use Rattle.m11_scan.specs.Lines.{as_read};
+ghost use Rattle.m11_scan.specs.OpenLine.{is_unbegun, nothing_open, with_byte, with_plain, with_return};
+ghost use Rattle.m11_scan.specs.Sources.{TookOf};
+
+use crate::classes::{Class, is_of, run_length};
+use crate::line::Line;
+use std::marker::Model;
+
+/// The characters of a line so far. A CR that came last is not among them, since it belongs to the line's end where a
+/// line feed is next.
+#[derive(Drop)]
+pub(crate) struct OpenLine {
+    kept: Line,
+    has_return: bool,
+}
+
+impl Model for OpenLine {
+    ghost use Rattle.m11_scan.specs.OpenLine.{OpenLine};
+
+    ghost Value = { OpenLine };
+
+    ghost view = { λ line. record { kept = line.kept; has_return = line.has_return } };
+}
+
+/// How many bytes of a slice were taken, and whether the last of them is a line feed.
+#[derive(Clone, Copy)]
+pub(crate) struct ByteRun {
+    pub(crate) count: usize,
+    pub(crate) is_closed: bool,
+}
+
+impl OpenLine {
+    /// A line of which nothing came.
+    pub(crate) fn new() -> OpenLine
+        ensures { result ≡ nothing_open }
+    {
+        OpenLine {
+            kept: Line::new(),
+            has_return: false,
+        }
+    }
+
+    /// Whether no character came.
+    pub(crate) fn is_unbegun(&self) -> bool
+        ensures { result ≡ is_unbegun self.now }
+    {
+        !self.has_return && self.kept.text().is_empty()
+    }
+
+    /// Empties the line.
+    pub(crate) fn clear(&mut self)
+        ensures { self.new ≡ nothing_open }
+    {
+        self.kept.clear();
+        self.has_return = false;
+    }
+
+    /// The characters that are kept.
+    pub(crate) fn line(&self) -> &Line
+        ensures { result.now ≡ self.now.kept }
+    {
+        &self.kept
+    }
+
+    /// Makes the CR that came last a character of the line.
+    pub(crate) fn keep_return(&mut self)
+        ensures { self.new ≡ record { kept = with_return self.old; has_return = false } }
+    {
+        if self.has_return {
+            self.kept.push_all(b"\r");
+            self.has_return = false;
+        }
+    }
+
+    /// Takes a byte that is no line feed.
+    // speed: a call, so that a line without such bytes needs no room for it.
+    #[inline(never)]
+    pub(crate) fn push(&mut self, byte: u8)
+        ensures { self.new ≡ with_byte self.old byte }
+    {
+        match byte {
+            0 => {}
+            b'\r' => {
+                self.keep_return();
+                self.has_return = true;
+            }
+            _ => {
+                self.keep_return();
+                self.kept.push_all(&[character(byte)]);
+            }
+        }
+    }
+
+    // Takes the first characters of some, which are kept as they are.
+    fn push_plain(&mut self, bytes: &[u8], count: usize)
+        requires { count ≤ length bytes.now }
+        ensures { self.new ≡ with_plain self.old (take count bytes.now) }
+    {
+        if count == 0 {
+            return;
+        }
+        self.keep_return();
+        self.kept.push_first(bytes, count);
+    }
+
+    /// Takes bytes up to the first line feed, which is counted, or all of them.
+    pub(crate) fn take(&mut self, bytes: &[u8]) -> ByteRun
+        ensures { TookOf bytes.now self.old self.new result.count result.is_closed }
+    {
+        let mut rest = bytes;
+        'runs: loop {
+            let count = plain_length(rest);
+            self.push_plain(rest, count);
+            let Some((byte, more)) = rest[count..].split_first() else {
+                return ByteRun {
+                    count: bytes.len(),
+                    is_closed: false,
+                };
+            };
+            if *byte == b'\n' {
+                return ByteRun {
+                    count: bytes.len() - more.len(),
+                    is_closed: true,
+                };
+            }
+            self.push(*byte);
+            rest = more;
+        }
+    }
+}
+
+// A form feed is read as a blank.
+fn character(byte: u8) -> u8
+    ensures { result ≡ as_read byte }
+{
+    if byte == 0x0c { b' ' } else { byte }
+}
+
+// The length of the front that is kept as it is, without NULs, line feeds, form feeds and CRs.
+fn plain_length(bytes: &[u8]) -> usize
+    ensures within { result ≤ length bytes.now }
+    ensures plain { AllByRecursion (λ byte. IsTrue (is_plain byte)) (take result bytes.now) }
+{
+    plain_run(bytes)
+}
+
+// Most bytes are kept, so eight are looked at in each turn.
+fn plain_run(bytes: &[u8]) -> usize
+    ensures run { result ≡ prefix_len is_plain bytes.now }
+    ensures within { result ≤ length bytes.now }
+{
+    let mut rest = bytes;
+    'eights: while let [
+        first,
+        second,
+        third,
+        fourth,
+        fifth,
+        sixth,
+        seventh,
+        eighth,
+        tail @ ..,
+    ] = rest
+    {
+        let plain = plain_of_four(*first, *second, *third, *fourth);
+        if plain < 4 {
+            return bytes.len() - rest.len() + plain;
+        }
+        let plain_later = plain_of_four(*fifth, *sixth, *seventh, *eighth);
+        if plain_later < 4 {
+            return bytes.len() - rest.len() + 4 + plain_later;
+        }
+        rest = tail;
+    }
+    bytes.len() - rest.len() + run_length(rest, Class::Plain)
+}
+
+// How many of four bytes are kept before the first that isn't.
+fn plain_of_four(first: u8, second: u8, third: u8, fourth: u8) -> usize
+    ensures { result ≡ prefix_len is_plain (first ∷ second ∷ third ∷ fourth ∷ []) }
+{
+    if !is_of(first, Class::Plain) {
+        0
+    } else if !is_of(second, Class::Plain) {
+        1
+    } else if !is_of(third, Class::Plain) {
+        2
+    } else if !is_of(fourth, Class::Plain) {
+        3
+    } else {
+        4
+    }
+}

@@ -1,0 +1,89 @@
+//! Reads one source, to the end of a line.
+
+ghost use Rattle.std.specs.Prelude.{◌≤◌};
+ghost use Rattle.m11_scan.specs.Sources.{StopsAt, TakesByte, TookReady, source};
+
+use crate::fault::LineFault;
+use crate::open_line::OpenLine;
+use m11_base::Feed;
+
+/// What ended a line.
+pub(crate) enum LineEnd {
+    LineFeed,
+    SourceEnd,
+}
+
+/// Reads a source to a line feed or to its end. `bytes_left` more bytes are within the limit; where the limit on lines
+/// was reached no line may begin.
+pub(crate) fn read_source<F: Feed>(
+    feed: &mut F,
+    bytes_left: &mut u32,
+    may_begin: bool,
+    line: &mut OpenLine,
+) -> Result<LineEnd, LineFault>
+    ensures { StopsAt may_begin (source (F.text feed.old) (F.faults feed.old) bytes_left.old line.old)
+        (source (F.text feed.new) (F.faults feed.new) bytes_left.new line.new) result }
+{
+    'bytes: loop {
+        if take_ready(feed, bytes_left, may_begin, line) {
+            return Ok(LineEnd::LineFeed);
+        }
+        match feed.next() {
+            Err(_) => return Err(LineFault::Read),
+            Ok(None) => return Ok(LineEnd::SourceEnd),
+            Ok(Some(byte)) => match take_byte(byte, bytes_left, may_begin, line) {
+                Ok(false) => {}
+                Ok(true) => return Ok(LineEnd::LineFeed),
+                Err(fault) => return Err(fault),
+            },
+        }
+    }
+}
+
+// Takes ready bytes within the limit, up to a line feed, where a line may begin. It returns whether there is a line feed.
+fn take_ready<F: Feed>(
+    feed: &mut F,
+    bytes_left: &mut u32,
+    may_begin: bool,
+    line: &mut OpenLine,
+) -> bool
+    ensures took { TookReady may_begin (source (F.text feed.old) (F.faults feed.old) bytes_left.old line.old)
+        (source (F.text feed.new) (F.faults feed.new) bytes_left.new line.new) result }
+    ensures shrinks { F.left feed.new ≤ F.left feed.old }
+{
+    if !may_begin {
+        return false;
+    }
+    let shown = feed.ready();
+    let front = &shown[..shown.len().min(*bytes_left as usize)];
+    let taken = line.take(front);
+    feed.pass(taken.count);
+    *bytes_left -= taken.count as u32;
+    taken.is_closed
+}
+
+// Takes one byte. It returns whether it is a line feed.
+fn take_byte(
+    byte: u8,
+    bytes_left: &mut u32,
+    may_begin: bool,
+    line: &mut OpenLine,
+) -> Result<bool, LineFault>
+    ensures { TakesByte may_begin byte bytes_left.old bytes_left.new line.old line.new result }
+{
+    if *bytes_left == 0 {
+        return Err(LineFault::TooMuchSource);
+    }
+    *bytes_left -= 1;
+    if byte == 0 {
+        return Ok(false);
+    }
+    if !may_begin {
+        return Err(LineFault::TooManyLines);
+    }
+    if byte == b'\n' {
+        return Ok(true);
+    }
+    line.push(byte);
+    Ok(false)
+}

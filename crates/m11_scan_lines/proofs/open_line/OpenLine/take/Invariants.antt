@@ -1,9 +1,0 @@
-use Rattle.std.proofs.Common.{length}
-use Rattle.m11_scan_lines.proofs.Runs.{SoFar}
-use Rattle.m11_scan_lines.proofs.open_line.OpenLine.take.Given as goal
-
-abbrev pub invariant-runs : goal.invariant-runs
-invariant-runs l = SoFar l.bytes l.rest l.initial.self l.self
-
-abbrev pub decreases-runs : goal.decreases-runs
-decreases-runs l = length l.rest

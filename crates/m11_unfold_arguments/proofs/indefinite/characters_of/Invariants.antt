@@ -1,8 +1,0 @@
-use Rattle.std.proofs.Common.{◌≡◌, ◌++◌, drop, map}
-use Rattle.m11_unfold_arguments.specs.Actuals.{texts_of}
-use Rattle.m11_unfold_arguments.specs.Indefinite.{alone}
-use Rattle.m11_unfold_arguments.proofs.indefinite.characters_of.Given as goal
-
-abbrev pub invariant-characters : goal.invariant-characters
-invariant-characters l =
-    texts_of l.texts.items ++ map alone (drop l.byte-index l.text) ≡ map alone l.text

@@ -1,0 +1,185 @@
+-- The conditions of `.IF` and `.IIF`. (MACRO-11 Language Reference Manual, "Conditional assembly block directives". What becomes of
+-- missing and bad arguments is this project's own.)
+use Rattle.std.specs.Prelude.{◌≡◌, ℕ, Bool, true, false, not, ◌||◌, ◌==◌, nat_le, if◌then◌else◌, List, [], ◌∷◌, length, Option, Some, None}
+use Rattle.std.specs.List.{prefix_len}
+use Rattle.std.specs.Str.{bytes_eq}
+use Rattle.std.specs.Int.RustNames.{bit_or}
+use Rattle.m11_base.specs.Devices.{Bytes}
+use Rattle.m11_base.specs.NameCharacters.{six_of}
+use Rattle.m11_scan.specs.Classes.{is_blank}
+use Rattle.m11_scan.specs.Conditions.{condition_named}
+use Rattle.m11_scan.specs.Cutting.{Lexeme, text_between, tokens_from}
+use Rattle.m11_scan.specs.Ends.{expression_end}
+use Rattle.m11_scan.specs.ErrorFlags.{flag_A, flag_if}
+use Rattle.m11_scan.specs.Views.{bits_of}
+use Rattle.m11_scan.specs.declared.conditions.Condition.{Condition}
+use Rattle.m11_scan.specs.declared.conditions.Condition.TheVariants.{Zero, NotZero, Positive, Negative, NotNegative, NotPositive, Defined, NotDefined, Blank, NotBlank, Identical, Different}
+use Rattle.m11_scan.specs.declared.sort.Sort.{Sort}
+use Rattle.m11_scan.specs.declared.sort.Sort.TheVariants as sorts
+use Rattle.m11_scan_statements.specs.Actuals.{next_actual, separator_at}
+use Rattle.m11_scan_statements.specs.declared.actuals.Actual.{Actual}
+use Rattle.m11_scan_statements.specs.declared.actuals.Separator.{Separator}
+use Rattle.m11_scan_expressions.specs.declared.names.Symbol.{Symbol}
+use Rattle.m11_unfold_rules.specs.declared.conditions.Verdict.{Verdict}
+use Rattle.m11_unfold_rules.specs.declared.conditions.Finding.{Finding}
+use Rattle.m11_unfold_rules.specs.Definedness.{Tested, is_as, names_at}
+use Rattle.m11_scan_expressions.specs.Expressions.{KnownSymbols, has_expression, number_at, number_flags, symbols_at}
+use Rattle.m11_scan_expressions.specs.LeftOvers.{flags_before, skip_flags}
+use Rattle.m11_scan_expressions.specs.Remarks.{Remarks, remarks_of}
+
+-- whether a condition holds, the column after it, its flags, and the symbols that it read
+pub record ConditionResult : Type 0 where
+  pub holds : Bool
+  pub end : ℕ
+  pub flags : ℕ
+  pub symbols : List Symbol
+
+-- what the code finds of one, beside its symbols
+abbrev pub IsFound : Finding → ConditionResult → Type 0
+IsFound finding asked =
+    (finding.holds ≡ asked.holds) × (finding.end ≡ asked.end) × (bits_of finding.flags ≡ asked.flags)
+
+abbrev pub verdict_of : ConditionResult → Verdict
+verdict_of asked = record { holds = asked.holds; end = asked.end }
+
+abbrev pub remarks_in : ConditionResult → Remarks
+remarks_in asked = remarks_of asked.flags asked.symbols
+
+-- a condition that doesn't hold, since an argument is bad or missing
+abbrev pub refused : ℕ → ConditionResult
+refused end = record { holds = false; end = end; flags = flag_A; symbols = [] }
+
+-- a number against 0, with its sign: those from 100000 on are negative
+abbrev pub is_negative : ℕ → Bool
+is_negative number = nat_le 0o100000 number
+
+abbrev pub passes : Condition → ℕ → Bool
+passes Zero number = number == 0
+passes NotZero number = not (number == 0)
+passes Positive number = not (number == 0 || is_negative number)
+passes Negative number = is_negative number
+passes NotNegative number = not (is_negative number)
+passes NotPositive number = number == 0 || is_negative number
+passes condition number = false
+
+-- EQ NE GT LT GE LE: the number of the expression at a column
+abbrev pub compared : KnownSymbols → Bytes → ℕ → Condition → ConditionResult
+compared known line column condition = record {
+  holds = passes condition (number_at known line column);
+  end = expression_end line column;
+  flags = number_flags known line column;
+  symbols = symbols_at line column;
+}
+
+abbrev pub numeric : KnownSymbols → Bytes → ℕ → Condition → ConditionResult
+numeric known line column condition =
+    if has_expression line column then compared known line column condition else refused column
+
+-- DF NDF: the verdict of names
+abbrev pub named : Bytes → ℕ → Option Bool → Tested → ConditionResult
+named line column (Some verdict) names =
+    record { holds = verdict; end = names.end; flags = skip_flags line column names.end; symbols = names.symbols }
+named line column None names = record {
+  holds = false;
+  end = names.end;
+  flags = bit_or flag_A (skip_flags line column names.end);
+  symbols = names.symbols;
+}
+
+abbrev pub asked_names : Bytes → ℕ → Tested → ConditionResult
+asked_names line column names = named line column names.verdict names
+
+abbrev pub defined : KnownSymbols → Bytes → ℕ → Bool → ConditionResult
+defined known line column wants_defined = asked_names line column (names_at known wants_defined line column)
+
+-- the characters of an argument
+abbrev pub text_of : Bytes → Actual → Bytes
+text_of line actual = text_between line actual.inside.start actual.inside.end
+
+-- A for an argument without its `>`
+abbrev pub actual_flags : Actual → ℕ
+actual_flags actual = flag_if (not actual.is_closed) flag_A
+
+-- blanks and tabs alone
+abbrev pub is_blank_text : Bytes → Bool
+is_blank_text text = prefix_len is_blank text == length text
+
+-- B NB: one argument, which is empty where it is missing
+abbrev pub blank_by : Bytes → ℕ → Bool → Option Actual → ConditionResult
+blank_by line column wants_blank None = record { holds = wants_blank; end = column; flags = 0; symbols = [] }
+blank_by line column wants_blank (Some actual) = record {
+  holds = is_as wants_blank (is_blank_text (text_of line actual));
+  end = actual.end;
+  flags = actual_flags actual;
+  symbols = [];
+}
+
+abbrev pub blank : Bytes → ℕ → Bool → ConditionResult
+blank line column wants_blank = blank_by line column wants_blank (next_actual line column false)
+
+-- IDN DIF: two texts, byte for byte
+abbrev pub matched : Bool → Bytes → Bytes → ℕ → ℕ → ConditionResult
+matched wants_same first second end flags =
+    record { holds = is_as wants_same (bytes_eq first second); end = end; flags = flags; symbols = [] }
+
+-- the second argument: after a comma it may be empty
+abbrev pub second_by : Bytes → Bool → Actual → Separator → Option Actual → ConditionResult
+second_by line wants_same first separator (Some second) =
+    matched wants_same (text_of line first) (text_of line second) second.end
+    (bit_or (actual_flags first) (actual_flags second))
+second_by line wants_same first separator None =
+    if separator.has_comma then matched wants_same (text_of line first) [] separator.end (actual_flags first)
+    else refused separator.end
+
+abbrev pub second_at : Bytes → Bool → Actual → Separator → ConditionResult
+second_at line wants_same first separator =
+    second_by line wants_same first separator (next_actual line separator.end false)
+
+abbrev pub first_by : Bytes → ℕ → Bool → Option Actual → ConditionResult
+first_by line column wants_same None = refused column
+first_by line column wants_same (Some first) = second_at line wants_same first (separator_at line first.end)
+
+abbrev pub same : Bytes → ℕ → Bool → ConditionResult
+same line column wants_same = first_by line column wants_same (next_actual line column false)
+
+-- what a condition asks of its arguments, which begin at a column
+abbrev pub asked : KnownSymbols → Bytes → ℕ → Condition → ConditionResult
+asked known line column Defined = defined known line column true
+asked known line column NotDefined = defined known line column false
+asked known line column Blank = blank line column true
+asked known line column NotBlank = blank line column false
+asked known line column Identical = same line column true
+asked known line column Different = same line column false
+asked known line column condition = numeric known line column condition
+
+-- the condition that a token names, if it is one
+abbrev pub condition_of : Sort → Bytes → Option Condition
+condition_of sorts.Name text = condition_named (six_of text)
+condition_of sort text = None
+
+-- an unknown one is false, and its arguments aren't looked at
+abbrev pub asked_by : KnownSymbols → Bytes → ℕ → Option Condition → ConditionResult
+asked_by known line column (Some condition) = asked known line column condition
+asked_by known line column None = refused (length line)
+
+-- blanks, a comma or both stand after the name
+abbrev pub asked_at : KnownSymbols → Bytes → Lexeme → ConditionResult
+asked_at known line name =
+    asked_by known line (separator_at line name.end).end (condition_of name.sort name.text)
+
+abbrev pub named_by : KnownSymbols → Bytes → List Lexeme → ConditionResult
+named_by known line [] = refused (length line)
+named_by known line (name ∷ tokens) = asked_at known line name
+
+abbrev pub with_earlier : ℕ → ConditionResult → ConditionResult
+with_earlier flags asked = record {
+  holds = asked.holds;
+  end = asked.end;
+  flags = bit_or flags asked.flags;
+  symbols = asked.symbols;
+}
+
+-- the condition at a column, with I for a character that is skipped before its name
+abbrev pub condition : KnownSymbols → Bytes → ℕ → ConditionResult
+condition known line column =
+    with_earlier (flags_before line column) (named_by known line (tokens_from line column))

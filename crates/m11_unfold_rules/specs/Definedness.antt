@@ -1,0 +1,98 @@
+-- The names of DF and NDF. (MACRO-11 Language Reference Manual, "Conditional assembly block directives". That each name is tested by
+-- itself, and that a bad one makes the condition false, is this project's own.)
+use Rattle.std.specs.Prelude.{ℕ, Bool, not, ◌&&◌, ◌||◌, ◌==◌, if◌then◌else◌, List, [], ◌∷◌, length, Option, Some, None}
+use Rattle.std.specs.Int.RustNames.{bit_and}
+use Rattle.m11_base.specs.Devices.{Bytes}
+use Rattle.m11_scan.specs.Cutting.{Lexeme, tokens_from}
+use Rattle.m11_scan.specs.declared.sort.Sort.{Sort}
+use Rattle.m11_scan.specs.declared.sort.Sort.TheVariants as sorts
+use Rattle.m11_scan_expressions.specs.declared.names.Symbol.{Symbol}
+use Rattle.m11_scan_expressions.specs.Quantities.{Quantity}
+use Rattle.m11_scan_expressions.specs.Terms.{symbol_in}
+use Rattle.m11_unfold_rules.specs.declared.definedness.Joint.{Joint}
+use Rattle.m11_unfold_rules.specs.declared.definedness.Joint.TheVariants as joints
+use Rattle.m11_unfold_rules.specs.declared.definedness.JointAt.{JointAt}
+use Rattle.m11_unfold_rules.specs.declared.definedness.SoFar.{SoFar}
+use Rattle.m11_scan_expressions.specs.Expressions.{KnownSymbols}
+
+abbrev pub flag_U : ℕ
+flag_U = 0o20000
+
+-- a name is defined where what it stands for has no U
+abbrev pub is_defined : Quantity → Bool
+is_defined meaning = bit_and meaning.flags flag_U == 0
+
+-- what is found is as it is wanted
+abbrev pub is_as : Bool → Bool → Bool
+is_as wanted found = if wanted then found else not found
+
+-- the verdict of one name, for DF or for NDF
+abbrev pub tested : KnownSymbols → Bool → Symbol → Bool
+tested known wants_defined symbol = is_as wants_defined (is_defined (known.stands_for symbol))
+
+abbrev pub verdict_of : KnownSymbols → Bool → Option Symbol → Option Bool
+verdict_of known wants_defined (Some symbol) = Some (tested known wants_defined symbol)
+verdict_of known wants_defined None = None
+
+-- a verdict joined to one before it
+abbrev pub both : Joint → Bool → Bool → Bool
+both joints.And so_far verdict = so_far && verdict
+both joints.Or so_far verdict = so_far || verdict
+
+-- a verdict joined to what stands before it, if something does
+abbrev pub joined_to : Option SoFar → Bool → Bool
+joined_to None verdict = verdict
+joined_to (Some so_far) verdict = both so_far.joint so_far.holds verdict
+
+-- how a token joins the names before and after it, if it does
+abbrev pub joining : Sort → Option Joint
+joining sorts.And = Some joints.And
+joining sorts.Or = Some joints.Or
+joining sort = None
+
+abbrev pub joint_at : ℕ → Option Joint → Option JointAt
+joint_at end None = None
+joint_at end (Some joint) = Some (record { joint = joint; end = end })
+
+-- how the first of some tokens joins, and the column after it
+abbrev pub joint_in : List Lexeme → Option JointAt
+joint_in [] = None
+joint_in (mark ∷ tokens) = joint_at mark.end (joining mark.sort)
+
+-- what names say: their verdict, the column after them, the symbols that were read; at a bad one there is no verdict
+pub record Tested : Type 0 where
+  pub verdict : Option Bool
+  pub end : ℕ
+  pub symbols : List Symbol
+
+abbrev pub at_bad : ℕ → Tested
+at_bad size = record { verdict = None; end = size; symbols = [] }
+
+abbrev pub at_last : Bool → ℕ → Tested
+at_last verdict end = record { verdict = Some verdict; end = end; symbols = [] }
+
+abbrev pub symbol_first : Symbol → Tested → Tested
+symbol_first symbol more = record { verdict = more.verdict; end = more.end; symbols = symbol ∷ more.symbols }
+
+-- a name, and what stands after it; no name
+abbrev pub after_symbol : ℕ → Option Symbol → (Symbol → Tested) → Tested
+after_symbol size None more = at_bad size
+after_symbol size (Some symbol) more = symbol_first symbol (more symbol)
+
+-- a further name, or none
+abbrev pub after_joint : Bool → ℕ → Option Joint → (Option SoFar → Tested) → Tested
+after_joint verdict end None more = at_last verdict end
+after_joint verdict end (Some joint) more = more (Some (record { holds = verdict; joint = joint }))
+
+-- names joined by `&` and `!` from left to right, at some tokens of a line of a size
+abbrev pub names_in : (Symbol → Bool) → ℕ → Option SoFar → List Lexeme → Tested
+names_in test size before [] = at_bad size
+names_in test size before (name ∷ []) =
+    after_symbol size (symbol_in name.sort name.text) (λ symbol. at_last (joined_to before (test symbol)) name.end)
+names_in test size before (name ∷ (mark ∷ tokens)) =
+    after_symbol size (symbol_in name.sort name.text) (λ symbol.
+    after_joint (joined_to before (test symbol)) name.end (joining mark.sort) (λ next. names_in test size next tokens))
+
+abbrev pub names_at : KnownSymbols → Bool → Bytes → ℕ → Tested
+names_at known wants_defined line column =
+    names_in (tested known wants_defined) (length line) None (tokens_from line column)

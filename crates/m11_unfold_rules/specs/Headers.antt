@@ -1,0 +1,130 @@
+-- The name of a macro and its formals. (MACRO-11 Language Reference Manual, "Macro definition" and "Automatic creation of local
+-- symbols". That a bad formal ends the list is this project's own.)
+use Rattle.std.specs.Prelude.{ℕ, zero, suc, ◌-◌, ◌≤◌, if◌then◌else◌, List, [], ◌∷◌, Option, Some, None}
+use Rattle.std.specs.Int.RustNames.{bit_or}
+use Rattle.m11_base.specs.Devices.{Bytes}
+use Rattle.m11_base.specs.NameCharacters.{six_of}
+use Rattle.m11_base.specs.Rad50.{Name, name_of}
+use Rattle.m11_scan.specs.Line.{line_limit}
+use Rattle.m11_scan.specs.Cutting.{Lexeme, text_between, tokens_from}
+use Rattle.m11_scan.specs.Views.{bits_of}
+use Rattle.m11_scan.specs.declared.sort.Sort.{Sort}
+use Rattle.m11_scan.specs.declared.sort.Sort.TheVariants as sorts
+use Rattle.m11_scan_statements.specs.Actuals.{separator_at}
+use Rattle.m11_scan_statements.specs.Formals.{next_formal}
+use Rattle.m11_scan_statements.specs.Labels.{is_counter}
+use Rattle.m11_scan_statements.specs.declared.formals.Formal.{Formal}
+use Rattle.m11_scan_statements.specs.declared.formals.NextFormal.{NextFormal}
+use Rattle.m11_scan_statements.specs.declared.formals.NextFormal.TheVariants.{Ends, Bad, Named}
+use Rattle.m11_unfold_rules.specs.declared.macros.Header.{Header}
+use Rattle.m11_unfold_rules.specs.declared.macros.FormalOrEnd.{FormalOrEnd}
+use Rattle.m11_unfold_rules.specs.declared.macros.FormalOrEnd.TheVariants.{Last, More}
+use Rattle.m11_unfold_rules.specs.declared.macros.MacroFormal.{MacroFormal}
+use Rattle.m11_unfold_rules.specs.declared.macros.NameAt.{NameAt}
+use Rattle.m11_scan_expressions.specs.LeftOvers.{bad_flags, flags_before, rest_flags, skip_flags}
+
+-- the name that a token is, if it is one that a line can define
+abbrev pub name_in : Sort → Bytes → Option Name
+name_in sorts.Name text = if is_counter text then None else name_of (six_of text)
+name_in sort text = None
+
+-- a name, and the column after it
+abbrev pub name_before : ℕ → Option Name → Option NameAt
+name_before end None = None
+name_before end (Some name) = Some (record { name = name; end = end })
+
+-- the name that some tokens begin with
+abbrev pub name_at : List Lexeme → Option NameAt
+name_at [] = None
+name_at (token ∷ tokens) = name_before token.end (name_in token.sort token.text)
+
+-- what stands in a list of formals: its end, with flags; or a formal, with flags and the column after it
+pub data NextListed : Type 0 where
+  Ending : ℕ → NextListed
+  Formally : MacroFormal → ℕ → ℕ → NextListed
+
+-- the column where a formal begins, with the `?` directly before it
+abbrev pub formal_start : Formal → ℕ
+formal_start formal = if formal.is_created then formal.name.start - 1 else formal.name.start
+
+-- a formal has I for a character that is skipped before it
+abbrev pub listed_named : Bytes → ℕ → Formal → Option Name → NextListed
+listed_named line column formal None = Ending (bad_flags line column)
+listed_named line column formal (Some name) =
+    Formally (record { name = name; is_created = formal.is_created }) (skip_flags line column (formal_start formal))
+    formal.name.end
+
+abbrev pub formal_name : Bytes → Formal → Option Name
+formal_name line formal = name_of (six_of (text_between line formal.name.start formal.name.end))
+
+abbrev pub listed_by : Bytes → ℕ → NextFormal → NextListed
+listed_by line column Ends = Ending (rest_flags line column)
+listed_by line column Bad = Ending (bad_flags line column)
+listed_by line column (Named formal) = listed_named line column formal (formal_name line formal)
+
+abbrev pub listed_at : Bytes → ℕ → NextListed
+listed_at line column = listed_by line column (next_formal line column)
+
+-- formals, and the flags of their list
+pub record FormalList : Type 0 where
+  pub list : List MacroFormal
+  pub flags : ℕ
+
+abbrev pub formals_by : (ℕ → FormalList) → NextListed → FormalList
+formals_by more (Ending flags) = record { list = []; flags = flags }
+formals_by more (Formally formal flags end) =
+    record { list = formal ∷ (more end).list; flags = bit_or flags (more end).flags }
+
+-- at most n formals after a column: blanks, a comma or both stand before each
+abbrev pub formals_within : ℕ → Bytes → ℕ → FormalList
+formals_within zero line column = record { list = []; flags = 0 }
+formals_within (suc bound) line column =
+    formals_by (λ next. formals_within bound line next) (listed_at line (separator_at line column).end)
+
+-- the formals after a column: a line has no more than it has characters
+abbrev pub formals_after : Bytes → ℕ → FormalList
+formals_after line column = formals_within line_limit line column
+
+-- a macro's name, and its formals
+pub record MacroNamed : Type 0 where
+  pub name : Name
+  pub formals : List MacroFormal
+
+-- what a `.MACRO` says; without a name nothing is defined
+pub record MacroHeader : Type 0 where
+  pub named : Option MacroNamed
+  pub flags : ℕ
+
+abbrev pub without_name : Bytes → ℕ → MacroHeader
+without_name line column = record { named = None; flags = bad_flags line column }
+
+abbrev pub with_name : Bytes → ℕ → Name → FormalList → MacroHeader
+with_name line column name formals = record {
+  named = Some (record { name = name; formals = formals.list });
+  flags = bit_or (flags_before line column) formals.flags;
+}
+
+abbrev pub header_by : Bytes → ℕ → Option NameAt → MacroHeader
+header_by line column None = without_name line column
+header_by line column (Some name) = with_name line column name.name (formals_after line name.end)
+
+-- the header that stands at a column of a line
+abbrev pub header : Bytes → ℕ → MacroHeader
+header line column = header_by line column (name_at (tokens_from line column))
+
+-- the header that the code holds
+abbrev pub named_seen : Header → MacroNamed
+named_seen header = record { name = header.name; formals = header.formals.items }
+
+abbrev pub header_seen : Option Header → Option MacroNamed
+header_seen (Some header) = Some (named_seen header)
+header_seen None = None
+
+-- what the code finds in a list of formals
+abbrev pub listed_seen : FormalOrEnd → NextListed
+listed_seen (Last flags) = Ending (bits_of flags)
+listed_seen (More found) = Formally found.formal (bits_of found.flags) found.end
+
+abbrev pub IsWithin : ℕ → FormalOrEnd → Type 0
+IsWithin size (Last flags) = Unit {0}
+IsWithin size (More found) = found.end ≤ size

@@ -1,0 +1,44 @@
+-- `.IIF`: a condition, a comma, and a statement. (MACRO-11 Language Reference Manual, "Immediate conditional assembly directive". That
+-- all of the text after the comma is the statement is this project's own.)
+use Rattle.std.specs.Prelude.{ℕ, if◌then◌else◌, List, [], ◌∷◌, Option, Some, None}
+use Rattle.std.specs.Int.RustNames.{bit_or}
+use Rattle.m11_base.specs.Devices.{Bytes}
+use Rattle.m11_scan.specs.Cutting.{Lexeme, tokens_from}
+use Rattle.m11_scan.specs.ErrorFlags.{flag_A}
+use Rattle.m11_scan_statements.specs.Listed.{is_comma}
+use Rattle.m11_unfold_rules.specs.declared.immediate.Immediate.{Immediate}
+use Rattle.m11_unfold_rules.specs.Conditions.{ConditionResult, condition}
+use Rattle.m11_scan_expressions.specs.Expressions.{KnownSymbols}
+use Rattle.m11_scan_expressions.specs.LeftOvers.{left_over, skip_flags}
+use Rattle.m11_scan_expressions.specs.Remarks.{Remarks, remarks_of}
+
+-- the column after the comma that stands next
+abbrev pub after_comma : List Lexeme → Option ℕ
+after_comma [] = None
+after_comma (token ∷ tokens) = if is_comma token.sort then Some token.end else None
+
+-- where the statement begins
+abbrev pub statement_at : Bytes → ℕ → Option ℕ
+statement_at line column = after_comma (tokens_from line column)
+
+-- I for a skipped character before the comma; without it A, and what is left over
+abbrev pub comma_flags : Bytes → ℕ → Option ℕ → ℕ
+comma_flags line column (Some end) = skip_flags line column end
+comma_flags line column None = bit_or flag_A (left_over line column)
+
+abbrev pub statement_by : Bytes → ConditionResult → Option ℕ → Immediate
+statement_by line asked column = record { holds = asked.holds; statement = column }
+
+abbrev pub immediate_of : Bytes → ConditionResult → Immediate
+immediate_of line asked = statement_by line asked (statement_at line asked.end)
+
+abbrev pub immediate_remarks : Bytes → ConditionResult → Remarks
+immediate_remarks line asked =
+    remarks_of (bit_or asked.flags (comma_flags line asked.end (statement_at line asked.end))) asked.symbols
+
+-- whether the condition holds, and where the statement begins
+abbrev pub immediate : KnownSymbols → Bytes → ℕ → Immediate
+immediate known line column = immediate_of line (condition known line column)
+
+abbrev pub remarks : KnownSymbols → Bytes → ℕ → Remarks
+remarks known line column = immediate_remarks line (condition known line column)

@@ -1,0 +1,101 @@
+-- What `.IRP` and `.IRPC` repeat. (MACRO-11 Language Reference Manual, "Indefinite repeat block directives". That a list without
+-- brackets is one actual, and that a missing one has A, is this project's own.)
+use Rattle.std.specs.Prelude.{ℕ, Bool, true, false, List, [], ◌∷◌, map, Option, Some, None}
+use Rattle.m11_base.specs.Devices.{Bytes}
+use Rattle.m11_base.specs.Rad50.{Name}
+use Rattle.m11_scan.specs.Line.{line_limit}
+use Rattle.m11_scan.specs.Cutting.{tokens_from}
+use Rattle.m11_scan_statements.specs.Actuals.{next_actual, separator_at}
+use Rattle.m11_scan_statements.specs.declared.actuals.Actual.{Actual}
+use Rattle.m11_scan_statements.specs.declared.actuals.ActualKind.{ActualKind}
+use Rattle.m11_scan_statements.specs.declared.actuals.ActualKind.TheVariants.{Bare, Bracketed, Digits}
+use Rattle.m11_unfold_rules.specs.Actuals.{ActualTexts, actuals_from, followed_by, given_by, texts_of}
+use Rattle.m11_unfold_rules.specs.Conditions.{actual_flags, text_of}
+use Rattle.m11_scan_expressions.specs.Expressions.{KnownSymbols}
+use Rattle.m11_scan_expressions.specs.LeftOvers.{bad_flags, left_over, flags_before}
+use Rattle.m11_unfold_rules.specs.Headers.{name_at}
+use Rattle.m11_unfold_rules.specs.declared.macros.NameAt.{NameAt}
+use Rattle.m11_scan_expressions.specs.Remarks.{Remarks, joined, remarks_of}
+use Rattle.m11_unfold_rules.specs.declared.indefinite.RepeatHeader.{RepeatHeader}
+use Rattle.m11_unfold_rules.specs.declared.indefinite.Rounds.{Rounds}
+
+-- a formal, and its actual in each round
+pub record Repetition : Type 0 where
+  pub formal : Name
+  pub texts : List Bytes
+
+-- what is repeated, if nothing is missing
+pub record Repeated : Type 0 where
+  pub rounds : Option Repetition
+  pub remarks : Remarks
+
+-- brackets with a list of actuals, which is read as a line of its own
+abbrev pub listed_in : KnownSymbols → Bytes → Actual → ActualTexts
+listed_in known line actual =
+    followed_by (record { texts = []; remarks = remarks_of (actual_flags actual) [] })
+    (actuals_from known (text_of line actual) line_limit 0)
+
+-- any other actual is the one actual of the list
+abbrev pub listed_as : KnownSymbols → Bytes → Actual → ActualKind → ActualTexts
+listed_as known line actual Bare = given_by known line actual
+listed_as known line actual Bracketed = listed_in known line actual
+listed_as known line actual Digits = given_by known line actual
+
+-- the actuals of `.IRP`
+abbrev pub listed : KnownSymbols → Bytes → Actual → ActualTexts
+listed known line actual = listed_as known line actual actual.kind
+
+abbrev pub alone : ℕ → Bytes
+alone byte = byte ∷ []
+
+-- the actuals of `.IRPC`: each character of a text
+abbrev pub spelled : Bytes → Actual → ActualTexts
+spelled line actual =
+    record { texts = map alone (text_of line actual); remarks = remarks_of (actual_flags actual) [] }
+
+abbrev pub begun : Name → Option Actual → Option RepeatHeader
+begun formal None = None
+begun formal (Some list) = Some (record { formal = formal; list = list })
+
+-- blanks, a comma or both stand between the formal and the list
+abbrev pub begun_by : Bytes → Bool → Option NameAt → Option RepeatHeader
+begun_by line gives_digits None = None
+begun_by line gives_digits (Some name) =
+    begun name.name (next_actual line (separator_at line name.end).end gives_digits)
+
+-- the formal and the list that stand from a column on, if neither is bad or missing
+abbrev pub begun_at : Bytes → ℕ → Bool → Option RepeatHeader
+begun_at line column gives_digits = begun_by line gives_digits (name_at (tokens_from line column))
+
+-- where one is, nothing is repeated
+abbrev pub missing : Bytes → ℕ → Repeated
+missing line column = record { rounds = None; remarks = remarks_of (bad_flags line column) [] }
+
+-- the rounds of some texts, with what is left over after the list
+abbrev pub with_rounds : Bytes → ℕ → RepeatHeader → ActualTexts → Repeated
+with_rounds line column begun given = record {
+  rounds = Some (record { formal = begun.formal; texts = given.texts });
+  remarks = joined (joined (remarks_of (flags_before line column) []) given.remarks)
+      (remarks_of (left_over line begun.list.end) []);
+}
+
+abbrev pub repeated : Bytes → ℕ → (Actual → ActualTexts) → Option RepeatHeader → Repeated
+repeated line column texts None = missing line column
+repeated line column texts (Some begun) = with_rounds line column begun (texts begun.list)
+
+-- `.IRP`
+abbrev pub irp : KnownSymbols → Bytes → ℕ → Repeated
+irp known line column =
+    repeated line column (λ list. listed known line list) (begun_at line column true)
+
+-- `.IRPC`
+abbrev pub irpc : Bytes → ℕ → Repeated
+irpc line column = repeated line column (λ list. spelled line list) (begun_at line column false)
+
+-- the rounds that the code holds
+abbrev pub repetition : Rounds → Repetition
+repetition rounds = record { formal = rounds.formal; texts = texts_of rounds.texts.items }
+
+abbrev pub rounds_seen : Option Rounds → Option Repetition
+rounds_seen (Some rounds) = Some (repetition rounds)
+rounds_seen None = None

@@ -1,0 +1,313 @@
+//! The conditions of `.IF` and `.IIF`. (MACRO-11 Language Reference Manual, "Conditional assembly block directives".)
+
+ghost use Rattle.std.specs.Prelude.{◌≡◌, ◌≤◌, length, IfOk};
+ghost use Rattle.m11_scan.specs.Cutting.{tokens_from};
+ghost use Rattle.m11_scan.specs.Views.{bits_of, lexeme};
+ghost use Rattle.m11_scan_statements.specs.Actuals.{separator_at};
+ghost use Rattle.m11_unfold_rules.specs.Conditions as spec;
+ghost use Rattle.m11_unfold_rules.specs.Conditions.{IsFound, verdict_of, remarks_in};
+ghost use Rattle.m11_scan_expressions.specs.Expressions.{known_by};
+ghost use Rattle.m11_scan_expressions.specs.Remarks.{joined, with_symbols};
+
+use crate::definedness::{is_as, names_at};
+use m11_scan::{
+    Class, Condition, ErrorFlags, Line, Sort, Token, next_token, read_condition, run_length,
+};
+use m11_scan_expressions::{
+    Names, Remarks, begins_expression, column_in, number_from, rest_flags, skip_flags,
+};
+use m11_scan_statements::{Actual, next_actual, separator_at};
+use std::alloc::AllocError;
+
+/// What a condition says.
+#[derive(Clone, Copy, PartialEq, Eq, Debug)]
+pub struct Verdict {
+    /// Whether it holds.
+    pub holds: bool,
+    /// The column after it. What stands from there on isn't the condition's.
+    pub end: u8,
+}
+
+// What is found of a condition.
+#[derive(Clone, Copy, PartialEq, Eq, Debug)]
+pub struct Finding {
+    pub(crate) holds: bool,
+    pub(crate) end: u8,
+    pub(crate) flags: ErrorFlags,
+}
+
+/// The condition whose name stands next in a line from a column on, under names. An unknown one, a bad name in DF and NDF, and a
+/// missing argument have A, and don't hold. The flags and the symbols of its arguments are added to the remarks. Error: memory may be refused.
+pub fn condition<N: Names>(
+    line: &Line,
+    column: usize,
+    names: &N,
+    remarks: &mut Remarks,
+) -> Result<Verdict, AllocError>
+    requires { column ≤ length line.now.text }
+    ensures verdict { IfOk result (λ verdict. verdict ≡ verdict_of
+        (spec.condition (known_by (N.base names.now) (N.stands_for names.now)) line.now.text column)) }
+    ensures remarks { IfOk result (λ _. remarks.new ≡ joined remarks.old (remarks_in
+        (spec.condition (known_by (N.base names.now) (N.stands_for names.now)) line.now.text column))) }
+    ensures most { IfOk result (λ verdict. verdict.end ≤ length line.now.text) }
+{
+    let finding = named_at(line, column, names, remarks)?;
+    remarks.add_flags(finding.flags);
+    Ok(Verdict {
+        holds: finding.holds,
+        end: finding.end,
+    })
+}
+
+// The condition that is named at a column, with I for a character that is skipped before its name.
+fn named_at<N: Names>(
+    line: &Line,
+    column: usize,
+    names: &N,
+    remarks: &mut Remarks,
+) -> Result<Finding, AllocError>
+    requires { column ≤ length line.now.text }
+    ensures found { IfOk result (λ finding. IsFound finding (spec.condition
+        (known_by (N.base names.now) (N.stands_for names.now)) line.now.text column)) }
+    ensures remarks { IfOk result (λ _. remarks.new ≡ with_symbols remarks.old (spec.condition
+        (known_by (N.base names.now) (N.stands_for names.now)) line.now.text column).symbols) }
+    ensures most { IfOk result (λ finding. finding.end ≤ length line.now.text) }
+{
+    match next_token(line, column) {
+        Some(name) => {
+            let before = skip_flags(line, column, usize::from(name.start));
+            let finding = asked_by(line, name, names, remarks)?;
+            Ok(Finding {
+                flags: before.with(finding.flags),
+                ..finding
+            })
+        }
+        None => {
+            let end = column_in(line, line.text().len());
+            Ok(Finding {
+                flags: rest_flags(line, column).with(ErrorFlags::A),
+                ..refused(end)
+            })
+        }
+    }
+}
+
+// The condition that a token names, with its arguments after it.
+fn asked_by<N: Names>(
+    line: &Line,
+    name: Token,
+    names: &N,
+    remarks: &mut Remarks,
+) -> Result<Finding, AllocError>
+    requires { name.end ≤ length line.now.text }
+    ensures found { IfOk result (λ finding. IsFound finding (spec.asked_at
+        (known_by (N.base names.now) (N.stands_for names.now)) line.now.text (lexeme line.now.text name))) }
+    ensures remarks { IfOk result (λ _. remarks.new ≡ with_symbols remarks.old (spec.asked_at
+        (known_by (N.base names.now) (N.stands_for names.now)) line.now.text (lexeme line.now.text name)).symbols) }
+    ensures most { IfOk result (λ finding. finding.end ≤ length line.now.text) }
+{
+    let begin = separator_at(line, usize::from(name.end)).end;
+    match condition_of(name.sort, name.text(line)) {
+        Some(condition) => asked(line, usize::from(begin), condition, names, remarks),
+        None => Ok(refused(column_in(line, line.text().len()))),
+    }
+}
+
+// The condition that a token names, if it is one.
+fn condition_of(sort: Sort, text: &[u8]) -> Option<Condition>
+    ensures { result ≡ spec.condition_of sort text.now }
+{
+    match sort {
+        Sort::Name => read_condition(text),
+        _ => None,
+    }
+}
+
+// What a condition asks of its arguments, which begin at a column.
+fn asked<N: Names>(
+    line: &Line,
+    column: usize,
+    condition: Condition,
+    names: &N,
+    remarks: &mut Remarks,
+) -> Result<Finding, AllocError>
+    requires { column ≤ length line.now.text }
+    ensures found { IfOk result (λ finding. IsFound finding (spec.asked
+        (known_by (N.base names.now) (N.stands_for names.now)) line.now.text column condition)) }
+    ensures remarks { IfOk result (λ _. remarks.new ≡ with_symbols remarks.old (spec.asked
+        (known_by (N.base names.now) (N.stands_for names.now)) line.now.text column condition).symbols) }
+    ensures most { IfOk result (λ finding. finding.end ≤ length line.now.text) }
+{
+    match condition {
+        Condition::Defined => defined(line, column, true, names, remarks),
+        Condition::NotDefined => defined(line, column, false, names, remarks),
+        Condition::Blank => Ok(blank(line, column, true)),
+        Condition::NotBlank => Ok(blank(line, column, false)),
+        Condition::Identical => Ok(same(line, column, true)),
+        Condition::Different => Ok(same(line, column, false)),
+        _ => numeric(line, column, condition, names, remarks),
+    }
+}
+
+// A condition with a bad or missing argument.
+fn refused(end: u8) -> Finding
+    ensures { IsFound result (spec.refused end) }
+{
+    Finding {
+        holds: false,
+        end,
+        flags: ErrorFlags::A,
+    }
+}
+
+// EQ NE GT LT GE LE.
+#[tactic(auto, using(m11_scan_expressions::proofs::Beginning::begins))]
+fn numeric<N: Names>(
+    line: &Line,
+    column: usize,
+    condition: Condition,
+    names: &N,
+    remarks: &mut Remarks,
+) -> Result<Finding, AllocError>
+    requires { column ≤ length line.now.text }
+    ensures found { IfOk result (λ finding. IsFound finding (spec.numeric
+        (known_by (N.base names.now) (N.stands_for names.now)) line.now.text column condition)) }
+    ensures remarks { IfOk result (λ _. remarks.new ≡ with_symbols remarks.old (spec.numeric
+        (known_by (N.base names.now) (N.stands_for names.now)) line.now.text column condition).symbols) }
+    ensures most { IfOk result (λ finding. finding.end ≤ length line.now.text) }
+{
+    match next_token(line, column) {
+        Some(token) if begins_expression(token.sort) => {
+            let number = number_from(line, column, token, names, remarks)?;
+            Ok(Finding {
+                holds: passes(condition, number.value),
+                end: number.end,
+                flags: number.flags,
+            })
+        }
+        _ => Ok(refused(column_in(line, column))),
+    }
+}
+
+// Whether a number passes a condition on numbers.
+fn passes(condition: Condition, number: u16) -> bool
+    ensures { result ≡ spec.passes condition number }
+{
+    match condition {
+        Condition::Zero => number == 0,
+        Condition::NotZero => !(number == 0),
+        Condition::Positive => !(number == 0 || is_negative(number)),
+        Condition::Negative => is_negative(number),
+        Condition::NotNegative => !is_negative(number),
+        Condition::NotPositive => number == 0 || is_negative(number),
+        _ => false,
+    }
+}
+
+// Whether a number, with its sign, is under 0.
+pub(crate) fn is_negative(number: u16) -> bool
+    ensures { result ≡ spec.is_negative number }
+{
+    number >= 0o100000
+}
+
+// DF NDF.
+fn defined<N: Names>(
+    line: &Line,
+    column: usize,
+    wants_defined: bool,
+    names: &N,
+    remarks: &mut Remarks,
+) -> Result<Finding, AllocError>
+    requires { column ≤ length line.now.text }
+    ensures found { IfOk result (λ finding. IsFound finding (spec.defined
+        (known_by (N.base names.now) (N.stands_for names.now)) line.now.text column wants_defined)) }
+    ensures remarks { IfOk result (λ _. remarks.new ≡ with_symbols remarks.old (spec.defined
+        (known_by (N.base names.now) (N.stands_for names.now)) line.now.text column wants_defined).symbols) }
+    ensures most { IfOk result (λ finding. finding.end ≤ length line.now.text) }
+{
+    let tested = names_at(line, column, wants_defined, names, remarks)?;
+    let skipped = skip_flags(line, column, usize::from(tested.end));
+    match tested.verdict {
+        Some(verdict) => Ok(Finding {
+            holds: verdict,
+            end: tested.end,
+            flags: skipped,
+        }),
+        None => Ok(Finding {
+            holds: false,
+            end: tested.end,
+            flags: ErrorFlags::A.with(skipped),
+        }),
+    }
+}
+
+// B NB.
+fn blank(line: &Line, column: usize, wants_blank: bool) -> Finding
+    requires { column ≤ length line.now.text }
+    ensures found { IsFound result (spec.blank line.now.text column wants_blank) }
+    ensures most { result.end ≤ length line.now.text }
+{
+    match next_actual(line, column, false) {
+        Some(actual) => Finding {
+            holds: is_as(wants_blank, is_blank_text(actual.inside.text(line))),
+            end: actual.end,
+            flags: actual_flags(&actual),
+        },
+        None => Finding {
+            holds: wants_blank,
+            end: column_in(line, column),
+            flags: ErrorFlags::none(),
+        },
+    }
+}
+
+fn is_blank_text(text: &[u8]) -> bool
+    ensures { result ≡ spec.is_blank_text text.now }
+{
+    run_length(text, Class::Blank) == text.len()
+}
+
+/// A for an argument without its `>`.
+pub fn actual_flags(actual: &Actual) -> ErrorFlags
+    ensures { bits_of result ≡ spec.actual_flags actual.now }
+{
+    ErrorFlags::A.when(!actual.is_closed)
+}
+
+// IDN DIF.
+fn same(line: &Line, column: usize, wants_same: bool) -> Finding
+    requires { column ≤ length line.now.text }
+    ensures found { IsFound result (spec.same line.now.text column wants_same) }
+    ensures most { result.end ≤ length line.now.text }
+{
+    match next_actual(line, column, false) {
+        Some(first) => second_at(line, wants_same, first),
+        None => refused(column_in(line, column)),
+    }
+}
+
+// The second argument of IDN and DIF: after a comma it may be empty.
+fn second_at(line: &Line, wants_same: bool, first: Actual) -> Finding
+    requires { first.end ≤ length line.now.text }
+    ensures found { IsFound result (spec.second_at line.now.text wants_same first
+        (separator_at line.now.text first.end)) }
+    ensures most { result.end ≤ length line.now.text }
+{
+    let separator = separator_at(line, usize::from(first.end));
+    let text = first.inside.text(line);
+    let flags = actual_flags(&first);
+    match next_actual(line, usize::from(separator.end), false) {
+        Some(second) => Finding {
+            holds: is_as(wants_same, text == second.inside.text(line)),
+            end: second.end,
+            flags: flags.with(actual_flags(&second)),
+        },
+        None if separator.has_comma => Finding {
+            holds: is_as(wants_same, text.is_empty()),
+            end: separator.end,
+            flags,
+        },
+        None => refused(separator.end),
+    }
+}

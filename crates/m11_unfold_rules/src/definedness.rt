@@ -1,0 +1,207 @@
+//! The names of DF and NDF. (MACRO-11 Language Reference Manual, "Conditional assembly block directives".)
+
+ghost use Rattle.std.specs.Prelude.{◌≡◌, ◌<◌, ◌≤◌, ◌∷◌, [], drop, length, option_to_list, IfOk, IfSome};
+ghost use Rattle.m11_scan.specs.Cutting.{text_between, tokens_from};
+ghost use Rattle.m11_scan_expressions.specs.Quantities.{quantity};
+ghost use Rattle.m11_scan_expressions.specs.Terms.{symbol_in};
+ghost use Rattle.m11_unfold_rules.specs.Definedness as spec;
+ghost use Rattle.m11_scan_expressions.specs.Expressions.{known_by};
+ghost use Rattle.m11_scan_expressions.specs.Remarks.{with_symbols};
+
+use bitflags::Flags;
+use m11_scan::{ErrorFlags, Line, Sort, Token, next_token};
+use m11_scan_expressions::{Names, Remarks, Symbol, Value, next_symbol};
+use std::alloc::AllocError;
+
+// What joins two names.
+#[derive(Clone, Copy, PartialEq, Eq, Debug)]
+pub enum Joint {
+    // `&`
+    And,
+    // `!`
+    Or,
+}
+
+// The verdict of some names, and how the next one is joined to it.
+#[derive(Clone, Copy, PartialEq, Eq, Debug)]
+pub struct SoFar {
+    pub(crate) holds: bool,
+    pub(crate) joint: Joint,
+}
+
+// What joins two names, and the column after it.
+#[derive(Clone, Copy, PartialEq, Eq, Debug)]
+pub struct JointAt {
+    pub(crate) joint: Joint,
+    pub(crate) end: u8,
+}
+
+// What names say.
+#[derive(Clone, Copy, PartialEq, Eq, Debug)]
+pub(crate) struct NamesVerdict {
+    // Their verdict, unless one of them is bad or missing.
+    pub verdict: Option<bool>,
+    // The column after them, or the line's end after a bad one.
+    pub end: u8,
+}
+
+// The names at a column, joined by `&` and `!` from left to right; each is asked whether it is defined.
+pub(crate) fn names_at<N: Names>(
+    line: &Line,
+    column: usize,
+    wants_defined: bool,
+    names: &N,
+    remarks: &mut Remarks,
+) -> Result<NamesVerdict, AllocError>
+    requires { column ≤ length line.now.text }
+    ensures verdict { IfOk result (λ tested. tested.verdict ≡ (spec.names_at
+        (known_by (N.base names.now) (N.stands_for names.now)) wants_defined line.now.text column).verdict) }
+    ensures end { IfOk result (λ tested. tested.end ≡ (spec.names_at
+        (known_by (N.base names.now) (N.stands_for names.now)) wants_defined line.now.text column).end) }
+    ensures least { IfOk result (λ tested. column ≤ tested.end) }
+    ensures most { IfOk result (λ tested. tested.end ≤ length line.now.text) }
+    ensures remarks { IfOk result (λ _. remarks.new ≡ with_symbols remarks.old (spec.names_at
+        (known_by (N.base names.now) (N.stands_for names.now)) wants_defined line.now.text column).symbols) }
+{
+    let mut before = None;
+    let mut begin = column;
+    'names: while let Some(name) = next_token(line, begin) {
+        let Some(verdict) = name_verdict(line, name, wants_defined, names, remarks)? else {
+            return Ok(at_bad(line));
+        };
+        let verdict = joined_to(before, verdict);
+        let Some(next) = joint_after(line, name) else {
+            return Ok(NamesVerdict {
+                verdict: Some(verdict),
+                end: name.end,
+            });
+        };
+        before = Some(SoFar {
+            holds: verdict,
+            joint: next.joint,
+        });
+        begin = usize::from(next.end);
+    }
+    Ok(at_bad(line))
+}
+
+// The verdict of the name that a token is, if it is one. Its symbol is added to the remarks.
+fn name_verdict<N: Names>(
+    line: &Line,
+    token: Token,
+    wants_defined: bool,
+    names: &N,
+    remarks: &mut Remarks,
+) -> Result<Option<bool>, AllocError>
+    ensures verdict { IfOk result (λ verdict. verdict ≡ spec.verdict_of
+        (known_by (N.base names.now) (N.stands_for names.now)) wants_defined
+        (symbol_in token.sort (text_between line.now.text token.start token.end))) }
+    ensures remarks { IfOk result (λ _. remarks.new ≡ with_symbols remarks.old
+        (option_to_list (symbol_in token.sort (text_between line.now.text token.start token.end)))) }
+{
+    match symbol_of(line, token) {
+        Some(symbol) => Ok(Some(symbol_verdict(&symbol, wants_defined, names, remarks)?)),
+        None => Ok(None),
+    }
+}
+
+// The verdict of a symbol, which is added to the remarks.
+fn symbol_verdict<N: Names>(
+    symbol: &Symbol,
+    wants_defined: bool,
+    names: &N,
+    remarks: &mut Remarks,
+) -> Result<bool, AllocError>
+    ensures verdict { IfOk result (λ verdict. verdict
+        ≡ spec.tested (known_by (N.base names.now) (N.stands_for names.now)) wants_defined symbol.now) }
+    ensures remarks { IfOk result (λ _. remarks.new ≡ with_symbols remarks.old (symbol.now ∷ [])) }
+{
+    remarks.add_symbol(*symbol)?;
+    Ok(tested(names, *symbol, wants_defined))
+}
+
+fn at_bad(line: &Line) -> NamesVerdict
+    ensures verdict { result.verdict ≡ None }
+    ensures end { result.end ≡ length line.now.text }
+{
+    NamesVerdict {
+        verdict: None,
+        end: line.text().len() as u8,
+    }
+}
+
+// The symbol that a token reads, if it reads one.
+fn symbol_of(line: &Line, token: Token) -> Option<Symbol>
+    ensures { result ≡ symbol_in token.sort (text_between line.now.text token.start token.end) }
+{
+    let tokens = [token];
+    match next_symbol(&tokens, line) {
+        Some((symbol, _)) => Some(symbol),
+        None => None,
+    }
+}
+
+// The verdict of one name.
+fn tested<N: Names>(names: &N, symbol: Symbol, wants_defined: bool) -> bool
+    ensures { result ≡ spec.tested (known_by (N.base names.now) (N.stands_for names.now)) wants_defined symbol }
+{
+    is_as(wants_defined, is_defined(names.meaning(symbol)))
+}
+
+// Whether what is found is as it is wanted.
+pub(crate) fn is_as(wanted: bool, found: bool) -> bool
+    ensures { result ≡ spec.is_as wanted found }
+{
+    if wanted { found } else { !found }
+}
+
+fn is_defined(meaning: Value) -> bool
+    ensures { result ≡ spec.is_defined (quantity meaning) }
+{
+    meaning.flags.bits() & ErrorFlags::U.bits() == 0
+}
+
+// A verdict joined to what stands before it, if something does.
+fn joined_to(before: Option<SoFar>, verdict: bool) -> bool
+    ensures { result ≡ spec.joined_to before verdict }
+{
+    match before {
+        Some(so_far) => both(so_far.joint, so_far.holds, verdict),
+        None => verdict,
+    }
+}
+
+fn both(joint: Joint, so_far: bool, verdict: bool) -> bool
+    ensures { result ≡ spec.both joint so_far verdict }
+{
+    match joint {
+        Joint::And => so_far && verdict,
+        Joint::Or => so_far || verdict,
+    }
+}
+
+// What stands after a name, if a further name follows.
+fn joint_after(line: &Line, name: Token) -> Option<JointAt>
+    requires { name.end ≤ length line.now.text }
+    ensures joint { result ≡ spec.joint_in (tokens_from line.now.text name.end) }
+    ensures rest { IfSome result (λ next. drop 1 (tokens_from line.now.text name.end) ≡ tokens_from line.now.text next.end) }
+    ensures after { IfSome result (λ next. name.end < next.end) }
+    ensures within { IfSome result (λ next. next.end ≤ length line.now.text) }
+{
+    let mark = next_token(line, usize::from(name.end))?;
+    let joint = joining(mark.sort)?;
+    Some(JointAt {
+        joint,
+        end: mark.end,
+    })
+}
+
+fn joining(sort: Sort) -> Option<Joint>
+    ensures { result ≡ spec.joining sort }
+{
+    match sort {
+        Sort::And => Some(Joint::And),
+        Sort::Or => Some(Joint::Or),
+        _ => None,
+    }
+}

@@ -1,0 +1,39 @@
+//! The digits of a number. (MACRO-11 Language Reference Manual, "Numeric arguments passed as symbols" and "Automatic creation of local
+//! symbols".)
+
+ghost use Rattle.std.specs.Prelude.{◌≡◌, ◌≤◌, IfOk};
+ghost use Rattle.m11_unfold_rules.specs.Digits.{digits_of, last_digits};
+
+use std::alloc::{AllocError, Global};
+
+// The most digits of a word: in base 2 it has 16.
+const DIGIT_LIMIT: u8 = 16;
+
+// The digits of a word in a base, without leading zeros.
+pub(crate) fn digits_of(alloc: Global, base: u32, number: u16) -> Result<Vec<u8>, AllocError>
+    requires least { 2 ≤ base }
+    requires most { base ≤ 10 }
+    ensures { IfOk result (λ digits. digits.items ≡ digits_of base number) }
+{
+    last_digits(alloc, base, number, DIGIT_LIMIT)
+}
+
+// The last digits of a word in a base, at most `bound`.
+fn last_digits(alloc: Global, base: u32, number: u16, bound: u8) -> Result<Vec<u8>, AllocError>
+    requires least { 2 ≤ base }
+    requires most { base ≤ 10 }
+    ensures { IfOk result (λ digits. digits.items ≡ last_digits bound base number) }
+{
+    let mut digits = Vec::new(alloc);
+    let mut rest = u32::from(number);
+    let mut left = bound;
+    'digits: while left > 0 {
+        digits.insert(0, (48 + rest % base) as u8)?;
+        if rest < base {
+            return Ok(digits);
+        }
+        rest /= base;
+        left -= 1;
+    }
+    Ok(digits)
+}

@@ -1,0 +1,166 @@
+//! The directives of conditions, repeats and macros, and `.END`, by their names. (MACRO-11 Language Reference Manual, "Conditional
+//! assembly block directives", "Macro definition", "Indefinite repeat block directives" and ".END directive".)
+
+ghost use Rattle.std.specs.Prelude.{◌≡◌, ◌≤◌, ℕ, true, length, IfSome};
+ghost use Rattle.m11_base.specs.NameCharacters.{six_of};
+ghost use Rattle.m11_scan_statements.specs.Bodies.{end_of};
+ghost use Rattle.m11_unfold_rules.specs.Directives as spec;
+
+use m11_scan::{Line, is_same_six, six_characters};
+use m11_scan_statements::{Body, Span, statement};
+
+/// A directive whose line does something with lines after it, or ends the source.
+#[derive(Clone, Copy, PartialEq, Eq, Debug)]
+pub enum Directive {
+    /// `.IF`
+    If,
+    /// `.IFF`
+    Iff,
+    /// `.IFT`
+    Ift,
+    /// `.IFTF`
+    Iftf,
+    /// `.ENDC`
+    Endc,
+    /// `.IIF`
+    Iif,
+    /// `.MACRO`
+    Macro,
+    /// `.ENDM`
+    Endm,
+    /// `.REPT`
+    Rept,
+    /// `.ENDR`
+    Endr,
+    /// `.IRP`
+    Irp,
+    /// `.IRPC`
+    Irpc,
+    /// `.MEXIT`
+    Mexit,
+    /// `.NARG`
+    Narg,
+    /// `.NCHR`
+    Nchr,
+    /// `.END`
+    End,
+}
+
+// A name of six characters, and its directive.
+#[derive(Clone, Copy)]
+struct DirectiveRow {
+    name: [u8; 6],
+    directive: Directive,
+}
+
+// The directives by the second characters of their names, since the first is the same in all.
+#[rattlefmt::skip]
+const WITH_I: [DirectiveRow; 7] = [
+    DirectiveRow { name: *b".IF   ", directive: Directive::If },
+    DirectiveRow { name: *b".IFF  ", directive: Directive::Iff },
+    DirectiveRow { name: *b".IFT  ", directive: Directive::Ift },
+    DirectiveRow { name: *b".IFTF ", directive: Directive::Iftf },
+    DirectiveRow { name: *b".IIF  ", directive: Directive::Iif },
+    DirectiveRow { name: *b".IRP  ", directive: Directive::Irp },
+    DirectiveRow { name: *b".IRPC ", directive: Directive::Irpc },
+];
+
+#[rattlefmt::skip]
+const WITH_E: [DirectiveRow; 4] = [
+    DirectiveRow { name: *b".ENDC ", directive: Directive::Endc },
+    DirectiveRow { name: *b".ENDM ", directive: Directive::Endm },
+    DirectiveRow { name: *b".ENDR ", directive: Directive::Endr },
+    DirectiveRow { name: *b".END  ", directive: Directive::End },
+];
+
+#[rattlefmt::skip]
+const WITH_M: [DirectiveRow; 2] = [
+    DirectiveRow { name: *b".MACRO", directive: Directive::Macro },
+    DirectiveRow { name: *b".MEXIT", directive: Directive::Mexit },
+];
+
+#[rattlefmt::skip]
+const WITH_N: [DirectiveRow; 2] = [
+    DirectiveRow { name: *b".NARG ", directive: Directive::Narg },
+    DirectiveRow { name: *b".NCHR ", directive: Directive::Nchr },
+];
+
+#[rattlefmt::skip]
+const WITH_R: [DirectiveRow; 1] = [
+    DirectiveRow { name: *b".REPT ", directive: Directive::Rept },
+];
+
+/// The directive of a name, in either case; its first six characters count.
+// speed: inline, since each operator comes here, and most are none of these.
+#[inline(always)]
+pub fn directive_named(name: &[u8]) -> Option<Directive>
+    ensures { result ≡ spec.directive_named (six_of name.now) }
+{
+    // each begins so, and many operators don't
+    match name.first() {
+        Some(b'.') => directive_of_six(&six_characters(name)),
+        _ => None,
+    }
+}
+
+// The directive of a name of six characters.
+#[tactic(auto, using(crate::proofs::SameSecond::named_with))]
+fn directive_of_six(name: &[u8; 6]) -> Option<Directive>
+    ensures { result ≡ spec.directive_named name.now }
+{
+    directive_among(rows_with(name[1]), name)
+}
+
+// The directive of a row with a name.
+fn directive_among(rows: &[DirectiveRow], name: &[u8; 6]) -> Option<Directive>
+    ensures { result ≡ spec.directive_among rows.now name.now }
+{
+    let found = rows.iter().find(|row| is_same_six(&row.name, name));
+    match found {
+        Some(row) => Some(row.directive),
+        None => None,
+    }
+}
+
+// The directives whose names have this second character.
+fn rows_with(second: u8) -> &'static [DirectiveRow]
+    ensures { result.now ≡ spec.rows_with second }
+{
+    match second {
+        b'I' => &WITH_I,
+        b'E' => &WITH_E,
+        b'M' => &WITH_M,
+        b'N' => &WITH_N,
+        b'R' => &WITH_R,
+        _ => &[],
+    }
+}
+
+/// The name that stands after a line's labels, where no assignment stands.
+pub fn operator(line: &Line) -> Option<Span>
+    ensures operator { result ≡ spec.operator line.now.text }
+    ensures within { IfSome result (λ name. name.end ≤ length line.now.text) }
+{
+    operator_in(statement(line).body)
+}
+
+/// The name of an operator that stands after a line's labels, if one does.
+pub fn operator_in(body: Body) -> Option<Span>
+    ensures operator { result ≡ spec.operator_in body }
+    ensures within { IfSome result (λ name. (size : ℕ) → end_of body size ≡ name.end) }
+{
+    match body {
+        Body::Operate(name) => Some(name),
+        _ => None,
+    }
+}
+
+/// The directive that a line's operator is by its word alone, whatever macros are called so.
+pub fn directive_of(line: &Line) -> Option<Directive>
+    ensures { result ≡ spec.directive line.now.text }
+{
+    match operator(line) {
+        Some(name) => directive_named(name.text(line)),
+        None => None,
+    }
+}

@@ -1,0 +1,117 @@
+//! Which actual each formal of a macro has. (MACRO-11 Language Reference Manual, "Automatic creation of local symbols" and "Arguments
+//! in macro definitions and macro calls".)
+
+ghost use Rattle.std.specs.Prelude.{◌≡◌, ℕ, IfOk};
+ghost use Rattle.m11_unfold_rules.specs.Actuals.{texts_of};
+ghost use Rattle.m11_unfold_rules.specs.Filling as spec;
+
+use crate::digits::digits_of;
+use crate::macros::MacroFormal;
+use std::alloc::{AllocError, Global};
+
+/// The number of the first local symbol that is created.
+pub const FIRST_CREATED: u16 = 30000;
+
+/// A text for each formal.
+#[derive(Drop)]
+pub struct FormalTexts {
+    /// The texts, in the order of the formals.
+    pub texts: Vec<Vec<u8>>,
+    /// The number of the local symbol that is created next: 30000 to 65535.
+    pub created: u16,
+}
+
+/// The actual of each formal. One that is missing is empty; where a formal asks for it, an empty one is a local symbol that is
+/// created, whose numbers begin with the one that is given. After 65535 comes 30000. Error: memory may be refused.
+pub fn fill(
+    alloc: Global,
+    formals: &[MacroFormal],
+    actuals: &[Vec<u8>],
+    created: u16,
+) -> Result<FormalTexts, AllocError>
+    ensures texts { IfOk result (λ filled. texts_of filled.texts.items
+        ≡ (spec.filled formals.now (texts_of actuals.now) created).texts) }
+    ensures created { IfOk result (λ filled. filled.created
+        ≡ (spec.filled formals.now (texts_of actuals.now) created).created) }
+{
+    let mut texts = Vec::new(alloc);
+    let mut created = created;
+    let mut actuals = actuals;
+    'formals: for formal in formals {
+        let next = fill_formal(alloc, *formal, first_text(actuals), created)?;
+        texts.push(next.text)?;
+        created = next.created;
+        actuals = others_of(actuals);
+    }
+    Ok(FormalTexts { texts, created })
+}
+
+// The text of a formal, and the number of the local symbol that is created next.
+#[derive(Drop)]
+struct FilledFormal {
+    text: Vec<u8>,
+    created: u16,
+}
+
+// The text of a formal whose actual has a text.
+fn fill_formal(
+    alloc: Global,
+    formal: MacroFormal,
+    text: &[u8],
+    created: u16,
+) -> Result<FilledFormal, AllocError>
+    ensures { IfOk result (λ next. (more : ℕ → spec.FormalTexts) → spec.fill formal text.now created more
+        ≡ spec.text_before next.text.items (more next.created)) }
+{
+    if formal.is_created && text.is_empty() {
+        Ok(FilledFormal {
+            text: created_text(alloc, created)?,
+            created: created_after(created),
+        })
+    } else {
+        Ok(FilledFormal {
+            text: text.to_vec(alloc)?,
+            created,
+        })
+    }
+}
+
+// The first of some texts, or an empty one.
+fn first_text(texts: &[Vec<u8>]) -> &[u8]
+    ensures { result.now ≡ spec.first_text (texts_of texts.now) }
+{
+    match texts {
+        [first, ..] => first.as_slice(),
+        [] => &[],
+    }
+}
+
+// The texts after the first one.
+fn others_of(texts: &[Vec<u8>]) -> &[Vec<u8>]
+    ensures { texts_of result.now ≡ spec.others_of (texts_of texts.now) }
+{
+    match texts {
+        [_, others @ ..] => others,
+        [] => &[],
+    }
+}
+
+// The number after the one of a created symbol.
+fn created_after(number: u16) -> u16
+    ensures { result ≡ spec.created_after number }
+{
+    if number == 65535 {
+        FIRST_CREATED
+    } else {
+        number + 1
+    }
+}
+
+// A created local symbol.
+fn created_text(alloc: Global, number: u16) -> Result<Vec<u8>, AllocError>
+    ensures { IfOk result (λ text. text.items ≡ spec.created_text number) }
+{
+    let mut text = digits_of(alloc, 10, number)?;
+    text.push(b'$')?;
+    Ok(text)
+}

@@ -1,0 +1,78 @@
+//! `.IIF`. (MACRO-11 Language Reference Manual, "Immediate conditional assembly directive".)
+
+ghost use Rattle.std.specs.Prelude.{◌≡◌, ◌<◌, ◌≤◌, length, IfOk, IfSome};
+ghost use Rattle.m11_scan.specs.Cutting.{tokens_from};
+ghost use Rattle.m11_scan.specs.Views.{bits_of};
+ghost use Rattle.m11_scan_statements.specs.Listed.{is_comma};
+ghost use Rattle.m11_scan_expressions.specs.Expressions.{known_by};
+ghost use Rattle.m11_unfold_rules.specs.Immediate as spec;
+ghost use Rattle.m11_scan_expressions.specs.Remarks.{joined};
+
+use crate::conditions::condition;
+use m11_scan::{ErrorFlags, Line, Sort, next_token};
+use m11_scan_expressions::{Names, Remarks, left_over, skip_flags};
+use std::alloc::AllocError;
+
+/// What `.IIF` says.
+#[derive(Clone, Copy, PartialEq, Eq, Debug)]
+pub struct Immediate {
+    /// Whether its condition holds. Where it doesn't, no statement is taken.
+    pub holds: bool,
+    /// The column where its statement begins, which is all of the text after the comma. Without the comma it has none.
+    pub statement: Option<u8>,
+}
+
+/// The condition, the comma and the statement that stand in a line from a column on. Without the comma the line has A, and Q and I
+/// for what is left over. Error: memory may be refused.
+pub fn iif<N: Names>(
+    line: &Line,
+    column: usize,
+    names: &N,
+    remarks: &mut Remarks,
+) -> Result<Immediate, AllocError>
+    requires { column ≤ length line.now.text }
+    ensures immediate { IfOk result (λ immediate. immediate
+        ≡ spec.immediate (known_by (N.base names.now) (N.stands_for names.now)) line.now.text column) }
+    ensures remarks { IfOk result (λ _. remarks.new ≡ joined remarks.old
+        (spec.remarks (known_by (N.base names.now) (N.stands_for names.now)) line.now.text column)) }
+    ensures within { IfOk result (λ immediate. IfSome immediate.statement (λ begin. begin ≤ length line.now.text)) }
+{
+    let verdict = condition(line, column, names, remarks)?;
+    let end = usize::from(verdict.end);
+    let statement = after_comma(line, end);
+    remarks.add_flags(comma_flags(line, end, statement));
+    Ok(Immediate {
+        holds: verdict.holds,
+        statement,
+    })
+}
+
+/// The column after the comma that stands next in a line from a column on, if one does.
+pub fn after_comma(line: &Line, column: usize) -> Option<u8>
+    requires { column ≤ length line.now.text }
+    ensures statement { result ≡ spec.after_comma (tokens_from line.now.text column) }
+    ensures least { IfSome result (λ begin. column < begin) }
+    ensures within { IfSome result (λ begin. begin ≤ length line.now.text) }
+{
+    match next_token(line, column) {
+        Some(token) if is_comma(token.sort) => Some(token.end),
+        _ => None,
+    }
+}
+
+fn is_comma(sort: Sort) -> bool
+    ensures { result ≡ is_comma sort }
+{
+    matches!(sort, Sort::Comma)
+}
+
+// I for a skipped character before the comma; without it A, and what is left over.
+fn comma_flags(line: &Line, column: usize, statement: Option<u8>) -> ErrorFlags
+    requires { column ≤ length line.now.text }
+    ensures { bits_of result ≡ spec.comma_flags line.now.text column statement }
+{
+    match statement {
+        Some(end) => skip_flags(line, column, usize::from(end)),
+        None => ErrorFlags::A.with(left_over(line, column)),
+    }
+}

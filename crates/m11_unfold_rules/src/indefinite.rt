@@ -1,0 +1,181 @@
+//! What `.IRP` and `.IRPC` repeat. (MACRO-11 Language Reference Manual, "Indefinite repeat block directives".)
+
+ghost use Rattle.std.specs.Prelude.{◌≡◌, ◌≤◌, length, map, IfOk, IfSome};
+ghost use Rattle.m11_unfold_rules.specs.Actuals.{texts_of};
+ghost use Rattle.m11_unfold_rules.specs.Conditions.{text_of};
+ghost use Rattle.m11_scan_expressions.specs.Expressions.{known_by};
+ghost use Rattle.m11_unfold_rules.specs.Indefinite as spec;
+ghost use Rattle.m11_unfold_rules.specs.Indefinite.{rounds_seen};
+ghost use Rattle.m11_scan_expressions.specs.Remarks.{joined};
+
+use crate::actuals::{actuals_from, text_of};
+use crate::conditions::actual_flags;
+use crate::macros::name_at;
+use m11_base::Name;
+use m11_scan::{LINE_LIMIT, Line};
+use m11_scan_expressions::{Names, Remarks, bad_flags, flags_before, left_over};
+use m11_scan_statements::{Actual, ActualKind, next_actual, separator_at};
+use std::alloc::{AllocError, Global};
+
+/// What `.IRP` or `.IRPC` repeats.
+#[derive(Drop)]
+pub struct Rounds {
+    /// The formal.
+    pub formal: Name,
+    /// Its actual in each round.
+    pub texts: Vec<Vec<u8>>,
+}
+
+// A formal, and the actual that stands for its list.
+#[derive(Clone, Copy, PartialEq, Eq, Debug)]
+pub struct RepeatHeader {
+    pub(crate) formal: Name,
+    pub(crate) list: Actual,
+}
+
+/// The formal and the list of an `.IRP` that stand in a line from a column on: in brackets a list of actuals, else one actual. Where
+/// either is bad or missing the line has A, and nothing is repeated nor read. What is left over has Q and I. Error: memory may be refused.
+pub fn irp<N: Names>(
+    alloc: Global,
+    line: &Line,
+    column: usize,
+    names: &N,
+    remarks: &mut Remarks,
+) -> Result<Option<Rounds>, AllocError>
+    requires { column ≤ length line.now.text }
+    ensures rounds { IfOk result (λ rounds. rounds_seen rounds ≡ (spec.irp
+        (known_by (N.base names.now) (N.stands_for names.now)) line.now.text column).rounds) }
+    ensures remarks { IfOk result (λ _. remarks.new ≡ joined remarks.old (spec.irp
+        (known_by (N.base names.now) (N.stands_for names.now)) line.now.text column).remarks) }
+{
+    let Some(begun) = begun_at(line, column, true) else {
+        remarks.add_flags(bad_flags(line, column));
+        return Ok(None);
+    };
+    remarks.add_flags(flags_before(line, column));
+    let texts = listed(alloc, line, &begun.list, names, remarks)?;
+    remarks.add_flags(left_over(line, usize::from(begun.list.end)));
+    Ok(Some(Rounds {
+        formal: begun.formal,
+        texts,
+    }))
+}
+
+/// The formal and the text of an `.IRPC` that stand in a line from a column on: each character of the text is the actual of a round.
+/// Where either is bad or missing the line has A, and nothing is repeated nor read. What is left over has Q and I. Error: memory may be refused.
+pub fn irpc(
+    alloc: Global,
+    line: &Line,
+    column: usize,
+    remarks: &mut Remarks,
+) -> Result<Option<Rounds>, AllocError>
+    requires { column ≤ length line.now.text }
+    ensures rounds { IfOk result (λ rounds. rounds_seen rounds
+        ≡ (spec.irpc line.now.text column).rounds) }
+    ensures remarks { IfOk result (λ _. remarks.new
+        ≡ joined remarks.old (spec.irpc line.now.text column).remarks) }
+{
+    let Some(begun) = begun_at(line, column, false) else {
+        remarks.add_flags(bad_flags(line, column));
+        return Ok(None);
+    };
+    remarks.add_flags(flags_before(line, column));
+    let texts = spelled(alloc, line, &begun.list, remarks)?;
+    remarks.add_flags(left_over(line, usize::from(begun.list.end)));
+    Ok(Some(Rounds {
+        formal: begun.formal,
+        texts,
+    }))
+}
+
+// The formal and the list that stand in a line from a column on, if neither is bad or missing.
+fn begun_at(line: &Line, column: usize, gives_digits: bool) -> Option<RepeatHeader>
+    requires { column ≤ length line.now.text }
+    ensures begun { result ≡ spec.begun_at line.now.text column gives_digits }
+    ensures begins { IfSome result (λ begun. begun.list.inside.start ≤ length line.now.text) }
+    ensures within { IfSome result (λ begun. begun.list.end ≤ length line.now.text) }
+{
+    let name = name_at(line, column)?;
+    let begin = separator_at(line, usize::from(name.end)).end;
+    let list = next_actual(line, usize::from(begin), gives_digits)?;
+    Some(RepeatHeader {
+        formal: name.name,
+        list,
+    })
+}
+
+// The actuals of `.IRP`.
+fn listed<N: Names>(
+    alloc: Global,
+    line: &Line,
+    list: &Actual,
+    names: &N,
+    remarks: &mut Remarks,
+) -> Result<Vec<Vec<u8>>, AllocError>
+    requires { list.now.inside.start ≤ length line.now.text }
+    ensures texts { IfOk result (λ texts. texts_of texts.items ≡ (spec.listed
+        (known_by (N.base names.now) (N.stands_for names.now)) line.now.text list.now).texts) }
+    ensures remarks { IfOk result (λ _. remarks.new ≡ joined remarks.old (spec.listed
+        (known_by (N.base names.now) (N.stands_for names.now)) line.now.text list.now).remarks) }
+{
+    match list.kind {
+        ActualKind::Bracketed => listed_in(alloc, line, list, names, remarks),
+        ActualKind::Bare | ActualKind::Digits => {
+            let mut texts = Vec::new(alloc);
+            texts.push(text_of(alloc, line, list, names, remarks)?)?;
+            Ok(texts)
+        }
+    }
+}
+
+// A list of actuals in brackets, which is read as a line of its own.
+fn listed_in<N: Names>(
+    alloc: Global,
+    line: &Line,
+    list: &Actual,
+    names: &N,
+    remarks: &mut Remarks,
+) -> Result<Vec<Vec<u8>>, AllocError>
+    ensures texts { IfOk result (λ texts. texts_of texts.items ≡ (spec.listed_in
+        (known_by (N.base names.now) (N.stands_for names.now)) line.now.text list.now).texts) }
+    ensures remarks { IfOk result (λ _. remarks.new ≡ joined remarks.old (spec.listed_in
+        (known_by (N.base names.now) (N.stands_for names.now)) line.now.text list.now).remarks) }
+{
+    remarks.add_flags(actual_flags(list));
+    let inner = line_of(line, list);
+    actuals_from(alloc, &inner, 0, LINE_LIMIT, names, remarks)
+}
+
+// The characters of an actual, as a line.
+fn line_of(line: &Line, actual: &Actual) -> Line
+    ensures { result.text ≡ text_of line.now.text actual.now }
+{
+    let text = actual.inside.text(line);
+    let _whole = line.text();
+    Line::from_bytes(text)
+}
+
+// Each character of a text, as a text.
+fn spelled(
+    alloc: Global,
+    line: &Line,
+    list: &Actual,
+    remarks: &mut Remarks,
+) -> Result<Vec<Vec<u8>>, AllocError>
+    ensures texts { IfOk result (λ texts. texts_of texts.items ≡ (spec.spelled line.now.text list.now).texts) }
+    ensures remarks { IfOk result (λ _. remarks.new ≡ joined remarks.old (spec.spelled line.now.text list.now).remarks) }
+{
+    remarks.add_flags(actual_flags(list));
+    characters_of(alloc, list.inside.text(line))
+}
+
+// The characters of a text, as texts.
+fn characters_of(alloc: Global, text: &[u8]) -> Result<Vec<Vec<u8>>, AllocError>
+    ensures { IfOk result (λ texts. texts_of texts.items ≡ map spec.alone text.now) }
+{
+    let mut texts = Vec::new(alloc);
+    'characters: for byte in text {
+        texts.push([*byte].to_vec(alloc)?)?;
+    }
+    Ok(texts)
+}

@@ -1,0 +1,194 @@
+//! The name of a macro and its formals. (MACRO-11 Language Reference Manual, "Macro definition" and "Automatic creation of local
+//! symbols".)
+
+ghost use Rattle.std.specs.Prelude.{◌≡◌, ◌≤◌, [], length, IfOk, IfSome};
+ghost use Rattle.m11_scan.specs.Cutting.{tokens_from};
+ghost use Rattle.m11_scan.specs.Views.{bits_of};
+ghost use Rattle.m11_scan_statements.specs.Labels.{is_counter};
+ghost use Rattle.m11_unfold_rules.specs.Headers as spec;
+ghost use Rattle.m11_unfold_rules.specs.Headers.{header_seen, listed_seen};
+ghost use Rattle.m11_scan_expressions.specs.Remarks.{joined, remarks_of};
+
+use m11_base::Name;
+use m11_scan::{ErrorFlags, LINE_LIMIT, Line, Sort, next_token, read_name};
+use m11_scan_expressions::{Remarks, bad_flags, flags_before, rest_flags, skip_flags};
+use m11_scan_statements::{Formal, NextFormal, next_formal, separator_at};
+use std::alloc::{AllocError, Global};
+
+/// A formal of a macro.
+#[derive(Clone, Copy, PartialEq, Eq, Debug)]
+pub struct MacroFormal {
+    /// Its name.
+    pub name: Name,
+    /// Whether a local symbol is created where its actual is empty.
+    pub is_created: bool,
+}
+
+/// What a `.MACRO` defines.
+#[derive(Drop)]
+pub struct Header {
+    /// The macro's name.
+    pub name: Name,
+    /// Its formals, in order.
+    pub formals: Vec<MacroFormal>,
+}
+
+/// The name and the formals that stand in a line from a column on. Without a name nothing is defined, and the line has A. What is no
+/// formal ends the list, and has A. Error: memory may be refused.
+pub fn header_at(
+    alloc: Global,
+    line: &Line,
+    column: usize,
+    remarks: &mut Remarks,
+) -> Result<Option<Header>, AllocError>
+    requires { column ≤ length line.now.text }
+    ensures header { IfOk result (λ header. header_seen header ≡ (spec.header line.now.text column).named) }
+    ensures remarks { IfOk result (λ _. remarks.new
+        ≡ joined remarks.old (remarks_of (spec.header line.now.text column).flags [])) }
+{
+    let Some(name) = name_at(line, column) else {
+        remarks.add_flags(bad_flags(line, column));
+        return Ok(None);
+    };
+    let formals = formals_within(alloc, line, usize::from(name.end), LINE_LIMIT)?;
+    remarks.add_flags(flags_before(line, column).with(formals.flags));
+    Ok(Some(Header {
+        name: name.name,
+        formals: formals.list,
+    }))
+}
+
+/// A name that stands in a line.
+#[derive(Clone, Copy, PartialEq, Eq, Debug)]
+pub struct NameAt {
+    /// The name.
+    pub name: Name,
+    /// The column after it.
+    pub end: u8,
+}
+
+/// The name that stands next in a line from a column on, if one that a line can define does.
+pub fn name_at(line: &Line, column: usize) -> Option<NameAt>
+    requires { column ≤ length line.now.text }
+    ensures name { result ≡ spec.name_at (tokens_from line.now.text column) }
+    ensures within { IfSome result (λ name. name.end ≤ length line.now.text) }
+{
+    let token = next_token(line, column)?;
+    let name = name_in(token.sort, token.text(line))?;
+    Some(NameAt {
+        name,
+        end: token.end,
+    })
+}
+
+fn name_in(sort: Sort, text: &[u8]) -> Option<Name>
+    ensures { result ≡ spec.name_in sort text.now }
+{
+    match sort {
+        Sort::Name if is_counter(text) => None,
+        Sort::Name => read_name(text),
+        _ => None,
+    }
+}
+
+fn is_counter(text: &[u8]) -> bool
+    ensures { result ≡ is_counter text.now }
+{
+    matches!(text, [b'.'])
+}
+
+// A list of formals, and its flags.
+#[derive(Drop)]
+struct Formals {
+    list: Vec<MacroFormal>,
+    flags: ErrorFlags,
+}
+
+// At most `bound` formals after a column.
+fn formals_within(
+    alloc: Global,
+    line: &Line,
+    column: usize,
+    bound: usize,
+) -> Result<Formals, AllocError>
+    requires { column ≤ length line.now.text }
+    ensures list { IfOk result (λ formals. formals.list.items
+        ≡ (spec.formals_within bound line.now.text column).list) }
+    ensures flags { IfOk result (λ formals. bits_of formals.flags
+        ≡ (spec.formals_within bound line.now.text column).flags) }
+{
+    let mut list = Vec::new(alloc);
+    let mut flags = ErrorFlags::none();
+    let mut end = column;
+    let mut left = bound;
+    'formals: while left > 0 {
+        let begin = usize::from(separator_at(line, end).end);
+        match listed_at(line, begin) {
+            FormalOrEnd::More(next) => {
+                list.push(next.formal)?;
+                flags = flags.with(next.flags);
+                end = usize::from(next.end);
+            }
+            FormalOrEnd::Last(last) => {
+                return Ok(Formals {
+                    list,
+                    flags: flags.with(last),
+                });
+            }
+        }
+        left -= 1;
+    }
+    Ok(Formals { list, flags })
+}
+
+// A formal, its flags, and the column after it.
+#[derive(Clone, Copy, PartialEq, Eq, Debug)]
+pub struct FormalAt {
+    pub(crate) formal: MacroFormal,
+    pub(crate) flags: ErrorFlags,
+    pub(crate) end: u8,
+}
+
+// What stands in a list of formals.
+#[derive(Clone, Copy, PartialEq, Eq, Debug)]
+pub enum FormalOrEnd {
+    // Its end, with the flags of what stands from there on.
+    Last(ErrorFlags),
+    // A formal.
+    More(FormalAt),
+}
+
+// What stands in a list of formals at a column.
+fn listed_at(line: &Line, column: usize) -> FormalOrEnd
+    requires { column ≤ length line.now.text }
+    ensures listed { listed_seen result ≡ spec.listed_at line.now.text column }
+    ensures within { spec.IsWithin (length line.now.text) result }
+{
+    match next_formal(line, column) {
+        NextFormal::Ends => FormalOrEnd::Last(rest_flags(line, column)),
+        NextFormal::Bad => FormalOrEnd::Last(bad_flags(line, column)),
+        NextFormal::Named(formal) => match read_name(formal.name.text(line)) {
+            Some(name) => FormalOrEnd::More(FormalAt {
+                formal: MacroFormal {
+                    name,
+                    is_created: formal.is_created,
+                },
+                flags: skip_flags(line, column, formal_start(formal)),
+                end: formal.name.end,
+            }),
+            None => FormalOrEnd::Last(bad_flags(line, column)),
+        },
+    }
+}
+
+// The column where a formal begins, with the `?` directly before it.
+fn formal_start(formal: Formal) -> usize
+    ensures { result ≡ spec.formal_start formal }
+{
+    let start = usize::from(formal.name.start);
+    if formal.is_created {
+        start.saturating_sub(1)
+    } else {
+        start
+    }
+}
