@@ -8,7 +8,7 @@ from pathlib import Path
 TOP = Path(__file__).resolve().parent.parent
 
 # The crates that a program over the unfolder names.
-UNFOLDER = ["m11_unfold_arguments", "m11_base", "m11_scan_lines", "m11_scan", "m11_unfold", "m11_unfold_rules", "m11_scan_expressions"]
+UNFOLDER = ["m11_base", "m11_scan", "m11_unfold", "m11_unfold_rules", "m11_scan_expressions"]
 
 # What each program over it has, and where it stands in its crate.
 SHARED = {"unfolding/unknown.txt": "src/unknown.rt", "unfolding/Known.txt": "specs/Known.antt"}
