@@ -12,3 +12,4 @@ pub mod Instructions
 pub mod OperationTables
 pub mod Encoding
 pub mod Mnemonics
+pub mod Words

@@ -8,7 +8,8 @@ use Rattle.m11_base.specs.declared.instruction.ConditionCodes.{ConditionCodes}
 use Rattle.m11_base.specs.declared.instruction.DoubleOp.TheVariants.{Cmp}
 use Rattle.m11_base.specs.declared.operand.Size.{Size}
 use Rattle.m11_base.specs.declared.operand.Size.TheVariants.{Word, Byte}
-use Rattle.m11_cpu_arithmetic.specs.Sizes.{size_limit, signed, modulo, overflows, is_outside}
+use Rattle.m11_base.specs.Words.{modulo}
+use Rattle.m11_cpu_arithmetic.specs.Sizes.{size_limit, signed, overflows, is_outside}
 use Rattle.m11_cpu_arithmetic.specs.Results.{differ}
 use Rattle.m11_cpu_arithmetic.specs.Doubles.{double_result}
 use Rattle.m11_cpu_arithmetic.specs.Branches.{is_taken}

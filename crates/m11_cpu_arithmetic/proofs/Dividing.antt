@@ -6,7 +6,8 @@ use Rattle.std.proofs.lemmas.Bool.Decides.{nat_tests}
 use Rattle.std.proofs.lemmas.Nat.{div-mul-add}
 use Rattle.std.proofs.lemmas.Int.{ints, to_z-of_z, quot-rem, rem_below, fits_signed_from_abs}
 use Rattle.m11_base.specs.declared.operand.Size.TheVariants.{Word}
-use Rattle.m11_cpu_arithmetic.specs.Sizes.{signed, modulo, overflows}
+use Rattle.m11_base.specs.Words.{modulo}
+use Rattle.m11_cpu_arithmetic.specs.Sizes.{signed, overflows}
 use Rattle.m11_cpu_arithmetic.specs.Extended.{joined, product_of, division_of, divided, done, refused_by_zero, refused_quotient}
 use Rattle.m11_cpu_arithmetic.specs.Laws.{IsProduct, IsDivided, IsQuotient, HasNoQuotient}
 use Rattle.m11_cpu_arithmetic.proofs.Exact.{held_in_word, word_again, word_holds, product_fits, bits_held, size_at_most, signed_fits}

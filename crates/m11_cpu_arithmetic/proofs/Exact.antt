@@ -9,7 +9,8 @@ use Rattle.m11_base.specs.declared.operand.Size.TheVariants.{Word, Byte}
 use Rattle.m11_cpu_arithmetic.specs.declared.results.Computed.{Computed}
 use Rattle.m11_cpu_arithmetic.specs.declared.results.Pair.{Pair}
 use Rattle.m11_cpu_arithmetic.specs.declared.results.Division.{Division}
-use Rattle.m11_cpu_arithmetic.specs.Sizes.{size_limit, signed, modulo, overflows}
+use Rattle.m11_base.specs.Words.{modulo}
+use Rattle.m11_cpu_arithmetic.specs.Sizes.{size_limit, signed, overflows}
 use Rattle.m11_cpu_arithmetic.specs.Results.{with_codes, exact_result, pair_of}
 use Rattle.m11_cpu_arithmetic.specs.Doubles.{sum, difference}
 use Rattle.m11_cpu_arithmetic.specs.Singles.{negated}

@@ -8,7 +8,8 @@ use Rattle.std.proofs.lemmas.Bool.{cases_Bool, cases_lt, false≢true, ltb-false
 use Rattle.std.proofs.lemmas.Bool.Decides.{nat_tests}
 use Rattle.std.proofs.lemmas.Int.{ints}
 use Rattle.m11_cpu_arithmetic.specs.Extended.{joined}
-use Rattle.m11_cpu_arithmetic.specs.Sizes.{modulo, overflows_pair, pair_limit}
+use Rattle.m11_base.specs.Words.{modulo}
+use Rattle.m11_cpu_arithmetic.specs.Sizes.{overflows_pair, pair_limit}
 use Rattle.m11_cpu_arithmetic.specs.Shifts.{places, shifted, last_bit, digit, shift_pair_result}
 use Rattle.m11_cpu_arithmetic.specs.declared.results.Pair.{Pair}
 use Rattle.m11_cpu_arithmetic.specs.Results.{pair_of}

@@ -6,7 +6,8 @@ use Rattle.m11_base.specs.declared.operand.Size.TheVariants.{Word}
 use Rattle.m11_cpu_arithmetic.specs.declared.results.Pair.{Pair}
 use Rattle.m11_cpu_arithmetic.specs.declared.results.Division.{Division}
 use Rattle.m11_cpu_arithmetic.specs.declared.results.Division.TheVariants.{Done, Refused}
-use Rattle.m11_cpu_arithmetic.specs.Sizes.{size_limit, pair_limit, signed, modulo, overflows}
+use Rattle.m11_base.specs.Words.{modulo}
+use Rattle.m11_cpu_arithmetic.specs.Sizes.{size_limit, pair_limit, signed, overflows}
 use Rattle.m11_cpu_arithmetic.specs.Results.{pair_of}
 
 -- the number of 32 bits that two words have together, the highest bit a sign

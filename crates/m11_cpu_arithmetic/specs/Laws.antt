@@ -12,7 +12,8 @@ use Rattle.m11_cpu_arithmetic.specs.declared.results.Computed.{Computed}
 use Rattle.m11_cpu_arithmetic.specs.declared.results.Division.{Division}
 use Rattle.m11_cpu_arithmetic.specs.declared.results.Division.TheVariants.{Done, Refused}
 use Rattle.m11_cpu_arithmetic.specs.declared.results.Pair.{Pair}
-use Rattle.m11_cpu_arithmetic.specs.Sizes.{size_limit, pair_limit, signed, modulo}
+use Rattle.m11_base.specs.Words.{modulo}
+use Rattle.m11_cpu_arithmetic.specs.Sizes.{size_limit, pair_limit, signed}
 use Rattle.m11_cpu_arithmetic.specs.Doubles.{double_result}
 use Rattle.m11_cpu_arithmetic.specs.Singles.{single_result}
 use Rattle.m11_cpu_arithmetic.specs.Extended.{joined, product_of}

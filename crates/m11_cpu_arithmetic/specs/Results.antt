@@ -5,7 +5,8 @@ use Rattle.std.specs.Int.{cast_signed, w32}
 use Rattle.m11_base.specs.declared.operand.Size.{Size}
 use Rattle.m11_cpu_arithmetic.specs.declared.results.Computed.{Computed}
 use Rattle.m11_cpu_arithmetic.specs.declared.results.Pair.{Pair}
-use Rattle.m11_cpu_arithmetic.specs.Sizes.{size_limit, signed, modulo, overflows, is_outside}
+use Rattle.m11_base.specs.Words.{modulo}
+use Rattle.m11_cpu_arithmetic.specs.Sizes.{size_limit, signed, overflows, is_outside}
 
 -- one of the two is set, and the other isn't
 abbrev pub differ : Bool → Bool → Bool

@@ -4,7 +4,8 @@ use Rattle.std.specs.Int.{int_div_euclid}
 use Rattle.m11_base.specs.declared.operand.Size.TheVariants.{Word}
 use Rattle.m11_cpu_arithmetic.specs.declared.results.Computed.{Computed}
 use Rattle.m11_cpu_arithmetic.specs.declared.results.Pair.{Pair}
-use Rattle.m11_cpu_arithmetic.specs.Sizes.{size_limit, pair_limit, signed, modulo, overflows, overflows_pair}
+use Rattle.m11_base.specs.Words.{modulo}
+use Rattle.m11_cpu_arithmetic.specs.Sizes.{size_limit, pair_limit, signed, overflows, overflows_pair}
 use Rattle.m11_cpu_arithmetic.specs.Results.{with_codes, pair_of}
 use Rattle.m11_cpu_arithmetic.specs.Extended.{joined}
 

@@ -8,7 +8,8 @@ use Rattle.m11_base.specs.declared.instruction.SingleOp.TheVariants.{Jmp, Swab, 
 use Rattle.m11_base.specs.declared.operand.Size.{Size}
 use Rattle.m11_base.specs.declared.operand.Size.TheVariants.{Word, Byte}
 use Rattle.m11_cpu_arithmetic.specs.declared.results.Computed.{Computed}
-use Rattle.m11_cpu_arithmetic.specs.Sizes.{size_limit, sign_bit, signed, modulo, overflows, complement}
+use Rattle.m11_base.specs.Words.{modulo}
+use Rattle.m11_cpu_arithmetic.specs.Sizes.{size_limit, sign_bit, signed, overflows, complement}
 use Rattle.m11_cpu_arithmetic.specs.Results.{differ, with_codes}
 use Rattle.m11_cpu_arithmetic.specs.Doubles.{sum, difference}
 

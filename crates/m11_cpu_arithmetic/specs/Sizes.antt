@@ -1,6 +1,6 @@
 -- Words and bytes as numbers, and numbers as words and bytes. (PDP-11/40 Processor Handbook, "Instruction
 -- set": condition codes, and two's complement numbers.)
-use Rattle.std.specs.Prelude.{ℕ, ◌-◌, ◌%◌, Bool, ◌||◌, ℤ, pos, negsuc, neg_ℤ, int_lt, int_le}
+use Rattle.std.specs.Prelude.{ℕ, ◌-◌, Bool, ◌||◌, ℤ, pos, neg_ℤ, int_lt, int_le}
 use Rattle.std.specs.Int.{cast_signed, w8, w16}
 use Rattle.m11_base.specs.declared.operand.Size.{Size}
 use Rattle.m11_base.specs.declared.operand.Size.TheVariants.{Word, Byte}
@@ -23,12 +23,6 @@ sign_bit Byte = 0o200
 abbrev pub signed : Size → ℕ → ℤ
 signed Word value = cast_signed w16 value
 signed Byte value = cast_signed w8 value
-
--- what is left of an exact number below a limit: its remainder, which is never negative. (`negsuc n` is
--- -(n + 1).)
-abbrev pub modulo : ℕ → ℤ → ℕ
-modulo limit (pos n) = n % limit
-modulo limit (negsuc n) = limit - 1 - n % limit
 
 -- an exact number with a sign that the size can't represent
 abbrev pub overflows : Size → ℤ → Bool

@@ -1,7 +1,8 @@
 //! Words and bytes as numbers, and numbers as words and bytes.
 
 ghost use Rattle.std.specs.Prelude.{◌≡◌, ◌<◌};
-ghost use Rattle.m11_cpu_arithmetic.specs.Sizes.{size_limit, sign_bit, signed, modulo, overflows, is_outside, complement};
+ghost use Rattle.m11_base.specs.Words.{modulo};
+ghost use Rattle.m11_cpu_arithmetic.specs.Sizes.{size_limit, sign_bit, signed, overflows, is_outside, complement};
 
 use m11_base::Size;
 

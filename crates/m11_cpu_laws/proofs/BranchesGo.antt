@@ -3,7 +3,7 @@ use Rattle.std.proofs.Common.{◌≡◌, ◌≢◌, ℕ, ◌+◌, ◌-◌, ◌*�
 use Rattle.std.specs.Prelude.{ℤ, pos, negsuc, nat_lt, ◌≤◌}
 use Rattle.std.proofs.lemmas.Bool.{ltb-false, ltb-true, ne_eqb}
 use Rattle.m11_cpu_arithmetic.specs.Branches.{is_taken}
-use Rattle.m11_cpu_arithmetic.specs.Sizes.{modulo}
+use Rattle.m11_base.specs.Words.{modulo}
 use Rattle.m11_base.specs.Operand.{register_number}
 use Rattle.m11_base.specs.declared.instruction.BranchOp.{BranchOp}
 use Rattle.m11_base.specs.declared.instruction.Insn.TheVariants as insn

@@ -3,7 +3,7 @@
 -- silent.)
 use Rattle.std.specs.Prelude.{ℕ, ◌+◌, ◌*◌, ◌%◌, ◌==◌, if◌then◌else◌, ℤ, pos, ◌+ℤ◌, Ok, Err}
 use Rattle.m11_cpu_arithmetic.specs.Branches.{is_taken}
-use Rattle.m11_cpu_arithmetic.specs.Sizes.{modulo}
+use Rattle.m11_base.specs.Words.{modulo}
 use Rattle.m11_base.specs.declared.instruction.BranchOp.{BranchOp}
 use Rattle.m11_base.specs.declared.operand.Operand.{Operand}
 use Rattle.m11_base.specs.declared.operand.Register.{Register}

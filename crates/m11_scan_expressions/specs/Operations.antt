@@ -3,7 +3,7 @@
 use Rattle.std.specs.Prelude.{ℕ, ◌+◌, ◌-◌, ◌*◌, ◌%◌, ◌==◌, ◌&&◌, ◌||◌, Bool, nat_lt, if◌then◌else◌, Option, Some, None, int_div}
 use Rattle.std.specs.Int.{cast_signed, w16}
 use Rattle.std.specs.Int.RustNames.{bit_and, bit_or}
-use Rattle.m11_cpu_arithmetic.specs.Sizes.{modulo}
+use Rattle.m11_base.specs.Words.{modulo}
 use Rattle.m11_scan.specs.ErrorFlags.{flag_A}
 use Rattle.m11_scan_expressions.specs.declared.kinds.Kind.{Kind}
 use Rattle.m11_scan_expressions.specs.declared.kinds.Kind.TheVariants.{Register}
