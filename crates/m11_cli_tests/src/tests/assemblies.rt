@@ -58,7 +58,9 @@ fn front_before<'a>(text: &'a [u8], pieces: &[&[u8]]) -> Option<&'a [u8]> {
 fn rest_after_lines<'a>(text: &'a [u8], lines: &[&str]) -> Option<&'a [u8]> {
     let mut rest = text;
     for line in lines {
-        rest = rest.strip_prefix(line.as_bytes())?.strip_prefix(b"\n")?;
+        rest = rest
+            .strip_prefix(line.as_bytes())?
+            .strip_prefix(b"\n".as_slice())?;
     }
     Some(rest)
 }
@@ -78,7 +80,7 @@ pub(crate) fn left(
     let done = found.outcome?;
     let is_whole = !wanted.listed.is_empty();
     assert!(rt;
-        u64::from(done.flagged) + 1 == wanted.reported.len() as u64,
+        u64::from(done.flagged).saturating_add(1) == wanted.reported.len() as u64,
         "{name}: the count"
     );
     match front_before(found.object.as_slice(), wanted.object) {

@@ -2,7 +2,7 @@
 
 use m11_asm::AsmFault;
 use m11_cli_chain::{ChainFault, Chained, run_chain};
-use m11_cpu::LoadFault;
+use m11_cpu::{LoadFault, Machine};
 use m11_link::LinkFault;
 use m11_unfold_rules::UnfoldFault;
 use std::alloc::{AllocError, Global};
@@ -86,30 +86,24 @@ fn chain_of(
     }
 }
 
-// A chain came to the machine of its row: its memory is of so many words, and has these bytes from 1000 on.
-fn has(rt: &impl Abort, row: Row<'_>, done: &Chained) {
+// A chain came to the machine and the start of its row: its memory is of so many words, and has these bytes from 1000 on.
+fn has(rt: &impl Abort, row: Row<'_>, machine: &Machine, found: u16) {
     let (name, _, words, start, bytes, refusal) = row;
     assert!(rt; refusal.is_none(), "{name}: a machine");
-    assert!(rt; done.start == start, "{name}: the start");
+    assert!(rt; found == start, "{name}: the start");
     let mut address: u16 = 0o1000;
     for byte in bytes {
+        assert!(rt; machine.has_byte(address), "{name}: no byte at {address}");
         assert!(rt;
-            done.machine.has_byte(address),
-            "{name}: no byte at {address}"
-        );
-        assert!(rt;
-            done.machine.byte(address) == *byte,
+            machine.byte(address) == *byte,
             "{name}: the byte at {address}"
         );
         address = address.wrapping_add(1);
     }
     let end = words.wrapping_mul(2);
+    assert!(rt; !machine.has_byte(end), "{name}: a byte past the memory");
     assert!(rt;
-        !done.machine.has_byte(end),
-        "{name}: a byte past the memory"
-    );
-    assert!(rt;
-        done.machine.has_byte(end.wrapping_sub(1)),
+        machine.has_byte(end.wrapping_sub(1)),
         "{name}: no last byte"
     );
 }
@@ -119,7 +113,7 @@ fn check(rt: &(impl Abort + AllocGlobal), row: Row<'_>) -> Result<(), ChainFault
     let (name, sources, words, _, _, refusal) = row;
     match chain_of(rt, sources, words) {
         Ok(done) => {
-            has(rt, row, &done);
+            has(rt, row, &done.machine, done.start);
             drop(done);
             Ok(())
         }

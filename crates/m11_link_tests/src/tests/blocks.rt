@@ -3,15 +3,16 @@
 use super::same;
 use m11_base::{Feed, FuseFeed, MemoryFeed};
 use m11_obj::{
-    BlockFault, BlockReader, TapeFault, TapeReader, block_bytes, tape_block, tape_transfer,
+    Block, BlockFault, BlockReader, TapeFault, TapeReader, block_bytes, tape_block, tape_transfer,
 };
 use std::process::Abort;
 use std::test::Fail;
 
 // The bytes of a block are these: what stands before its content, the content, and the sum byte.
 fn is_framed(rt: &impl Abort, bytes: &[u8], front: &[u8], content: &[u8], sum: u8) {
+    let end = [sum];
     let found = match bytes.strip_prefix(front) {
-        Some(rest) => rest.strip_suffix(&[sum]),
+        Some(rest) => rest.strip_suffix(end.as_slice()),
         None => None,
     };
     same(rt, &"a block", &found, &Some(content));
@@ -61,10 +62,11 @@ fn the_byte_past_the_limit_is_too_much(rt: HostRuntime) -> Result<(), Fail> {
         (4_194_305, BlockFault::TooMuch, TapeFault::TooMuch),
     ] {
         let mut object = FuseFeed::new(MemoryFeed::new(&zeros), calls);
-        let block = BlockReader::new().next(&mut object);
-        same(&rt, &calls, &block.err(), &Some(of_object));
+        let block = BlockReader::new().next_into(&mut object, &mut Block::new());
+        same(&rt, &calls, &block, &Err(of_object));
         let mut tape = FuseFeed::new(MemoryFeed::new(&zeros), calls);
-        let part = TapeReader::new().next(&mut tape);
+        let mut reader = TapeReader::new();
+        let part = reader.next(&mut tape);
         same(&rt, &calls, &part, &Err(of_tape));
     }
     Ok(())

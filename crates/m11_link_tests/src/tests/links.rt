@@ -134,7 +134,9 @@ fn rest_after<'a>(text: &'a [u8], pieces: &[&[u8]]) -> Option<&'a [u8]> {
 fn rest_after_lines<'a>(text: &'a [u8], lines: &[&str]) -> Option<&'a [u8]> {
     let mut rest = text;
     for line in lines {
-        rest = rest.strip_prefix(line.as_bytes())?.strip_prefix(b"\n")?;
+        rest = rest
+            .strip_prefix(line.as_bytes())?
+            .strip_prefix(b"\n".as_slice())?;
     }
     Some(rest)
 }

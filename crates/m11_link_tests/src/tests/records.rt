@@ -52,14 +52,6 @@ static DIRECTORY: [u8; 34] = [
     0x01, 0x00,
 ];
 
-fn relocation(is_byte: bool, displacement: u8, target: Target) -> Relocation {
-    Relocation {
-        is_byte,
-        displacement,
-        target,
-    }
-}
-
 #[test]
 fn records_have_their_bytes_of_the_manual(rt: HostRuntime) -> Result<(), Fail> {
     is_record(&rt, &Record::gsd(&directory()?), &DIRECTORY)?;
@@ -68,9 +60,16 @@ fn records_have_their_bytes_of_the_manual(rt: HostRuntime) -> Result<(), Fail> {
     is_record(&rt, &Record::internal_symbols(), &[5, 0])?;
     is_record(&rt, &Record::end_of_module(), &[6, 0])?;
     // the selection of a section is command 7, a displaced global symbol command 4
-    let blank = Target::LocationCounterDefinition(name(b"      ")?, 0);
-    let selects = relocation(false, 0, blank);
-    let global = relocation(false, 6, Target::GlobalDisplaced(name(b"F     ")?));
+    let selects = Relocation {
+        is_byte: false,
+        displacement: 0,
+        target: Target::LocationCounterDefinition(name(b"      ")?, 0),
+    };
+    let global = Relocation {
+        is_byte: false,
+        displacement: 6,
+        target: Target::GlobalDisplaced(name(b"F     ")?),
+    };
     same(&rt, &"the length", &global.byte_count(), &6);
     is_record(
         &rt,
@@ -82,6 +81,14 @@ fn records_have_their_bytes_of_the_manual(rt: HostRuntime) -> Result<(), Fail> {
         &Record::relocations(&[global]),
         &[4, 0, 4, 6, 0x80, 0x25, 0, 0],
     )
+}
+
+fn relocation(is_byte: bool, displacement: u8, target: Target) -> Relocation {
+    Relocation {
+        is_byte,
+        displacement,
+        target,
+    }
 }
 
 // The walk gives these relocations and then nothing more, and so does reading by number.
