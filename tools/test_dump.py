@@ -78,6 +78,7 @@ BAD = TEXT[:-1] + bytes([TEXT[-1] ^ 1])
 TAPE = (block(word(0o1000) + word(0o12700) + word(5) + b"\2") + b"\377\0" + block(word(0o1001) + b"\1\2") + block(word(4) + b"\7" * 18)
         + block(word(0o1000)))
 LONG = block(word(0o2000) + b"\0" * 600)
+LONGEST = block(word(0) + b"\7" * 65_529)
 
 SHOWN_TAPE = """\
 BLOCK 001000
@@ -224,6 +225,8 @@ CASES = (
     ("a tape with a long block", "A.TAP", {"A.TAP": LONG}, 4, "TAPE A.TAP\nBLOCK 002000"
      + "".join(f"\n  {0o2000 + 16 * at:06o}" + " 000000" * min(8, 300 - 8 * at) for at in range(38)) + "\n",
      f"?M11 DUMP 20 Tape 8 NoTransfer IN BLOCK 2 AT BYTE {len(LONG)} OF A.TAP\n"),
+    ("a tape with the longest block", "A.TAP", {"A.TAP": LONGEST + block(word(0o1000))}, 0, "TAPE A.TAP\nBLOCK 000000\n"
+     + "".join(f"  {line * 16:06o}" + " 003407" * 8 + "\n" for line in range(4_095)) + "  177760" + " 003407" * 4 + " 007\nSTART 001000\n", ""),
     ("a tape that is cut off", "A.TAP B.OBJ", {"A.TAP": TAPE[:17], "B.OBJ": GOOD}, 4, "TAPE A.TAP\nBLOCK 001000\n  001000 012700 000005 002\n",
      "?M11 DUMP 20 Tape 2 Truncated IN BLOCK 2 AT BYTE 17 OF A.TAP\n"),
     ("a tape that is cut off in its data", "A.TAP", {"A.TAP": TAPE[:21]}, 4, "TAPE A.TAP\nBLOCK 001000\n  001000 012700 000005 002\n",

@@ -1,5 +1,5 @@
-//! Tests alone, of what the cases of the suite can't show: statuses and lines of other outcomes, devices that fail, the files and
-//! words of the system, and whole assemblies at their limits, of two texts that differ, or looked at line by line.
+//! Tests alone, of what no case of the suite and no test of the program can show: statuses and lines of other outcomes, whole
+//! assemblies whose devices fail at each call, of two texts that differ, or looked at line by line, and whole chains over memory.
 #![tactic(auto)]
 
 #[cfg(test)]

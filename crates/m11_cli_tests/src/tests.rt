@@ -1,6 +1,5 @@
-//! What the command line makes of outcomes, devices that fail, and the system; and what an assembly does with them.
+//! What whole assemblies write, and what comes of outcomes and chains.
 
 mod assemblies;
-mod failing;
+mod chains;
 mod outcomes;
-mod system;

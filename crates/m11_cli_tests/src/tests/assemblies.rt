@@ -1,15 +1,10 @@
-//! What the tests of whole assemblies share: assemblies of what two passes read, and what is looked at after one.
+//! What the tests of whole assemblies share: what an assembly left, and what it should leave.
 
 mod failing;
-mod faults;
-mod limits;
-mod readings;
 mod streaming;
 mod two_texts;
 
-use m11_asm::{AsmDone, AsmFault, asm_run};
-use m11_base::{MemoryFeed, MemorySink, WriterSink};
-use std::alloc::Global;
+use m11_asm::{AsmDone, AsmFault};
 use std::process::Abort;
 use std::test::Fail;
 
@@ -40,112 +35,39 @@ pub(crate) struct Assembled {
     pub(crate) messages: Vec<u8>,
 }
 
-impl Assembled {
-    // Whether the object is these pieces.
-    fn has_object(&self, pieces: &[&[u8]]) -> bool {
-        rest_after(self.object.as_slice(), pieces).is_some_and(<[u8]>::is_empty)
-    }
-
-    // Whether the listing has these lines.
-    fn lists(&self, lines: &[&str]) -> bool {
-        rest_after_lines(self.listing.as_slice(), lines).is_some_and(<[u8]>::is_empty)
-    }
-
-    // Whether these lines were reported.
-    pub(crate) fn reports(&self, lines: &[&str]) -> bool {
-        rest_after_lines(self.messages.as_slice(), lines).is_some_and(<[u8]>::is_empty)
-    }
-
-    // Whether nothing was written.
-    pub(crate) fn is_empty(&self) -> bool {
-        self.object.is_empty() && self.listing.is_empty() && self.messages.is_empty()
-    }
-
-    // Where memory was refused nothing more is looked at.
-    pub(crate) fn had_memory(&self) -> Result<(), AsmFault> {
-        match self.outcome {
-            Err(AsmFault::NoMemory) => Err(AsmFault::NoMemory),
-            _ => Ok(()),
-        }
-    }
+// What an assembly that ends well leaves: the last pieces of its object, which are all of them where the listing is looked at; the lines of
+// its listing, none where it isn't looked at; and those of its messages, one for each flagged line and one more. Lines are without their
+// ends.
+#[derive(Clone, Copy)]
+pub(crate) struct Wanted<'a> {
+    pub(crate) object: &'a [&'a [u8]],
+    pub(crate) listed: &'a [&'a str],
+    pub(crate) reported: &'a [&'a str],
 }
 
-// What stands after these pieces, where a text begins with them.
-fn rest_after<'a>(text: &'a [u8], pieces: &[&[u8]]) -> Option<&'a [u8]> {
-    let mut rest = text;
-    for piece in pieces {
-        rest = rest.strip_prefix(*piece)?;
+// What stands before these pieces, where a text ends with them.
+fn front_before<'a>(text: &'a [u8], pieces: &[&[u8]]) -> Option<&'a [u8]> {
+    let mut front = text;
+    for piece in pieces.iter().rev() {
+        front = front.strip_suffix(*piece)?;
     }
-    Some(rest)
+    Some(front)
 }
 
 // What stands after these lines, where a text begins with them.
 fn rest_after_lines<'a>(text: &'a [u8], lines: &[&str]) -> Option<&'a [u8]> {
     let mut rest = text;
     for line in lines {
-        rest = rest_after(rest, &[line.as_bytes(), b"\n"])?;
+        rest = rest
+            .strip_prefix(line.as_bytes())?
+            .strip_prefix(b"\n".as_slice())?;
     }
     Some(rest)
 }
 
-// Assembles what two passes read, without a listing.
-pub(crate) fn assembled_from<'a>(
-    alloc: Global,
-    first: &mut [MemoryFeed<'a>],
-    second: &mut [MemoryFeed<'a>],
-) -> Assembled {
-    let mut object = Vec::new(alloc);
-    let mut listing: Option<MemorySink> = None;
-    let mut messages = Vec::new(alloc);
-    let outcome = asm_run(
-        alloc,
-        first,
-        second,
-        &mut WriterSink::new(&mut object),
-        &mut listing,
-        &mut WriterSink::new(&mut messages),
-    );
-    Assembled {
-        outcome,
-        object,
-        listing: Vec::new(alloc),
-        messages,
-    }
-}
-
-// Assembles what two passes read, with a listing.
-pub(crate) fn listed_from<'a>(
-    alloc: Global,
-    first: &mut [MemoryFeed<'a>],
-    second: &mut [MemoryFeed<'a>],
-) -> Assembled {
-    let mut object = Vec::new(alloc);
-    let mut listing = Vec::new(alloc);
-    let mut messages = Vec::new(alloc);
-    let outcome = asm_run(
-        alloc,
-        first,
-        second,
-        &mut WriterSink::new(&mut object),
-        &mut Some(WriterSink::new(&mut listing)),
-        &mut WriterSink::new(&mut messages),
-    );
-    Assembled {
-        outcome,
-        object,
-        listing,
-        messages,
-    }
-}
-
-// What an assembly that ends well leaves: its object in pieces, the lines of its listing and of its messages without their ends, and how
-// many lines are flagged.
-#[derive(Clone, Copy)]
-pub(crate) struct Wanted<'a> {
-    pub(crate) object: &'a [&'a [u8]],
-    pub(crate) listed: &'a [&'a str],
-    pub(crate) reported: &'a [&'a str],
-    pub(crate) flagged: u32,
+// Whether a text has these lines.
+fn has_lines(text: &[u8], lines: &[&str]) -> bool {
+    rest_after_lines(text, lines).is_some_and(<[u8]>::is_empty)
 }
 
 // An assembly left what is wanted. The name is for the reader.
@@ -156,9 +78,22 @@ pub(crate) fn left(
     wanted: Wanted<'_>,
 ) -> Result<(), Fail> {
     let done = found.outcome?;
-    assert!(rt; done.flagged == wanted.flagged, "{name}: the count");
-    assert!(rt; found.has_object(wanted.object), "{name}: the object");
-    assert!(rt; found.lists(wanted.listed), "{name}: the listing");
-    assert!(rt; found.reports(wanted.reported), "{name}: the messages");
+    let is_whole = !wanted.listed.is_empty();
+    assert!(rt;
+        u64::from(done.flagged).saturating_add(1) == wanted.reported.len() as u64,
+        "{name}: the count"
+    );
+    match front_before(found.object.as_slice(), wanted.object) {
+        Some(front) => assert!(rt; front.is_empty() || !is_whole, "{name}: the object"),
+        None => assert!(rt; false, "{name}: the end of the object"),
+    }
+    assert!(rt;
+        !is_whole || has_lines(found.listing.as_slice(), wanted.listed),
+        "{name}: the listing"
+    );
+    assert!(rt;
+        has_lines(found.messages.as_slice(), wanted.reported),
+        "{name}: the messages"
+    );
     Ok(())
 }

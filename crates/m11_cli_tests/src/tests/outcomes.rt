@@ -1,4 +1,4 @@
-//! The status and the line of each outcome that no case of the suite can come to.
+//! Numbers and names of faults; and the status and the line of each outcome that no case of the suite and no test of the program comes to.
 
 use m11_asm::AsmFault;
 use m11_base::MemorySink;
@@ -7,49 +7,53 @@ use m11_cli::{Outcome, WordsFault, command_without_words, fault_line, status};
 use m11_cpu::{LoadFault, SimFault};
 use m11_link::LinkFault;
 use m11_obj::{BlockFault, TapeFault};
+use m11_scan::LineFault;
 use m11_unfold_rules::UnfoldFault;
+use std::alloc::AllocError;
 use std::process::Abort;
 use std::test::Fail;
 
-// The faults of an assembly, the status that each leaves, and its line.
+// The faults of an assembly, the number and the name of each, the status that it leaves, and its line.
 #[rattlefmt::skip]
-static ASSEMBLIES: [(AsmFault, u8, &str); 12] = [
-    (AsmFault::Read, 3, "?M11 ASM 1 Read\n"),
-    (AsmFault::Write(Output::Product), 3, "?M11 ASM 2 Write OBJECT\n"),
-    (AsmFault::Write(Output::Report), 3, "?M11 ASM 2 Write LISTING\n"),
-    (AsmFault::Write(Output::Messages), 3, "?M11 ASM 2 Write MESSAGES\n"),
-    (AsmFault::TooManySymbols, 6, "?M11 ASM 3 TooManySymbols\n"),
-    (AsmFault::TooManySections, 6, "?M11 ASM 4 TooManySections\n"),
-    (AsmFault::Unfold(UnfoldFault::TooDeep), 6, "?M11 ASM 5 Unfold 1 TooDeep\n"),
-    (AsmFault::Unfold(UnfoldFault::TooManyLines), 6, "?M11 ASM 5 Unfold 2 TooManyLines\n"),
-    (AsmFault::Unfold(UnfoldFault::TooMuchText), 6, "?M11 ASM 5 Unfold 3 TooMuchText\n"),
-    (AsmFault::Unfold(UnfoldFault::TooManyMacros), 6, "?M11 ASM 5 Unfold 4 TooManyMacros\n"),
-    (AsmFault::TooMuchSource, 6, "?M11 ASM 6 TooMuchSource\n"),
-    (AsmFault::NoMemory, 5, "?M11 ASM 90 NoMemory\n"),
+static ASSEMBLIES: [(AsmFault, u8, &str, u8, &str); 12] = [
+    (AsmFault::Read, 1, "Read", 3, "?M11 ASM 1 Read\n"),
+    (AsmFault::Write(Output::Product), 2, "Write", 3, "?M11 ASM 2 Write OBJECT\n"),
+    (AsmFault::Write(Output::Report), 2, "Write", 3, "?M11 ASM 2 Write LISTING\n"),
+    (AsmFault::Write(Output::Messages), 2, "Write", 3, "?M11 ASM 2 Write MESSAGES\n"),
+    (AsmFault::TooManySymbols, 3, "TooManySymbols", 6, "?M11 ASM 3 TooManySymbols\n"),
+    (AsmFault::TooManySections, 4, "TooManySections", 6, "?M11 ASM 4 TooManySections\n"),
+    (AsmFault::Unfold(UnfoldFault::TooDeep), 5, "Unfold", 6, "?M11 ASM 5 Unfold 1 TooDeep\n"),
+    (AsmFault::Unfold(UnfoldFault::TooManyLines), 5, "Unfold", 6, "?M11 ASM 5 Unfold 2 TooManyLines\n"),
+    (AsmFault::Unfold(UnfoldFault::TooMuchText), 5, "Unfold", 6, "?M11 ASM 5 Unfold 3 TooMuchText\n"),
+    (AsmFault::Unfold(UnfoldFault::TooManyMacros), 5, "Unfold", 6, "?M11 ASM 5 Unfold 4 TooManyMacros\n"),
+    (AsmFault::TooMuchSource, 6, "TooMuchSource", 6, "?M11 ASM 6 TooMuchSource\n"),
+    (AsmFault::NoMemory, 90, "NoMemory", 5, "?M11 ASM 90 NoMemory\n"),
+];
+
+// Faults of unfolding, each with its number and its name, and what they are to an assembly.
+#[rattlefmt::skip]
+static UNFOLDINGS: [(UnfoldFault, u8, &str, AsmFault); 5] = [
+    (UnfoldFault::TooDeep, 1, "TooDeep", AsmFault::Unfold(UnfoldFault::TooDeep)),
+    (UnfoldFault::TooManyLines, 2, "TooManyLines", AsmFault::Unfold(UnfoldFault::TooManyLines)),
+    (UnfoldFault::TooMuchText, 3, "TooMuchText", AsmFault::Unfold(UnfoldFault::TooMuchText)),
+    (UnfoldFault::TooManyMacros, 4, "TooManyMacros", AsmFault::Unfold(UnfoldFault::TooManyMacros)),
+    (UnfoldFault::NoMemory, 90, "NoMemory", AsmFault::NoMemory),
 ];
 
 // The faults of a link, the status that each leaves, and its line.
 #[rattlefmt::skip]
-static LINKS: [(LinkFault, u8, &str); 11] = [
-    (LinkFault::Read, 3, "?M11 LINK 1 Read\n"),
-    (LinkFault::Write(Output::Product), 3, "?M11 LINK 2 Write TAPE\n"),
-    (LinkFault::Write(Output::Report), 3, "?M11 LINK 2 Write MAP\n"),
+static LINKS: [(LinkFault, u8, &str); 5] = [
     (LinkFault::Write(Output::Messages), 3, "?M11 LINK 2 Write MESSAGES\n"),
     (LinkFault::Block(BlockFault::Device), 4, "?M11 LINK 3 Block 1 Device\n"),
     (LinkFault::Block(BlockFault::Failed), 4, "?M11 LINK 3 Block 7 Failed\n"),
     (LinkFault::Block(BlockFault::TooMuch), 4, "?M11 LINK 3 Block 8 TooMuch\n"),
-    (LinkFault::TooManyGlobals, 6, "?M11 LINK 10 TooManyGlobals\n"),
-    (LinkFault::TooManySections, 6, "?M11 LINK 11 TooManySections\n"),
-    (LinkFault::TooMuch, 6, "?M11 LINK 13 TooMuch\n"),
     (LinkFault::NoMemory, 5, "?M11 LINK 90 NoMemory\n"),
 ];
 
 // The faults of a run, the status that each leaves, and its line.
 #[rattlefmt::skip]
-static RUNS: [(SimFault, u8, &str); 5] = [
-    (SimFault::Load(LoadFault::Tape(TapeFault::Device)), 3, "?M11 SIM 1 Device\n"),
+static RUNS: [(SimFault, u8, &str); 3] = [
     (SimFault::Load(LoadFault::Tape(TapeFault::Failed)), 4, "?M11 SIM 7 Failed\n"),
-    (SimFault::Load(LoadFault::Tape(TapeFault::TooMuch)), 6, "?M11 SIM 9 TooMuch\n"),
     (SimFault::Write, 3, "?M11 SIM 11 Write MESSAGES\n"),
     (SimFault::NoMemory, 5, "?M11 SIM 90 NoMemory\n"),
 ];
@@ -73,12 +77,14 @@ fn check(
     }
 }
 
-// Each fault of an assembly does.
+// Each fault of an assembly has its number and its name, leaves its status, and its line is put.
 fn check_assemblies(
     rt: &(impl Abort + AllocGlobal),
-    rows: &[(AsmFault, u8, &str)],
+    rows: &[(AsmFault, u8, &str, u8, &str)],
 ) -> Result<(), Fail> {
-    for (fault, status, line) in rows {
+    for (fault, number, name, status, line) in rows {
+        assert_eq!(rt; fault.number(), *number, "{name}");
+        assert_eq!(rt; fault.name(), *name);
         check(rt, &Outcome::Asm(Err(*fault)), *status, line)?;
     }
     Ok(())
@@ -103,31 +109,33 @@ fn check_runs(rt: &(impl Abort + AllocGlobal), rows: &[(SimFault, u8, &str)]) ->
     Ok(())
 }
 
+// Each fault of unfolding has its number and its name, and is what it should be to an assembly.
+fn check_unfoldings(rt: &impl Abort, rows: &[(UnfoldFault, u8, &str, AsmFault)]) {
+    for (fault, number, name, wanted) in rows {
+        assert_eq!(rt; fault.number(), *number, "{name}");
+        assert_eq!(rt; fault.name(), *name);
+        assert!(rt; AsmFault::from(*fault) == *wanted, "{name}");
+    }
+}
+
+// The status and the line of words that the system doesn't give for want of memory.
+fn check_words(rt: &(impl Abort + AllocGlobal)) {
+    let mut err = MemorySink::new(rt.alloc());
+    let status = command_without_words(rt.alloc(), WordsFault::NoMemory, &mut err);
+    assert_eq!(rt; status, 5);
+    assert!(rt; err.bytes() == "?M11 USAGE 90 NoMemory\n".as_bytes());
+}
+
 #[test]
 fn each_outcome_has_its_status_and_line(rt: HostRuntime) -> Result<(), Fail> {
     check_assemblies(&rt, &ASSEMBLIES)?;
     check_links(&rt, &LINKS)?;
     check_runs(&rt, &RUNS)?;
+    check_unfoldings(&rt, &UNFOLDINGS);
+    assert!(rt; AsmFault::from(LineFault::Read) == AsmFault::Read);
+    assert!(rt; AsmFault::from(LineFault::TooMuchSource) == AsmFault::TooMuchSource);
+    assert!(rt; AsmFault::from(LineFault::TooManyLines) == AsmFault::TooMuchSource);
+    assert!(rt; AsmFault::from(AllocError) == AsmFault::NoMemory);
+    check_words(&rt);
     check(&rt, &Outcome::NotOpened, 3, "")
-}
-
-// What the system doesn't give is reported, and leaves a status.
-fn check_words(rt: &(impl Abort + AllocGlobal), fault: WordsFault, expected: u8, line: &str) {
-    let mut err = MemorySink::new(rt.alloc());
-    assert_eq!(rt;
-        command_without_words(rt.alloc(), fault, &mut err),
-        expected
-    );
-    assert!(rt; err.bytes() == line.as_bytes(), "{line}");
-}
-
-#[test]
-fn words_that_the_system_does_not_give_are_refused(rt: HostRuntime) {
-    check_words(&rt, WordsFault::NoMemory, 5, "?M11 USAGE 90 NoMemory\n");
-    check_words(
-        &rt,
-        WordsFault::NotText(3),
-        2,
-        "error: word 3 is not valid UTF-8\n",
-    );
 }

@@ -1,12 +1,11 @@
 //! Single steps, and runs between them.
 
-use super::Fact::{In, Psw};
-use super::{After, Fact, Part, Program, SOUND, has_all, machine_of};
 use m11_base::Register::{Pc, R0, Sp};
-use m11_base::{MemoryFeed, MemorySink, Sink};
+use m11_base::{MemoryFeed, MemorySink, Register, Sink};
 use m11_cpu::Stop::{Halt, StackFault, Wait};
 use m11_cpu::Turn::{Next, Stopped};
-use m11_cpu::{Machine, Stop, Turn, run};
+use m11_cpu::{Machine, Stop, Turn, load, run};
+use std::alloc::Global;
 use std::process::Abort;
 use std::test::Fail;
 
@@ -18,50 +17,87 @@ enum Call {
     Run(Stop),
 }
 
+// What is looked at after a call.
+#[derive(Clone, Copy)]
+enum Fact {
+    // What a register holds.
+    In(Register, u16),
+    // The processor status word.
+    Psw(u16),
+}
+
 // Calls on the machine of a program, each with what it leaves.
 type Calls<'a> = &'a [(Call, &'a [Fact])];
 
-// A program by what it shows, and calls on its machine.
-type Called<'a> = (&'a str, &'a [Part<'a>], Calls<'a>);
+// A program by what it shows, its tape, and calls on its machine.
+type Called<'a> = (&'a str, &'a [u8], Calls<'a>);
+
+// HALT; WAIT; INC R0; HALT
+#[rattlefmt::skip]
+const HALTS_AND_WAITS: &[u8] = &[
+    0x01, 0x00, 0x0E, 0x00, 0x00, 0x02, 0x00, 0x00, 0x01, 0x00, 0x80, 0x0A, 0x00, 0x00, 0x64,
+    0x01, 0x00, 0x06, 0x00, 0x00, 0x02, 0xF7,
+];
+
+// EMT 0; INC R0
+#[rattlefmt::skip]
+const TRAPS_WITHOUT_A_STACK: &[u8] = &[
+    0x01, 0x00, 0x0A, 0x00, 0x00, 0x02, 0x00, 0x88, 0x80, 0x0A, 0xE1,
+    0x01, 0x00, 0x06, 0x00, 0x00, 0x02, 0xF7,
+];
+
+// MOV #1000,SP; MOV #20,-(SP); MOV #1016,-(SP); RTT; HALT; NOP
+#[rattlefmt::skip]
+const SETS_T_AT_A_HALT: &[u8] = &[
+    0x01, 0x00, 0x18, 0x00, 0x00, 0x02,
+    0xC6, 0x15, 0x00, 0x02, 0xE6, 0x15, 0x10, 0x00, 0xE6, 0x15, 0x0E, 0x02, 0x06, 0x00, 0x00, 0x00, 0xA0, 0x00, 0x4C,
+    0x01, 0x00, 0x06, 0x00, 0x00, 0x02, 0xF7,
+];
 
 static PROGRAMS: [Called<'static>; 3] = [
     (
         "A step after HALT and WAIT goes on after them",
-        &[(0o1000, &[0o000000, 0o000001, 0o005200, 0o000000])],
+        HALTS_AND_WAITS,
         &[
             (Call::Step(Stopped(Halt)), &[]),
             (Call::Step(Stopped(Wait)), &[]),
-            (Call::Step(Next), &[In(R0, 1)]),
-            (Call::Run(Halt), &[In(Pc, 0o1010)]),
+            (Call::Step(Next), &[Fact::In(R0, 1)]),
+            (Call::Run(Halt), &[Fact::In(Pc, 0o1010)]),
         ],
     ),
     (
         "A step after a stack fault returns it and changes nothing",
-        &[(0o1000, &[0o104000, 0o005200])],
+        TRAPS_WITHOUT_A_STACK,
         &[
             (Call::Step(Stopped(StackFault)), &[]),
             (Call::Step(Stopped(StackFault)), &[]),
             (
                 Call::Run(StackFault),
-                &[In(R0, 0), In(Sp, 0o177774), In(Pc, 0o1002)],
+                &[
+                    Fact::In(R0, 0),
+                    Fact::In(Sp, 0o177774),
+                    Fact::In(Pc, 0o1002),
+                ],
             ),
         ],
     ),
     (
         "T that is set at a HALT traces the instruction after it",
-        &[(
-            0o1000,
-            &[
-                0o012706, 0o001000, 0o012746, 0o000020, 0o012746, 0o001016, 0o000006, 0o000000,
-                0o000240,
-            ],
-        )],
+        SETS_T_AT_A_HALT,
         &[
-            (Call::Run(Halt), &[In(Pc, 0o1020), Psw(0o20)]),
-            (Call::Step(Next), &[In(Pc, 0), In(Sp, 0o774)]),
+            (Call::Run(Halt), &[Fact::In(Pc, 0o1020), Fact::Psw(0o20)]),
+            (Call::Step(Next), &[Fact::In(Pc, 0), Fact::In(Sp, 0o774)]),
         ],
     ),
 ];
+
+// A machine that has loaded a tape, at its start.
+fn machine_of(alloc: Global, tape: &[u8]) -> Result<Machine, Fail> {
+    let mut machine = Machine::new(alloc, 28_672)?;
+    let start = load(&mut machine, &mut MemoryFeed::new(tape))?;
+    machine.start_at(start);
+    Ok(machine)
+}
 
 // Whether a call on a machine returns what it should.
 fn returns<S: Sink>(machine: &mut Machine, sink: &mut S, call: Call) -> bool {
@@ -69,6 +105,17 @@ fn returns<S: Sink>(machine: &mut Machine, sink: &mut S, call: Call) -> bool {
     match call {
         Call::Step(turn) => machine.step(&mut feed, sink) == turn,
         Call::Run(stop) => run(machine, 9, &mut feed, sink) == stop,
+    }
+}
+
+// A machine has all of these.
+fn has_all(rt: &impl Abort, name: &str, machine: &Machine, facts: &[Fact]) {
+    for fact in facts {
+        let holds = match *fact {
+            Fact::In(register, value) => machine.register(register) == value,
+            Fact::Psw(bits) => machine.psw() == bits,
+        };
+        assert!(rt; holds, "{name}");
     }
 }
 
@@ -82,38 +129,23 @@ fn all_return<S: Sink>(
 ) {
     for (call, facts) in calls {
         assert!(rt; returns(machine, sink, *call), "{name}");
-        let after = After {
-            machine,
-            asked: 0,
-            sent: b"",
-        };
-        has_all(rt, name, &after, facts);
+        has_all(rt, name, machine, facts);
     }
 }
 
-// The calls on the machine of a program return and leave what is said.
-fn check_calls(
-    rt: &(impl Abort + AllocGlobal),
-    name: &str,
-    parts: &[Part<'_>],
-    calls: Calls<'_>,
-) -> Result<(), Fail> {
-    let mut machine = machine_of(rt, Program { parts, ..SOUND })?;
-    let mut sink = MemorySink::new(rt.alloc());
-    all_return(rt, name, &mut machine, &mut sink, calls);
-    drop(sink);
-    drop(machine);
-    Ok(())
-}
-
-fn check_all_calls(rt: &(impl Abort + AllocGlobal), rows: &[Called<'_>]) -> Result<(), Fail> {
-    for (name, parts, calls) in rows {
-        check_calls(rt, name, parts, calls)?;
+// The calls on the machine of each row's program return and leave what is said.
+fn check_calls(rt: &(impl Abort + AllocGlobal), rows: &[Called<'_>]) -> Result<(), Fail> {
+    for (name, tape, calls) in rows {
+        let mut machine = machine_of(rt.alloc(), tape)?;
+        let mut sink = MemorySink::new(rt.alloc());
+        all_return(rt, name, &mut machine, &mut sink, calls);
+        drop(sink);
+        drop(machine);
     }
     Ok(())
 }
 
 #[test]
 fn a_machine_that_has_stopped_may_be_stepped(rt: HostRuntime) -> Result<(), Fail> {
-    check_all_calls(&rt, &PROGRAMS)
+    check_calls(&rt, &PROGRAMS)
 }

@@ -31,7 +31,7 @@ impl Device {
     // a beginning of the object and of the listing, and messages only after all of both.
     fn leaves(self, found: &Assembled, whole: &Assembled) -> bool {
         match self {
-            Device::First => found.is_empty(),
+            Device::First => is_empty(found),
             Device::Output(Output::Messages) => {
                 begins(found, whole)
                     && found.object.len() == whole.object.len()
@@ -44,16 +44,22 @@ impl Device {
     }
 }
 
-// Whether a text begins with another one.
-fn is_beginning(text: &Vec<u8>, whole: &Vec<u8>) -> bool {
-    whole.as_slice().starts_with(text.as_slice())
+// Whether nothing was written.
+fn is_empty(found: &Assembled) -> bool {
+    found.object.is_empty() && found.listing.is_empty() && found.messages.is_empty()
 }
 
 // Whether each output is a beginning of what a whole assembly left.
 fn begins(found: &Assembled, whole: &Assembled) -> bool {
-    is_beginning(&found.object, &whole.object)
-        && is_beginning(&found.listing, &whole.listing)
-        && is_beginning(&found.messages, &whole.messages)
+    whole.object.as_slice().starts_with(found.object.as_slice())
+        && whole
+            .listing
+            .as_slice()
+            .starts_with(found.listing.as_slice())
+        && whole
+            .messages
+            .as_slice()
+            .starts_with(found.messages.as_slice())
 }
 
 // A device that fails after n calls, while all others pass.
@@ -138,7 +144,6 @@ const ONE_WORD_ASSEMBLED: Wanted<'static> = Wanted {
         "ERRORS DETECTED: 0",
     ],
     reported: &["ERRORS DETECTED: 0"],
-    flagged: 0,
 };
 
 // Labels that are made for each call, repeats, and a condition.
@@ -188,7 +193,6 @@ const TWICE_ASSEMBLED: Wanted<'static> = Wanted {
         "ERRORS DETECTED: 0",
     ],
     reported: &["ERRORS DETECTED: 0"],
-    flagged: 0,
 };
 
 // A device, how many bytes an output takes a call at most, and how many calls of the device an assembly makes: the last one of the object
@@ -217,7 +221,8 @@ static TWICE_FAILING: [Failing; 8] = [
     (Device::Output(Output::Messages), 7, 3),
 ];
 
-// An assembly whose device failed ended with its fault, and wrote no more than a beginning.
+// An assembly whose device failed ended with its fault, and wrote no more than a beginning. Where memory was refused nothing more is looked
+// at.
 fn ended_early(
     rt: &impl Abort,
     found: &Assembled,
@@ -225,7 +230,9 @@ fn ended_early(
     broken: Broken,
 ) -> Result<(), Fail> {
     let Broken { device, calls } = broken;
-    found.had_memory()?;
+    if found.outcome == Err(AsmFault::NoMemory) {
+        return Err(Fail::new("no memory"));
+    }
     assert!(rt;
         found.outcome == Err(device.fault()),
         "{device:?}: the fault after {calls} calls"
@@ -274,22 +281,19 @@ fn devices_may_fail(
     Ok(())
 }
 
-#[test]
-fn each_read_and_each_write_may_fail(rt: HostRuntime) -> Result<(), Fail> {
-    devices_may_fail(&rt, ONE_WORD, ONE_WORD_ASSEMBLED, &ONE_WORD_FAILING)?;
-    devices_may_fail(&rt, TWICE, TWICE_ASSEMBLED, &TWICE_FAILING)
-}
-
 // Whether an assembly with a broken device ends with this, and writes nothing.
 fn leaves_nothing(alloc: Global, broken: Broken, most: usize, fault: AsmFault) -> bool {
     let found = assembled_broken(alloc, ONE_WORD, broken, most);
-    let shown = found.outcome == Err(fault) && found.is_empty();
+    let shown = found.outcome == Err(fault) && is_empty(&found);
     drop(found);
     shown
 }
 
 #[test]
-fn devices_that_give_or_take_nothing_leave_nothing(rt: HostRuntime) {
+fn each_read_and_each_write_may_fail(rt: HostRuntime) -> Result<(), Fail> {
+    devices_may_fail(&rt, ONE_WORD, ONE_WORD_ASSEMBLED, &ONE_WORD_FAILING)?;
+    devices_may_fail(&rt, TWICE, TWICE_ASSEMBLED, &TWICE_FAILING)?;
+    // A source that gives nothing in the second pass, and outputs that take nothing.
     let second = Broken {
         device: Device::Second,
         calls: 0,
@@ -298,6 +302,8 @@ fn devices_that_give_or_take_nothing_leave_nothing(rt: HostRuntime) {
         device: Device::First,
         calls: u64::MAX,
     };
+    let product = AsmFault::Write(Output::Product);
     assert!(rt; leaves_nothing(rt.alloc(), second, 512, AsmFault::Read));
-    assert!(rt; leaves_nothing(rt.alloc(), none, 0, AsmFault::Write(Output::Product)));
+    assert!(rt; leaves_nothing(rt.alloc(), none, 0, product));
+    Ok(())
 }

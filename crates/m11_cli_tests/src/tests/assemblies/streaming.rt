@@ -81,20 +81,18 @@ impl Outputs {
         }
     }
 
-    // Takes lines, after each of which the listing has n bytes.
-    fn lists_by(&mut self, second: &mut Second, source: &[&str], lengths: &[usize]) -> bool {
-        for (line, length) in source.iter().zip(lengths) {
-            if self.take(second, line).is_err() || self.listed() != *length {
-                return false;
-            }
-        }
-        true
-    }
-
-    // Takes lines, after each of which the object has n bytes, and nothing is reported.
-    fn grows_by(&mut self, second: &mut Second, source: &[&str], lengths: &[usize]) -> bool {
-        for (line, length) in source.iter().zip(lengths) {
-            if self.take(second, line).is_err() || !self.has(*length, "") {
+    // Takes lines, after each of which the object and the listing have these lengths, and nothing is reported.
+    fn grows_by(
+        &mut self,
+        second: &mut Second,
+        source: &[&str],
+        lengths: &[(usize, usize)],
+    ) -> bool {
+        for (line, (object, listing)) in source.iter().zip(lengths) {
+            if self.take(second, line).is_err()
+                || !self.has(*object, "")
+                || self.listed() != *listing
+            {
                 return false;
             }
         }
@@ -102,11 +100,16 @@ impl Outputs {
     }
 }
 
-// A source, the length of the object after each line, and at the end.
-type Growing = (&'static [&'static str], &'static [usize], usize);
+// A source, the lengths of object and listing after each line, and at the end. A line of a listing has 42 characters before its text, one of
+// three further items 40, and each an end. After all lines stand 105 bytes, and a line for each name.
+type Growing = (
+    &'static [&'static str],
+    &'static [(usize, usize)],
+    (usize, usize),
+);
 
-static GROWING: [Growing; 3] = [
-    // a text is full, and is written when the next byte comes
+static GROWING: [Growing; 4] = [
+    // a text is full, and is written when the next byte comes; ten lines have the items after the third
     (
         &[
             ".ASCII /AAAAAAAAAAAAAAAAAAAAAAAAAAAAAAAA/",
@@ -114,10 +117,10 @@ static GROWING: [Growing; 3] = [
             ".BYTE 2",
             ".END",
         ],
-        &[46, 102, 102, 102],
-        120,
+        &[(46, 486), (102, 536), (102, 586), (102, 633)],
+        (120, 738),
     ),
-    // a text ends where the location moves
+    // a text ends where the location moves; lines of bodies and of expansions aren't listed
     (
         &[
             ".TITLE T",
@@ -131,33 +134,51 @@ static GROWING: [Growing; 3] = [
             "B1: MOV #B1,@Q",
             ".END B1",
         ],
-        &[62, 62, 62, 62, 62, 62, 62, 62, 101, 101],
-        140,
+        &[
+            (62, 51),
+            (62, 104),
+            (62, 104),
+            (62, 104),
+            (62, 150),
+            (62, 201),
+            (62, 249),
+            (62, 297),
+            (101, 354),
+            (101, 404),
+        ],
+        (140, 593),
     ),
     // after the end no line is read
     (
         &[".WORD 1", ".END", ".WORD 2", ".IF"],
-        &[46, 46, 46, 46],
-        79,
+        &[(46, 50), (46, 97), (46, 97), (46, 97)],
+        (79, 202),
+    ),
+    // the third line has a further line of items
+    (
+        &[".WORD 1", "NOP", ".WORD 1,2,3,4", ".END"],
+        &[(46, 50), (46, 96), (46, 177), (46, 224)],
+        (89, 329),
     ),
 ];
 
-// Whether the object of a second pass grows as a row says.
+// Whether the outputs of a second pass grow as a row says.
 fn grows(mut second: Second, outputs: &mut Outputs, row: Growing) -> bool {
-    let (source, lengths, length) = row;
+    let (source, lengths, (object, listing)) = row;
     if outputs.grows_by(&mut second, source, lengths) {
         outputs.end(second) == Ok(AsmDone { flagged: 0 })
-            && outputs.has(length, "ERRORS DETECTED: 0\n")
+            && outputs.has(object, "ERRORS DETECTED: 0\n")
+            && outputs.listed() == listing
     } else {
         drop(second);
         false
     }
 }
 
-// Each row's object grows as it says.
+// Each row's outputs grow as it says.
 fn all_grow(rt: &(impl Abort + AllocGlobal), rows: &[Growing]) -> Result<(), Fail> {
     for row in rows {
-        let (source, _, length) = row;
+        let (source, _, (length, _)) = row;
         let second = Second::new(rt.alloc(), symbols_of(rt.alloc(), source)?)?;
         let mut outputs = Outputs::new(rt.alloc());
         let shown = grows(second, &mut outputs, *row);
@@ -167,45 +188,33 @@ fn all_grow(rt: &(impl Abort + AllocGlobal), rows: &[Growing]) -> Result<(), Fai
     Ok(())
 }
 
-// A source whose third line has a further line of items, and how many bytes the listing has after each line. Each line of the source has 42
-// characters before its text and an end after it. What stands after all lines has 105 bytes.
-const LISTED: &[&str] = &[".WORD 1", "NOP", ".WORD 1,2,3,4", ".END"];
-
-const LISTED_LENGTHS: &[usize] = &[50, 96, 177, 224];
-
-// Whether the listing of a second pass is complete after each line.
-fn lists(mut second: Second, outputs: &mut Outputs) -> bool {
-    if outputs.lists_by(&mut second, LISTED, LISTED_LENGTHS) {
-        outputs.end(second) == Ok(AsmDone { flagged: 0 }) && outputs.listed() == 329
-    } else {
-        drop(second);
-        false
-    }
-}
-
 #[test]
-fn the_listing_is_complete_after_each_line(rt: HostRuntime) -> Result<(), Fail> {
-    let second = Second::new(rt.alloc(), symbols_of(rt.alloc(), LISTED)?)?;
-    let mut outputs = Outputs::new(rt.alloc());
-    let shown = lists(second, &mut outputs);
-    drop(outputs);
-    assert!(rt; shown);
-    Ok(())
-}
-
-#[test]
-fn a_text_is_written_once_it_is_closed(rt: HostRuntime) -> Result<(), Fail> {
+fn outputs_are_complete_after_each_line(rt: HostRuntime) -> Result<(), Fail> {
     all_grow(&rt, &GROWING)
 }
 
 // A macro that calls itself.
 const ENDLESS: &[&str] = &[".WORD 1", ".MACRO M", "M", ".ENDM", "M"];
 
-// Whether a first pass returns its fault again at a further line, and at its end.
-fn first_returns_again(alloc: Global) -> Result<bool, AllocError> {
-    let fault = AsmFault::Unfold(UnfoldFault::TooDeep);
+// Takes empty lines in the first pass.
+fn take_empty_lines(first: &mut First, count: u16) -> Result<(), AsmFault> {
+    let line = Line::from_bytes(b"");
+    for _ in 0..count {
+        first.line(&line)?;
+    }
+    Ok(())
+}
+
+// Whether a first pass that has taken n empty lines returns the fault of further ones again at one more, and at its end.
+fn first_returns_again(
+    alloc: Global,
+    count: u16,
+    source: &[&str],
+    fault: AsmFault,
+) -> Result<bool, AllocError> {
     let mut first = First::new(alloc)?;
-    let shown = take_lines(&mut first, ENDLESS) == Err(fault)
+    let shown = take_empty_lines(&mut first, count) == Ok(())
+        && take_lines(&mut first, source) == Err(fault)
         && take_lines(&mut first, &[".END"]) == Err(fault);
     Ok(ends_by(first, fault) && shown)
 }
@@ -240,34 +249,13 @@ fn second_returns_again(alloc: Global) -> Result<bool, AsmFault> {
     Ok(shown)
 }
 
-// Takes empty lines in the first pass.
-fn take_empty_lines(first: &mut First, count: u16) -> Result<(), AsmFault> {
-    let line = Line::from_bytes(b"");
-    for _ in 0..count {
-        first.line(&line)?;
-    }
-    Ok(())
-}
-
-// Whether a first pass takes 65,535 lines, and returns that the next one is too many, again and at its end.
-fn first_counts_lines(alloc: Global) -> Result<bool, AllocError> {
-    let fault = AsmFault::TooMuchSource;
-    let mut first = First::new(alloc)?;
-    let shown = take_empty_lines(&mut first, 65_535) == Ok(())
-        && take_empty_lines(&mut first, 1) == Err(fault)
-        && take_lines(&mut first, &[".END"]) == Err(fault);
-    Ok(ends_by(first, fault) && shown)
-}
-
-#[test]
-fn a_first_pass_takes_at_most_65535_lines(rt: HostRuntime) -> Result<(), Fail> {
-    assert!(rt; first_counts_lines(rt.alloc())?);
-    Ok(())
-}
-
 #[test]
 fn a_fault_is_returned_again(rt: HostRuntime) -> Result<(), Fail> {
-    assert!(rt; first_returns_again(rt.alloc())?);
+    let fault = AsmFault::Unfold(UnfoldFault::TooDeep);
+    assert!(rt; first_returns_again(rt.alloc(), 0, ENDLESS, fault)?);
+    // A first pass takes 65,535 lines.
+    let fault = AsmFault::TooMuchSource;
+    assert!(rt; first_returns_again(rt.alloc(), 65_535, &[""], fault)?);
     assert!(rt; second_returns_again(rt.alloc())?);
     Ok(())
 }

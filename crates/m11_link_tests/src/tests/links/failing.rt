@@ -1,12 +1,9 @@
 //! Links in which each feed and each output fails in turn, and outputs that take a byte a call.
 
-use super::{
-    DEFINES_F, DIRECTORY, END_OF_GSD, END_OF_MODULE, IN_BLANK_SECTION, Linked, NO_START, ONE_WORD,
-    Object, READS_F, READS_F_LINKED, RELOCATIONS, TEXT, Wanted, file_of, left,
-};
+use super::{DEFINES_F, FIRST_OF_F, Linked, MAP_OF_F, NO_START, READS_F, Wanted, done};
 use m11_base::{FuseFeed, FuseSink, MemoryFeed, WriterSink};
 use m11_base_writes::Output;
-use m11_link::{LinkDone, LinkFault, link_run};
+use m11_link::{LinkFault, link_run};
 use std::alloc::Global;
 use std::process::Abort;
 use std::test::Fail;
@@ -63,40 +60,19 @@ impl Broken {
     }
 }
 
-// Links two files with a broken device into texts, by outputs that take n bytes a call at most.
-fn link_broken(
-    alloc: Global,
-    files: [&[u8]; 2],
-    broken: Broken,
-    most: usize,
-    tape: &mut Vec<u8>,
-    map: &mut Vec<u8>,
-    messages: &mut Vec<u8>,
-) -> Result<LinkDone, LinkFault> {
-    link_run(
-        alloc,
-        &mut [broken.feed(0, files[0]), broken.feed(1, files[1])],
-        &mut [broken.feed(2, files[0]), broken.feed(3, files[1])],
-        0o1000,
-        &mut broken.sink(Output::Product, tape, most),
-        &mut Some(broken.sink(Output::Report, map, most)),
-        &mut broken.sink(Output::Messages, messages, most),
-    )
-}
-
-// Links two files with a broken device, and returns what comes of it with the texts.
+// Links two files with a broken device, by outputs that take n bytes a call at most.
 fn linked_broken(alloc: Global, files: [&[u8]; 2], broken: Broken, most: usize) -> Linked {
     let mut tape = Vec::new(alloc);
     let mut map = Vec::new(alloc);
     let mut messages = Vec::new(alloc);
-    let outcome = link_broken(
+    let outcome = link_run(
         alloc,
-        files,
-        broken,
-        most,
-        &mut tape,
-        &mut map,
-        &mut messages,
+        &mut [broken.feed(0, files[0]), broken.feed(1, files[1])],
+        &mut [broken.feed(2, files[0]), broken.feed(3, files[1])],
+        0o1000,
+        &mut broken.sink(Output::Product, &mut tape, most),
+        &mut Some(broken.sink(Output::Report, &mut map, most)),
+        &mut broken.sink(Output::Messages, &mut messages, most),
     );
     Linked {
         outcome,
@@ -116,52 +92,70 @@ fn begins(linked: &Linked, whole: &Linked) -> bool {
             .starts_with(linked.messages.as_slice())
 }
 
-// Whether each output is what a whole link left.
-fn is_whole(linked: &Linked, whole: &Linked) -> bool {
-    begins(linked, whole) && begins(whole, linked)
-}
-
-const DEFINES_X_AND_REFERS_TO_Q: Object<'static> = &[
-    &[
-        DIRECTORY,
-        // The module's name, A.
-        &[0x40, 0x06, 0x00, 0x00, 0x00, 0x00, 0x00, 0x00],
-        // A section, . ABS., of 0 bytes, flags 104.
-        &[0x01, 0xAF, 0x94, 0x0F, 0x44, 0x05, 0x00, 0x00],
-        // X is 1.
-        &[0x00, 0x96, 0x00, 0x00, 0x08, 0x04, 0x01, 0x00],
-        // Q is referred to.
-        &[0x40, 0x6A, 0x00, 0x00, 0x00, 0x04, 0x00, 0x00],
-        // A section, the blank name, of 2 bytes, flags 040.
-        &[0x00, 0x00, 0x00, 0x00, 0x20, 0x05, 0x02, 0x00],
-        // The transfer address, 1 in . ABS..
-        &[0x01, 0xAF, 0x94, 0x0F, 0x00, 0x03, 0x01, 0x00],
+// What the modules that read F and define it leave.
+const READS_F_LINKED: Wanted<'static> = Wanted {
+    tape: &[
+        FIRST_OF_F,
+        &[0x01, 0x00, 0x07, 0x00, 0x08, 0x02, 0x01, 0xED],
+        &[0x01, 0x00, 0x08, 0x00, 0x06, 0x02, 0x0A, 0x02, 0xE3],
+        &[0x01, 0x00, 0x08, 0x00, 0x0A, 0x02, 0x07, 0x00, 0xE4],
+        NO_START,
     ],
-    &[END_OF_GSD],
-    &[IN_BLANK_SECTION],
-    &[TEXT, &[0x00, 0x00, 0x00, 0x00]],
-    &[RELOCATIONS, &[0x02, 0x04, 0x40, 0x6A, 0x00, 0x00]],
-    &[END_OF_MODULE],
+    map: MAP_OF_F,
+    reported: &[],
+};
+
+// A module that defines X and refers to Q, and one that defines X again.
+#[rattlefmt::skip]
+const DEFINES_X_AND_REFERS_TO_Q: &[u8] = &[
+    // The directory.
+    0x01, 0x00, 0x36, 0x00, 0x01, 0x00,
+    // The module's name, A.
+    0x40, 0x06, 0x00, 0x00, 0x00, 0x00, 0x00, 0x00,
+    // A section, . ABS., of 0 bytes, flags 104.
+    0x01, 0xAF, 0x94, 0x0F, 0x44, 0x05, 0x00, 0x00,
+    // X is 1.
+    0x00, 0x96, 0x00, 0x00, 0x08, 0x04, 0x01, 0x00,
+    // Q is referred to.
+    0x40, 0x6A, 0x00, 0x00, 0x00, 0x04, 0x00, 0x00,
+    // A section, the blank name, of 2 bytes, flags 040.
+    0x00, 0x00, 0x00, 0x00, 0x20, 0x05, 0x02, 0x00,
+    // The transfer address, 1 in . ABS..
+    0x01, 0xAF, 0x94, 0x0F, 0x00, 0x03, 0x01, 0x00, 0x17,
+    // Its end.
+    0x01, 0x00, 0x06, 0x00, 0x02, 0x00, 0xF7,
+    // Texts go to the blank section.
+    0x01, 0x00, 0x0E, 0x00, 0x04, 0x00, 0x07, 0x00, 0x00, 0x00, 0x00, 0x00, 0x00, 0x00, 0xE6,
+    // A word.
+    0x01, 0x00, 0x0A, 0x00, 0x03, 0x00, 0x00, 0x00, 0x00, 0x00, 0xF2,
+    // It is that of Q.
+    0x01, 0x00, 0x0C, 0x00, 0x04, 0x00, 0x02, 0x04, 0x40, 0x6A, 0x00, 0x00, 0x3F,
+    // The end of the module.
+    0x01, 0x00, 0x06, 0x00, 0x06, 0x00, 0xF3,
 ];
 
-const DEFINES_X_AGAIN: Object<'static> = &[
-    &[
-        DIRECTORY,
-        // The module's name, B.
-        &[0x80, 0x0C, 0x00, 0x00, 0x00, 0x00, 0x00, 0x00],
-        // A section, . ABS., of 0 bytes, flags 104.
-        &[0x01, 0xAF, 0x94, 0x0F, 0x44, 0x05, 0x00, 0x00],
-        // X is 2.
-        &[0x00, 0x96, 0x00, 0x00, 0x08, 0x04, 0x02, 0x00],
-        // A section, the blank name, of 2 bytes, flags 040.
-        &[0x00, 0x00, 0x00, 0x00, 0x20, 0x05, 0x02, 0x00],
-        // The transfer address, 1 in . ABS..
-        &[0x01, 0xAF, 0x94, 0x0F, 0x00, 0x03, 0x01, 0x00],
-    ],
-    &[END_OF_GSD],
-    &[IN_BLANK_SECTION],
-    &[TEXT, &[0x00, 0x00, 0x02, 0x00]],
-    &[END_OF_MODULE],
+#[rattlefmt::skip]
+const DEFINES_X_AGAIN: &[u8] = &[
+    // The directory.
+    0x01, 0x00, 0x2E, 0x00, 0x01, 0x00,
+    // The module's name, B.
+    0x80, 0x0C, 0x00, 0x00, 0x00, 0x00, 0x00, 0x00,
+    // A section, . ABS., of 0 bytes, flags 104.
+    0x01, 0xAF, 0x94, 0x0F, 0x44, 0x05, 0x00, 0x00,
+    // X is 2.
+    0x00, 0x96, 0x00, 0x00, 0x08, 0x04, 0x02, 0x00,
+    // A section, the blank name, of 2 bytes, flags 040.
+    0x00, 0x00, 0x00, 0x00, 0x20, 0x05, 0x02, 0x00,
+    // The transfer address, 1 in . ABS..
+    0x01, 0xAF, 0x94, 0x0F, 0x00, 0x03, 0x01, 0x00, 0x86,
+    // Its end.
+    0x01, 0x00, 0x06, 0x00, 0x02, 0x00, 0xF7,
+    // Texts go to the blank section.
+    0x01, 0x00, 0x0E, 0x00, 0x04, 0x00, 0x07, 0x00, 0x00, 0x00, 0x00, 0x00, 0x00, 0x00, 0xE6,
+    // A word 2.
+    0x01, 0x00, 0x0A, 0x00, 0x03, 0x00, 0x00, 0x00, 0x02, 0x00, 0xF0,
+    // The end of the module.
+    0x01, 0x00, 0x06, 0x00, 0x06, 0x00, 0xF3,
 ];
 
 // What the two leave, with two messages.
@@ -171,15 +165,17 @@ const WITH_MESSAGES: Wanted<'static> = Wanted {
         &[0x01, 0x00, 0x08, 0x00, 0x02, 0x02, 0x02, 0x00, 0xF1],
         NO_START,
     ],
-    sections: &[
+    map: &[
+        "SECTIONS",
         ". ABS. 000000 000000 RW,I,GBL,ABS,OVR",
         "       001000 000004 RW,I,LCL,REL,CON",
+        "GLOBALS",
+        "X      000001 A",
+        "UNDEFINED",
+        "Q",
+        "TRANSFER 000001",
+        "LIMIT 001000 001004",
     ],
-    globals: &["X      000001 A"],
-    undefined: &["Q"],
-    weak: &[],
-    transfer: "TRANSFER 000001",
-    limit: "LIMIT 001000 001004",
     reported: &[
         "UNDEFINED GLOBAL Q",
         "MULTIPLE DEFINITION X      IN MODULE B",
@@ -205,7 +201,8 @@ static FAILING_MESSAGES: [Failing; 2] = [
     (Device::Output(Output::Messages), 1),
 ];
 
-// A link with a broken device left beginnings and ended with the device's fault, or left all: whether it did.
+// A link with a broken device left beginnings and ended with the device's fault, or left all: whether it did. Where memory was refused
+// nothing more is looked at.
 fn ended_whole(
     rt: &impl Abort,
     linked: &Linked,
@@ -213,7 +210,9 @@ fn ended_whole(
     broken: Broken,
 ) -> Result<bool, Fail> {
     let Broken { device, calls } = broken;
-    linked.had_memory()?;
+    if linked.outcome == Err(LinkFault::NoMemory) {
+        return Err(Fail::new("no memory"));
+    }
     assert!(rt;
         begins(linked, whole),
         "{device:?}: beginnings after {calls} calls"
@@ -221,7 +220,7 @@ fn ended_whole(
     match linked.outcome {
         Ok(_) => {
             assert!(rt;
-                is_whole(linked, whole),
+                begins(whole, linked),
                 "{device:?}: the outputs of a whole link"
             );
             Ok(true)
@@ -240,12 +239,13 @@ fn ended_whole(
 fn fails_in_turn(
     rt: &(impl Abort + AllocGlobal),
     files: [&[u8]; 2],
+    row: Failing,
     wanted: Wanted<'_>,
-    device: Device,
-    most: usize,
     whole: &Linked,
 ) -> Result<(), Fail> {
-    left(rt, whole, wanted)?;
+    let (device, most) = row;
+    assert!(rt; whole.outcome == done(wanted.reported), "the end");
+    assert!(rt; whole.has(wanted), "what was written");
     for calls in 0..1_000 {
         let broken = Broken { device, calls };
         let linked = linked_broken(rt.alloc(), files, broken, most);
@@ -259,49 +259,25 @@ fn fails_in_turn(
     Ok(())
 }
 
-// The link of two files leaves what is wanted, and ends as it should where a device fails.
-fn may_fail(
+// The link of two files leaves what is wanted, and ends as it should where each row's device fails.
+fn devices_may_fail(
     rt: &(impl Abort + AllocGlobal),
     files: [&[u8]; 2],
     wanted: Wanted<'_>,
-    device: Device,
-    most: usize,
-) -> Result<(), Fail> {
-    let sound = Broken {
-        device,
-        calls: u64::MAX,
-    };
-    let whole = linked_broken(rt.alloc(), files, sound, most);
-    let shown = fails_in_turn(rt, files, wanted, device, most, &whole);
-    drop(whole);
-    shown
-}
-
-// Each row's device may fail in the link of two objects.
-fn devices_may_fail(
-    rt: &(impl Abort + AllocGlobal),
-    objects: [Object<'_>; 2],
-    wanted: Wanted<'_>,
     rows: &[Failing],
 ) -> Result<(), Fail> {
-    let first = file_of(rt.alloc(), objects[0])?;
-    let second = file_of(rt.alloc(), objects[1])?;
-    let files = [first.as_slice(), second.as_slice()];
-    for (device, most) in rows {
-        may_fail(rt, files, wanted, *device, *most)?;
+    for row in rows {
+        let (device, most) = *row;
+        let sound = Broken {
+            device,
+            calls: u64::MAX,
+        };
+        let whole = linked_broken(rt.alloc(), files, sound, most);
+        let shown = fails_in_turn(rt, files, *row, wanted, &whole);
+        drop(whole);
+        shown?;
     }
     Ok(())
-}
-
-#[test]
-fn each_read_and_each_write_may_fail(rt: HostRuntime) -> Result<(), Fail> {
-    devices_may_fail(&rt, [READS_F, DEFINES_F], READS_F_LINKED, &FAILING)
-}
-
-#[test]
-fn each_write_of_messages_may_fail(rt: HostRuntime) -> Result<(), Fail> {
-    let objects = [DEFINES_X_AND_REFERS_TO_Q, DEFINES_X_AGAIN];
-    devices_may_fail(&rt, objects, WITH_MESSAGES, &FAILING_MESSAGES)
 }
 
 // Whether a link whose outputs take nothing fails at its first write, that of the map.
@@ -310,14 +286,22 @@ fn fails_at_once(alloc: Global) -> bool {
         device: Device::Feed(0),
         calls: u64::MAX,
     };
-    let linked = linked_broken(alloc, [ONE_WORD.as_slice(), b""], whole, 0);
-    match linked.outcome {
-        Err(fault) => fault == LinkFault::Write(Output::Report) && linked.is_empty(),
-        Ok(_) => false,
-    }
+    let linked = linked_broken(alloc, [READS_F, DEFINES_F], whole, 0);
+    let nothing = Wanted {
+        tape: &[],
+        map: &[],
+        reported: &[],
+    };
+    let shown = linked.outcome == Err(LinkFault::Write(Output::Report)) && linked.has(nothing);
+    drop(linked);
+    shown
 }
 
 #[test]
-fn outputs_that_take_nothing_fail(rt: HostRuntime) {
+fn each_read_and_each_write_may_fail(rt: HostRuntime) -> Result<(), Fail> {
+    devices_may_fail(&rt, [READS_F, DEFINES_F], READS_F_LINKED, &FAILING)?;
+    let with_messages = [DEFINES_X_AND_REFERS_TO_Q, DEFINES_X_AGAIN];
+    devices_may_fail(&rt, with_messages, WITH_MESSAGES, &FAILING_MESSAGES)?;
     assert!(rt; fails_at_once(rt.alloc()));
+    Ok(())
 }

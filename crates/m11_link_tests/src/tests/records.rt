@@ -1,4 +1,4 @@
-//! Records, written and read. (RT-11 Volume and File Formats Manual, "Object file format".)
+//! Records, written and read, and their relocations. (RT-11 Volume and File Formats Manual, "Object file format".)
 
 use super::same;
 use m11_base::Name;
@@ -11,7 +11,7 @@ fn name(characters: &[u8; 6]) -> Result<Name, Fail> {
 }
 
 // The content of a block, of at most 512 bytes.
-pub(crate) fn block(rt: &impl Abort, bytes: &[u8]) -> Block {
+fn block(rt: &impl Abort, bytes: &[u8]) -> Block {
     let mut content = Block::new();
     assert!(rt; content.try_extend_from_slice(bytes).is_ok());
     content
@@ -53,16 +53,12 @@ static DIRECTORY: [u8; 34] = [
 ];
 
 #[test]
-fn records_of_modules_have_their_bytes_of_the_manual(rt: HostRuntime) -> Result<(), Fail> {
+fn records_have_their_bytes_of_the_manual(rt: HostRuntime) -> Result<(), Fail> {
     is_record(&rt, &Record::gsd(&directory()?), &DIRECTORY)?;
     is_record(&rt, &Record::end_of_gsd(), &[2, 0])?;
     is_record(&rt, &Record::text(0, &[1, 0]), &[3, 0, 0, 0, 1, 0])?;
     is_record(&rt, &Record::internal_symbols(), &[5, 0])?;
-    is_record(&rt, &Record::end_of_module(), &[6, 0])
-}
-
-#[test]
-fn relocations_have_their_bytes_of_the_manual(rt: HostRuntime) -> Result<(), Fail> {
+    is_record(&rt, &Record::end_of_module(), &[6, 0])?;
     // the selection of a section is command 7, a displaced global symbol command 4
     let selects = Relocation {
         is_byte: false,
@@ -85,4 +81,49 @@ fn relocations_have_their_bytes_of_the_manual(rt: HostRuntime) -> Result<(), Fai
         &Record::relocations(&[global]),
         &[4, 0, 4, 6, 0x80, 0x25, 0, 0],
     )
+}
+
+fn relocation(is_byte: bool, displacement: u8, target: Target) -> Relocation {
+    Relocation {
+        is_byte,
+        displacement,
+        target,
+    }
+}
+
+// The walk gives these relocations and then nothing more, and so does reading by number.
+fn has_relocations(rt: &impl Abort, record: &Record<'_>, wanted: &[Relocation]) {
+    let mut walk = record.each_relocation();
+    for index in 0..wanted.len() + 2 {
+        let relocation = wanted.get(index).copied();
+        same(rt, &index, &walk.next(), &relocation);
+        same(rt, &index, &record.relocation(index), &relocation);
+    }
+    same(
+        rt,
+        &"the count",
+        &record.each_relocation().count(),
+        &wanted.len(),
+    );
+}
+
+#[test]
+fn relocations_stand_one_after_another(rt: HostRuntime) -> Result<(), Fail> {
+    let several = block(&rt, &[4, 0, 0o11, 4, 0o201, 0o10, 0o40, 0, 0o11, 0o377]);
+    let wanted = [
+        relocation(false, 4, Target::ProgramLimits),
+        relocation(true, 0o10, Target::Internal(0o40)),
+        relocation(false, 0o377, Target::ProgramLimits),
+    ];
+    has_relocations(&rt, &read_record(&several)?, &wanted);
+    // an empty record, a text and the end of a module have none
+    for bytes in [
+        [4, 0].as_slice(),
+        [3, 0, 0o11, 4].as_slice(),
+        [6, 0, 0o11, 4].as_slice(),
+    ] {
+        let none = block(&rt, bytes);
+        has_relocations(&rt, &read_record(&none)?, &[]);
+    }
+    Ok(())
 }

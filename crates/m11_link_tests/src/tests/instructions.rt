@@ -7,23 +7,6 @@ use m11_base::{
 };
 use std::process::Abort;
 
-#[test]
-fn each_word_is_the_code_of_its_instruction(rt: HostRuntime) {
-    let mut reserved = 0u32;
-    for word in 0..=u16::MAX {
-        let instruction = decode(word);
-        if matches!(instruction, Insn::Reserved(_)) {
-            reserved = reserved.saturating_add(1);
-        }
-        // by the tables as by the list
-        let again = (encode(&instruction), decode_by_list(word));
-        same(&rt, &word, &again, &(word, instruction));
-        same(&rt, &word, &instruction.fits(), &true);
-    }
-    // the list leaves 6,609 words reserved, and the other 58,927 mean something
-    same(&rt, &"reserved", &reserved, &6_609);
-}
-
 // A text, and the operation that it is a name of.
 #[rattlefmt::skip]
 static NAMES: [(&str, Option<Op>); 19] = [
@@ -67,7 +50,20 @@ fn check_names(rt: &impl Abort, names: &[(&str, Option<Op>)]) {
 }
 
 #[test]
-fn names_stand_for_their_operations(rt: HostRuntime) {
+fn words_and_names_stand_for_their_instructions(rt: HostRuntime) {
+    let mut reserved = 0u32;
+    for word in 0..=u16::MAX {
+        let instruction = decode(word);
+        if matches!(instruction, Insn::Reserved(_)) {
+            reserved = reserved.saturating_add(1);
+        }
+        // by the tables as by the list
+        let again = (encode(&instruction), decode_by_list(word));
+        same(&rt, &word, &again, &(word, instruction));
+        same(&rt, &word, &instruction.fits(), &true);
+    }
+    // the list leaves 6,609 words reserved, and the other 58,927 mean something
+    same(&rt, &"reserved", &reserved, &6_609);
     check_rows(&rt, rows());
     check_rows(&rt, other_names());
     check_names(&rt, &NAMES);

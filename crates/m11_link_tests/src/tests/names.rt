@@ -5,7 +5,7 @@ use m11_base::{Name, Rad50};
 use std::test::Fail;
 
 #[test]
-fn words_of_the_manual_pack_and_unpack(rt: HostRuntime) {
+fn words_and_names_of_the_manual_pack_and_unpack(rt: HostRuntime) -> Result<(), Fail> {
     // three characters, their word, and the characters of that word
     for (characters, word) in [
         (*b"ABC", Some(0o003223)),
@@ -24,10 +24,7 @@ fn words_of_the_manual_pack_and_unpack(rt: HostRuntime) {
     for (word, characters) in [(29, Some(*b"  %")), (0o175000, None)] {
         same(&rt, &word, &Rad50::unpack(word), &characters);
     }
-}
-
-#[test]
-fn a_name_is_two_words_of_characters(rt: HostRuntime) -> Result<(), Fail> {
+    // the characters of a name, and its two words
     for (characters, words) in [
         (*b".MAIN.", (0o130411, 0o035214)),
         (*b". ABS.", (0o127401, 0o007624)),

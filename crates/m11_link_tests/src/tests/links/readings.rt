@@ -1,0 +1,290 @@
+//! Links that no words of the command ask for: whose second pass reads other objects, from odd bottoms and bottoms past 157776, and of no
+//! file. Bases, values and first attributes are those of the first pass.
+
+use super::{DEFINES_F, FIRST_OF_F, Linked, MAP_OF_F, NO_START, READS_F, Wanted, done};
+use m11_base::{MemoryFeed, WriterSink};
+use m11_link::{LinkFault, link_run};
+use m11_obj::BlockFault;
+use std::alloc::{AllocError, Global};
+use std::process::Abort;
+use std::test::Fail;
+
+// The first block of the second module, with another name of the module and the sum of the right one.
+#[rattlefmt::skip]
+const DEFINES_F_CHANGED: &[u8] = &[
+    // The directory.
+    0x01, 0x00, 0x3E, 0x00, 0x01, 0x00,
+    0x81, 0x0C, 0x00, 0x00, 0x00, 0x00, 0x00, 0x00,
+    // A section, . ABS., of 0 bytes, flags 104.
+    0x01, 0xAF, 0x94, 0x0F, 0x44, 0x05, 0x00, 0x00,
+    // A section, the blank name, of 0 bytes, flags 040.
+    0x00, 0x00, 0x00, 0x00, 0x20, 0x05, 0x00, 0x00,
+    // A section, DATA, of 4 bytes, flags 040.
+    0x3C, 0x19, 0x40, 0x06, 0x20, 0x05, 0x04, 0x00,
+    // A section, PROG, of 2 bytes, flags 040.
+    0xDF, 0x66, 0xC0, 0x2B, 0x20, 0x05, 0x02, 0x00,
+    // F is 0 in the section before.
+    0x80, 0x25, 0x00, 0x00, 0x28, 0x04, 0x00, 0x00,
+    // The transfer address, 1 in . ABS..
+    0x01, 0xAF, 0x94, 0x0F, 0x00, 0x03, 0x01, 0x00, 0x30,
+];
+
+// Modules of sections alone.
+#[rattlefmt::skip]
+const ODD_TRANSFER_VALUE: &[u8] = &[
+    // The directory.
+    0x01, 0x00, 0x16, 0x00, 0x01, 0x00,
+    // A section, the blank name, of 2 bytes, flags 040.
+    0x00, 0x00, 0x00, 0x00, 0x20, 0x05, 0x02, 0x00,
+    // The transfer address, 1 in the blank name.
+    0x00, 0x00, 0x00, 0x00, 0x00, 0x03, 0x01, 0x00, 0xBD,
+    // Its end.
+    0x01, 0x00, 0x06, 0x00, 0x02, 0x00, 0xF7,
+    // The end of the module.
+    0x01, 0x00, 0x06, 0x00, 0x06, 0x00, 0xF3,
+];
+
+#[rattlefmt::skip]
+const EMPTY_SECTION: &[u8] = &[
+    // The directory.
+    0x01, 0x00, 0x0E, 0x00, 0x01, 0x00,
+    // A section, the blank name, of 0 bytes, flags 040.
+    0x00, 0x00, 0x00, 0x00, 0x20, 0x05, 0x00, 0x00, 0xCB,
+    // Its end.
+    0x01, 0x00, 0x06, 0x00, 0x02, 0x00, 0xF7,
+    // The end of the module.
+    0x01, 0x00, 0x06, 0x00, 0x06, 0x00, 0xF3,
+];
+
+#[rattlefmt::skip]
+const OF_PROG: &[u8] = &[
+    // The directory.
+    0x01, 0x00, 0x16, 0x00, 0x01, 0x00,
+    // The module's name, A.
+    0x40, 0x06, 0x00, 0x00, 0x00, 0x00, 0x00, 0x00,
+    // A section, PROG, of 0 bytes, flags 040.
+    0xDF, 0x66, 0xC0, 0x2B, 0x20, 0x05, 0x00, 0x00, 0x4D,
+    // Its end.
+    0x01, 0x00, 0x06, 0x00, 0x02, 0x00, 0xF7,
+    // The end of the module.
+    0x01, 0x00, 0x06, 0x00, 0x06, 0x00, 0xF3,
+];
+
+#[rattlefmt::skip]
+const OF_PROG_TO_READ: &[u8] = &[
+    // The directory.
+    0x01, 0x00, 0x16, 0x00, 0x01, 0x00,
+    // The module's name, A.
+    0x40, 0x06, 0x00, 0x00, 0x00, 0x00, 0x00, 0x00,
+    // A section, PROG, of 0 bytes, flags 060, which make it read-only.
+    0xDF, 0x66, 0xC0, 0x2B, 0x30, 0x05, 0x00, 0x00, 0x3D,
+    // Its end.
+    0x01, 0x00, 0x06, 0x00, 0x02, 0x00, 0xF7,
+    // The end of the module.
+    0x01, 0x00, 0x06, 0x00, 0x06, 0x00, 0xF3,
+];
+
+#[rattlefmt::skip]
+const OF_PROG_AND_DATA: &[u8] = &[
+    // The directory.
+    0x01, 0x00, 0x1E, 0x00, 0x01, 0x00,
+    // The module's name, A.
+    0x40, 0x06, 0x00, 0x00, 0x00, 0x00, 0x00, 0x00,
+    // A section, PROG, of 0 bytes, flags 040.
+    0xDF, 0x66, 0xC0, 0x2B, 0x20, 0x05, 0x00, 0x00,
+    // A section, DATA, of 0 bytes, flags 040.
+    0x3C, 0x19, 0x40, 0x06, 0x20, 0x05, 0x00, 0x00, 0x85,
+    // Its end.
+    0x01, 0x00, 0x06, 0x00, 0x02, 0x00, 0xF7,
+    // The end of the module.
+    0x01, 0x00, 0x06, 0x00, 0x06, 0x00, 0xF3,
+];
+
+const MAP_OF_PROG: &[&str] = &[
+    "SECTIONS",
+    "PROG   001000 000000 RW,I,LCL,REL,CON",
+    "GLOBALS",
+    "UNDEFINED",
+    "TRANSFER 000001",
+    "LIMIT 001000 001000",
+];
+
+const MAP_FROM_1001: &[&str] = &[
+    "SECTIONS",
+    "       001001 000002 RW,I,LCL,REL,CON",
+    "GLOBALS",
+    "UNDEFINED",
+    "TRANSFER 001002",
+    "LIMIT 001001 001003",
+];
+
+const MAP_OF_NOTHING: &[&str] = &[
+    "SECTIONS",
+    "GLOBALS",
+    "UNDEFINED",
+    "TRANSFER 000001",
+    "LIMIT 001000 001000",
+];
+
+// Files of objects.
+type Files<'a> = &'a [&'a [u8]];
+
+// A link by what it shows: the files of the first pass and of the second one, the bottom, what ends it, if anything does, and what it leaves.
+#[derive(Clone, Copy)]
+struct Row<'a> {
+    shows: &'a str,
+    first: Files<'a>,
+    second: Files<'a>,
+    bottom: u16,
+    fault: Option<LinkFault>,
+    leaves: Wanted<'a>,
+}
+
+static ROWS: [Row<'static>; 6] = [
+    Row {
+        shows: "a second pass that differs is refused where it does",
+        first: &[READS_F, DEFINES_F],
+        second: &[READS_F, DEFINES_F_CHANGED],
+        bottom: 0o1000,
+        fault: Some(LinkFault::Block(BlockFault::BadSum)),
+        leaves: Wanted {
+            tape: &[FIRST_OF_F],
+            map: MAP_OF_F,
+            reported: &[],
+        },
+    },
+    Row {
+        shows: "a section that only the second pass enters gives no message",
+        first: &[OF_PROG],
+        second: &[OF_PROG_AND_DATA],
+        bottom: 0o1000,
+        fault: None,
+        leaves: Wanted {
+            tape: &[NO_START],
+            map: MAP_OF_PROG,
+            reported: &[],
+        },
+    },
+    Row {
+        shows: "attributes are compared with those of the first pass",
+        first: &[OF_PROG],
+        second: &[OF_PROG_TO_READ],
+        bottom: 0o1000,
+        fault: None,
+        leaves: Wanted {
+            tape: &[NO_START],
+            map: MAP_OF_PROG,
+            reported: &["DIFFERENT ATTRIBUTES PROG   IN MODULE A"],
+        },
+    },
+    Row {
+        shows: "the transfer address is even where its base is added",
+        first: &[ODD_TRANSFER_VALUE],
+        second: &[ODD_TRANSFER_VALUE],
+        bottom: 0o1001,
+        fault: None,
+        leaves: Wanted {
+            tape: &[&[0x01, 0x00, 0x06, 0x00, 0x02, 0x02, 0xF5]],
+            map: MAP_FROM_1001,
+            reported: &[],
+        },
+    },
+    Row {
+        shows: "an empty section may not lie past 160000",
+        first: &[EMPTY_SECTION],
+        second: &[EMPTY_SECTION],
+        bottom: 0o160002,
+        fault: Some(LinkFault::TooLarge),
+        leaves: Wanted {
+            tape: &[],
+            map: &[],
+            reported: &[],
+        },
+    },
+    Row {
+        shows: "no file",
+        first: &[],
+        second: &[],
+        bottom: 0o1000,
+        fault: None,
+        leaves: Wanted {
+            tape: &[NO_START],
+            map: MAP_OF_NOTHING,
+            reported: &[],
+        },
+    },
+];
+
+// Feeds of files.
+fn feeds_of<'a>(alloc: Global, files: Files<'a>) -> Result<Vec<MemoryFeed<'a>>, AllocError> {
+    let mut feeds = Vec::new(alloc);
+    for file in files {
+        feeds.push(MemoryFeed::new(*file))?;
+    }
+    Ok(feeds)
+}
+
+// Links what two passes of feeds give.
+fn linked_feeds<'a>(
+    alloc: Global,
+    first: &mut [MemoryFeed<'a>],
+    second: &mut [MemoryFeed<'a>],
+    bottom: u16,
+) -> Linked {
+    let mut tape = Vec::new(alloc);
+    let mut map = Vec::new(alloc);
+    let mut messages = Vec::new(alloc);
+    let outcome = link_run(
+        alloc,
+        first,
+        second,
+        bottom,
+        &mut WriterSink::new(&mut tape),
+        &mut Some(WriterSink::new(&mut map)),
+        &mut WriterSink::new(&mut messages),
+    );
+    Linked {
+        outcome,
+        tape,
+        map,
+        messages,
+    }
+}
+
+// A link ended as its row says. Where memory was refused nothing more is looked at.
+fn ended(rt: &impl Abort, row: Row<'_>, linked: &Linked) -> Result<(), Fail> {
+    let Row { shows, leaves, .. } = row;
+    if linked.outcome == Err(LinkFault::NoMemory) {
+        return Err(Fail::new("no memory"));
+    }
+    let outcome = match row.fault {
+        None => done(leaves.reported),
+        Some(fault) => Err(fault),
+    };
+    assert!(rt; linked.outcome == outcome, "{shows}: the end");
+    assert!(rt; linked.has(leaves), "{shows}: what was written");
+    Ok(())
+}
+
+// Each row's link ends as it says.
+fn all_end(rt: &(impl Abort + AllocGlobal), rows: &[Row<'_>]) -> Result<(), Fail> {
+    for row in rows {
+        let mut first = feeds_of(rt.alloc(), row.first)?;
+        let mut second = feeds_of(rt.alloc(), row.second)?;
+        let linked = linked_feeds(
+            rt.alloc(),
+            first.as_mut_slice(),
+            second.as_mut_slice(),
+            row.bottom,
+        );
+        let shown = ended(rt, *row, &linked);
+        drop(linked);
+        shown?;
+    }
+    Ok(())
+}
+
+#[test]
+fn the_second_pass_is_linked_under_what_the_first_one_gave(rt: HostRuntime) -> Result<(), Fail> {
+    all_end(&rt, &ROWS)
+}
