@@ -1,5 +1,5 @@
 use Rattle.std.proofs.Common.{◌≡◌, []}
-use Rattle.m11_asm_tests.proofs.tests.go_over.Given as goal
+use Rattle.m11_asm_tests.proofs.tests.passes.go_over.Given as goal
 
 -- nothing is left before each line
 abbrev pub invariant-source : goal.invariant-source
