@@ -7,6 +7,7 @@ mod lines;
 mod random_lines;
 mod readers;
 mod statements;
+mod unfolding;
 
 use m11_scan::{Line, Token, next_token};
 use m11_scan_statements::{Part, next_part};

@@ -1,5 +1,5 @@
 use Rattle.std.proofs.Common.{◌≡◌, []}
-use Rattle.m11_unfold_tests.proofs.tests.awkward_sources.unfolded.Given as goal
+use Rattle.m11_scan_tests.proofs.tests.unfolding.unfolded.Given as goal
 
 -- nothing is left before each line
 abbrev pub invariant-lines : goal.invariant-lines

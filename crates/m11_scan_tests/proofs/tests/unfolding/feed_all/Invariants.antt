@@ -1,6 +1,6 @@
 use Rattle.std.proofs.Common.{◌≡◌, []}
-use Rattle.m11_unfold_tests.proofs.tests.feed_all.Given as goal
+use Rattle.m11_scan_tests.proofs.tests.unfolding.feed_all.Given as goal
 
 -- nothing is left before each line
 abbrev pub invariant-lines : goal.invariant-lines
-invariant-lines g l = l.unfolder.stage.left ≡ []
+invariant-lines l = l.unfolder.stage.left ≡ []
