@@ -1,16 +1,13 @@
 //! A file a subject; alike calls stand in tables.
 
-mod arguments;
 mod cuts;
-mod expressions;
 mod fields;
+mod known;
 mod lines;
 mod random_lines;
 mod readers;
 mod statements;
-mod terms;
-mod texts;
-mod values;
+mod unfolding;
 
 use m11_scan::{Line, Token, next_token};
 use m11_scan_statements::{Part, next_part};

@@ -1,13 +1,13 @@
 //! Where the parts of a line stand: its labels, its operator and the fields of an instruction. (MACRO-11 Language Reference
 //! Manual, "Source program format" and "Addressing modes".)
 
+use super::known::Known;
+use super::same;
 use super::statements::label_of;
-use super::{same, values};
 use m11_asm_operands::{Fields, fields_at};
 use m11_asm_rules::{Field, Form};
 use m11_base::{DoubleOp, Mode, Op, Size};
 use m11_scan::{Line, skipped_between};
-use m11_scan_expressions::Radix;
 use m11_scan_statements::{Body, LabelKind, Span, labels_of, statement};
 use std::process::Abort;
 
@@ -54,10 +54,7 @@ fn labels_operator_and_operands_stand_in_order(rt: HostRuntime) {
     );
     if let Body::Operate(name) = said.body {
         let operation = Op::Double(DoubleOp::Mov, Size::Word);
-        let names = values::Known {
-            radix: Radix::Octal,
-        };
-        let fields = fields_at(&line, usize::from(name.end), operation, &names);
+        let fields = fields_at(&line, usize::from(name.end), operation, &Known);
         are_both(&rt, &line, &fields);
     }
 }

@@ -1,8 +1,8 @@
-//! Lines and sets of flags.
+//! Lines, sets of flags and names.
 
 use super::same;
 use bitflags::Flags;
-use m11_scan::{ErrorFlags, Line, expression_at};
+use m11_scan::{ErrorFlags, Line, expression_at, read_name};
 
 #[test]
 fn a_line_has_132_characters(rt: HostRuntime) {
@@ -34,4 +34,10 @@ fn flags_stand_in_the_order_of_the_alphabet(rt: HostRuntime) {
         &all.text().as_slice(),
         &b"ABDEILMNOPQRTU".as_slice(),
     );
+}
+
+#[test]
+fn blanks_after_a_name_count_for_nothing(rt: HostRuntime) {
+    same(&rt, &"blanks", &read_name(b"$.1"), &read_name(b"$.1  "));
+    same(&rt, &"no name", &read_name(b"A?"), &None);
 }

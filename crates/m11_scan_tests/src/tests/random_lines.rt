@@ -7,8 +7,8 @@ use std::process::Abort;
 
 const CHARACTERS: &[u8; 32] = b"'\"<>^\\;:=?AaR$.18,+ \tBD%#(-/!@.:";
 
-/// The next number of a fixed sequence that looks like chance.
-fn next_number(number: u64) -> u64 {
+// The next number of a fixed sequence that looks like chance.
+pub(crate) fn next_number(number: u64) -> u64 {
     number
         .wrapping_mul(6364136223846793005)
         .wrapping_add(1442695040888963407)

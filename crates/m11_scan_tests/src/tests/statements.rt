@@ -1,9 +1,8 @@
 //! What lines say: labels, assignments, operators and words. (MACRO-11 Language Reference Manual, "Source program format".)
 
 use super::same;
-use m11_scan::{Line, skipped_between};
+use m11_scan::Line;
 use m11_scan_statements::{Body, Label, LabelKind, labels_of, statement};
-use std::process::Abort;
 
 // What stands after the labels.
 #[derive(Clone, Copy, PartialEq, Eq, Debug)]
@@ -26,9 +25,9 @@ struct Row {
     flags: &'static str,
 }
 
-// Labels, and what has none.
 #[rattlefmt::skip]
-static LABELS: [Row; 16] = [
+static ROWS: [Row; 53] = [
+    // labels, and what has none
     Row { line: "A: MOV R1,(SP)+ ;x", labels: &[(LabelKind::Ordinary, 0, 1)], body: (Operates, 3, 6, 0), flags: "" },
     Row { line: "A: B:: 5$: 1$:: NOP", labels: &[(LabelKind::Ordinary, 0, 1), (LabelKind::Global, 3, 4), (LabelKind::Local(5), 7, 9),
         (LabelKind::Local(1), 11, 13)], body: (Operates, 16, 19, 0), flags: "" },
@@ -47,11 +46,7 @@ static LABELS: [Row; 16] = [
     Row { line: "70000$: A:", labels: &[(LabelKind::Outside, 0, 6), (LabelKind::Ordinary, 8, 9)], body: (Nothing, 0, 0, 0), flags: "A" },
     Row { line: "65536$: 131073$:", labels: &[(LabelKind::Outside, 0, 6), (LabelKind::Outside, 8, 15)], body: (Nothing, 0, 0, 0),
         flags: "A" },
-];
-
-// What stands after the labels.
-#[rattlefmt::skip]
-static BODIES: [Row; 21] = [
+    // what stands after the labels
     Row { line: "", labels: &[], body: (Nothing, 0, 0, 0), flags: "" },
     Row { line: " \t;x", labels: &[], body: (Nothing, 0, 0, 0), flags: "" },
     Row { line: "X=", labels: &[], body: (Assigns, 0, 1, 2), flags: "" },
@@ -73,11 +68,7 @@ static BODIES: [Row; 21] = [
     Row { line: "RETURNS", labels: &[], body: (Operates, 0, 7, 0), flags: "" },
     Row { line: ".radixx 10", labels: &[], body: (Operates, 0, 7, 0), flags: "" },
     Row { line: "a: mov r1,r2", labels: &[(LabelKind::Ordinary, 0, 1)], body: (Operates, 3, 6, 0), flags: "" },
-];
-
-// Characters that begin no token, and those that stand where they count.
-#[rattlefmt::skip]
-static SKIPPED: [Row; 16] = [
+    // characters that begin no token, and those that stand where they count
     Row { line: "?", labels: &[], body: (Nothing, 0, 0, 0), flags: "" },
     Row { line: "A: ?", labels: &[(LabelKind::Ordinary, 0, 1)], body: (Nothing, 0, 0, 0), flags: "" },
     Row { line: "? A: NOP", labels: &[(LabelKind::Ordinary, 2, 3)], body: (Operates, 5, 8, 0), flags: "I" },
@@ -123,65 +114,18 @@ pub(crate) fn label_of(label: &Label) -> (LabelKind, u8, u8) {
     (label.kind, label.name.start, label.name.end)
 }
 
-fn check(rt: &impl Abort, rows: &[Row]) {
-    for row in rows {
+#[test]
+fn lines_say_labels_and_what_stands_after_them(rt: HostRuntime) {
+    for row in &ROWS {
         let line = Line::from_bytes(row.line.as_bytes());
         let found = statement(&line);
         let labels = labels_of(&line);
-        same(rt, &row.line, &labels.len(), &row.labels.len());
+        same(&rt, &row.line, &labels.len(), &row.labels.len());
         for (label, wanted) in labels.iter().zip(row.labels) {
-            same(rt, &row.line, &label_of(label), wanted);
+            same(&rt, &row.line, &label_of(label), wanted);
         }
-        same(rt, &row.line, &shape_of(found.body), &row.body);
+        same(&rt, &row.line, &shape_of(found.body), &row.body);
         let flags = found.label_flags.text();
-        same(rt, &row.line, &flags.as_slice(), &row.flags.as_bytes());
-    }
-}
-
-#[test]
-fn labels_have_their_colon_directly_after_them(rt: HostRuntime) {
-    check(&rt, &LABELS);
-}
-
-#[test]
-fn what_is_no_assignment_and_no_name_is_words(rt: HostRuntime) {
-    check(&rt, &BODIES);
-}
-
-#[test]
-fn a_skipped_character_among_labels_has_a_flag(rt: HostRuntime) {
-    check(&rt, &SKIPPED);
-}
-
-#[test]
-fn a_line_over_132_characters_has_l(rt: HostRuntime) {
-    let blanks = [b' '; 133];
-    for (length, flags) in [(131, 0), (132, 0), (133, 1)] {
-        let line = Line::from_bytes(&blanks[..length]);
-        let found = statement(&line);
-        same(&rt, &length, &found.label_flags.text().len(), &flags);
-    }
-}
-
-// A line, a column up to which its directive took what it takes, and whether a character after it begins no token.
-static LEFT_OVER: [(&str, usize, bool); 9] = [
-    (".RADIX 16 ?", 9, true),
-    (".REPT ?", 5, true),
-    (".PSECT 5 ?", 6, true),
-    (".EVEN ?", 5, true),
-    (".WORD 1?2", 7, true),
-    (".ASCII /?/", 10, false),
-    (".IF IDN ?,?", 11, false),
-    (".EVEN ;?", 5, false),
-    (".WORD '? ", 5, false),
-];
-
-#[test]
-fn what_is_left_over_may_have_skipped_characters(rt: HostRuntime) {
-    for (text, column, is_skipped) in &LEFT_OVER {
-        let line = Line::from_bytes(text.as_bytes());
-        let end = line.text().len();
-        let found = *column <= end && skipped_between(&line, *column, end);
-        same(&rt, text, &found, is_skipped);
+        same(&rt, &row.line, &flags.as_slice(), &row.flags.as_bytes());
     }
 }

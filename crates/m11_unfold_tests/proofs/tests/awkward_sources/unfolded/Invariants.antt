@@ -1,6 +1,0 @@
-use Rattle.std.proofs.Common.{◌≡◌, []}
-use Rattle.m11_unfold_tests.proofs.tests.awkward_sources.unfolded.Given as goal
-
--- nothing is left before each line
-abbrev pub invariant-lines : goal.invariant-lines
-invariant-lines l = l.unfolder.stage.left ≡ []
