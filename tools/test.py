@@ -1,5 +1,5 @@
 #!/usr/bin/env python3
-"""Runs the tests of tools/adapt, tools/lines and tools/names, and of the scripts at the top: python3 tools/test.py [NAME]...
+"""Runs the tests of tools/adapt, tools/lines, tools/mistakes and tools/names, and of the scripts at the top: python3 tools/test.py [NAME]...
 
 Each file of tools/tests is a case. Its parts begin with a word at the beginning of a line, and their lines with `|`:
   words ..        words of adapt beside -o OUT and the sources
@@ -278,6 +278,10 @@ def check_names():
         done = run("names", [page], ROOT)
         wanted = "".join(f"{os.path.relpath(page, ROOT)}:{text} is nowhere\n" for text in NOT_THERE).replace("GONE", "no" + "where")
         wrong += differ("names of a page", (done.stdout.decode(), done.returncode), (wanted, 1))
+        names = [os.path.basename(path)[:-5] for path, _ in mistakes.mistakes_of(ROOT)]
+        put(folder, "PAGE.md", "".join(f"`{name}`\n" for name in names).encode())
+        done = run("names", [page], ROOT)
+        wrong += differ("names of mistakes", (done.stdout.decode(), done.returncode), ("", 0))
     return wrong
 
 
