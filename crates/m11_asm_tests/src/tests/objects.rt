@@ -71,12 +71,12 @@ fn each_kind_has_its_commands(rt: HostRuntime) -> Result<(), Fail> {
         ("section, displaced", RelocationKind::SectionDisplaced(a),
             &[4, 0, 0o16, 4, 0x40, 0x06, 0, 0, 3, 0, 0o216, 6, 0x40, 0x06, 0, 0, 3, 0, 0o14, 7, 0x40, 0x06, 0, 0, 0o214, 9, 0x40, 0x06, 0, 0]),
     ];
-    for (row, kind, relocations) in rows {
+    for (row, kind, relocations) in &rows {
         let pieces = [
-            word(blank, 0, 3, kind),
-            byte(blank, 2, 3, kind),
-            word(blank, 3, 0, kind),
-            byte(blank, 5, 0, kind),
+            word(blank, 0, 3, *kind),
+            byte(blank, 2, 3, *kind),
+            word(blank, 3, 0, *kind),
+            byte(blank, 5, 0, *kind),
         ];
         let wanted: [&[u8]; 3] = [
             &[4, 0, 7, 0, 0, 0, 0, 0, 0, 0],
