@@ -2,17 +2,21 @@
 """Runs a built program with files and devices that fail: tools/test_devices.py PROGRAM [WORD]...
 
 The files of the suite lie in memory and never fail, and its consoles don't either. Each check runs PROGRAM as a process in a fresh folder:
-with a folder in place of a file, with a device that is always full, with files that have little room, with a console whose reads or writes
-fail, or with words that are no text. It looks at the status, at what is said, at each byte of the files that are left, and at how much of
+with a folder in place of a file, with a device that is always full, with files that have little room, with a tape or a console whose reads or
+writes fail, or with words that are no text. It looks at the status, at what is said, at each byte of the files that are left, and at how much of
 the input was taken. What has to come of it was worked by hand. WORDs come before those of a command. The last line is
 `N passed, M failed`, and the status is 1 where one failed."""
+import array
 import dataclasses
+import fcntl
 import os
 import pty
 import resource
 import subprocess
 import sys
 import tempfile
+import termios
+import time
 import tty
 
 SECONDS = 60
@@ -332,6 +336,83 @@ def check_end_of_input(folder):
     return wrong
 
 
+# The tape of the program that polls: a block of 23 bytes, and the transfer block. What a run that is given A reports of it.
+ECHO, END_OF_BLOCK = tape(POLLS, 0o1000), 23
+ECHOED = f"HALT AFTER 5 STEPS\n{registers(0o1020, r0=0o101)}".encode()
+
+
+def wait_until(holds):
+    """Waits for something that is about to hold, but not for ever."""
+    last = time.monotonic() + SECONDS
+    while not holds() and time.monotonic() < last:
+        time.sleep(0.001)
+
+
+def unread_bytes(terminal):
+    """How many bytes a terminal has that nobody has read."""
+    count = array.array("i", [0])
+    fcntl.ioctl(terminal, termios.FIONREAD, count)
+    return count[0]
+
+
+def is_at_rest(process):
+    """Whether a process sleeps, as one that waits for a read does, or has ended."""
+    with open(f"/proc/{process.pid}/stat", encoding="latin-1") as file:
+        return file.read().rpartition(")")[2].split()[0] in "SZ"
+
+
+def tape_by_terminal(folder, content, fails, console):
+    """The status of a run whose tape is a terminal that gives bytes, and what it says. The terminal gives no more; or the read that
+    waits for more fails, since the other end of the terminal is closed."""
+    keyboard, terminal = pty.openpty()
+    tty.setraw(terminal)
+    os.write(keyboard, content)
+    wait_until(lambda: unread_bytes(terminal) == len(content))
+    command = [*folder.program, "sim", f"/dev/fd/{terminal}"]
+    streams = {"stdin": console, "stdout": subprocess.PIPE, "stderr": subprocess.PIPE}
+    with subprocess.Popen(command, cwd=folder.path, pass_fds=(terminal,), **streams) as running:
+        if fails:
+            wait_until(lambda: is_at_rest(running) and (unread_bytes(terminal) == 0 or running.poll() is not None))
+            os.close(keyboard)
+        try:
+            said = running.communicate(timeout=SECONDS)
+        except subprocess.TimeoutExpired:
+            running.kill()
+            said = f"nothing in {SECONDS} seconds", b""
+    if not fails:
+        os.close(keyboard)
+    os.close(terminal)
+    return running.returncode, *said
+
+
+def tape_by_pipe(folder, content, console):
+    """The status of a run whose tape is a pipe that gives bytes and ends, and what it says."""
+    reader, writer = os.pipe()
+    os.write(writer, content)
+    os.close(writer)
+    said = folder.run(f"sim /dev/fd/{reader}", stdin=console, pass_fds=(reader,))
+    os.close(reader)
+    return said
+
+
+def check_tapes(folder):
+    """A tape that fails or ends after any of its bytes runs nothing, and its console is left alone. After all of them nothing more is read."""
+    wrong = []
+    folder.put("INPUT", b"AB")
+    with open(os.path.join(folder.path, "INPUT"), "rb") as console:
+        for count in range(len(ECHO)):
+            folder.put("RUN.TAP", ECHO[:count])
+            ended = 4, b"", b"?M11 SIM 8 NoTransfer\n" if count in (0, END_OF_BLOCK) else b"?M11 SIM 2 Truncated\n"
+            failed = tape_by_terminal(folder, ECHO[:count], True, console) if count else folder.run("sim SOURCES", stdin=console)
+            wrong += differ(f"a file of {count} bytes", folder.run("sim RUN.TAP", stdin=console), ended)
+            wrong += differ(f"a pipe of {count} bytes", tape_by_pipe(folder, ECHO[:count], console), ended)
+            wrong += differ(f"a device that fails after {count} bytes", failed, (3, b"", b"?M11 SIM 1 Device\n"))
+        wrong += differ("what is taken of the input", console.tell(), 0)
+        wrong += differ("a device that gives the tape and no more", tape_by_terminal(folder, ECHO, False, console), (0, b"A", ECHOED))
+        wrong += differ("what is taken of the input then", console.tell(), 1)
+    return wrong
+
+
 # Tapes that can't be loaded, and why.
 REFUSED = (
     ("no transfer block after a block", HALTS[:13], b"?M11 SIM 8 NoTransfer\n"),
@@ -356,17 +437,21 @@ def check_refused(folder):
 
 
 def check_messages(folder):
-    """Messages of a run that fail have a beginning of the two lines."""
+    """Messages of a run that fail have a beginning of the two lines. What the program has sent stays."""
     wrong = []
-    for room in range(len(HALTED) + 1):
-        with open(os.path.join(folder.path, "MESSAGES"), "wb") as messages:
-            said = folder.run("sim -k 4096 -n 9 HALTS.TAP", room, stderr=messages)
-        status = 3 if room < len(HALTED) else 0
-        wrong += differ(f"room for {room} bytes", (said, folder.left()), ((status, b"", b""), {"MESSAGES": HALTED[:room]}))
+    folder.put("INPUT", b"A")
+    folder.put("ECHO.TAP", ECHO)
+    for words, sent, lines in (("sim -k 4096 -n 9 HALTS.TAP", b"", HALTED), ("sim ECHO.TAP", b"A", ECHOED)):
+        for room in range(len(lines) + 1):
+            with open(os.path.join(folder.path, "INPUT"), "rb") as console, open(os.path.join(folder.path, "MESSAGES"), "wb") as messages:
+                said = folder.run(words, room, stdin=console, stderr=messages)
+            status = 3 if room < len(lines) else 0
+            wrong += differ(f"{words}, room for {room} bytes", (said, folder.left()), ((status, sent, b""), {"MESSAGES": lines[:room]}))
     return wrong
 
 
-CHECKS = (check_files, check_words, check_room, check_room_past_buffers, check_consoles, check_end_of_input, check_refused, check_messages)
+CHECKS = (check_files, check_words, check_room, check_room_past_buffers, check_consoles, check_end_of_input, check_tapes, check_refused,
+          check_messages)
 
 
 def main(words):

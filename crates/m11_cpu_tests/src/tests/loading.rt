@@ -13,6 +13,14 @@ const HALTS: [u8; 24] = [
     0o001, 0o000, 0o006, 0o000, 0o000, 0o002, 0o367, 0o001, 0o001, 0o001, 0o001,
 ];
 
+// `TSTB @#177560`, `BPL 1000`, `MOVB @#177562,R0`, `MOVB R0,@#177566` and `HALT` at 1000, where the program starts: it sends the byte back
+// that it is given. A block of 23 bytes, and the transfer block.
+const ECHO: [u8; 30] = [
+    0o001, 0o000, 0o026, 0o000, 0o000, 0o002, 0o337, 0o213, 0o160, 0o377, 0o375, 0o200, 0o300,
+    0o227, 0o162, 0o377, 0o037, 0o220, 0o166, 0o377, 0o000, 0o000, 0o245, 0o001, 0o000, 0o006,
+    0o000, 0o000, 0o002, 0o367,
+];
+
 // `MOV #1,R0` and `HALT` at 1000, where the program starts, in a block with a wrong sum.
 const HALTS_WITH_A_WRONG_SUM: [u8; 20] = [
     0o001, 0o000, 0o014, 0o000, 0o000, 0o002, 0o300, 0o025, 0o001, 0o000, 0o000, 0o000, 0o034,
@@ -124,18 +132,29 @@ static LOADS: [Load<'static>; 8] = [
     },
 ];
 
-// What the load yields of the tape of `MOV #1,R0` and `HALT`, n calls of whose reader pass, and words that stand in memory then.
+// What the load yields of the tape of a program that sends a byte back, n calls of whose reader pass, and words that stand in memory then.
 fn failing_after(calls: u64) -> Load<'static> {
     let leaves: &[(u16, u16)] = match calls {
         0..=6 => &[(0o1000, 0o000000), (0o1002, 0o000000)],
-        7 => &[(0o1000, 0o000300), (0o1002, 0o000000)],
-        8 => &[(0o1000, 0o012700), (0o1002, 0o000000)],
-        _ => &[(0o1000, 0o012700), (0o1002, 0o000001)],
+        7 => &[(0o1000, 0o000337), (0o1002, 0o000000)],
+        8 => &[(0o1000, 0o105737), (0o1002, 0o000000)],
+        9 => &[(0o1002, 0o000160), (0o1004, 0o000000)],
+        10 => &[(0o1002, 0o177560), (0o1004, 0o000000)],
+        11 => &[(0o1004, 0o000375), (0o1006, 0o000000)],
+        12 => &[(0o1004, 0o100375), (0o1006, 0o000000)],
+        13 => &[(0o1006, 0o000300), (0o1010, 0o000000)],
+        14 => &[(0o1006, 0o113700), (0o1010, 0o000000)],
+        15 => &[(0o1010, 0o000162), (0o1012, 0o000000)],
+        16 => &[(0o1010, 0o177562), (0o1012, 0o000000)],
+        17 => &[(0o1012, 0o000037), (0o1014, 0o000000)],
+        18 => &[(0o1012, 0o110037), (0o1014, 0o000000)],
+        19 => &[(0o1014, 0o000166), (0o1016, 0o000000)],
+        _ => &[(0o1014, 0o177566), (0o1016, 0o000000)],
     };
     Load {
         shows: "a reader that fails",
-        tape: &HALTS,
-        given: 20,
+        tape: &ECHO,
+        given: 30,
         calls,
         words: 4_096,
         outcome: Err(LoadFault::Tape(TapeFault::Device)),
@@ -233,7 +252,7 @@ fn check_all(rt: &(impl Abort + AllocGlobal), rows: &[Load<'_>]) -> Result<(), F
 #[test]
 fn a_tape_that_fails_leaves_what_came_before_and_runs_nothing(rt: HostRuntime) -> Result<(), Fail> {
     check_all(&rt, &LOADS)?;
-    for calls in 0..20 {
+    for calls in 0..30 {
         check(&rt, failing_after(calls))?;
     }
     Ok(())
