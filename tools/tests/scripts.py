@@ -1,89 +1,10 @@
-"""Checks of the scripts at the top, m11, m11-dump, m11-trace and install, over a small repository and a stand-in for rt. CHECKS lists them for tools/test.py.
-
-The stand-in `builds` programs that print their words, and counts how often it was asked to. The folder has a blank in its name."""
+"""Checks of the scripts at the top, m11, m11-dump, m11-trace and install: when they build, and what they refuse, complete and copy. CHECKS lists
+them for tools/test.py. builds.py beside it has the checks of how they build."""
 import os
 import shutil
 import subprocess
-import tempfile
 
-TOP = os.path.dirname(os.path.dirname(os.path.dirname(os.path.realpath(__file__))))
-COPIED = ("m11", "m11-dump", "m11-trace", "install", "docs/man/m11.1", "docs/man/m11-dump.1", "docs/man/m11-trace.1", "tools/completion.bash",
-          "tools/program.bash")
-LISTS = "# a list for each crate\nm11_low: std\nm11_other: m11_low\nm11: m11_low\nm11_dumper: m11_low\nm11_tracer: m11_low\n"
-NOBODY = 65534
-
-RT = r"""#!/bin/sh
-# `rt version`, and `rt run`, which builds. Where the file `fails` lies at the top, a build fails.
-top=../..
-case $1 in
-version) echo kit-1 logic 1 ;;
-run)
-    echo built >>$top/builds
-    echo "rt: chose --jobs 4 for m11_low"
-    if [ -f $top/slow ]; then sleep 1.5; fi
-    if [ -f $top/fails ]; then echo "it is not proved"; exit 1; fi
-    echo "fn m11_low::one: proved"
-    echo "rt: chose --jobs 4 for m11"
-    if [ -f $top/slow ]; then sleep 1.5; fi
-    mkdir -p out
-    name=${PWD##*/}
-    printf '#!/bin/sh\necho "ran $*"\n[ "$1" = --help ] || exit 4\n' >out/$name
-    chmod +x out/$name
-    ;;
-esac
-"""
-
-
-def put(path, text):
-    """Writes a file, with its folders."""
-    os.makedirs(os.path.dirname(path), exist_ok=True)
-    with open(path, "w", encoding="utf-8") as file:
-        file.write(text)
-
-
-class Repository:
-    """The small repository."""
-
-    def __init__(self, folder):
-        self.folder, self.top, self.found = folder, os.path.join(folder, "m 11"), []
-        for name in COPIED:
-            os.makedirs(os.path.dirname(os.path.join(self.top, name)), exist_ok=True)
-            shutil.copy(os.path.join(TOP, name), os.path.join(self.top, name))
-        put(self.at("crates.txt"), LISTS)
-        for name in ("m11/src/main.rt", "m11_low/src/lib.rt", "m11_low/specs/Lib.antt", "m11_low/proofs/one/Answers.antt",
-                     "m11_other/src/lib.rt", "m11/data/P.MAC", "m11/args", "m11_dumper/src/main.rt",
-                     "m11_tracer/src/main.rt"):
-            put(self.at("crates/" + name), name + "\n")
-        put(os.path.join(folder, "bin", "rt"), RT)
-        os.chmod(os.path.join(folder, "bin", "rt"), 0o755)
-
-    def at(self, name):
-        """The path of a file of it."""
-        return os.path.join(self.top, name)
-
-    def run(self, words, script="m11", has_rt=True, **how):
-        """The status of a script, and what it says on standard output and on standard error."""
-        path = (os.path.join(self.folder, "bin") + ":" if has_rt else "") + "/usr/bin:/bin"
-        done = subprocess.run([self.at(script), *words], cwd=self.folder, env={"PATH": path, "HOME": self.folder}, stdin=subprocess.DEVNULL,
-                              capture_output=True, text=True, check=False, **how)
-        return done.returncode, done.stdout, done.stderr
-
-    def builds(self):
-        """How often the program was built."""
-        if not os.path.exists(self.at("builds")):
-            return 0
-        with open(self.at("builds"), encoding="utf-8") as file:
-            return len(file.readlines())
-
-    def expect(self, what, got, wanted):
-        """Notes what differs."""
-        if got != wanted:
-            self.found.append(f"{what}\n--- is\n{got}\n--- should be\n{wanted}")
-
-    def expect_builds(self, what, count):
-        """A call has to run the program, after so many builds of it in all."""
-        self.expect(what, self.run(["a b", "-c"])[:2], (4, "ran a b -c\n"))
-        self.expect(f"{what}: builds", self.builds(), count)
+from tests.repository import LISTS, NOBODY, checks, put
 
 
 def age(top):
@@ -116,17 +37,16 @@ def check_builds(repository):
 
 
 def check_dump(repository):
-    """The other program is built for itself, and says its own name."""
-    repository.expect_builds("the first call", 1)
-    for count, name in enumerate(("crates/m11_other/src/lib.rt", "crates/m11/src/main.rt", "crates/m11_dumper/src/main.rt"), 2):
-        repository.expect(f"before a change of {name}", repository.run(["a b", "-c"], "m11-dump")[:2], (4, "ran a b -c\n"))
+    """Another program is built again just where its own sources changed, and says its own name."""
+    repository.expect_builds("the first call", 1, "m11-dump")
+    for name in ("crates/m11_other/src/lib.rt", "crates/m11/src/main.rt"):
         put(repository.at(name), "new\n")
-        repository.expect(f"builds before a change of {name}", repository.builds(), min(count, 2))
-    repository.expect("after them", repository.run(["x"], "m11-dump")[:2], (4, "ran x\n"))
-    repository.expect("builds after them", repository.builds(), 3)
+        repository.expect_builds(f"a change of {name}", 1, "m11-dump")
+    put(repository.at("crates/m11_dumper/src/main.rt"), "new\n")
+    repository.expect_builds("a change of its own", 2, "m11-dump")
     repository.expect("the version", repository.run(["--version"], "m11-dump")[1],
                       "m11-dump: commit unknown (there is no git that knows it), kit kit-1 logic 1\n")
-    put(repository.at("fails"), "")
+    repository.tell("fails")
     put(repository.at("crates/m11_low/src/lib.rt"), "new\n")
     status, out, said = repository.run(["x"], "m11-dump")
     repository.expect("a build that fails", (status, out, "m11-dump: the build failed" in said), (70, "", True))
@@ -147,6 +67,22 @@ def check_copies(repository):
     put(repository.at("crates/m11_low/src/lib.rt"), "new\n")
     status, _, said = by_nobody(repository, ["x"])
     repository.expect("somebody else, when it is to be built", (status, said.count("\n"), "may write to" in said), (70, 1, True))
+    repository.expect("builds", repository.builds(), 1)
+
+
+def check_owners(repository):
+    """Who may not write where one of the programs lies builds none."""
+    other = repository.at("crates/m11_tracer")
+    if os.geteuid() == 0:
+        for at, _, _ in os.walk(repository.top):
+            os.chown(at, NOBODY if at != other else 0, NOBODY)
+        status, _, said = repository.run(["x"], user=NOBODY, group=NOBODY)
+    else:
+        os.chmod(other, 0o555)
+        status, _, said = repository.run(["x"])
+        os.chmod(other, 0o755)
+    repository.expect("a call", (status, said.count("\n"), "may write to" in said), (70, 1, True))
+    repository.expect("builds", repository.builds(), 0)
 
 
 def by_nobody(repository, words):
@@ -159,26 +95,6 @@ def by_nobody(repository, words):
     for at, _, _ in os.walk(repository.top):
         os.chmod(at, 0o755)
     return said
-
-
-def check_failures(repository):
-    """A build that fails, and none that can begin."""
-    status, out, said = repository.run(["x"], has_rt=False)
-    repository.expect("without rt", (status, out, said), (70, "", "m11: the program is to be built, and there is no rt on the PATH\n"))
-    put(repository.at("fails"), "")
-    status, out, said = repository.run(["x"])
-    repository.expect("a build that fails", (status, out, said.endswith("the build failed; its log ends:\nrt: chose --jobs 4 for m11_low\nit is not proved\n")),
-                      (70, "", True))
-    os.remove(repository.at("fails"))
-    repository.expect_builds("the next call", 2)
-
-
-def check_progress(repository):
-    """Without a terminal there is a line for each crate."""
-    put(repository.at("slow"), "")
-    said = repository.run(["x"])[2].split("\n")
-    repository.expect("what it says", [line for line in said if "crate" in line and "reading" not in line and "log" not in line],
-                      ["m11: crate 1 of 2, m11_low", "m11: crate 2 of 2, m11"])
 
 
 def check_version(repository):
@@ -243,7 +159,7 @@ def check_install(repository):
             heading = file.readline()
         repository.expect("the heading of the page", heading,
                           f'.TH {called} 1 "" "commit unknown (there is no git that knows it), kit kit-1 logic 1" "Tools for PDP-11 software"\n')
-    put(repository.at("fails"), "")
+    repository.tell("fails")
     put(repository.at("crates/m11/src/main.rt"), "new\n")
     repository.expect("a build that fails", repository.run([prefix], "install")[:2], (70, ""))
 
@@ -284,17 +200,5 @@ def check_trace_completion(repository):
         repository.expect(f"after {words}", (" ".join(sorted(said.stdout.split())), said.stderr), (wanted, ""))
 
 
-def over_a_repository(check):
-    """A check, as a call without words that gives the differences that it found."""
-    def checked():
-        with tempfile.TemporaryDirectory() as folder:
-            os.chmod(folder, 0o755)
-            repository = Repository(folder)
-            check(repository)
-            return repository.found
-    return checked
-
-
-CHECKS = [(check.__name__.replace("check_", "scripts-"), over_a_repository(check), ())
-          for check in (check_builds, check_dump, check_copies, check_failures, check_progress, check_version, check_paths, check_install, check_completion,
-                        check_dump_completion, check_trace_completion)]
+CHECKS = checks(check_builds, check_dump, check_copies, check_owners, check_version, check_paths, check_install, check_completion, check_dump_completion,
+                check_trace_completion)

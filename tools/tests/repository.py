@@ -1,0 +1,238 @@
+"""The small repository over which scripts.py and builds.py run the scripts at the top, with a stand-in for rt. The folder has a blank in its name.
+
+The stand-in makes programs that print their words, and notes each time that it was asked to. Nothing here waits for a fixed time: what has
+to come is waited for."""
+import contextlib
+import os
+import shutil
+import signal
+import subprocess
+import tempfile
+import time
+
+TOP = os.path.dirname(os.path.dirname(os.path.dirname(os.path.realpath(__file__))))
+COPIED = ("m11", "m11-dump", "m11-trace", "install", "docs/man/m11.1", "docs/man/m11-dump.1", "docs/man/m11-trace.1", "tools/completion.bash",
+          "tools/program.bash")
+LISTS = "# a list for each crate\nm11_low: std\nm11_other: m11_low\nm11: m11_low\nm11_dumper: m11_low\nm11_tracer: m11_low\n"
+FILES = ("m11/src/main.rt", "m11_low/src/lib.rt", "m11_low/specs/Lib.antt", "m11_low/proofs/one/Answers.antt", "m11_low/must-fail/one.edit",
+         "m11_other/src/lib.rt", "m11/data/P.MAC", "m11/args", "m11_dumper/src/main.rt", "m11_dumper/stdin", "m11_dumper/stdout",
+         "m11_tracer/src/main.rt", "m11_tracer/status")
+# The crate of the program that each script becomes.
+PROGRAMS = {"m11": "m11", "m11-dump": "m11_dumper", "m11-trace": "m11_tracer"}
+NOBODY = 65534
+# How many seconds may pass before what has to come is given up.
+PATIENCE = 120
+
+RT = r"""#!/bin/bash
+# `rt version`, and `rt ci`, which takes each crate of the list for proved, and makes and runs the programs. Files in the folder HOME
+# tell it what else to do.
+told() { [[ -e $HOME/$1 ]]; }
+
+# In mid-build rt has temporary files, and processes of its own group, of another one and of another session. Here it waits for a file.
+wait_in_mid_build() {
+    mkdir "$TMPDIR/rt-proved" && : >"$TMPDIR/rt-proved/file"
+    sleep 1000 &
+    setsid sleep 1000 &
+    set -m
+    sleep 1000 &
+    set +m
+    : >"$HOME/waiting"
+    until told goes; do sleep 0.05; done
+    kill $(jobs -p)
+}
+
+# Makes a program, and runs it as rt does.
+make() {
+    local as_nobody=() room=$TMPDIR/rt-run
+    mkdir "crates/$1/out" && cp "$HOME/program" "crates/$1/out/$1" || return
+    ((EUID)) || as_nobody=(setpriv --reuid=65534 --regid=65534 --clear-groups)
+    mkdir "$room" && chmod 711 "$room" && mkdir "$room/bin" && cp "$HOME/program" "$room/bin/$1" || return
+    (cd "$room" && exec "${as_nobody[@]}" "$room/bin/$1" --help) && rm -r "$room"
+}
+
+case $1 in
+version) echo kit-1 logic 1 ;;
+ci)
+    echo "$PWD" >>"$HOME/builds"
+    find . -type f -o -name .git | LC_ALL=C sort >"$HOME/given"
+    cat crates.txt >"$HOME/lists"
+    if told leaves; then (setsid sleep 1000 &); fi
+    if told dies; then
+        sleep 1000 &
+        kill -KILL $$
+    fi
+    while IFS=: read -r name _; do
+        echo "== $name"
+        echo "rt: $name: its tests are proved"
+        if [[ ! -f crates/$name/src/main.rt ]]; then
+            echo "rt: $name is kept: an earlier run on this machine proved the same files over the same libraries"
+            if told fails; then echo "rt: $name NOT PROVED" && exit 1; fi
+            if told waits; then wait_in_mid_build; fi
+        else
+            make "$name" || exit
+            echo "rt: $name proved"
+        fi
+    done <crates.txt
+    ;;
+esac
+"""
+PROGRAM = r"""#!/bin/sh
+# Prints its words. After the word `hold` it goes on until a file is there.
+echo "ran $*"
+if [ "$1" = hold ]; then
+    : >"$HOME/holding"
+    until [ -e "$HOME/goes" ]; do sleep 0.05; done
+fi
+[ "$1" = --help ] || exit 4
+"""
+
+
+def put(path, text):
+    """Writes a file, with its folders."""
+    os.makedirs(os.path.dirname(path), exist_ok=True)
+    with open(path, "w", encoding="utf-8") as file:
+        file.write(text)
+
+
+def lines_of(path):
+    """The lines of a file, or none where there is no file."""
+    if not os.path.exists(path):
+        return []
+    with open(path, encoding="utf-8") as file:
+        return file.read().splitlines()
+
+
+class Repository:
+    """The small repository. Beside it are the stand-in, the folder of temporary files, and the files that tell the stand-in what to do."""
+
+    def __init__(self, folder):
+        self.folder, self.top, self.found = folder, os.path.join(folder, "m 11"), []
+        self.temporary = self.beside("temporary files")
+        os.mkdir(self.temporary)
+        for name in COPIED:
+            os.makedirs(os.path.dirname(self.at(name)), exist_ok=True)
+            shutil.copy(os.path.join(TOP, name), self.at(name))
+        put(self.at("crates.txt"), LISTS)
+        put(self.at("HANDLES"), "Handles allowed: none.\n")
+        for name in FILES:
+            put(self.at("crates/" + name), name + "\n")
+        self.stand_in("rt", RT)
+        put(self.beside("program"), PROGRAM)
+        os.chmod(self.beside("program"), 0o755)
+
+    def at(self, name):
+        """The path of a file of it."""
+        return os.path.join(self.top, name)
+
+    def beside(self, name):
+        """The path of a file beside it."""
+        return os.path.join(self.folder, name)
+
+    def stand_in(self, name, text):
+        """Puts a command in the place of the one that the scripts call."""
+        put(self.beside("bin/" + name), text)
+        os.chmod(self.beside("bin/" + name), 0o755)
+
+    def tell(self, *names):
+        """Has the stand-in do something from now on."""
+        for name in names:
+            put(self.beside(name), "")
+
+    def tell_no_more(self, *names):
+        """Has it no longer do something."""
+        for name in names:
+            if os.path.exists(self.beside(name)):
+                os.remove(self.beside(name))
+
+    def begin(self, words=(), script="m11", has_rt=True, temporary=None, prepare=lambda: None, **how):
+        """A call of a script that has begun, in a session of its own. It ignores no signal, as what is started in the background may."""
+        def begin_anew():
+            for number in (signal.SIGHUP, signal.SIGINT, signal.SIGQUIT, signal.SIGTERM):
+                signal.signal(number, signal.SIG_DFL)
+            prepare()
+
+        path = (self.beside("bin") + ":" if has_rt else "") + "/usr/bin:/bin"
+        how = {"stdin": subprocess.DEVNULL, "stdout": subprocess.PIPE, "stderr": subprocess.PIPE, "text": True, "start_new_session": True, **how}
+        return subprocess.Popen([self.at(script), *words], cwd=self.folder, env={"PATH": path, "HOME": self.folder, "TMPDIR": temporary or self.temporary},
+                                preexec_fn=begin_anew, **how)
+
+    def run(self, words, script="m11", **how):
+        """The status of a script, and what it says on standard output and on standard error."""
+        call = self.begin(words, script, **how)
+        out, said = call.communicate(timeout=PATIENCE)
+        return call.returncode, out, said
+
+    def builds(self):
+        """How often the programs were built."""
+        return len(lines_of(self.beside("builds")))
+
+    def expect(self, what, got, wanted):
+        """Notes what differs."""
+        if got != wanted:
+            self.found.append(f"{what}\n--- is\n{got}\n--- should be\n{wanted}")
+
+    def expect_builds(self, what, count, script="m11"):
+        """A call has to run the program, after so many builds in all."""
+        self.expect(what, self.run(["a b", "-c"], script)[:2], (4, "ran a b -c\n"))
+        self.expect(f"{what}: builds", self.builds(), count)
+
+    def expect_soon(self, what, holds):
+        """Waits until something holds."""
+        end = time.monotonic() + PATIENCE
+        while not holds():
+            if time.monotonic() > end:
+                self.found.append(f"{what}: it never came")
+                return
+            time.sleep(0.02)
+
+    def processes(self, session=None):
+        """What runs of that which a call of a script has started, of any session or of one, each as its number and its words."""
+        found = []
+        for number in filter(str.isdigit, os.listdir("/proc")):
+            try:
+                with open(f"/proc/{number}/environ", "rb") as file:
+                    is_ours = b"HOME=" + self.folder.encode() in file.read().split(b"\0")
+                with open(f"/proc/{number}/cmdline", "rb") as file:
+                    words = file.read().replace(b"\0", b" ").decode()
+                if is_ours and session in (None, os.getsid(int(number))):
+                    found.append((int(number), words))
+            except OSError:
+                continue
+        return found
+
+    def expect_nothing_left(self, what):
+        """Of a build that ended, no process and no file may be left beside the programs and the log."""
+        self.expect(f"{what}: processes that are left", self.processes(), [])
+        self.expect(f"{what}: temporary files that are left", os.listdir(self.temporary), [])
+        for crate in PROGRAMS.values():
+            left = os.listdir(self.at(f"crates/{crate}/out")) if os.path.exists(self.at(f"crates/{crate}/out")) else []
+            self.expect(f"{what}: files that are left for {crate}", [name for name in left if name not in (crate, "built", "build.log")], [])
+
+    def end(self):
+        """Ends all that runs."""
+        while self.processes():
+            for number, _ in self.processes():
+                with contextlib.suppress(ProcessLookupError):
+                    os.kill(number, signal.SIGKILL)
+
+
+def over_a_repository(check):
+    """A check, as a call without words that gives the differences that it found."""
+    def checked():
+        with tempfile.TemporaryDirectory() as folder:
+            os.chmod(folder, 0o755)
+            repository = Repository(folder)
+            try:
+                check(repository)
+            except (OSError, subprocess.TimeoutExpired) as error:
+                # What was found before says why.
+                repository.found.append(f"the check can't go on: {error}")
+            finally:
+                repository.end()
+            return repository.found
+    return checked
+
+
+def checks(*given):
+    """Rows of tools/test.py for these checks."""
+    return [(check.__name__.replace("check_", "scripts-"), over_a_repository(check), ()) for check in given]
