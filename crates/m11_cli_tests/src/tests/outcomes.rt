@@ -1,4 +1,4 @@
-//! Numbers and names of faults; and the status and the line of each outcome that no case of the suite and no test of the program comes to.
+//! Numbers and names of faults; and the status and the line of each outcome that no case of the suite comes to.
 
 use m11_asm::AsmFault;
 use m11_base::MemorySink;
