@@ -142,9 +142,14 @@ impl Reporter {
             (outputs (output_of S.Sink tape.new) map messages)
             (held_writes self.old.held) self.new (with_held None self.old) result }
     {
-        self.put_held(tape)?;
-        self.is_held = false;
-        Ok(())
+        // proof: a match and no `?`, so that a body that writes nothing here is refused by this contract, and not for a lost name.
+        match self.put_held(tape) {
+            Ok(()) => {
+                self.is_held = false;
+                Ok(())
+            }
+            Err(fault) => Err(fault),
+        }
     }
 
     // The text that is held, as a block of the tape.
