@@ -7,6 +7,7 @@ ghost use Rattle.m11_link.specs.Outputs.{Writes};
 ghost use Rattle.m11_base_writes.specs.Outputs.{outputs};
 ghost use Rattle.m11_link.specs.Written.{placed_text, text_writes, with_relocation};
 
+use arrayvec::ArrayVec;
 use m11_base::{Name, Sink};
 use m11_base_writes::put_product;
 use m11_link_layout::{LinkFault, Plan};
@@ -29,13 +30,10 @@ pub(crate) struct HeldText {
     module_index: usize,
     base: u16,
     address: u16,
-    // The text, and after its end what longer texts left.
-    room: [u8; 512],
-    length: usize,
+    bytes: ArrayVec<u8, 512>,
 }
 
 impl Model for HeldText {
-    ghost use Rattle.std.specs.Prelude.{◌≤◌, take};
     ghost use Rattle.m11_link.specs.Written.{PlacedText};
 
     ghost Value = { PlacedText };
@@ -44,10 +42,8 @@ impl Model for HeldText {
       module_index = t.module_index;
       base = t.base;
       address = t.address;
-      bytes = take t.length t.room;
+      bytes = t.bytes.items;
     } };
-
-    ghost invariant = { λ t. t.length ≤ 512 };
 }
 
 impl HeldText {
@@ -57,8 +53,7 @@ impl HeldText {
             module_index: 0,
             base: 0,
             address: 0,
-            room: [0; 512],
-            length: 0,
+            bytes: ArrayVec::new(),
         }
     }
 
@@ -71,23 +66,26 @@ impl HeldText {
         self.module_index = location.module_index;
         self.base = base;
         self.address = base.wrapping_add(address);
-        self.room[..bytes.len()].copy_from_slice(bytes);
-        self.length = bytes.len();
+        self.bytes.clear();
+        self.bytes.try_extend_from_slice(bytes).unwrap();
     }
 
-    /// Stores one more relocation: the bytes at its location are replaced. It was judged by the length of this text.
+    /// Stores one more relocation, which was judged by the length of this text: the bytes at its location are replaced. One that was judged
+    /// by a longer text changes nothing.
     pub(crate) fn relocate(&mut self, plan: &Plan, relocation: &TextRelocation)
         ensures { relocation.now.text_length ≡ length self.old.bytes
             → self.new ≡ with_relocation (planned plan.now) self.old relocation.now.relocation }
     {
-        relocate(
-            plan,
-            self.module_index,
-            self.base,
-            self.address,
-            relocation,
-            &mut self.room,
-        );
+        if usize::from(relocation.text_length()) <= self.bytes.len() {
+            relocate(
+                plan,
+                self.module_index,
+                self.base,
+                self.address,
+                relocation,
+                self.bytes.as_mut_slice(),
+            );
+        }
     }
 
     /// The text as a block of the tape; without data it gives none.
@@ -96,11 +94,10 @@ impl HeldText {
             (outputs (output_of S.Sink tape.old) map messages)
             (outputs (output_of S.Sink tape.new) map messages) (text_writes self.now) result }
     {
-        let bytes = &self.room[..self.length];
-        if bytes.is_empty() {
+        if self.bytes.is_empty() {
             return Ok(());
         }
-        let block = tape_block(alloc, self.address, bytes)?;
+        let block = tape_block(alloc, self.address, self.bytes.as_slice())?;
         put_product(tape, block.as_slice())
     }
 }

@@ -52,6 +52,13 @@ impl TextRelocation {
         &self.relocation
     }
 
+    /// How many bytes the text before it has.
+    pub fn text_length(&self) -> u16
+        ensures { result ≡ self.now.text_length }
+    {
+        self.text_length
+    }
+
     /// The index in the text of the first byte that it stores.
     pub fn index(&self) -> u8
         ensures { result ≡ self.now.relocation.displacement - 4 }

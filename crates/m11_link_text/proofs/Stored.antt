@@ -1,4 +1,4 @@
--- What a relocation stores, in the text and in the room that begins with the text.
+-- What a relocation stores in a text.
 use Rattle.std.proofs.Common.{◌≡◌, ◌∙◌, ℕ, ◌+◌, ◌-◌, ◌≤◌, min, Bool, true, false, ◌&&◌, if◌then◌else◌, List, [], ◌++◌, length, take, drop, take-append-drop, append-nil, Option, Some, None, refl, sym, ap, ap₂, subst, arith, length-append, length-drop, length-take}
 use Rattle.std.specs.Prelude.{nat_le}
 use Rattle.std.proofs.lemmas.Bool.{le-leb, leb-true}
@@ -147,44 +147,27 @@ size_kept found module_index own address relocation text false e =
     let stored = stored_bytes found module_index own (modulo (address + index)) relocation.is_byte relocation.target in
     ap (λ (c : Bool). length (if c then replaced text index stored else text)) e
 
--- ---- room that begins with a text
+-- ---- a relocation that was judged by the length of a text
 
--- bytes are replaced in the room as in the text
-replaced_first : (room bytes : List ℕ) (index count : ℕ) → index + length bytes ≤ count → index ≤ length room
-    → take count (replaced room index bytes) ≡ replaced (take count room) index bytes
-replaced_first room bytes index count within there =
-    let end : ℕ = index + length bytes in
-    let more : ℕ = count - end in
-    let all : count ≡ end + more = omega (arith, within) in
-    let head : List ℕ = take index room ++ bytes in
-    let long : length head ≡ end = simp length-append (ap (λ n. n + length bytes) (length-take-le index room there)) in
-    ap (λ n. take n (head ++ drop end room)) (all ∙ ap (λ n. n + more) (sym long))
-    ∙ take-append-add head (drop end room) more
-    ∙ ap₂ (λ xs ys. (xs ++ bytes) ++ ys)
-    (sym (take-take index count room (omega (arith, within))))
-    (sym (drop-take end more room) ∙ ap (λ n. drop end (take n room)) (sym all))
+lies : (r : Relocation) (n : ℕ) → 4 ≤ r.displacement → r.displacement + width_of r.is_byte r.target ≤ 4 + n → lies_within r n ≡ true
+lies r n least most =
+    ap₂ (λ a b. a && b) (le-leb 4 r.displacement least) (le-leb (r.displacement + width_of r.is_byte r.target) (4 + n) most)
 
--- a relocation of the text that the room begins with
-pub relocated_first : (found : Findings) (module_index own address count : ℕ) (relocation : Relocation) (room : List ℕ)
-    → lies_within relocation count ≡ true
-    → relocation.displacement - 4 + width_of relocation.is_byte relocation.target ≤ length room
-    → take count (replaced room (relocation.displacement - 4) (stored_bytes found module_index own
-    (modulo (address + (relocation.displacement - 4))) relocation.is_byte relocation.target))
-    ≡ relocated found module_index own address relocation (take count room)
-relocated_first found module_index own address count relocation room e fits =
+-- what it stores lies within each text that is as long
+pub judged_fits : (relocation : Relocation) (count n : ℕ) → lies_within relocation count ≡ true → count ≤ n
+    → relocation.displacement - 4 + width_of relocation.is_byte relocation.target ≤ n
+judged_fits relocation count n e le =
+    let place = place_of relocation count e in omega (arith, place.starts, place.ends, le)
+
+-- it is stored in each text that is as long
+pub judged_is_stored : (found : Findings) (module_index own address count : ℕ) (relocation : Relocation) (text : List ℕ)
+    → lies_within relocation count ≡ true → count ≤ length text
+    → replaced text (relocation.displacement - 4) (stored_bytes found module_index own
+    (modulo (address + (relocation.displacement - 4))) relocation.is_byte relocation.target)
+    ≡ relocated found module_index own address relocation text
+judged_is_stored found module_index own address count relocation text e le =
     let index : ℕ = relocation.displacement - 4 in
-    let width : ℕ = width_of relocation.is_byte relocation.target in
     let stored = stored_bytes found module_index own (modulo (address + index)) relocation.is_byte relocation.target in
     let place = place_of relocation count e in
-    let le = stored_width found module_index own (modulo (address + index)) relocation.is_byte relocation.target in
-    let text : List ℕ = take count room in
-    let long : length text ≡ min count (length room) = length-take count room in
-    replaced_first room stored index count (omega (arith, place.starts, place.ends, le)) (omega (arith, fits))
-    ∙ ap (λ (c : Bool). if c then replaced text index stored else text)
-    (sym (lies relocation (length text) place.starts (omega (arith, place.starts, place.ends, fits, long))))
-  where
-    lies : (r : Relocation) (n : ℕ) → 4 ≤ r.displacement → r.displacement + width_of r.is_byte r.target ≤ 4 + n
-        → lies_within r n ≡ true
-    lies r n least most =
-        ap₂ (λ a b. a && b) (le-leb 4 r.displacement least)
-        (le-leb (r.displacement + width_of r.is_byte r.target) (4 + n) most)
+    ap (λ (c : Bool). if c then replaced text index stored else text)
+    (sym (lies relocation (length text) place.starts (omega (arith, place.ends, le))))

@@ -134,17 +134,17 @@ fn store(
 }
 
 /// Puts what a relocation stores into its text, which stands at this address in the module of this index; `base` is
-/// that of the text's section in the module. What stood there is replaced. The text is what `room` begins with.
+/// that of the text's section in the module. What stood there is replaced.
 pub fn relocate(
     plan: &Plan,
     module_index: usize,
     base: u16,
     address: u16,
     relocation: &TextRelocation,
-    room: &mut [u8; 512],
+    text: &mut [u8],
 )
-    ensures { take relocation.now.text_length room.new ≡ spec.relocated (planned plan.now) module_index base address
-        relocation.now.relocation (take relocation.now.text_length room.old) }
+    requires { relocation.now.text_length ≤ length text.old }
+    ensures { text.new ≡ spec.relocated (planned plan.now) module_index base address relocation.now.relocation text.old }
 {
     let index = relocation.index();
     let location = address.wrapping_add(u16::from(index));
@@ -154,7 +154,7 @@ pub fn relocate(
         origin,
         location,
         relocation.relocation(),
-        room,
+        text,
         usize::from(index),
     );
 }
