@@ -6,6 +6,7 @@ use Rattle.m11_asm_faults.specs.declared.fault.AsmFault.TheVariants as asm-fault
 use Rattle.m11_base.specs.Devices.{Bytes, Rises}
 use Rattle.m11_base.specs.Sink.{handed_on}
 use Rattle.m11_base.specs.declared.sink.Sink.{Ghosts}
+use Rattle.m11_asm.specs.Extents.{AsmGives}
 use Rattle.m11_asm.specs.Run.{AsmRuns}
 use Rattle.m11_cpu_machine.specs.Dialogue.{Input}
 use Rattle.m11_cpu.specs.Simulation.{Simulates, request_of}
@@ -62,8 +63,8 @@ abbrev pub outputs : OutputState → Option OutputState → OutputState → Outp
 outputs product report messages = outputs_of known known known product report messages
 
 -- the sources are the files of their paths, in both passes. By their texts the object and the listing, which are empty at
--- first, and what is reported become what an assembly makes of them; object and listing are created in this order, and
--- what they have got is kept under their paths
+-- first, and what is reported become what an assembly makes of them, which takes no byte after the line in which `.END`
+-- becomes live; object and listing are created in this order, and what they have got is kept under their paths
 pub record Assembles (asm : AsmTask) (old new : Store) (reported reported' : OutputState) (result : Result AsmDone AsmFault)
     : Type 0 where
   pub first : List Input
@@ -81,6 +82,8 @@ pub record Assembles (asm : AsmTask) (old new : Store) (reported reported' : Out
   pub runs : AsmRuns (pass_of (λ s. s.text) (λ s. s.faults) first first')
       (pass_of (λ s. s.text) (λ s. s.faults) second second')
       (outputs object listing reported) (outputs object' listing' reported') result
+  pub gives : AsmGives (pass_of (λ s. s.text) (λ s. s.faults) first first')
+      (pass_of (λ s. s.text) (λ s. s.faults) second second') result
   pub kept : new.files ≡ keeping_some got asm.listing listing'
       (keeping asm.object.now (got object') (creating (asm_outputs asm) old.files))
   pub opened : new.refusals ≡ old.refusals

@@ -1,10 +1,12 @@
 use Rattle.std.proofs.Common.{◌∙◌, ap}
 use Rattle.m11_base_writes.specs.Passes.{pass_of}
+use Rattle.m11_asm.specs.Extents.{AsmGives}
 use Rattle.m11_asm.specs.Run.{AsmRuns}
 use Rattle.m11_base_files.specs.Opens.{keeping, keeping_some}
 use Rattle.m11_cli.specs.Driver.{got, outputs}
 use Rattle.m11_cli_tasks.specs.Opened.{asm_inputs}
 use Rattle.m11_cli.proofs.Assembled.{asm_runs}
+use Rattle.m11_cli.proofs.Given.{asm_gives}
 use Rattle.m11_cli.proofs.Linked.{emptied, kept, same_output, seen_output}
 use Rattle.m11_base_writes.specs.States.{output_of}
 use Rattle.m11_cli.proofs.Sources.{are, seen}
@@ -33,6 +35,9 @@ returns g c =
       same_output sink c.args.opened.listing,
       same_output sink c.asm_run-returned.new.listing,
     ) at c.asm_run-returned.ensures.runs in
+    let given : AsmGives (pass_of text faults first c.asm_run-returned.new.first)
+    (pass_of text faults second c.asm_run-returned.new.second) c.asm_run-returned.result =
+    rw (c.as_mut_slice.ensures.value, c.as_mut_slice-2.ensures.value) at c.asm_run-returned.ensures.gives in
     λ before read again emptied-object emptied-listing created same. record {
       first = seen text faults first;
       first' = seen text faults c.asm_run-returned.new.first;
@@ -47,6 +52,7 @@ returns g c =
       emptied = emptied-object;
       emptied-listing = emptied sink before.files task.listing c.args.opened.listing emptied-listing;
       runs = asm_runs text faults _ _ _ _ _ _ c.asm_run-returned.result ran;
+      gives = asm_gives text faults _ _ _ _ c.asm_run-returned.result given;
       kept = c.keep_some.ensures.keeps
           ∙ kept sink task.listing c.asm_run-returned.new.listing _
           ∙ ap (λ files. keeping_some got task.listing listing' files)
