@@ -1,7 +1,7 @@
 //! What a line's operator is, and calls of macros. (MACRO-11 Language Reference Manual, "Macro calls" and "Arguments in macro
 //! definitions and macro calls".)
 
-ghost use Rattle.std.specs.Prelude.{◌≡◌, ◌<◌, ◌≤◌, false, length, None, Some, IfOk, IfErr};
+ghost use Rattle.std.specs.Prelude.{◌≡◌, ◌<◌, ◌≤◌, false, length, None, Some, IfOk, IfErr, IfSome, IsSome};
 ghost use Rattle.std.specs.Option.{option_copied};
 ghost use Rattle.m11_unfold_rules.specs.Actuals.{actuals_from};
 ghost use Rattle.m11_unfold_rules.specs.Directives.{operator as line_operator};
@@ -11,6 +11,7 @@ ghost use Rattle.m11_base.specs.NameCharacters.{six_of};
 ghost use Rattle.m11_base.specs.Rad50.{name_of};
 ghost use Rattle.m11_unfold_bodies.specs.Left.{depth, most_expansions};
 ghost use Rattle.m11_unfold_rules.specs.Acting as spec;
+ghost use Rattle.m11_unfold_rules.specs.Limits.{depth_fault};
 ghost use Rattle.m11_unfold_rules.specs.Macros.{macro_named};
 ghost use Rattle.m11_unfold.specs.Kept.{IsKept};
 ghost use Rattle.m11_unfold.specs.Steps.{Fails};
@@ -57,17 +58,30 @@ impl State {
             return Ok(false);
         };
         let column = usize::from(name.end);
-        if let Some(named) = self.macro_called(name.text(line)) {
-            if self.left.depth() >= EXPANSION_LIMIT {
-                return Err(UnfoldFault::TooDeep);
-            }
-            let called = named.handle()?;
+        if let Some(called) = self.macro_to_call(name.text(line))? {
             self.call(alloc, called, line, column, names, remarks)?;
             return Ok(true);
         }
         match directive_named(name.text(line)) {
             Some(directive) => Ok(self.direct(alloc, line, directive, column, names, remarks)?),
             None => Ok(false),
+        }
+    }
+
+    // The macro that a word calls, if it is the name of one. `TooDeep` where its call would open the 17th expansion, and `NoMemory` where
+    // it wouldn't.
+    fn macro_to_call(&self, word: &[u8]) -> Result<Option<Macro>, UnfoldFault>
+        ensures called { IfOk result (λ called. called
+            ≡ spec.macro_of self.now.conditions self.now.macros.entries (name_of (six_of word.now))) }
+        ensures room { IfOk result (λ called. IfSome called (λ _. depth self.now.left.left < most_expansions)) }
+        ensures fails { IfErr result (λ fault.
+            IsSome (spec.macro_of self.now.conditions self.now.macros.entries (name_of (six_of word.now)))
+            × Fails (depth_fault self.now.left.left) fault) }
+    {
+        match self.macro_called(word) {
+            None => Ok(None),
+            Some(_) if self.left.depth() >= EXPANSION_LIMIT => Err(UnfoldFault::TooDeep),
+            Some(named) => Ok(Some(named.handle()?)),
         }
     }
 

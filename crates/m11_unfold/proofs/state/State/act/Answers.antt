@@ -7,3 +7,9 @@ call-requires-clause-within g c =
     subst (λ n. n ≤ length c.args.line.now.text) (sym c.from-column.ensures)
     (operator_within c.args.line.now.text c.in-Some.name
     (c.labels_and_body_stand_in_order.ensures.body c.args.line.now.text) (sym c.requires.operator ∙ c.in-Some.is))
+
+pub direct-requires-clause-within : goal.direct-requires-clause-within
+direct-requires-clause-within g c =
+    subst (λ n. n ≤ length c.args.line.now.text) (sym c.from-column.ensures)
+    (operator_within c.args.line.now.text c.in-Some.name
+    (c.labels_and_body_stand_in_order.ensures.body c.args.line.now.text) (sym c.requires.operator ∙ c.in-Some.is))
