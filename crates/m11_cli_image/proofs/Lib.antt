@@ -32,3 +32,9 @@ pub mod GlobalsLie
 pub mod NoMessages
 pub mod WorkedOut
 pub mod BranchesLead
+pub mod DirectoryTaken
+pub mod TextsTaken
+pub mod RowsTaken
+pub mod SourcesTaken
+pub mod LimitsPassed
+pub mod ItemsTaken

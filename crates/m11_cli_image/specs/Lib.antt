@@ -14,3 +14,4 @@ pub mod Agreement
 pub mod Labels
 pub mod Worked
 pub mod Branching
+pub mod Refusals

@@ -27,6 +27,11 @@ mod tapes;
 
 pub use tapes::{links_give_the_image, loads_of_links_yield_the_image};
 
+// Links that are refused.
+mod refusals;
+
+pub use refusals::links_are_refused_for_sizes_alone;
+
 // Links that report nothing.
 mod unreported;
 

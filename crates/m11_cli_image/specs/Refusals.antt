@@ -1,0 +1,90 @@
+-- Which faults a link of the objects of sources may have: it passes a limit, or a source puts something past the last address. (RT-11 Volume and
+-- File Formats Manual, "Object file format"; MACRO-11 Language Reference Manual, ".PSECT directive" and "Current location counter". The limits,
+-- and that a size which passes the last address isn't kept, are this project's own.)
+use Rattle.std.specs.Prelude.{◌≡◌, ◌<◌, ◌≤◌, ℕ, ◌+◌, nat_le, nat_lt, Bool, true, false, List, [], ◌∷◌, length, map, ⊤}
+use Rattle.std.specs.List.{AllByRecursion, list_any}
+use Rattle.std.specs.Map.{lookup}
+use Rattle.std.specs.Option.{unwrap_or}
+use Rattle.m11_base.specs.Rad50.{Name, is_same_name}
+use Rattle.m11_obj_blocks.specs.Limited.{most_bytes}
+use Rattle.m11_obj.specs.declared.pieces.Piece.{Piece}
+use Rattle.m11_obj.specs.declared.pieces.PieceContent.{PieceContent}
+use Rattle.m11_obj.specs.declared.pieces.PieceContent.TheVariants.{Byte, Word, Limits}
+use Rattle.m11_obj.specs.declared.pieces.RelocationKind.{RelocationKind}
+use Rattle.m11_obj.specs.declared.pieces.RelocationKind.TheVariants as kind
+use Rattle.m11_obj.specs.Pieces.{size_of}
+use Rattle.m11_link_modules.specs.Names.{is_among}
+use Rattle.m11_link_modules.specs.Positions.{global_names}
+use Rattle.m11_link_modules.specs.Rules.{most_globals, most_modules, most_sections}
+use Rattle.m11_link_layout.specs.Sections.{is_too_large}
+use Rattle.m11_link_layout.specs.declared.fault.LinkFault.{LinkFault}
+use Rattle.m11_link_layout.specs.declared.fault.LinkFault.TheVariants as fault
+use Rattle.m11_cli_image.specs.Objects.{link_parts, object_of, transfer_at}
+use Rattle.m11_cli_image.specs.Sections.{name_of, names_of, sections_of, size_entered}
+use Rattle.m11_cli_image.specs.Sources.{Source}
+
+-- ---- what holds of a source that live lines give
+
+-- no name comes again
+abbrev pub AreOnce : List Name → Type 0
+AreOnce [] = ⊤
+AreOnce (name ∷ names) = (is_among names name ≡ false) × AreOnce names
+
+abbrev pub own_names : Source → List Name
+own_names source = map name_of (sections_of source)
+
+-- the name is that of a section of the source
+abbrev pub IsOwn : Source → Name → Type 0
+IsOwn source name = is_among (own_names source) name ≡ true
+
+-- a value that counts from a section counts from one of the source
+abbrev pub KindIsOwn : Source → RelocationKind → Type 0
+KindIsOwn source (kind.Section name) = IsOwn source name
+KindIsOwn source (kind.SectionDisplaced name) = IsOwn source name
+KindIsOwn source other = ⊤
+
+abbrev pub ContentIsOwn : Source → PieceContent → Type 0
+ContentIsOwn source (Byte stored) = KindIsOwn source stored.kind
+ContentIsOwn source (Word stored) = KindIsOwn source stored.kind
+ContentIsOwn source Limits = ⊤
+
+pub record PieceIsOwn (source : Source) (piece : Piece) : Type 0 where
+  pub section : IsOwn source piece.section
+  pub content : ContentIsOwn source piece.content
+
+-- the piece has a byte past octal 177777, the last address, or is the last to have one there
+abbrev pub reaches_end : Piece → Bool
+reaches_end piece = nat_le 0o200000 (piece.location + size_of piece)
+
+abbrev pub has_end : Source → Bool
+has_end source = list_any reaches_end source.pieces
+
+abbrev pub own_size : Source → Name → ℕ
+own_size source name = unwrap_or (lookup (is_same_name name) (map size_entered (sections_of source))) 0
+
+abbrev pub LiesInSection : Source → Piece → Type 0
+LiesInSection source piece = piece.location + size_of piece ≤ own_size source piece.section
+
+-- each section has a name of its own; pieces, and the beginning of the program, name these sections alone; and where no piece reaches the end
+-- of the addresses, each lies within the size of its section
+pub record IsConsistent (source : Source) : Type 0 where
+  pub once : AreOnce (own_names source)
+  pub pieces : AllByRecursion (PieceIsOwn source) source.pieces
+  pub within : has_end source ≡ false → AllByRecursion (LiesInSection source) source.pieces
+  pub begins : IsOwn source (transfer_at 0 source.facts.transfer).section
+
+-- ---- what a link may refuse
+
+abbrev pub is_long : Source → Bool
+is_long source = nat_lt most_bytes (length (object_of source))
+
+-- a fault of limits: more than 32 sources; more than 256 names of sections, or 8,192 of globals, in all; an object of more than 4,194,304 bytes;
+-- a relocatable section that ends past octal 160000. Or a text is outside, and some source has a piece that reaches the end of the addresses
+abbrev pub IsOfSizes : ℕ → List Source → LinkFault → Type 0
+IsOfSizes bottom sources fault.TooManyModules = most_modules < length sources
+IsOfSizes bottom sources fault.TooManySections = most_sections < length (names_of sources)
+IsOfSizes bottom sources fault.TooManyGlobals = most_globals < length (global_names (link_parts sources))
+IsOfSizes bottom sources fault.TooMuch = list_any is_long sources ≡ true
+IsOfSizes bottom sources fault.TooLarge = is_too_large bottom (link_parts sources) ≡ true
+IsOfSizes bottom sources fault.TextOutside = list_any has_end sources ≡ true
+IsOfSizes bottom sources other = ⊥
