@@ -1,5 +1,5 @@
 -- The steps of a chain, one after the other.
-use Rattle.std.proofs.Common.{◌≡◌, ◌∙◌, ℕ, ◌*◌, ◌<◌, false, List, [], map, length, Option, Some, None, Result, Ok, Err, IfOk, IfErr, IsErrAnd, sym, ap, subst}
+use Rattle.std.proofs.Common.{◌≡◌, ◌∙◌, ℕ, ◌*◌, ◌<◌, false, List, [], ◌∷◌, map, length, Option, Some, None, Result, Ok, Err, IfOk, IfErr, IsErrAnd, sym, ap, subst}
 use Rattle.std.proofs.lemmas.List.{get_or-replicate, length-replicate}
 use Rattle.std.specs.List.{AllByRecursion}
 use Rattle.std.specs.Option.{unwrap_or}
@@ -15,8 +15,10 @@ use Rattle.m11_cpu_machine.specs.declared.machine.Machine.{Machine}
 use Rattle.m11_cli_image.specs.Image.{image_of}
 use Rattle.m11_cli_image.specs.Links.{AreLinked}
 use Rattle.m11_cli_image.specs.Objects.{SourceFits, link_parts, object_of}
+use Rattle.m11_cli_image.specs.Refusals.{IsConsistent, IsOfSizes}
 use Rattle.m11_cli_image.specs.Sources.{Source}
 use Rattle.m11_link_layout.specs.Sections.{is_too_large}
+use Rattle.m11_link_layout.specs.declared.fault.LinkFault.{LinkFault}
 use Rattle.m11_base_writes.specs.declared.outputs.Output.TheVariants as output
 use Rattle.m11_link.specs.Objects.{AreItems, Item, outcome}
 use Rattle.m11_link.specs.Outputs.{link}
@@ -28,7 +30,8 @@ use Rattle.m11_cpu_laws.specs.Image.{Image}
 use Rattle.m11_cpu_laws.specs.Loaded.{HoldsImage, LiesInside, LiesPast, LoadYields}
 use Rattle.m11_base_writes.specs.Writes.{gained}
 use Rattle.m11_cli_chain.specs.Chain.{Chains, HasImage, Linked, LinkTakes, StopsLoad, tape_of}
-use Rattle.m11_cli_chain.specs.Sources.{sources_of}
+use Rattle.m11_asm_passes.specs.Lines.{NumberedLine}
+use Rattle.m11_cli_chain.specs.Sources.{source_of, sources_of}
 use Rattle.m11_cli_chain.specs.Steps.{AreObjectsOf, AssembliesFail, IsTapeOfObjects, LinkFails, LoadFails, LoadsNew}
 use Rattle.m11_cli_chain.specs.declared.chain.Chained.{Chained}
 use Rattle.m11_cli_chain.specs.declared.fault.ChainFault.{ChainFault}
@@ -129,21 +132,38 @@ module _ (parts_law : PartsLaw) (load_law : LoadLaw) (texts : List (List Bytes))
 
 -- ---- chains that end before the load
 
-link_refused : (texts : List (List Bytes)) (bottom words : ℕ) (objects : List Bytes) (stopped : ChainFault) → AreObjectsOf texts objects
-    → LinkFails bottom objects stopped → Chains texts bottom words (Err stopped)
-link_refused texts bottom words objects (chain.Link stopped) o (of_objects, r) = (
-  of_objects,
-  record {
-    lines = o.lines;
-    live = o.live;
-    items = r.items;
-    are = subst (λ (xs : List Bytes). AreItems xs r.items) o.objects_are r.are;
-    refused = r.refused;
-  },
-)
-link_refused texts bottom words objects chain.NoMemory o h = tt
-link_refused texts bottom words objects (chain.Assembly stopped) o h = absurd h
-link_refused texts bottom words objects (chain.Load stopped) o h = absurd h
+-- the sources of live lines are consistent
+abbrev pub ConsistentLaw : Type 0
+ConsistentLaw = (lines : List NumberedLine) → IsConsistent (source_of lines)
+
+-- a link of such sources is refused for sizes alone
+abbrev pub RefusalLaw : Type 0
+RefusalLaw = (bottom : ℕ) (sources : List Source) (items : List Item) (stopped : LinkFault) → AllByRecursion SourceFits sources
+    → AllByRecursion IsConsistent sources → AreItems (map object_of sources) items → outcome bottom items ≡ Err stopped
+    → IsOfSizes bottom sources stopped
+
+module _ (consistent : ConsistentLaw) (refusal : RefusalLaw) where
+  all_consistent : (all : List (List NumberedLine)) → AllByRecursion IsConsistent (sources_of all)
+  all_consistent [] = tt
+  all_consistent (lines ∷ all) = (consistent lines, all_consistent all)
+
+  link_refused : (texts : List (List Bytes)) (bottom words : ℕ) (objects : List Bytes) (stopped : ChainFault) → AreObjectsOf texts objects
+      → LinkFails bottom objects stopped → Chains texts bottom words (Err stopped)
+  link_refused texts bottom words objects (chain.Link stopped) o (of_objects, r) =
+      let items = subst (λ (xs : List Bytes). AreItems xs r.items) o.objects_are r.are in (
+        of_objects,
+        record {
+          lines = o.lines;
+          live = o.live;
+          items = r.items;
+          are = items;
+          refused = r.refused;
+          of_sizes = refusal bottom (sources_of o.lines) r.items stopped o.fit (all_consistent o.lines) items r.refused;
+        },
+      )
+  link_refused texts bottom words objects chain.NoMemory o h = tt
+  link_refused texts bottom words objects (chain.Assembly stopped) o h = absurd h
+  link_refused texts bottom words objects (chain.Load stopped) o h = absurd h
 
 assembly_refused : (texts : List (List Bytes)) (bottom words : ℕ) (stopped : ChainFault) → AssembliesFail texts stopped
     → Chains texts bottom words (Err stopped)
@@ -160,9 +180,10 @@ assembly_stops texts bottom words stopped (Ok done) h e = absurd e
 assembly_stops texts bottom words stopped (Err fault) h e =
     subst (λ (f : ChainFault). Chains texts bottom words (Err f)) (sym e) (assembly_refused texts bottom words stopped h)
 
-pub link_stops : (texts : List (List Bytes)) (bottom words : ℕ) (objects : List Bytes) (stopped : ChainFault)
-    (result : Result Chained ChainFault) → AreObjectsOf texts objects → LinkFails bottom objects stopped
+pub link_stops : (consistent : ConsistentLaw) (refusal : RefusalLaw) (texts : List (List Bytes)) (bottom words : ℕ) (objects : List Bytes)
+    (stopped : ChainFault) (result : Result Chained ChainFault) → AreObjectsOf texts objects → LinkFails bottom objects stopped
     → IsErrAnd result (λ fault. fault ≡ stopped) → Chains texts bottom words result
-link_stops texts bottom words objects stopped (Ok done) o h e = absurd e
-link_stops texts bottom words objects stopped (Err fault) o h e =
-    subst (λ (f : ChainFault). Chains texts bottom words (Err f)) (sym e) (link_refused texts bottom words objects stopped o h)
+link_stops consistent refusal texts bottom words objects stopped (Ok done) o h e = absurd e
+link_stops consistent refusal texts bottom words objects stopped (Err fault) o h e =
+    subst (λ (f : ChainFault). Chains texts bottom words (Err f)) (sym e)
+    (link_refused consistent refusal texts bottom words objects stopped o h)

@@ -7,4 +7,9 @@ mod Loading
 mod ObjectOfTexts
 mod Outputs
 mod Unfailing
+mod KindsHeld
+mod EmissionsHeld
+mod LinesNamed
+mod LinesInside
+mod ConsistentSources
 pub mod SourcesGiven

@@ -11,6 +11,7 @@ use Rattle.m11_cpu.specs.declared.fault.LoadFault.TheVariants.{Tape, OutsideMemo
 use Rattle.m11_cpu_machine.specs.declared.machine.Machine.{Machine}
 use Rattle.m11_cli_image.specs.Image.{image_of}
 use Rattle.m11_cli_image.specs.Objects.{link_parts, object_of}
+use Rattle.m11_cli_image.specs.Refusals.{IsOfSizes}
 use Rattle.m11_cli_image.specs.Sources.{Source}
 use Rattle.m11_link_layout.specs.Sections.{is_too_large}
 use Rattle.m11_link_layout.specs.declared.fault.LinkFault.{LinkFault}
@@ -69,13 +70,15 @@ StopsLoad bottom words OutsideMemory sources = LiesPast (2 * words) (image_of bo
 StopsLoad bottom words (Tape TooMuch) sources = most_bytes < length (tape_of bottom sources)
 StopsLoad bottom words (Tape other) sources = ⊥
 
--- the texts assemble, and this is the first refusal of a link of their objects
+-- the texts assemble, and this is the first refusal of a link of their objects: for a limit that it passes, or since a source reaches the end of
+-- the addresses
 pub record LinkRefuses (texts : List (List Bytes)) (bottom : ℕ) (stopped : LinkFault) : Type 0 where
   pub lines : List (List NumberedLine)
   pub live : AllLive texts lines
   pub items : List Item
   pub are : AreItems (map object_of (sources_of lines)) items
   pub refused : outcome bottom items ≡ Err stopped
+  pub of_sizes : IsOfSizes bottom (sources_of lines) stopped
 
 -- what a chain of texts, each list of them one assembly, comes to: a machine that holds the image of the sources; a load that is stopped; the
 -- first refusal of a link or of an assembly; or memory was refused. No device fails

@@ -16,11 +16,14 @@ ghost use Rattle.m11_cli_chain.specs.Steps.{AreObjectsOf, AssembliesFail, Assemb
 ghost use Rattle.m11_cli_chain.specs.declared.fault.ChainFault.TheVariants.{NoMemory};
 
 use crate::fault::ChainFault;
-use crate::laws::known_sources_decide_the_assembly;
+use crate::laws::{known_sources_decide_the_assembly, live_lines_give_consistent_sources};
 use m11_asm::{AsmDone, asm_run};
 use m11_asm_faults::AsmFault;
 use m11_base::{Feed, MemoryFeed, MemorySink, Sink};
-use m11_cli_image::{links_write_the_texts_of_their_sources, loads_of_links_yield_the_image};
+use m11_cli_image::{
+    links_are_refused_for_sizes_alone, links_write_the_texts_of_their_sources,
+    loads_of_links_yield_the_image,
+};
 use m11_cpu::Machine;
 use m11_link::{LinkDone, link_run, objects_yield_items};
 use m11_link_laws::known_objects_decide_the_run;
@@ -46,6 +49,10 @@ pub struct Chained {
 /// Faults: `Assembly` with the first refusal of the first list that is refused; `Link` with the first refusal of the link; `Load` with
 /// `OutsideMemory` where the image has a byte past the memory, or with `TooMuch` where the tape has more than 4,194,304 bytes; `NoMemory`
 /// wherever memory is refused. No device is there to fail.
+///
+/// A link is refused for sizes alone: `TooManyModules` for more than 32 lists, `TooManySections` or `TooManyGlobals` for more than 256 names of
+/// sections or 8,192 of globals, `TooMuch` for an object of more than 4,194,304 bytes, `TooLarge` for a section that ends past octal 160000,
+/// and `TextOutside` where a source has a piece that ends past octal 177777.
 pub fn run_chain(
     alloc: Global,
     sources: &[Vec<Vec<u8>>],
@@ -57,6 +64,8 @@ pub fn run_chain(
     ensures { Chains (map (λ texts. map (λ text. text.items) texts.items) sources.now) bottom words result }
 {
     links_write_the_texts_of_their_sources();
+    live_lines_give_consistent_sources();
+    links_are_refused_for_sizes_alone();
     loads_of_links_yield_the_image();
     let objects = assemble_all(alloc, sources)?;
     let tape = link_all(alloc, objects.as_slice(), bottom)?;

@@ -11,6 +11,7 @@ ghost use Rattle.m11_base_writes.specs.Outputs.{Outputs};
 ghost use Rattle.m11_base.specs.Devices.{Bytes};
 ghost use Rattle.m11_base.specs.Names.{absolute_name};
 ghost use Rattle.m11_cli_image.specs.Objects.{LiesAtWord};
+ghost use Rattle.m11_cli_image.specs.Refusals.{IsConsistent};
 ghost use Rattle.m11_asm_passes.specs.Lines.{NumberedLine};
 ghost use Rattle.m11_asm_rules.specs.Sections.{of_absolute, section};
 ghost use Rattle.m11_asm_rules.specs.declared.sections.Section.{Section};
@@ -20,6 +21,7 @@ ghost use Rattle.m11_cli_chain.specs.Sources.{source_of};
 use m11_asm_outcome_laws::{
     known_sources_write_their_live_lines, the_object_is_the_blocks_of_its_contents,
 };
+use m11_asm_rules::{a_line_fills_what_it_steps_by, placements_are_the_same_under_every_map};
 use m11_base::Feed;
 
 /// Whatever its lines are, the first section of a source is `. ABS.`, and each of its pieces lies at a location below 65,536.
@@ -28,6 +30,15 @@ pub fn live_lines_begin_with_the_absolute_section()
         × ((source_of lines).facts.table.sections ≡ section absolute_name of_absolute ∷ others) }
     ensures locations { (lines : List NumberedLine) → AllByRecursion LiesAtWord (source_of lines).pieces }
 {}
+
+/// Whatever its lines are, each section of a source has a name of its own; its pieces, their values and its `.END` count from these sections
+/// alone; and where no piece reaches the end of the addresses, each lies within the size of its section.
+pub fn live_lines_give_consistent_sources()
+    ensures { (lines : List NumberedLine) → IsConsistent (source_of lines) }
+{
+    placements_are_the_same_under_every_map();
+    a_line_fills_what_it_steps_by();
+}
 
 /// Where both passes get the same known texts, an assembly that is Ok appended to its object exactly the object of the source that the live
 /// lines of the texts are, and that source fits: the fields of its records fit their room and its records their blocks. Any other assembly

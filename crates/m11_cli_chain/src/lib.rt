@@ -8,7 +8,10 @@ mod laws;
 
 pub use chain::{Chained, run_chain};
 pub use fault::ChainFault;
-pub use laws::{known_sources_decide_the_assembly, live_lines_begin_with_the_absolute_section};
+pub use laws::{
+    known_sources_decide_the_assembly, live_lines_begin_with_the_absolute_section,
+    live_lines_give_consistent_sources,
+};
 
 mod stated;
 

@@ -1,5 +1,5 @@
 -- A link of the objects of sources is refused for a limit, or since a source reaches the end of the addresses.
-use Rattle.std.proofs.Common.{◌≡◌, ◌∙◌, ℕ, ◌<◌, ◌||◌, Bool, true, false, if◌then◌else◌, List, [], ◌∷◌, ◌++◌, append-nil, append_assoc, length, map, flat_map, Option, Some, None, Result, Ok, Err, refl, sym, ap, subst, arith}
+use Rattle.std.proofs.Common.{◌≡◌, ◌∙◌, ℕ, ◌<◌, Bool, true, false, if◌then◌else◌, List, [], ◌∷◌, ◌++◌, append-nil, append_assoc, length, map, flat_map, Option, Some, None, Result, Ok, Err, refl, sym, ap, subst, arith}
 use Rattle.std.specs.Prelude.{⊤, nat_lt}
 use Rattle.std.specs.List.{AllByRecursion, list_any}
 use Rattle.std.specs.Option.{option_or}
@@ -34,7 +34,7 @@ use Rattle.m11_cli_image.specs.Sources.{Source}
 use Rattle.m11_cli_image.specs.Refusals.{IsConsistent, IsOfSizes, is_long}
 use Rattle.m11_cli_image.proofs.LimitsPassed.{Passes, first_passes}
 use Rattle.m11_cli_image.proofs.RowsTaken.{names_entered}
-use Rattle.m11_cli_image.proofs.SourcesTaken.{IsLimit, sources_go}
+use Rattle.m11_cli_image.proofs.SourcesTaken.{IsLimit, or_first, or_then, sources_go}
 
 -- ---- parts after others
 
@@ -184,14 +184,6 @@ module _ (bottom : ℕ) (sources : List Source) where
   is_longer : (bytes : ℕ) → most_bytes < bytes → nat_lt most_bytes bytes ≡ true
   is_longer bytes lt = grind (arith, nat_tests)
 
-  or_here : (b c : Bool) → b ≡ true → (b || c) ≡ true
-  or_here true c e = refl
-  or_here false c e = absurd cc
-
-  or_later : (b c : Bool) → c ≡ true → (b || c) ≡ true
-  or_later true c e = refl
-  or_later false c e = e
-
   no_more : (items : List Item) (before : List Part) (stopped : LinkFault) → AreItems [] items → taken before items ≡ Err stopped
       → MayStop stopped
   no_more _ before stopped objects.AreItems.Nothing e = absurd cc
@@ -213,9 +205,9 @@ module _ (bottom : ℕ) (sources : List Source) where
   rest_stop [] items before stopped fit long are legit stops = no_more items before stopped are stops
   rest_stop (source ∷ rest) items before stopped fit long are legit stops =
       first_stops source (map object_of rest) (link_parts rest) items before stopped fit.0
-      (λ lt. long (or_here (is_long source) (list_any is_long rest) (is_longer (length (object_of source)) lt))) are legit
+      (λ lt. long (or_first (is_long source) (list_any is_long rest) (is_longer (length (object_of source)) lt))) are legit
       (λ others these h fine e. rest_stop rest others these stopped fit.1
-      (λ e. long (or_later (is_long source) (list_any is_long rest) e)) h fine e) stops
+      (λ e. long (or_then (is_long source) (list_any is_long rest) e)) h fine e) stops
 
   -- ---- the outcome
 

@@ -4,7 +4,6 @@ use Rattle.std.specs.Prelude.{slice_get}
 use Rattle.std.specs.Option.{is_some}
 use Rattle.m11_base.specs.Rad50.{Name}
 use Rattle.m11_asm_rules.specs.Definitions.{last_definition}
-use Rattle.m11_asm_rules.specs.Lines.{after_line}
 use Rattle.m11_asm_rules.specs.Meanings.{empty_map, undefined}
 use Rattle.m11_asm_rules.specs.Placements.{program_map, table_after}
 use Rattle.m11_asm_rules.specs.Relocations.{is_moved}
@@ -28,7 +27,7 @@ use Rattle.m11_cli_image.proofs.Absolutes.{AllAtZero, LieAtZero, LiesAtZero, all
 use Rattle.m11_cli_image.proofs.GlobalsLie.{global_lies}
 use Rattle.m11_cli_image.proofs.LabelsFound.{IsLabelled, definition_of, in_a_line, is_labelled, kind_lies, meaning_lies, same_kind, same_location, under_the_empty_map, whole_after}
 use Rattle.m11_cli_image.proofs.LabelTurns.{last}
-use Rattle.m11_cli_image.proofs.SourcesLie.{Alike, before_lines, zeros_of}
+use Rattle.m11_cli_image.proofs.SourcesLie.{Alike, zeros_of}
 use Rattle.m11_cli_image.proofs.SourcesLie as sections
 
 -- ---- the sections of the source of an index
@@ -67,12 +66,10 @@ module _ (alike : Alike) (bottom : ℕ) (sources : List Source) where
     zero_line : (line : LineOf lines) → LiesAtZero program index (numbered (at_line lines line).modes.section (at_line lines line).sections)
     zero_line line =
         let known = program_map lines in
-        let next = after_line known (before_line lines line) line.given in
         one_of program index (at_line lines line).modes.section (at_line lines line).sections
-        (sections.at_line (LiesAtZero program index) known (before_line lines line) line.given
-        (sections.before_lines (LiesAtZero program index) known next line.after
+        (sections.at_line (LiesAtZero program index) known (before_line lines line) line.given line.after
         (subst (λ (t : Table). LieAtZero program index t.sections)
-        (whole_after known lines line.before line.given line.after line.whole) zeros_here)))
+        (whole_after known lines line.before line.given line.after line.whole) zeros_here))
 
     pub location_lies : (line : LineOf lines) → target_by program index (location (at_line lines line)) (kind_here (at_line lines line))
         ≡ address_in program index (section_name (at_line lines line)) (location (at_line lines line))

@@ -24,6 +24,7 @@ pub mod OneThing
 pub mod ManyThings
 pub mod LineLies
 pub mod Absolutes
+pub mod TablesGrow
 pub mod SourcesLie
 pub mod LabelTurns
 pub mod LabelsFound

@@ -39,7 +39,7 @@ pub neither : (b c : Bool) → (b || c) ≡ false → (b ≡ false) × (c ≡ fa
 neither true c e = absurd cc
 neither false c e = (refl, e)
 
-turned : (one other : Name) → is_same_name one other ≡ false → is_same_name other one ≡ false
+pub turned : (one other : Name) → is_same_name one other ≡ false → is_same_name other one ≡ false
 turned one other e = by (is_same_name other one) refl
   where
     by : (b : Bool) → is_same_name other one ≡ b → b ≡ false

@@ -39,7 +39,7 @@ use Rattle.m11_cli_image.proofs.TextsTaken.{ContentNamed, KindNamed, Stands, mod
 
 -- ---- the pieces of a source
 
-not_past : (n : ℕ) → nat_le 65536 n ≡ false → n < 65536
+pub not_past : (n : ℕ) → nat_le 65536 n ≡ false → n < 65536
 not_past n e = grind (arith, nat_tests)
 
 size_same : (found other : Option ℕ) (end : ℕ) → end ≤ unwrap_or found 0 → end ≤ unwrap_or (option_or found other) 0
@@ -135,11 +135,11 @@ first_known = refl
 room_for : (modules rest all : ℕ) → modules + (rest + 1) ≡ all → nat_le most_modules modules ≡ true → most_modules < all
 room_for modules rest all e le = grind (arith, nat_tests)
 
-or_first : (b c : Bool) → b ≡ true → (b || c) ≡ true
+pub or_first : (b c : Bool) → b ≡ true → (b || c) ≡ true
 or_first true c e = refl
 or_first false c e = absurd cc
 
-or_then : (b c : Bool) → c ≡ true → (b || c) ≡ true
+pub or_then : (b c : Bool) → c ≡ true → (b || c) ≡ true
 or_then true c e = refl
 or_then false c e = e
 

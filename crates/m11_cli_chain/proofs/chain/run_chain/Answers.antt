@@ -9,7 +9,8 @@ returns-in_err-objects c =
 
 pub returns-in_err-tape : goal.returns-in_err-tape
 returns-in_err-tape c =
-    link_stops (map (λ texts. map (λ text. text.items) texts.items) c.args.sources.now) c.args.bottom c.args.words
+    link_stops c.live_lines_give_consistent_sources.ensures c.links_are_refused_for_sizes_alone.ensures
+    (map (λ texts. map (λ text. text.items) texts.items) c.args.sources.now) c.args.bottom c.args.words
     (map (λ object. object.items) c.in_ok-objects.objects.items) c.in_err-tape.field-0.0 c.from_residual-in_err-tape.result
     c.in_ok-objects.ensures.objects (rw c.as_slice.ensures.value at c.in_err-tape.ensures.fails) c.from_residual-in_err-tape.ensures.1
 

@@ -1,0 +1,222 @@
+-- What a line emits names sections of which something holds, where all definitions and all sections are such.
+use Rattle.std.proofs.Common.{ℕ, ◌*◌, Bool, true, false, if◌then◌else◌, List, [], ◌∷◌, ◌++◌, map, Option}
+use Rattle.std.specs.Prelude.{⊤}
+use Rattle.std.specs.List.{AllByRecursion}
+use Rattle.m11_base.specs.Devices.{Bytes}
+use Rattle.m11_base.specs.Names.{blank_name}
+use Rattle.m11_base.specs.Rad50.{Name, is_same_name}
+use Rattle.m11_obj.specs.declared.pieces.PieceContent.{PieceContent}
+use Rattle.m11_obj.specs.declared.pieces.PieceContent.TheVariants.{Byte, Word, Limits}
+use Rattle.m11_obj.specs.declared.pieces.RelocationKind.{RelocationKind}
+use Rattle.m11_obj.specs.declared.pieces.RelocationKind.TheVariants as relocation
+use Rattle.m11_scan_expressions.specs.Expressions.{has_expression, value_at}
+use Rattle.m11_scan_expressions.specs.Quantities.{Quantity, absolute}
+use Rattle.m11_scan_expressions.specs.declared.kinds.Kind.{Kind}
+use Rattle.m11_scan_expressions.specs.declared.kinds.Kind.TheVariants as kind
+use Rattle.m11_scan_statements.specs.declared.parts.Part.{Part}
+use Rattle.m11_scan_statements.specs.declared.parts.PartKind.{PartKind}
+use Rattle.m11_scan_statements.specs.declared.parts.PartKind.TheVariants.{Text, Expression}
+use Rattle.m11_unfold_rules.specs.Unfolding.{UnfoldedLine}
+use Rattle.m11_asm_rules.specs.Alignment.{location_for}
+use Rattle.m11_asm_rules.specs.Codes.{LineContext, form_words, is_relative}
+use Rattle.m11_asm_rules.specs.Codes as codes
+use Rattle.m11_asm_rules.specs.Contents.{element_value, fixed_byte, further}
+use Rattle.m11_asm_rules.specs.Effects.{directive_emission, operator_emission}
+use Rattle.m11_asm_rules.specs.Elements.{elements_at}
+use Rattle.m11_asm_rules.specs.Fields.{forms_of}
+use Rattle.m11_asm_rules.specs.Instructions.{fields, line_context}
+use Rattle.m11_asm_rules.specs.Lines.{Action, action, emission_by, line_emission}
+use Rattle.m11_asm_rules.specs.Lines as lines
+use Rattle.m11_asm_rules.specs.Meanings.{Map, known_at}
+use Rattle.m11_asm_rules.specs.Operands.{words_of}
+use Rattle.m11_asm_rules.specs.Operators.{is_even}
+use Rattle.m11_asm_rules.specs.Relocations.{Here, InObject, InSection, Origin, Zero, is_moved, origin_of, relocation_by, row_of, stored}
+use Rattle.m11_asm_rules.specs.Storage.{bytes_from, words_from}
+use Rattle.m11_asm_rules.specs.Strings.{packed_words, part_bytes, part_size, part_text, parts_at, parts_bytes, parts_codes}
+use Rattle.m11_asm_rules.specs.Tables.{Table, location, section_name}
+use Rattle.m11_asm_rules.specs.declared.meanings.Context.{Context}
+use Rattle.m11_asm_rules.specs.declared.meanings.Context.TheVariants.{LocalOnly, MayBeGlobal}
+use Rattle.m11_asm_rules.specs.declared.operands.Form.{Form}
+use Rattle.m11_asm_rules.specs.declared.operands.Form.TheVariants.{Absent, InRegister, Indexed, Unindexed, AfterCounter}
+use Rattle.m11_asm_rules.specs.declared.operators.Directive.{Directive}
+use Rattle.m11_asm_rules.specs.declared.operators.Directive.TheVariants as word
+use Rattle.m11_asm_rules.specs.declared.operators.Operator.{Operator}
+use Rattle.m11_asm_rules.specs.declared.operators.Operator.TheVariants as operators
+use Rattle.m11_cli_chain.proofs.KindsHeld.{DefinitionHolds, KindHolds, TableHolds, ValueHolds, known_holds}
+
+module _ (P : Name → Type 0) where
+  abbrev pub RelocationHolds : RelocationKind → Type 0
+  RelocationHolds (relocation.Section name) = P name
+  RelocationHolds (relocation.SectionDisplaced name) = P name
+  RelocationHolds other = ⊤
+
+  abbrev pub ContentHolds : PieceContent → Type 0
+  ContentHolds (Byte stored) = RelocationHolds stored.kind
+  ContentHolds (Word stored) = RelocationHolds stored.kind
+  ContentHolds Limits = ⊤
+
+  -- ---- one value
+
+  abbrev OriginHolds : Origin → Type 0
+  OriginHolds (InSection name) = P name
+  OriginHolds other = ⊤
+
+  section_origin : (b : Bool) (name : Name) → P name → OriginHolds (if b then Here else InSection name)
+  section_origin true name h = tt
+  section_origin false name h = h
+
+  origin_holds : (table : Table) (counted : Kind) → KindHolds P counted → OriginHolds (origin_of table counted)
+  origin_holds table kind.Absolute h = tt
+  origin_holds table kind.Register h = tt
+  origin_holds table (kind.Section name) h = section_origin (is_same_name name (section_name table)) name h
+  origin_holds table (kind.Reference name) h = tt
+
+  row_holds : (origin : Origin) (is_relative moves : Bool) → OriginHolds origin
+      → RelocationHolds (relocation_by is_relative moves (row_of origin))
+  row_holds Here false moves h = tt
+  row_holds Here true true h = tt
+  row_holds Here true false h = tt
+  row_holds Zero false moves h = tt
+  row_holds Zero true true h = tt
+  row_holds Zero true false h = tt
+  row_holds (InSection name) false moves h = h
+  row_holds (InSection name) true true h = h
+  row_holds (InSection name) true false h = h
+  row_holds (InObject name) false moves h = tt
+  row_holds (InObject name) true true h = tt
+  row_holds (InObject name) true false h = tt
+
+  stored_holds : (table : Table) (is_relative : Bool) (here : ℕ) (value : Quantity) → ValueHolds P value
+      → RelocationHolds (stored table is_relative here value).kind
+  stored_holds table is_relative here value h =
+      row_holds (origin_of table value.kind) is_relative (is_moved table) (origin_holds table value.kind h)
+
+  abbrev pub AllHold : List PieceContent → Type 0
+  AllHold contents = AllByRecursion ContentHolds contents
+
+  both_hold : (some more : List PieceContent) → AllHold some → AllHold more → AllHold (some ++ more)
+  both_hold [] more h k = k
+  both_hold (one ∷ some) more h k = (h.0, both_hold some more h.1 k)
+
+  characters_hold : (text : Bytes) → AllHold (map fixed_byte text)
+  characters_hold [] = tt
+  characters_hold (byte ∷ text) = (tt, characters_hold text)
+
+  packed_hold : (found : List ℕ) → AllHold (packed_words found)
+  packed_hold [] = tt
+  packed_hold (first ∷ []) = (tt, tt)
+  packed_hold (first ∷ (second ∷ [])) = (tt, tt)
+  packed_hold (first ∷ (second ∷ (third ∷ found))) = (tt, packed_hold found)
+
+  -- ---- lines
+
+  module _ (blank : P blank_name) (known : Map) (defined : AllByRecursion (DefinitionHolds P) known.definitions) (table : Table)
+      (held : TableHolds P blank table) where
+    value_held : (context : Context) (here : ℕ) (line : Bytes) (column : ℕ)
+        → ValueHolds P (value_at (known_at known context table here) line column)
+    value_held context here line column = known_holds P blank known context table here defined held line column
+
+    either_held : (b : Bool) (value : Quantity) → ValueHolds P value → ValueHolds P (if b then value else absolute 0 0)
+    either_held true value h = h
+    either_held false value h = tt
+
+    element_held : (here : ℕ) (line : Bytes) (start : ℕ)
+        → ValueHolds P (element_value (known_at known MayBeGlobal table here) line start)
+    element_held here line start =
+        either_held (has_expression line start) (value_at (known_at known MayBeGlobal table here) line start)
+        (value_held MayBeGlobal here line start)
+
+    words_held : (line : Bytes) (here : ℕ) (starts : List ℕ) → AllHold (words_from known table line here starts).contents
+    words_held line here [] = tt
+    words_held line here (start ∷ starts) = (
+      stored_holds table false here (element_value (known_at known MayBeGlobal table here) line start) (element_held here line start),
+      words_held line (further here 2) starts,
+    )
+
+    bytes_held : (line : Bytes) (here : ℕ) (starts : List ℕ) → AllHold (bytes_from known table line here starts).contents
+    bytes_held line here [] = tt
+    bytes_held line here (start ∷ starts) = (
+      stored_holds table false here (element_value (known_at known MayBeGlobal table here) line start) (element_held here line start),
+      bytes_held line (further here 1) starts,
+    )
+
+    part_held : (here : ℕ) (line : Bytes) (part : Part) (sort : PartKind)
+        → AllHold (part_bytes known table here line part sort).contents
+    part_held here line part Text = characters_hold (part_text line part)
+    part_held here line part Expression = (
+      stored_holds table false here (value_at (known_at known MayBeGlobal table here) line part.inside.start)
+          (value_held MayBeGlobal here line part.inside.start),
+      tt,
+    )
+
+    parts_held : (here : ℕ) (line : Bytes) (parts : List Part) → AllHold (parts_bytes known table here line parts).contents
+    parts_held here line [] = tt
+    parts_held here line (part ∷ parts) =
+        both_hold (part_bytes known table here line part part.kind).contents _ (part_held here line part part.kind)
+        (parts_held (further here (part_size line part part.kind)) line parts)
+
+    forms_held : (own here : ℕ) (line : Bytes) (forms : List Form)
+        → AllHold (codes.words_from (line_context known table own line) here forms).contents
+    forms_held own here line [] = tt
+    forms_held own here line (Absent ∷ forms) = forms_held own (further here (words_of Absent * 2)) line forms
+    forms_held own here line (InRegister mode start ∷ forms) = forms_held own (further here (words_of (InRegister mode start) * 2)) line forms
+    forms_held own here line (Indexed mode start index ∷ forms) = (
+      stored_holds table false here (value_at (known_at known MayBeGlobal table own) line index) (value_held MayBeGlobal own line index),
+      forms_held own (further here (words_of (Indexed mode start index) * 2)) line forms,
+    )
+    forms_held own here line (Unindexed start ∷ forms) = (tt, forms_held own (further here (words_of (Unindexed start) * 2)) line forms)
+    forms_held own here line (AfterCounter mode start ∷ forms) = (
+      stored_holds table (is_relative mode) here (value_at (known_at known MayBeGlobal table own) line start)
+          (value_held MayBeGlobal own line start),
+      forms_held own (further here (words_of (AfterCounter mode start) * 2)) line forms,
+    )
+
+    directive_held : (here : ℕ) (line : Bytes) (start : ℕ) (arguments : Option ℕ) (directive : Directive)
+        → AllHold (directive_emission known table here line start arguments directive).contents
+    directive_held here line start arguments word.Word = words_held line here (elements_at line start).columns
+    directive_held here line start arguments word.Byte = bytes_held line here (elements_at line start).columns
+    directive_held here line start arguments word.Ascii = parts_held here line (parts_at line start).list
+    directive_held here line start arguments word.Asciz =
+        both_hold (parts_bytes known table here line (parts_at line start).list).contents (fixed_byte 0 ∷ [])
+        (parts_held here line (parts_at line start).list) (tt, tt)
+    directive_held here line start arguments word.Rad50 =
+        packed_hold (parts_codes (known_at known LocalOnly table here) line (parts_at line start).list).codes
+    directive_held here line start arguments word.Limit = (tt, tt)
+    directive_held here line start arguments word.Blkb = tt
+    directive_held here line start arguments word.Blkw = tt
+    directive_held here line start arguments word.Even = tt
+    directive_held here line start arguments word.Odd = tt
+    directive_held here line start arguments word.Radix = tt
+    directive_held here line start arguments word.Asect = tt
+    directive_held here line start arguments word.Csect = tt
+    directive_held here line start arguments word.Psect = tt
+    directive_held here line start arguments word.Globl = tt
+    directive_held here line start arguments word.Weak = tt
+    directive_held here line start arguments word.Title = tt
+    directive_held here line start arguments word.Ident = tt
+    directive_held here line start arguments word.Sbttl = tt
+    directive_held here line start arguments word.Page = tt
+    directive_held here line start arguments word.List = tt
+    directive_held here line start arguments word.Nlist = tt
+    directive_held here line start arguments word.Enabl = tt
+    directive_held here line start arguments word.Dsabl = tt
+    directive_held here line start arguments word.Narg = tt
+    directive_held here line start arguments word.Nchr = tt
+    directive_held here line start arguments word.End = tt
+
+    operator_held : (here : ℕ) (line : Bytes) (start : ℕ) (arguments : Option ℕ) (operator : Operator)
+        → AllHold (operator_emission known table here line start arguments operator).contents
+    operator_held here line start arguments (operators.Instruction operation) =
+        (tt, forms_held here (further here 2) line (forms_of (fields table here line start operation).list))
+    operator_held here line start arguments (operators.Directive directive) = directive_held here line start arguments directive
+
+    action_held : (line : Bytes) (arguments : Option ℕ) (done : Action) → AllHold (emission_by known table line arguments done).contents
+    action_held line arguments lines.NoAction = tt
+    action_held line arguments (lines.Assign name is_global start) = tt
+    action_held line arguments (lines.SetCounter start) = tt
+    action_held line arguments (lines.Operate operator start) =
+        operator_held (location_for (is_even operator) (location table)) line start arguments operator
+
+    pub emission_held : (given : UnfoldedLine) → AllHold (line_emission known table given).contents
+    unfolding line_emission
+    emission_held given = action_held given.live.line.text given.arguments (action given.is_own given.live.line.text)
